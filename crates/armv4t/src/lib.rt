@@ -1,0 +1,219 @@
+// The ARMv4T (ARM7TDMI) instruction model of gba-recomp's armv4t crate, by value.
+
+// Register index, 0 to 15.
+pub type Reg = u8;
+
+pub const SP: Reg = 13;
+
+pub const LR: Reg = 14;
+
+pub const PC: Reg = 15;
+
+// Condition codes, in encoding order. Nv (0b1111) is never valid on ARMv4.
+pub enum Cond {
+    Eq,
+    Ne,
+    Cs,
+    Cc,
+    Mi,
+    Pl,
+    Vs,
+    Vc,
+    Hi,
+    Ls,
+    Ge,
+    Lt,
+    Gt,
+    Le,
+    Al,
+    Nv,
+}
+
+// Data-processing operations, in ARM encoding order (bits 24-21).
+pub enum AluOp {
+    And,
+    Eor,
+    Sub,
+    Rsb,
+    Add,
+    Adc,
+    Sbc,
+    Rsc,
+    Tst,
+    Teq,
+    Cmp,
+    Cmn,
+    Orr,
+    Mov,
+    Bic,
+    Mvn,
+}
+
+pub enum ShiftKind {
+    Lsl,
+    Lsr,
+    Asr,
+    Ror,
+}
+
+// A shift applied to a register operand, as encoded: Lsr and Asr with amount 0 mean a shift by 32, Ror with amount 0 means RRX.
+pub enum Shift {
+    Imm { kind: ShiftKind, amount: u8 },
+    Reg { kind: ShiftKind, rs: Reg },
+}
+
+impl Shift {
+    pub const NONE: Shift = Shift::Imm {
+        kind: ShiftKind::Lsl,
+        amount: 0,
+    };
+}
+
+// Second operand of a data-processing instruction.
+pub enum Operand2 {
+    // A value, already rotated. `ror` is the rotate amount (0, 2, .., 30); where it is not 0 the shifter's carry is bit 31 of `value`.
+    Imm { value: u32, ror: u8 },
+    Reg { rm: Reg, shift: Shift },
+}
+
+impl Operand2 {
+    pub fn imm(value: u32) -> Operand2 {
+        Operand2::Imm { value, ror: 0 }
+    }
+
+    pub fn reg(rm: Reg) -> Operand2 {
+        Operand2::Reg {
+            rm,
+            shift: Shift::NONE,
+        }
+    }
+}
+
+pub enum MemWidth {
+    Byte,
+    Half,
+    Word,
+}
+
+// Offset of a single load or store.
+pub enum MemOffset {
+    Imm(u16),
+    Reg { rm: Reg, shift: Shift },
+}
+
+// The operation, shared between ARM and Thumb encodings.
+pub enum Op {
+    // Data processing. For compares `rd` is meaningless, for Mov and Mvn `rn` is.
+    Alu {
+        op: AluOp,
+        s: bool,
+        rd: Reg,
+        rn: Reg,
+        op2: Operand2,
+    },
+    // MUL and MLA: rd = rm * rs (+ rn if `acc`).
+    Mul {
+        acc: bool,
+        s: bool,
+        rd: Reg,
+        rn: Reg,
+        rs: Reg,
+        rm: Reg,
+    },
+    // UMULL, UMLAL, SMULL and SMLAL: rd_hi:rd_lo = rm * rs (+ rd_hi:rd_lo if `acc`).
+    MulLong {
+        signed: bool,
+        acc: bool,
+        s: bool,
+        rd_hi: Reg,
+        rd_lo: Reg,
+        rs: Reg,
+        rm: Reg,
+    },
+    // SWP and SWPB: rd = [rn]; [rn] = rm.
+    Swap {
+        byte: bool,
+        rd: Reg,
+        rm: Reg,
+        rn: Reg,
+    },
+    // BX rm: branch to rm without bit 0, to Thumb if that bit is set.
+    Bx {
+        rm: Reg,
+    },
+    // B and BL with the target resolved.
+    Branch {
+        link: bool,
+        target: u32,
+    },
+    // First half of a Thumb BL pair: LR := lr_partial.
+    ThumbBlHigh {
+        lr_partial: u32,
+    },
+    // Second half of a Thumb BL pair: target = LR + 2 * off; LR := (address of this half + 2) | 1.
+    ThumbBlLow {
+        off: u16,
+    },
+    // Single load or store. `signed` only for loads (LDRSB and LDRSH).
+    Mem {
+        load: bool,
+        width: MemWidth,
+        signed: bool,
+        rd: Reg,
+        rn: Reg,
+        offset: MemOffset,
+        pre: bool,
+        up: bool,
+        writeback: bool,
+    },
+    // LDM and STM. `s_bit`: user-bank transfer, or SPSR restore with PC in the list.
+    BlockMem {
+        load: bool,
+        rn: Reg,
+        rlist: u16,
+        pre: bool,
+        up: bool,
+        s_bit: bool,
+        writeback: bool,
+    },
+    // MRS: rd := CPSR or SPSR.
+    Mrs {
+        spsr: bool,
+        rd: Reg,
+    },
+    // MSR from a register. `fields` is bits 19-16 of the encoding.
+    MsrReg {
+        spsr: bool,
+        fields: u8,
+        rm: Reg,
+    },
+    // MSR from a value.
+    MsrImm {
+        spsr: bool,
+        fields: u8,
+        value: u32,
+    },
+    // Software interrupt.
+    Swi {
+        imm: u32,
+    },
+    // Anything that does not decode on ARMv4T.
+    Undefined {
+        raw: u32,
+    },
+}
+
+// A decoded instruction: address, condition, operation, and whether its encoding is Thumb.
+pub struct Instr {
+    pub addr: u32,
+    pub cond: Cond,
+    pub op: Op,
+    pub thumb: bool,
+}
+
+impl Instr {
+    // Size in bytes of the encoding: 2 for Thumb, 4 for ARM.
+    pub fn size(self) -> u32 {
+        if self.thumb { 2 } else { 4 }
+    }
+}
