@@ -1,5 +1,11 @@
 // The ARMv4T (ARM7TDMI) instruction model of gba-recomp's armv4t crate, by value.
 
+ghost use mathlib.Core.Path.{_≡_};
+ghost use Prim.Native.Nat.{_%_};
+ghost use Rattle.armv4t.specs.AluOp.{aluOpOf};
+ghost use Rattle.armv4t.specs.Cond.{condOf};
+ghost use Rattle.armv4t.specs.Shift.{shiftKindOf};
+
 // Register index, 0 to 15.
 pub type Reg = u8;
 
@@ -29,6 +35,34 @@ pub enum Cond {
     Nv,
 }
 
+impl Cond {
+    // The condition that the low 4 bits encode.
+    pub fn from_bits(bits: u8) -> Cond
+        ensures { λ r. ⌜ r ≡ condOf (bits % 16) ⌝ }
+    {
+        let all = [
+            Cond::Eq,
+            Cond::Ne,
+            Cond::Cs,
+            Cond::Cc,
+            Cond::Mi,
+            Cond::Pl,
+            Cond::Vs,
+            Cond::Vc,
+            Cond::Hi,
+            Cond::Ls,
+            Cond::Ge,
+            Cond::Lt,
+            Cond::Gt,
+            Cond::Le,
+            Cond::Al,
+            Cond::Nv,
+        ];
+        let i = (bits % 16) as usize;
+        all[i]
+    }
+}
+
 // Data-processing operations, in ARM encoding order (bits 24-21).
 pub enum AluOp {
     And,
@@ -49,11 +83,55 @@ pub enum AluOp {
     Mvn,
 }
 
+impl AluOp {
+    // The operation that the low 4 bits encode.
+    pub fn from_bits(bits: u8) -> AluOp
+        ensures { λ r. ⌜ r ≡ aluOpOf (bits % 16) ⌝ }
+    {
+        let all = [
+            AluOp::And,
+            AluOp::Eor,
+            AluOp::Sub,
+            AluOp::Rsb,
+            AluOp::Add,
+            AluOp::Adc,
+            AluOp::Sbc,
+            AluOp::Rsc,
+            AluOp::Tst,
+            AluOp::Teq,
+            AluOp::Cmp,
+            AluOp::Cmn,
+            AluOp::Orr,
+            AluOp::Mov,
+            AluOp::Bic,
+            AluOp::Mvn,
+        ];
+        let i = (bits % 16) as usize;
+        all[i]
+    }
+}
+
 pub enum ShiftKind {
     Lsl,
     Lsr,
     Asr,
     Ror,
+}
+
+impl ShiftKind {
+    // The kind that the low 2 bits encode.
+    pub fn from_bits(bits: u8) -> ShiftKind
+        ensures { λ r. ⌜ r ≡ shiftKindOf (bits % 4) ⌝ }
+    {
+        let all = [
+            ShiftKind::Lsl,
+            ShiftKind::Lsr,
+            ShiftKind::Asr,
+            ShiftKind::Ror,
+        ];
+        let i = (bits % 4) as usize;
+        all[i]
+    }
 }
 
 // A shift applied to a register operand, as encoded: Lsr and Asr with amount 0 mean a shift by 32, Ror with amount 0 means RRX.
