@@ -4,7 +4,7 @@ ghost use mathlib.Core.Path.{_≡_};
 ghost use Prim.Native.Nat.{_%_};
 ghost use Rattle.armv4t.specs.AluOp.{aluOpOf};
 ghost use Rattle.armv4t.specs.Cond.{condOf};
-ghost use Rattle.armv4t.specs.Shift.{shiftKindOf};
+ghost use Rattle.armv4t.specs.Shift.{shiftKindOf, noShift};
 
 // Register index, 0 to 15.
 pub type Reg = u8;
@@ -155,11 +155,15 @@ pub enum Operand2 {
 }
 
 impl Operand2 {
-    pub fn imm(value: u32) -> Operand2 {
+    pub fn imm(value: u32) -> Operand2
+        ensures { λ r. ⌜ r ≡ Operand2.Imm value 0 ⌝ }
+    {
         Operand2::Imm { value, ror: 0 }
     }
 
-    pub fn reg(rm: Reg) -> Operand2 {
+    pub fn reg(rm: Reg) -> Operand2
+        ensures { λ r. ⌜ r ≡ Operand2.Reg rm noShift ⌝ }
+    {
         Operand2::Reg {
             rm,
             shift: Shift::NONE,
@@ -290,6 +294,17 @@ pub struct Instr {
 }
 
 impl Instr {
+    pub fn new(addr: u32, cond: Cond, op: Op, thumb: bool) -> Instr
+        ensures { λ r. ⌜ r ≡ record { addr = addr; cond = cond; op = op; thumb = thumb } ⌝ }
+    {
+        Instr {
+            addr,
+            cond,
+            op,
+            thumb,
+        }
+    }
+
     // Size in bytes of the encoding: 2 for Thumb, 4 for ARM.
     pub fn size(self) -> u32 {
         if self.thumb { 2 } else { 4 }
