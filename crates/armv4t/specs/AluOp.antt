@@ -1,5 +1,6 @@
--- The data-processing operations by number.
+-- The data-processing operations by number, and which of them compare or ignore rn.
 use Prim.Native.Nat.{ℕ}
+use mathlib.Core.Bool.{Bool, true, false}
 use mathlib.Core.List.{List, [], _∷_}
 use lib.ListN.{getD}
 use Rattle.armv4t.specs.declared.AluOp.{AluOp}
@@ -12,3 +13,41 @@ aluOps = And ∷ Eor ∷ Sub ∷ Rsb ∷ Add ∷ Adc ∷ Sbc ∷ Rsc ∷ Tst ∷
 -- the operation that a number below 16 encodes; a larger number encodes none, and gives And
 abbrev pub aluOpOf : ℕ → AluOp
 aluOpOf n = getD aluOps n And
+
+-- whether an operation sets flags only, so that rd means nothing
+abbrev pub isCompare : AluOp → Bool
+isCompare And = false
+isCompare Eor = false
+isCompare Sub = false
+isCompare Rsb = false
+isCompare Add = false
+isCompare Adc = false
+isCompare Sbc = false
+isCompare Rsc = false
+isCompare Tst = true
+isCompare Teq = true
+isCompare Cmp = true
+isCompare Cmn = true
+isCompare Orr = false
+isCompare Mov = false
+isCompare Bic = false
+isCompare Mvn = false
+
+-- whether an operation has one operand only, so that rn means nothing
+abbrev pub isUnary : AluOp → Bool
+isUnary And = false
+isUnary Eor = false
+isUnary Sub = false
+isUnary Rsb = false
+isUnary Add = false
+isUnary Adc = false
+isUnary Sbc = false
+isUnary Rsc = false
+isUnary Tst = false
+isUnary Teq = false
+isUnary Cmp = false
+isUnary Cmn = false
+isUnary Orr = false
+isUnary Mov = true
+isUnary Bic = false
+isUnary Mvn = true

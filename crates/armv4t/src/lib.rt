@@ -2,7 +2,7 @@
 
 ghost use mathlib.Core.Path.{_≡_};
 ghost use Prim.Native.Nat.{_%_};
-ghost use Rattle.armv4t.specs.AluOp.{aluOpOf};
+ghost use Rattle.armv4t.specs.AluOp.{aluOpOf, isCompare, isUnary};
 ghost use Rattle.armv4t.specs.Cond.{condOf};
 ghost use Rattle.armv4t.specs.Shift.{shiftKindOf, noShift};
 
@@ -108,6 +108,26 @@ impl AluOp {
         ];
         let i = (bits % 16) as usize;
         all[i]
+    }
+
+    // Comparisons write flags only; rd is unused.
+    pub fn is_compare(self) -> bool
+        ensures { λ r. ⌜ r ≡ isCompare self ⌝ }
+    {
+        match self {
+            AluOp::Tst | AluOp::Teq | AluOp::Cmp | AluOp::Cmn => true,
+            _ => false,
+        }
+    }
+
+    // Mov and Mvn ignore rn.
+    pub fn is_unary(self) -> bool
+        ensures { λ r. ⌜ r ≡ isUnary self ⌝ }
+    {
+        match self {
+            AluOp::Mov | AluOp::Mvn => true,
+            _ => false,
+        }
     }
 }
 
