@@ -2,3 +2,4 @@
 pub mod Cond
 pub mod AluOp
 pub mod Shift
+pub mod Instr

@@ -4,6 +4,7 @@ ghost use mathlib.Core.Path.{_≡_};
 ghost use Prim.Native.Nat.{_%_};
 ghost use Rattle.armv4t.specs.AluOp.{aluOpOf, isCompare, isUnary};
 ghost use Rattle.armv4t.specs.Cond.{condOf};
+ghost use Rattle.armv4t.specs.Instr.{sizeOf, pcValue};
 ghost use Rattle.armv4t.specs.Shift.{shiftKindOf, noShift};
 
 // Register index, 0 to 15.
@@ -326,7 +327,18 @@ impl Instr {
     }
 
     // Size in bytes of the encoding: 2 for Thumb, 4 for ARM.
-    pub fn size(self) -> u32 {
+    pub fn size(self) -> u32
+        ensures { λ r. ⌜ r ≡ sizeOf (self .thumb) ⌝ }
+    {
         if self.thumb { 2 } else { 4 }
+    }
+
+    // The value read when this instruction reads PC as an operand: its address plus 8 (ARM) or plus 4 (Thumb).
+    // Shifts by a register and stores of PC read 4 more in ARM; whoever needs that adds it.
+    pub fn pc_value(self) -> u32
+        ensures { λ r. ⌜ r ≡ pcValue self ⌝ }
+    {
+        let ahead = if self.thumb { 4 } else { 8 };
+        std::num::wrapping_add_u32(self.addr, ahead)
     }
 }
