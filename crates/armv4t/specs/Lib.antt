@@ -3,3 +3,4 @@ pub mod Cond
 pub mod AluOp
 pub mod Shift
 pub mod Instr
+pub mod Bit0

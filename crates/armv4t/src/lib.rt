@@ -3,6 +3,7 @@
 ghost use mathlib.Core.Path.{_≡_};
 ghost use Prim.Native.Nat.{_%_};
 ghost use Rattle.armv4t.specs.AluOp.{aluOpOf, isCompare, isUnary};
+ghost use Rattle.armv4t.specs.Bit0.{clearBit0, setBit0};
 ghost use Rattle.armv4t.specs.Cond.{condOf};
 ghost use Rattle.armv4t.specs.Instr.{sizeOf, pcValue};
 ghost use Rattle.armv4t.specs.Shift.{shiftKindOf, noShift};
@@ -341,4 +342,18 @@ impl Instr {
         let ahead = if self.thumb { 4 } else { 8 };
         std::num::wrapping_add_u32(self.addr, ahead)
     }
+}
+
+// x with bit 0 cleared.
+pub fn clear_bit0(x: u32) -> u32
+    ensures { λ r. ⌜ r ≡ clearBit0 x ⌝ }
+{
+    x & 0xffff_fffe
+}
+
+// x with bit 0 set.
+pub fn set_bit0(x: u32) -> u32
+    ensures { λ r. ⌜ r ≡ setBit0 x ⌝ }
+{
+    x | 1
 }
