@@ -4,3 +4,4 @@ pub mod AluOp
 pub mod Shift
 pub mod Instr
 pub mod Bit0
+pub mod Fused

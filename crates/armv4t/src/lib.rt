@@ -5,6 +5,7 @@ ghost use Prim.Native.Nat.{_%_};
 ghost use Rattle.armv4t.specs.AluOp.{aluOpOf, isCompare, isUnary};
 ghost use Rattle.armv4t.specs.Bit0.{clearBit0, setBit0};
 ghost use Rattle.armv4t.specs.Cond.{condOf};
+ghost use Rattle.armv4t.specs.Fused.{fuse};
 ghost use Rattle.armv4t.specs.Instr.{sizeOf, pcValue};
 ghost use Rattle.armv4t.specs.Shift.{shiftKindOf, noShift};
 
@@ -356,4 +357,30 @@ pub fn set_bit0(x: u32) -> u32
     ensures { λ r. ⌜ r ≡ setBit0 x ⌝ }
 {
     x | 1
+}
+
+// What the two halves of a Thumb BL make together.
+pub enum Fused {
+    // Where it goes, and the return address with the Thumb bit.
+    Pair { target: u32, ret: u32 },
+    // The two are no such pair.
+    Nothing,
+}
+
+// Fuse a Thumb BL pair: `high` is a ThumbBlHigh, and `low` the ThumbBlLow after it.
+pub fn fuse_thumb_bl(high: Instr, low: Instr) -> Fused
+    ensures { λ r. ⌜ r ≡ fuse high low ⌝ }
+{
+    let first = high.op;
+    let second = low.op;
+    match first {
+        Op::ThumbBlHigh { lr_partial } => match second {
+            Op::ThumbBlLow { off } => Fused::Pair {
+                target: std::num::wrapping_add_u32(lr_partial, (off as u32) * 2),
+                ret: set_bit0(std::num::wrapping_add_u32(low.addr, 2)),
+            },
+            _ => Fused::Nothing,
+        },
+        _ => Fused::Nothing,
+    }
 }
