@@ -1,0 +1,5 @@
+mod Parts
+mod Passes
+mod Rows
+mod Rules
+mod Whole

@@ -1,0 +1,71 @@
+-- A file as a whole: a refusal, or the list of its blocks.
+use Prim.Native.Nat.{ℕ, zero, suc, _+_}
+use mathlib.Core.Bool.{Bool, cond}
+use mathlib.Core.List.{List, [], _∷_}
+use mathlib.Core.Option.{Option, none, some}
+use lib.ListN.{length, take, drop}
+use Rattle.armv4t.specs.Instr.{sizeOf}
+use Rattle.block_file.specs.declared.decode.TimedInstr.{TimedInstr}
+use Rattle.block_file.specs.declared.refusal.Checked.{Checked}
+use Rattle.block_file.specs.Trailer.{blockCount, blockStart, instrStart}
+use Rattle.block_file.specs.BlockRecord.{addrAt, countAt, offsetAt, thumbAt, presentAt, lengthAt}
+use Rattle.block_file.specs.Decode.{timedAt}
+use Rattle.block_file.specs.Refusal.{Row, number, place, firstBroken, rows}
+
+-- a block: its address, whether it is Thumb, its code bytes or their absence, its instructions with their costs
+pub record Block : Type 0 where
+  pub addr : ℕ
+  pub thumb : Bool
+  pub code : Option (List ℕ)
+  pub instrs : List TimedInstr
+
+-- n instructions of a file from record k on, at consecutive addresses
+abbrev pub instrsFrom : List ℕ → ℕ → ℕ → ℕ → Bool → List TimedInstr
+instrsFrom f zero k addr thumb = []
+instrsFrom f (suc n) k addr thumb = timedAt f (instrStart f k) addr thumb ∷ instrsFrom f n (suc k) (addr + sizeOf thumb) thumb
+
+-- the bytes of the file at an offset
+abbrev pub part : List ℕ → ℕ → ℕ → List ℕ
+part f start n = take n (drop start f)
+
+-- the code bytes that the block record at an offset names
+abbrev pub codeAt : List ℕ → ℕ → Option (List ℕ)
+codeAt f at = cond (presentAt f at) (some (part f (offsetAt f at) (lengthAt f at))) none
+
+-- the block of the record at an offset, whose instructions are those from record k on
+unfoldable pub blockAt : List ℕ → ℕ → ℕ → Block
+blockAt f at k =
+    record {
+      addr = addrAt f at;
+      thumb = thumbAt f at;
+      code = codeAt f at;
+      instrs = instrsFrom f (countAt f at) k (addrAt f at) (thumbAt f at);
+    }
+
+-- n blocks of a file from block i on, whose instructions are those from record k on
+unfoldable pub blocksFrom : List ℕ → ℕ → ℕ → ℕ → List Block
+blocksFrom f zero i k = []
+blocksFrom f (suc n) i k = blockAt f (blockStart f i) k ∷ blocksFrom f n (suc i) (k + countAt f (blockStart f i))
+
+-- what a file is: refused, with number and place, or accepted, with its blocks
+pub data Parsed : Type 0 where
+  refused : ℕ → ℕ → Parsed
+  accepted : List Block → Parsed
+
+-- the first row that applies refuses the file
+abbrev pub parsed : List ℕ → Option Row → Parsed
+parsed f none = accepted (blocksFrom f (blockCount f) 0 0)
+parsed f (some r) = refused (number r) (place r)
+
+unfoldable pub parse : List ℕ → Parsed
+parse f = parsed f (firstBroken f (rows f))
+
+-- how many instructions some blocks have
+unfoldable pub instrTotal : List Block → ℕ
+instrTotal [] = 0
+instrTotal (b ∷ bs) = length (b .instrs) + instrTotal bs
+
+-- the answer of the check
+abbrev pub checked : Parsed → Checked
+checked (refused n i) = Checked.Refused n i
+checked (accepted bs) = Checked.Accepted (length bs) (instrTotal bs)
