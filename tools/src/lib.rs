@@ -1,0 +1,5 @@
+//! Block files in plain Rust: a builder and a check.
+
+pub mod check;
+pub mod file;
+pub mod record;
