@@ -1,0 +1,128 @@
+//! Stored vectors for the check of block files: each a file with the answer that it must get.
+
+mod blocks;
+mod instructions;
+mod long;
+mod order;
+mod trailer;
+
+use crate::check::{check, Accepted, Refused};
+use crate::file::{Block, File};
+use crate::record::Record;
+use std::collections::HashSet;
+
+/// The reader of the vectors has buffers of fixed size.
+const LONGEST_FILE: usize = 4_096;
+
+pub struct Vector {
+    /// The refusal's number, 0 for an accepted file, and its i.
+    pub number: u32,
+    pub at: u32,
+    /// Counts of an accepted file, 0 for a refused one.
+    pub blocks: u32,
+    pub instructions: u32,
+    pub file: Vec<u8>,
+}
+
+/// The vectors collected so far. Every expectation is held against `check` as it comes in.
+#[derive(Default)]
+struct Vectors {
+    list: Vec<Vector>,
+    /// Files in the list: two ways to break a rule may come to the same file.
+    files: HashSet<Vec<u8>>,
+}
+
+impl Vectors {
+    fn push(&mut self, expected: Result<Accepted, Refused>, file: Vec<u8>) {
+        assert_eq!(check(&file), expected, "{file:?}");
+        assert!(file.len() <= LONGEST_FILE);
+        if !self.files.insert(file.clone()) {
+            return;
+        }
+        let (counts, refused) = match expected {
+            Ok(counts) => (counts, Refused { number: 0, at: 0 }),
+            Err(refused) => (
+                Accepted {
+                    blocks: 0,
+                    instructions: 0,
+                },
+                refused,
+            ),
+        };
+        self.list.push(Vector {
+            number: refused.number,
+            at: refused.at as u32,
+            blocks: counts.blocks as u32,
+            instructions: counts.instructions as u32,
+            file,
+        });
+    }
+
+    /// A file that is accepted with the counts that it was built with.
+    fn accept(&mut self, file: &File) {
+        let counts = Accepted {
+            blocks: file.blocks as u64,
+            instructions: file.instructions as u64,
+        };
+        self.push(Ok(counts), file.bytes.clone());
+    }
+
+    fn refuse(&mut self, number: u32, at: usize, file: &File) {
+        let at = at as u64;
+        self.push(Err(Refused { number, at }), file.bytes.clone());
+    }
+
+    /// A file whose answer is taken from `check`.
+    fn judge(&mut self, file: Vec<u8>) {
+        self.push(check(&file), file);
+    }
+}
+
+pub fn all() -> Vec<Vector> {
+    let mut out = Vectors::default();
+    trailer::add(&mut out);
+    blocks::add(&mut out);
+    instructions::add(&mut out);
+    long::add(&mut out);
+    order::add(&mut out);
+    out.list
+}
+
+/// The vector file: a count, then for each vector five words and the bytes of its file.
+pub fn encode(vectors: &[Vector]) -> Vec<u8> {
+    let mut out = (vectors.len() as u32).to_le_bytes().to_vec();
+    for v in vectors {
+        let length = v.file.len() as u32;
+        for word in [v.number, v.at, v.blocks, v.instructions, length] {
+            out.extend_from_slice(&word.to_le_bytes());
+        }
+        out.extend_from_slice(&v.file);
+    }
+    out
+}
+
+/// `count` blocks of one Bx each, 256 bytes apart from `address` on.
+fn lone_blocks(count: u32, address: u32, thumb: bool, code: bool) -> Vec<Block> {
+    (0..count)
+        .map(|n| Block {
+            address: address + 0x100 * n,
+            thumb,
+            code: code.then(|| vec![n as u8; if thumb { 2 } else { 4 }]),
+            records: vec![Record::bx(14).with_cost(n as u16)],
+        })
+        .collect()
+}
+
+/// The first, a middle and the last of `count` records.
+fn places(count: usize) -> [usize; 3] {
+    [0, count / 2, count - 1]
+}
+
+/// All three places for the first of several values, one place in turn for each of the others: so
+/// that every rule is broken at every place and the vectors stay few.
+fn turn_places(turn: usize, places: [usize; 3]) -> Vec<usize> {
+    match turn {
+        0 => places.to_vec(),
+        _ => vec![places[turn % 3]],
+    }
+}
