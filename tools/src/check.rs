@@ -19,6 +19,29 @@ pub struct Refused {
     pub at: u64,
 }
 
+/// An answer as the C interface and the stored vectors give it: numbers it does not have are 0.
+#[derive(Clone, Copy, Debug, PartialEq, Eq)]
+pub struct Numbers {
+    /// The refusal's number, 0 for an accepted file.
+    pub number: u32,
+    pub at: u64,
+    pub blocks: u64,
+    pub instructions: u64,
+}
+
+impl From<Result<Accepted, Refused>> for Numbers {
+    fn from(answer: Result<Accepted, Refused>) -> Numbers {
+        let (number, at) = answer.map_or_else(|r| (r.number, r.at), |_| (0, 0));
+        let (blocks, instructions) = answer.map_or((0, 0), |a| (a.blocks, a.instructions));
+        Numbers {
+            number,
+            at,
+            blocks,
+            instructions,
+        }
+    }
+}
+
 type Record = [u8; 16];
 
 /// What the trailer points at, once its own rules hold.
@@ -112,7 +135,7 @@ fn is_block(address: u32, flags: u32, count: u32, offset: u32, code_len: u64) ->
     let byte_len = u64::from(count) * u64::from(size);
     flags < 4
         && (1..=65_535).contains(&count)
-        && address % size == 0
+        && address.is_multiple_of(size)
         && u64::from(address) + byte_len <= ADDRESS_END
         && if present {
             u64::from(offset) + byte_len <= code_len

@@ -105,11 +105,8 @@ fn drop_record(rng: &mut Rng, file: &mut File) {
         *word = word.wrapping_sub(less);
     }
     file.bytes.drain(at..at + RECORD);
-    *(if is_block {
-        &mut file.blocks
-    } else {
-        &mut file.instructions
-    }) -= 1;
+    file.blocks -= usize::from(is_block);
+    file.instructions -= usize::from(!is_block);
     for (n, word) in words.into_iter().enumerate() {
         file.set_word(file.trailer_at(n), word);
     }

@@ -6,7 +6,7 @@ mod long;
 mod order;
 mod trailer;
 
-use crate::check::{check, Accepted, Refused};
+use crate::check::{check, Accepted, Numbers, Refused};
 use crate::file::{Block, File};
 use crate::record::Record;
 use std::collections::HashSet;
@@ -15,12 +15,7 @@ use std::collections::HashSet;
 const LONGEST_FILE: usize = 4_096;
 
 pub struct Vector {
-    /// The refusal's number, 0 for an accepted file, and its i.
-    pub number: u32,
-    pub at: u32,
-    /// Counts of an accepted file, 0 for a refused one.
-    pub blocks: u32,
-    pub instructions: u32,
+    pub expected: Numbers,
     pub file: Vec<u8>,
 }
 
@@ -39,23 +34,8 @@ impl Vectors {
         if !self.files.insert(file.clone()) {
             return;
         }
-        let (counts, refused) = match expected {
-            Ok(counts) => (counts, Refused { number: 0, at: 0 }),
-            Err(refused) => (
-                Accepted {
-                    blocks: 0,
-                    instructions: 0,
-                },
-                refused,
-            ),
-        };
-        self.list.push(Vector {
-            number: refused.number,
-            at: refused.at as u32,
-            blocks: counts.blocks as u32,
-            instructions: counts.instructions as u32,
-            file,
-        });
+        let expected = expected.into();
+        self.list.push(Vector { expected, file });
     }
 
     /// A file that is accepted with the counts that it was built with.
@@ -92,9 +72,10 @@ pub fn all() -> Vec<Vector> {
 pub fn encode(vectors: &[Vector]) -> Vec<u8> {
     let mut out = (vectors.len() as u32).to_le_bytes().to_vec();
     for v in vectors {
-        let length = v.file.len() as u32;
-        for word in [v.number, v.at, v.blocks, v.instructions, length] {
-            out.extend_from_slice(&word.to_le_bytes());
+        let e = &v.expected;
+        let length = v.file.len() as u64;
+        for number in [e.number.into(), e.at, e.blocks, e.instructions, length] {
+            out.extend_from_slice(&(number as u32).to_le_bytes());
         }
         out.extend_from_slice(&v.file);
     }

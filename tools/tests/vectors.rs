@@ -7,7 +7,10 @@ fn numbers_and_sizes() {
     // Each vector's answer is held against the check as it is made.
     let vectors = all();
     for number in 0..=7 {
-        let count = vectors.iter().filter(|v| v.number == number).count();
+        let count = vectors
+            .iter()
+            .filter(|v| v.expected.number == number)
+            .count();
         assert!(count >= 50, "{count} vectors with {number}");
     }
     let short = vectors.iter().filter(|v| v.file.len() <= 400).count();

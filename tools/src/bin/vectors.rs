@@ -15,7 +15,10 @@ fn main() -> ExitCode {
         return ExitCode::FAILURE;
     }
     for number in 0..=7 {
-        let count = vectors.iter().filter(|v| v.number == number).count();
+        let count = vectors
+            .iter()
+            .filter(|v| v.expected.number == number)
+            .count();
         match number {
             0 => println!("accepted  {count:5}"),
             _ => println!("refused {number} {count:5}"),

@@ -5,7 +5,7 @@ use super::layout::Span;
 use crate::record::{block_mem, mem, FreeKind, Offset, Operand, Record, AL};
 use crate::rng::Rng;
 
-/// An exit that is always taken and lowered natively: a branch, a pair, a Bx or a pop of PC.
+/// An exit that is always taken: a branch, a pair, a Bx or a pop of PC.
 pub fn exit(rng: &mut Rng, spans: &[Span], i: usize) -> Vec<Record> {
     match rng.below(4) {
         0 => vec![branch(rng, spans, i)],

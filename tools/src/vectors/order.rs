@@ -8,8 +8,8 @@ use crate::generate::{self, Params};
 use crate::record::Record;
 use crate::rng::Rng;
 
-/// A fault as the place and the number that the table gives it. Places are ordered as in the table.
-#[derive(Clone, Copy, PartialEq, Eq, PartialOrd, Ord)]
+/// A place of the table.
+#[derive(Clone, Copy)]
 enum Place {
     Trailer,
     Block(usize),
@@ -17,6 +17,7 @@ enum Place {
     Instruction(usize),
 }
 
+/// A fault by its place and the refusal's number.
 type Fault = (Place, u32);
 
 /// In the table's order.
@@ -35,29 +36,30 @@ const FAULTS: [Fault; 12] = [
     (Place::Instruction(9), 7),
 ];
 
-/// Damaged copies of generated files, and generated files as they are.
-const COPIES: usize = 300;
+/// Generated files as they are, and damaged copies of others.
 const WHOLE: usize = 60;
+const COPIES: usize = 300;
 
 /// Generated files above this length are passed over, to keep the vectors short.
 const SHORT: usize = 400;
 
 pub fn add(out: &mut Vectors) {
-    for n in 0..FAULTS.len() {
-        for m in n + 1..FAULTS.len() {
-            broken(out, &[FAULTS[m], FAULTS[n]]);
+    for (n, &first) in FAULTS.iter().enumerate() {
+        let later = &FAULTS[n + 1..];
+        for &second in later {
+            broken(out, first, &[second]);
         }
-        broken(out, &FAULTS[n..]);
+        broken(out, first, later);
     }
     generated(out);
 }
 
-fn broken(out: &mut Vectors, faults: &[Fault]) {
+/// A file with all these faults, of which the first counts.
+fn broken(out: &mut Vectors, first: Fault, later: &[Fault]) {
     let mut file = base();
-    for &(place, number) in faults {
+    for &(place, number) in later.iter().chain([&first]) {
         break_rule(&mut file, place, number);
     }
-    let first = *faults.iter().min().expect("a fault");
     let at = match first.0 {
         Place::Block(i) | Place::Instruction(i) => i,
         Place::Trailer | Place::AfterBlocks => 0,
@@ -93,14 +95,15 @@ fn break_rule(file: &mut File, place: Place, number: u32) {
 }
 
 fn generated(out: &mut Vectors) {
-    let short = |seed: &u64| generate::file(&Params::small(*seed)).bytes.len() <= SHORT;
-    for seed in (0..).filter(short).take(WHOLE) {
-        out.accept(&generate::file(&Params::small(seed)));
+    let mut files = (0..)
+        .map(|seed| generate::file(&Params::small(seed)))
+        .filter(|file| file.bytes.len() <= SHORT);
+    for file in files.by_ref().take(WHOLE) {
+        out.accept(&file);
     }
     let rng = &mut Rng::new(0);
-    for seed in (WHOLE as u64..).filter(short).take(COPIES) {
+    for file in files.take(COPIES) {
         let faults = rng.between(2, 5);
-        let file = generate::file(&Params::small(seed));
         out.judge(damaged(rng, &file, faults));
     }
 }

@@ -6,8 +6,6 @@ use crate::file::{build, build_with_spare, trailer, File, TRAILER};
 /// Lengths up to here are all tried.
 const LENGTHS: usize = 64;
 
-const WORDS: std::ops::Range<usize> = 0..8;
-
 pub fn add(out: &mut Vectors) {
     let good = build(&lone_blocks(3, 0x0800_0000, false, true));
     out.accept(&good);
@@ -102,7 +100,7 @@ fn counts(out: &mut Vectors, good: &File) {
 
 /// Every bit of every word flipped, and numbers near the right one.
 fn words(out: &mut Vectors, good: &File) {
-    for word in WORDS {
+    for word in 0..TRAILER / 4 {
         let at = good.trailer_at(word);
         let right = good.word(at);
         let flipped = (0..32).map(|bit| right ^ 1 << bit);
@@ -135,10 +133,11 @@ fn wrapped_sums(out: &mut Vectors) {
                     file.set_word(file.trailer_at(word), value);
                 }
                 file.set_word(file.trailer_at(trailer::CODE), code);
-                match code > length {
-                    true => out.refuse(3, 0, &file),
+                if code > length {
+                    out.refuse(3, 0, &file);
+                } else {
                     // The records fit, but are zeros.
-                    false => out.judge(file.bytes.clone()),
+                    out.judge(file.bytes);
                 }
             }
         }
