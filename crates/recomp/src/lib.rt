@@ -1,0 +1,41 @@
+// The public calls, and their C forms.
+pub use block_file::Checked;
+ghost use mathlib.Core.Path.{_≡_};
+ghost use Rattle.block_file.specs.Parse.{parse, checked};
+ghost use Rattle.recomp.specs.Answer.{CheckNumbers, checkNumbers};
+
+// Whether a file is accepted, with its counts of blocks and instructions, or which of refusals 1 to 7 it gets, with its i.
+pub fn check(file: &[u8]) -> Checked
+    ensures { λ r. ⌜ r ≡ checked (parse (now (file .entry))) ⌝ }
+{
+    block_file::check(file)
+}
+
+// The check's numbers, as the C interface hands them over.
+#[no_mangle]
+pub extern "C" fn recomp_check(
+    file: &[u8],
+    at: &mut u64,
+    blocks: &mut u64,
+    instructions: &mut u64,
+) -> u32
+    ensures { λ r. ⌜ record { number = r; at = now (at .exit); blocks = now (blocks .exit); instructions = now (instructions .exit) } ≡ checkNumbers (checked (parse (now (file .entry)))) ⌝ }
+{
+    match check(file) {
+        Checked::Accepted {
+            blocks: b,
+            instructions: i,
+        } => {
+            *at = 0;
+            *blocks = b;
+            *instructions = i;
+            0
+        }
+        Checked::Refused { number, at: i } => {
+            *at = i;
+            *blocks = 0;
+            *instructions = 0;
+            number
+        }
+    }
+}
