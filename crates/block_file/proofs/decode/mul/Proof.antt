@@ -1,3 +1,4 @@
+use mathlib.Core.Path.{refl}
 use Rattle.block_file.specs.Decode.{mulAt}
 use borrow.Author.Needs.{needs}
 use Rattle.block_file.proofs.decode.mul.Statement.{statement}
@@ -56,7 +57,7 @@ shared-slice-read-t22 c = search needs
 -- src/decode.rt:92:1
 returns : tie.Need-returns
 unfolding mulAt
-returns c = cc
+returns c = refl
 
 pub mul-spec : {M : Type 1} → statement M
 mul-spec =

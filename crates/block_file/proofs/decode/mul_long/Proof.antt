@@ -1,3 +1,4 @@
+use mathlib.Core.Path.{refl}
 use Rattle.block_file.specs.Decode.{mulLongAt}
 use borrow.Author.Needs.{needs}
 use Rattle.block_file.proofs.decode.mul_long.Statement.{statement}
@@ -64,7 +65,7 @@ shared-slice-read-t26 c = search needs
 -- src/decode.rt:106:1
 returns : tie.Need-returns
 unfolding mulLongAt
-returns c = cc
+returns c = refl
 
 pub mul-long-spec : {M : Type 1} → statement M
 mul-long-spec =
