@@ -1,3 +1,5 @@
+pub mod Exactly
+pub mod Accepted
 mod Parts
 mod Passes
 mod Rows

@@ -2,10 +2,11 @@
 -- Assumes nothing.
 use mathlib.Core.Path.{_≡_, refl, sym, ap, ap₂, _∙_}
 use mathlib.Core.Bool.{Bool, true, false, not, true≢false}
-use mathlib.Core.List.{List, [], _∷_, _++_, append-assoc, append-nil}
+use mathlib.Core.List.{List, [], _∷_, _++_, append-assoc, append-nil, List·Memᴰ, List·Memᴰ·head, List·Memᴰ·tail, List·Memᴰ·not-nil, List·Memᴰ·cases-cons, Memᴰ·cast}
+use mathlib.Core.Logic.{_⊎_, inl, inr}
 use mathlib.Core.Option.{Option, none, some}
 use Prim.Native.Nat.{ℕ, zero, suc, _+_, _≤_, _<_}
-use native.Mathlib.Nat.{zero-add, add-zero, add-assoc}
+use native.Mathlib.Nat.{zero-add, add-zero, add-assoc, le-of-suc-le-suc, not-suc-le-zero}
 use native.Mathlib.Omega.{arith}
 use borrow.Author.Tests.{le-leb, lt-leb, eqb-true, not-false}
 use lib.ListN.{length}
@@ -48,27 +49,52 @@ length-blocks f (suc n) i k = ap suc (length-blocks f n (suc i) _)
 -- the instructions of n blocks from block i on, with the counts before them
 total-blocks : (f : List ℕ) (n i k : ℕ) → countSum f i + instrTotal (blocksFrom f n i k) ≡ countSum f (i + n)
 unfolding blocksFrom instrTotal countSum blockAt
-total-blocks f zero i k = rw (add-zero, add-zero)
+total-blocks f zero i k = rw (add-zero (countSum f i), add-zero)
 total-blocks f (suc n) i k =
     let rest = total-blocks f n (suc i) (k + countAt f (blockStart f i)) in
     let shift : i + suc n ≡ suc i + n = omega arith in
     rw (shift, ← rest, length-instrs) (sym (add-assoc _ _ _))
 
-never : (n i : ℕ) → Found.Nothing ≡ Found.Row n i → ⊥
-never n i e = let z : _≡_ {A = ℕ} 0 1 = cc in omega arith
+none-first : (b : Bool) (r : Row) (o : Option Row) → pick b r o ≡ none → b ≡ false
+none-first true r o e = absurd (let z : _≡_ {A = ℕ} 0 1 = cc in omega arith)
+none-first false r o e = refl
 
-kept-first : (b : Bool) (r : Row) (o : Option Row) → Found.Nothing ≡ found (pick b r o) → b ≡ false
-kept-first true r o e = absurd (never _ _ e)
-kept-first false r o e = refl
+none-rest : (b : Bool) (r : Row) (o : Option Row) → pick b r o ≡ none → o ≡ none
+none-rest true r o e = absurd (let z : _≡_ {A = ℕ} 0 1 = cc in omega arith)
+none-rest false r o e = e
 
-kept-rest : (b : Bool) (r : Row) (o : Option Row) → Found.Nothing ≡ found (pick b r o) → Found.Nothing ≡ found o
-kept-rest true r o e = absurd (never _ _ e)
-kept-rest false r o e = e
+-- where no row is broken, each is kept
+pub each-kept : (f : List ℕ) (xs : List Row) (r : Row) → firstBroken f xs ≡ none → List·Memᴰ r xs → broken f r ≡ false
+each-kept f [] r e m = absurd (List·Memᴰ·not-nil m)
+each-kept f (x ∷ xs) r e m = go (each-kept f xs r (none-rest (broken f x) x (firstBroken f xs) e)) (List·Memᴰ·cases-cons m)
+  where
+    go : (List·Memᴰ r xs → broken f r ≡ false) → (r ≡ x) ⊎ List·Memᴰ r xs → broken f r ≡ false
+    go rest (inl same) = ap (broken f) same ∙ none-first (broken f x) x (firstBroken f xs) e
+    go rest (inr m′) = rest m′
 
--- where no row is broken, the last is not
-kept-last : (f : List ℕ) (xs : List Row) (r : Row) → Found.Nothing ≡ found (firstBroken f (xs ++ (r ∷ []))) → broken f r ≡ false
-kept-last f [] r e = kept-first (broken f r) r none e
-kept-last f (x ∷ xs) r e = kept-last f xs r (kept-rest (broken f x) x (firstBroken f (xs ++ (r ∷ []))) e)
+-- each block and each instruction has its rows
+pub block-rows : (n i j : ℕ) → j < n → List·Memᴰ (Row.block (i + j)) (blockRows n i) × List·Memᴰ (Row.order (i + j)) (blockRows n i)
+block-rows zero i j h = absurd (not-suc-le-zero h)
+block-rows (suc n) i zero h = (List·Memᴰ·head (ap Row.block (add-zero i)), List·Memᴰ·tail (List·Memᴰ·head (ap Row.order (add-zero i))))
+block-rows (suc n) i (suc j) h =
+    let m = block-rows n (suc i) j (le-of-suc-le-suc h) in
+    let same : i + suc j ≡ suc i + j = omega arith in
+    (List·Memᴰ·tail (List·Memᴰ·tail (Memᴰ·cast (ap Row.block same) (m .0))), List·Memᴰ·tail (List·Memᴰ·tail (Memᴰ·cast (ap Row.order same) (m .1))))
+
+pub instr-rows : (n i j : ℕ) → j < n → List·Memᴰ (Row.instr (i + j)) (instrRows n i)
+instr-rows zero i j h = absurd (not-suc-le-zero h)
+instr-rows (suc n) i zero h = List·Memᴰ·head (ap Row.instr (add-zero i))
+instr-rows (suc n) i (suc j) h =
+    let same : i + suc j ≡ suc i + j = omega arith in
+    List·Memᴰ·tail (Memᴰ·cast (ap Row.instr same) (instr-rows n (suc i) j (le-of-suc-le-suc h)))
+
+sum-last : (xs : List Row) → List·Memᴰ Row.sum (xs ++ (Row.sum ∷ []))
+sum-last [] = List·Memᴰ·head refl
+sum-last (x ∷ xs) = List·Memᴰ·tail (sum-last xs)
+
+found-none : (o : Option Row) → Found.Nothing ≡ found o → o ≡ none
+found-none none e = refl
+found-none (some r) e = absurd (let z : _≡_ {A = ℕ} 0 1 = cc in omega arith)
 
 module _ (f : List ℕ) where
   last-pass : (ys : List Row) → orElse (found (firstBroken f ys)) (checked (parsed f none)) ≡ checked (parsed f (firstBroken f ys))
@@ -103,7 +129,7 @@ module _ (f : List ℕ) where
       → Checked.Accepted (blockCount f) (instrCount f) ≡ checked (parsed f none)
   unfolding countSum
   counts clean =
-      let sums : countSum f (blockCount f) ≡ instrCount f = eqb-true _ _ (not-false _ (kept-last f (blockRows (blockCount f) 0) Row.sum clean)) in
+      let sums : countSum f (blockCount f) ≡ instrCount f = eqb-true _ _ (not-false _ (each-kept f (blockRows (blockCount f) 0 ++ (Row.sum ∷ [])) Row.sum (found-none _ clean) (sum-last (blockRows (blockCount f) 0)))) in
       let total : instrTotal (blocksFrom f (blockCount f) 0 0) ≡ countSum f (blockCount f) = sym (zero-add _) ∙ total-blocks f (blockCount f) 0 0 ∙ ap (countSum f) (zero-add (blockCount f)) in
       ap₂ Checked.Accepted (sym (length-blocks f (blockCount f) 0 0)) (sym (total ∙ sums))
 

@@ -1,7 +1,8 @@
 -- The refusal table of a file: its rows in the order of their places, and the first that applies.
 use Prim.Native.Nat.{ℕ, zero, suc}
 use mathlib.Core.Bool.{Bool, true, false, not}
-use mathlib.Core.List.{List, [], _∷_, _++_}
+use mathlib.Core.Path.{_≡_}
+use mathlib.Core.List.{List, [], _∷_, _++_, List·Memᴰ}
 use mathlib.Core.Option.{Option, none, some}
 use lib.Dec.{eqb}
 use Rattle.block_file.specs.declared.refusal.Found.{Found}
@@ -76,3 +77,11 @@ firstBroken f (r ∷ rs) = pick (broken f r) r (firstBroken f rs)
 abbrev pub found : Option Row → Found
 found none = Found.Nothing
 found (some r) = Found.Row (number r) (place r)
+
+-- a row applies where the table gives its refusal: it is one of the file's rows, its rule is broken, and that of no earlier row is
+pub record Applies (f : List ℕ) (r : Row) : Type 0 where
+  pub before : List Row
+  pub after : List Row
+  pub placed : rows f ≡ before ++ (r ∷ after)
+  pub here : broken f r ≡ true
+  pub earlier : (s : Row) → List·Memᴰ s before → broken f s ≡ false

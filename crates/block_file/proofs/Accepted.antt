@@ -1,0 +1,99 @@
+-- What the readers give of an accepted file: block by block and instruction by instruction what parse has.
+-- Assumes nothing.
+use mathlib.Core.Path.{_≡_, refl, sym, ap, ap₂, _∙_}
+use mathlib.Core.Bool.{Bool, true, false, cond}
+use mathlib.Core.List.{List, [], _∷_, List·Memᴰ, List·Memᴰ·head, List·Memᴰ·tail, Memᴰ·cast, Memᴰ·append-left, Memᴰ·append-right}
+use mathlib.Core.Option.{Option, none, some}
+use Prim.Native.Nat.{ℕ, zero, suc, _+_, _*_, _-_, _≤_, _<_, _^_}
+use native.Mathlib.Nat.{add-zero, zero-add, mul-zero, mul-suc, le-of-suc-le-suc, not-suc-le-zero}
+use native.Mathlib.Omega.{arith}
+use borrow.Author.Tests.{not-false}
+use lib.ListN.{length, getD}
+use Rattle.armv4t.specs.Instr.{sizeOf}
+use Rattle.block_file.specs.declared.decode.TimedInstr.{TimedInstr}
+use Rattle.block_file.specs.declared.read.FoundBlock.{FoundBlock}
+use Rattle.block_file.specs.declared.read.FoundInstr.{FoundInstr}
+use Rattle.block_file.specs.Trailer.{blockCount, instrCount, blockStart, instrStart, trailerRight}
+use Rattle.block_file.specs.BlockRecord.{countAt, countSum, blockRight, keyRises}
+use Rattle.block_file.specs.InstrRecord.{instrRight}
+use Rattle.block_file.specs.Decode.{timedAt}
+use Rattle.block_file.specs.Refusal.{Row, broken, firstBroken, blockRows, instrRows, rows}
+use Rattle.block_file.specs.Parse.{Block, Parsed, instrsFrom, blockAt, blocksFrom, parsed, parse}
+use Rattle.block_file.specs.Read.{recordAt, foundBlock, foundInstr}
+use Rattle.block_file.proofs.Parts.{Parts, parts}
+use Rattle.block_file.proofs.Rules as rules
+use Rattle.block_file.proofs.Whole.{length-blocks, each-kept, block-rows, instr-rows}
+
+shift : (i j : ℕ) → suc i + j ≡ i + suc j
+shift i j = omega arith
+
+next-addr : (addr size j : ℕ) → addr + size + size * j ≡ addr + size * suc j
+next-addr addr size j = rw mul-suc (omega arith)
+
+-- instruction j of some consecutive ones
+pub instr-of : (f : List ℕ) (n k addr : ℕ) (thumb : Bool) (j : ℕ) (d : TimedInstr) → j < n
+    → getD (instrsFrom f n k addr thumb) j d ≡ timedAt f (instrStart f (k + j)) (addr + sizeOf thumb * j) thumb
+instr-of f zero k addr thumb j d h = absurd (not-suc-le-zero h)
+instr-of f (suc n) k addr thumb zero d h = rw (add-zero, mul-zero, add-zero)
+instr-of f (suc n) k addr thumb (suc j) d h =
+    instr-of f n (suc k) (addr + sizeOf thumb) thumb j d (le-of-suc-le-suc h)
+    ∙ ap₂ (λ (m a : ℕ). timedAt f (instrStart f m) a thumb) (shift k j) (next-addr addr (sizeOf thumb) j)
+
+-- block j of some consecutive ones
+pub block-of : (f : List ℕ) (n i k j : ℕ) (d : Block) → j < n → k ≡ countSum f i
+    → getD (blocksFrom f n i k) j d ≡ blockAt f (blockStart f (i + j)) (countSum f (i + j))
+unfolding blocksFrom countSum
+block-of f zero i k j d h e = absurd (not-suc-le-zero h)
+block-of f (suc n) i k zero d h e = rw (add-zero, e)
+block-of f (suc n) i k (suc j) d h e =
+    block-of f n (suc i) (k + countAt f (blockStart f i)) j d (le-of-suc-le-suc h) (ap (λ (m : ℕ). m + countAt f (blockStart f i)) e)
+    ∙ ap (λ (m : ℕ). blockAt f (blockStart f m) (countSum f m)) (shift i j)
+
+in-blocks : (f : List ℕ) {r : Row} → List·Memᴰ r (blockRows (blockCount f) 0) → List·Memᴰ r (rows f)
+in-blocks f m = List·Memᴰ·tail (List·Memᴰ·tail (List·Memᴰ·tail (Memᴰ·append-left _ m)))
+
+in-instrs : (f : List ℕ) {r : Row} → List·Memᴰ r (instrRows (instrCount f) 0) → List·Memᴰ r (rows f)
+in-instrs f m = List·Memᴰ·tail (List·Memᴰ·tail (List·Memᴰ·tail (Memᴰ·append-right (blockRows (blockCount f) 0) (List·Memᴰ·tail m))))
+
+module _ (f : List ℕ) (bs : List Block) (accepted : parse f ≡ Parsed.accepted bs) where
+  no-row : (o : Option Row) → parsed f o ≡ Parsed.accepted bs → o ≡ none
+  no-row none e = refl
+  no-row (some r) e = absurd (let z : _≡_ {A = ℕ} 0 1 = cc in omega arith)
+
+  -- no rule of the file is broken
+  pub all-kept : firstBroken f (rows f) ≡ none
+  unfolding parse
+  all-kept = no-row (firstBroken f (rows f)) accepted
+
+  -- the blocks are those of the records
+  pub blocks-of : bs ≡ blocksFrom f (blockCount f) 0 0
+  unfolding parse
+  blocks-of =
+      let same : Parsed.accepted (blocksFrom f (blockCount f) 0 0) ≡ Parsed.accepted bs = sym (ap (parsed f) all-kept) ∙ accepted in
+      cc
+
+  pub length-of : length bs ≡ blockCount f
+  length-of = ap length blocks-of ∙ length-blocks f (blockCount f) 0 0
+
+  kept : (r : Row) → List·Memᴰ r (rows f) → broken f r ≡ false
+  kept r m = each-kept f (rows f) r all-kept m
+
+  pub parts-of : Parts f
+  parts-of = parts f (not-false _ (kept Row.trailer (List·Memᴰ·tail (List·Memᴰ·tail (List·Memᴰ·head refl)))))
+
+  -- the rules hold of each record
+  pub block-right : (i : ℕ) → i < blockCount f → blockRight f (blockStart f i) ≡ true
+  block-right i h = not-false _ (kept (Row.block i) (in-blocks f (Memᴰ·cast (ap Row.block (sym (zero-add i))) (block-rows (blockCount f) 0 i h .0))))
+
+  pub key-rises : (i : ℕ) → i < blockCount f → keyRises f i ≡ true
+  key-rises i h = not-false _ (kept (Row.order i) (in-blocks f (Memᴰ·cast (ap Row.order (sym (zero-add i))) (block-rows (blockCount f) 0 i h .1))))
+
+  pub instr-right : (i : ℕ) → i < instrCount f → instrRight f (instrStart f i) ≡ true
+  instr-right i h = not-false _ (kept (Row.instr i) (in-instrs f (Memᴰ·cast (ap Row.instr (sym (zero-add i))) (instr-rows (instrCount f) 0 i h))))
+
+  -- the readers find each record
+  pub block-found : (i : ℕ) → i < length bs → foundBlock f i ≡ FoundBlock.At (recordAt f (blockStart f i))
+  block-found i h = sym (rules.block-there f i _ (omega (arith, length-of)) refl (omega (arith, length-of, parts-of)))
+
+  pub instr-found : (i addr : ℕ) (thumb : Bool) → i < instrCount f → foundInstr f i addr thumb ≡ FoundInstr.At (timedAt f (instrStart f i) addr thumb)
+  instr-found i addr thumb h = sym (rules.instr-there f i _ addr thumb h refl (omega (arith, parts-of)))
