@@ -6,4 +6,5 @@ pub mod file;
 pub mod generate;
 pub mod record;
 pub mod rng;
+pub mod samples;
 pub mod vectors;
