@@ -1,0 +1,4 @@
+-- The definitions that the crate's promises name, in the order of document 01.
+pub mod Exits
+pub mod Forest
+pub mod Plan

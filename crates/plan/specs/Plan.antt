@@ -1,0 +1,102 @@
+-- The plan: which blocks share a group, and the order in which groups and blocks are emitted.
+use Prim.Native.Nat.{ℕ, zero, suc, _+_, _/_, _^_}
+use mathlib.Core.Bool.{Bool, true, false, not, cond, _&&_}
+use mathlib.Core.List.{List, [], _∷_, _++_, map}
+use mathlib.Core.Option.{Option, none, some}
+use lib.ListN.{length, getD}
+use lib.Dec.{leb, ltb, eqb}
+use Rattle.block_file.specs.Parse.{Block}
+use Rattle.plan.specs.Exits.{exits}
+use Rattle.plan.specs.Forest.{range, root, hang}
+
+-- the key of a block: its address plus the Thumb bit
+abbrev pub blockKey : Block → ℕ
+blockKey b = b .addr + cond (b .thumb) 1 0
+
+-- the page of an address
+abbrev pub page : ℕ → ℕ
+page addr = addr / 2 ^ 24
+
+-- the blocks that edges join: those whose page is exactly 8
+abbrev pub joinable : Block → Bool
+joinable b = eqb (page (b .addr)) 8
+
+-- the number of the joinable block with a key, among blocks counted from i
+unfoldable pub target : ℕ → List Block → ℕ → Option ℕ
+target k [] i = none
+target k (b ∷ bs) i = cond (eqb (blockKey b) k && joinable b) (some i) (target k bs (suc i))
+
+-- the edge from block i to a key, if there is a block to join
+abbrev pub joinTo : ℕ → List ℕ → Option ℕ → List ℕ
+joinTo i p none = p
+joinTo i p (some j) = hang p i j
+
+-- the edges from block i, in the order of its exits
+unfoldable pub joinExits : List Block → ℕ → List ℕ → List ℕ → List ℕ
+joinExits all i p [] = p
+joinExits all i p (k ∷ ks) = joinExits all i (joinTo i p (target k all 0)) ks
+
+-- the edges from some blocks counted from i, in their order
+unfoldable pub joinBlocks : List Block → List ℕ → ℕ → List Block → List ℕ
+joinBlocks all p i [] = p
+joinBlocks all p i (b ∷ bs) = joinBlocks all (cond (joinable b) (joinExits all i p (exits b)) p) (suc i) bs
+
+-- the parents after all edges; at first each block is its own
+unfoldable pub parents : List Block → List ℕ
+parents bs = joinBlocks bs (range (length bs) 0) 0 bs
+
+-- of n blocks from block i on those whose root is r
+unfoldable pub members : List ℕ → ℕ → ℕ → ℕ → List ℕ
+members p r zero i = []
+members p r (suc n) i = cond (eqb (root p i) r) (i ∷ members p r n (suc i)) (members p r n (suc i))
+
+-- a number before the first one whose key is not below its own
+unfoldable pub insert : List ℕ → ℕ → List ℕ → List ℕ
+insert keys i [] = i ∷ []
+insert keys i (j ∷ js) = cond (leb (getD keys i 0) (getD keys j 0)) (i ∷ j ∷ js) (j ∷ insert keys i js)
+
+-- numbers in the order of their keys
+unfoldable pub sortByKey : List ℕ → List ℕ → List ℕ
+sortByKey keys [] = []
+sortByKey keys (i ∷ is) = insert keys i (sortByKey keys is)
+
+-- a part that is not empty
+abbrev pub close : List ℕ → List (List ℕ)
+close [] = []
+close (i ∷ is) = (i ∷ is) ∷ []
+
+abbrev pub isEmpty : List ℕ → Bool
+isEmpty [] = true
+isEmpty (i ∷ is) = false
+
+-- cuts a component into parts: one closes before a block that would push it over the limit, unless it is empty
+unfoldable pub parts : ℕ → List ℕ → List ℕ → ℕ → List ℕ → List (List ℕ)
+parts limit counts part total [] = close part
+parts limit counts part total (i ∷ is) =
+    cond (ltb limit (total + getD counts i 0) && not (isEmpty part)) (part ∷ parts limit counts (i ∷ []) (getD counts i 0) is)
+    (parts limit counts (part ++ (i ∷ [])) (total + getD counts i 0) is)
+
+-- the groups of n components from root r on
+unfoldable pub groupsFrom : ℕ → List Block → List ℕ → ℕ → ℕ → List (List ℕ)
+groupsFrom limit bs p zero r = []
+groupsFrom limit bs p (suc n) r =
+    parts limit (map (λ (b : Block). length (b .instrs)) bs) [] 0 (sortByKey (map blockKey bs) (members p r (length bs) 0))
+    ++ groupsFrom limit bs p n (suc r)
+
+-- the groups of some blocks, in emission order
+unfoldable pub groups : ℕ → List Block → List (List ℕ)
+groups limit bs = groupsFrom limit bs (parents bs) (length bs) 0
+
+-- two numbers for each block of a group: the group's number and the block's
+abbrev pub groupRows : ℕ → List ℕ → List ℕ
+groupRows g [] = []
+groupRows g (i ∷ is) = g ∷ i ∷ groupRows g is
+
+-- the rows of groups counted from g
+unfoldable pub rowsFrom : ℕ → List (List ℕ) → List ℕ
+rowsFrom g [] = []
+rowsFrom g (is ∷ gs) = groupRows g is ++ rowsFrom (suc g) gs
+
+-- the plan (document 01): in emission order two numbers for each block, group from 0 and block index
+unfoldable pub plan : ℕ → List Block → List ℕ
+plan limit bs = rowsFrom 0 (groups limit bs)

@@ -1,0 +1,1 @@
+// Exits of blocks, and the plan: which blocks share a group, in lent work numbers.
