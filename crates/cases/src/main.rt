@@ -1,4 +1,5 @@
 // Replays the stored vectors of standard input, section by section, and prints what differs.
+mod compare;
 mod input;
 mod report;
 
