@@ -1,10 +1,18 @@
 // Replays the stored vectors of standard input, section by section, and prints what differs.
+mod check_cases;
 mod compare;
 mod input;
 mod report;
+mod sections;
 
-// What stands behind the last section is vectors that nothing replays.
+use sections::Section;
+
+// After a vector that cannot be read nothing can be. What stands behind the last section is
+// vectors that nothing replays.
 fn main() {
+    if !sections::replay(Section::Check) {
+        return;
+    }
     if !input::at_end() {
         report::goes_on();
     }

@@ -1,8 +1,63 @@
-// The lines that the program prints.
+// The lines that the program prints. `k` is the index of a vector in its section.
+use crate::sections::Section;
 use libc::STDOUT_FILENO;
 
 fn text(bytes: &[u8]) {
     io::write_all(STDOUT_FILENO, bytes);
+}
+
+fn number(n: u64) {
+    io::print_decimal(STDOUT_FILENO, n);
+}
+
+fn name(section: Section) {
+    match section {
+        Section::Check => {
+            text(b"check");
+        }
+    }
+}
+
+// Each number with a space in front.
+fn numbers(list: &[u64]) {
+    let mut i = 0;
+    while i < list.len() {
+        text(b" ");
+        number(list[i]);
+        i += 1;
+    }
+}
+
+pub(crate) fn mismatch(section: Section, k: u64, expected: &[u64], got: &[u64]) {
+    name(section);
+    text(b" ");
+    number(k);
+    text(b": expected");
+    numbers(expected);
+    text(b", got");
+    numbers(got);
+    text(b"\n");
+}
+
+pub(crate) fn total(section: Section, cases: u64, mismatches: u64) {
+    name(section);
+    text(b": ");
+    number(cases);
+    text(b" cases, ");
+    number(mismatches);
+    text(b" mismatches\n");
+}
+
+pub(crate) fn ends_early(k: u64) {
+    text(b"input ends early at ");
+    number(k);
+    text(b"\n");
+}
+
+pub(crate) fn too_long(k: u64) {
+    text(b"vector ");
+    number(k);
+    text(b" is too long\n");
 }
 
 pub(crate) fn goes_on() {
