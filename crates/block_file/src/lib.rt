@@ -12,6 +12,7 @@ pub use read::BlockRecord;
 pub use read::FoundBlock;
 pub use read::FoundInstr;
 pub use read::block_at;
+pub use read::block_count;
 pub use read::code_bytes;
 pub use read::instr_at;
 pub use refusal::Checked;

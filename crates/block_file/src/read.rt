@@ -10,8 +10,9 @@ use crate::decode::timed_instr;
 use crate::trailer::part_start;
 use crate::trailer::trailer_word;
 ghost use mathlib.Core.Path.{_≡_};
-ghost use Prim.Native.Nat.{_+_, _≤_};
+ghost use Prim.Native.Nat.{_+_, _≤_, _<_, _^_};
 ghost use lib.ListN.{length};
+ghost use Rattle.block_file.specs.Trailer.{blockCount};
 ghost use Rattle.block_file.specs.Read.{recordAt, foundBlock, foundInstr, codeBytes};
 
 // The fields of a block record.
@@ -31,6 +32,13 @@ pub enum FoundBlock {
 pub enum FoundInstr {
     At(TimedInstr),
     Nothing,
+}
+
+// How many blocks the trailer says that the file has.
+pub fn block_count(file: &[u8]) -> usize
+    ensures { λ r. ⌜ (r ≡ blockCount (now (file .entry))) × (r < 2 ^ 32) ⌝ }
+{
+    trailer_word(file, 2) as usize
 }
 
 fn block_record(file: &[u8], at: usize) -> BlockRecord

@@ -6,6 +6,7 @@ use mathlib.Core.Option.{Option, none, some}
 use lib.ListN.{length, getD}
 use lib.Dec.{leb, ltb, eqb}
 use Rattle.block_file.specs.Parse.{Block}
+use Rattle.plan.specs.declared.search.Target.{Target}
 use Rattle.plan.specs.Exits.{exits}
 use Rattle.plan.specs.Forest.{range, root, hang}
 
@@ -25,6 +26,11 @@ joinable b = eqb (page (b .addr)) 8
 unfoldable pub target : ℕ → List Block → ℕ → Option ℕ
 target k [] i = none
 target k (b ∷ bs) i = cond (eqb (blockKey b) k && joinable b) (some i) (target k bs (suc i))
+
+-- the number of a block that was found, or none
+abbrev pub targetOf : Target → Option ℕ
+targetOf (Target.At i) = some i
+targetOf Target.Nothing = none
 
 -- the edge from block i to a key, if there is a block to join
 abbrev pub joinTo : ℕ → List ℕ → Option ℕ → List ℕ

@@ -1,1 +1,2 @@
 // Exits of blocks, and the plan: which blocks share a group, in lent work numbers.
+mod search;

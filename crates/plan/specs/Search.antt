@@ -1,0 +1,11 @@
+-- Where a key stands among the rising keys of an accepted file.
+use Prim.Native.Nat.{ℕ, _≤_, _<_}
+use mathlib.Core.List.{List}
+use Rattle.block_file.specs.Trailer.{blockCount, blockStart}
+use Rattle.block_file.specs.BlockRecord.{keyAt}
+
+-- r is the number of the first block whose key is not below a key, or the number of blocks
+pub record FirstFrom (f : List ℕ) (key r : ℕ) : Type 0 where
+  pub inside : r ≤ blockCount f
+  pub below : (j : ℕ) → j < r → keyAt f (blockStart f j) < key
+  pub above : (j : ℕ) → r ≤ j → j < blockCount f → key ≤ keyAt f (blockStart f j)
