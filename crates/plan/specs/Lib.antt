@@ -2,5 +2,7 @@
 pub mod Accepted
 pub mod Exits
 pub mod Forest
+pub mod Links
+pub mod Order
 pub mod Plan
 pub mod Search

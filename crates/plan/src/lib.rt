@@ -1,2 +1,4 @@
 // Exits of blocks, and the plan: which blocks share a group, in lent work numbers.
+mod links;
+mod order;
 mod search;

@@ -1,0 +1,52 @@
+-- The emission order as the code makes it: component by component along the links, with the number of the group of each block.
+use Prim.Native.Nat.{ℕ, zero, suc, _+_, _-_, _<_}
+use mathlib.Core.Path.{_≡_}
+use mathlib.Core.Bool.{Bool, true, false, cond, _&&_}
+use mathlib.Core.List.{List, [], _∷_, _++_}
+use lib.ListN.{getD}
+use lib.Dec.{ltb, eqb}
+use Rattle.block_file.specs.Trailer.{blockCount, blockStart}
+use Rattle.block_file.specs.BlockRecord.{countAt}
+
+-- of `left` blocks from block k on those whose root is r
+unfoldable pub chain : List ℕ → ℕ → ℕ → ℕ → List ℕ
+chain roots r zero k = []
+chain roots r (suc left) k = cond (eqb (getD roots k 0) r) (k ∷ chain roots r left (suc k)) (chain roots r left (suc k))
+
+-- what is left of component r from member h on, where there are n blocks
+unfoldable pub rest : List ℕ → ℕ → ℕ → ℕ → List ℕ
+rest roots r n h = cond (ltb h n) (h ∷ chain roots r (n - suc h) (suc h)) []
+
+-- the blocks of `left` components from component r on, where there are n blocks
+unfoldable pub orderFrom : List ℕ → ℕ → ℕ → ℕ → List ℕ
+orderFrom roots n zero r = []
+orderFrom roots n (suc left) r = chain roots r n 0 ++ orderFrom roots n left (suc r)
+
+-- whether a part closes before a block
+abbrev pub closes : ℕ → ℕ → Bool → ℕ → Bool
+closes limit total isOpen count = ltb limit (total + count) && isOpen
+
+-- the group numbers of some members of a component, where group g is reached and has a total of instructions
+unfoldable pub numbersOf : ℕ → List ℕ → ℕ → ℕ → Bool → List ℕ → List ℕ
+numbersOf limit counts g total isOpen [] = []
+numbersOf limit counts g total isOpen (i ∷ is) =
+    cond (closes limit total isOpen (getD counts i 0)) (suc g ∷ numbersOf limit counts (suc g) (getD counts i 0) true is)
+    (g ∷ numbersOf limit counts g (total + getD counts i 0) true is)
+
+-- the number of the next group after them
+unfoldable pub nextGroup : ℕ → List ℕ → ℕ → ℕ → Bool → List ℕ → ℕ
+nextGroup limit counts g total isOpen [] = cond isOpen (suc g) g
+nextGroup limit counts g total isOpen (i ∷ is) =
+    cond (closes limit total isOpen (getD counts i 0)) (nextGroup limit counts (suc g) (getD counts i 0) true is)
+    (nextGroup limit counts g (total + getD counts i 0) true is)
+
+-- the group numbers of the blocks of `left` components from component r on, from group g on
+unfoldable pub numbersFrom : ℕ → List ℕ → List ℕ → ℕ → ℕ → ℕ → ℕ → List ℕ
+numbersFrom limit counts roots n g zero r = []
+numbersFrom limit counts roots n g (suc left) r =
+    numbersOf limit counts g 0 false (chain roots r n 0)
+    ++ numbersFrom limit counts roots n (nextGroup limit counts g 0 false (chain roots r n 0)) left (suc r)
+
+-- the instruction counts of the blocks of a file
+abbrev pub HasCounts : List ℕ → List ℕ → Type 0
+HasCounts f counts = (i : ℕ) → i < blockCount f → getD counts i 0 ≡ countAt f (blockStart f i)
