@@ -1,12 +1,13 @@
 -- The emission order as the code makes it: component by component along the links, with the number of the group of each block.
-use Prim.Native.Nat.{ℕ, zero, suc, _+_, _-_, _<_}
+use Prim.Native.Nat.{ℕ, zero, suc, _+_, _*_, _-_, _<_, _≤_}
 use mathlib.Core.Path.{_≡_}
 use mathlib.Core.Bool.{Bool, true, false, cond, _&&_}
 use mathlib.Core.List.{List, [], _∷_, _++_}
-use lib.ListN.{getD}
+use lib.ListN.{length, getD, take, drop}
 use lib.Dec.{ltb, eqb}
 use Rattle.block_file.specs.Trailer.{blockCount, blockStart}
 use Rattle.block_file.specs.BlockRecord.{countAt}
+use Rattle.plan.specs.Accepted.{Accepted}
 
 -- of `left` blocks from block k on those whose root is r
 unfoldable pub chain : List ℕ → ℕ → ℕ → ℕ → List ℕ
@@ -50,3 +51,16 @@ numbersFrom limit counts roots n g (suc left) r =
 -- the instruction counts of the blocks of a file
 abbrev pub HasCounts : List ℕ → List ℕ → Type 0
 HasCounts f counts = (i : ℕ) → i < blockCount f → getD counts i 0 ≡ countAt f (blockStart f i)
+
+-- what placing the blocks makes of the work numbers, where every block is in one component: part 0 has the emission order, part 2 the group numbers, and nothing past the four parts changed
+pub record Placed (f : List ℕ) (n limit : ℕ) (work work′ : List ℕ) : Type 0 where
+  pub same : length work′ ≡ length work
+  pub after : (k : ℕ) → 4 * n ≤ k → getD work′ k 0 ≡ getD work k 0
+  pub order : length (orderFrom (drop (2 * n) work) n n 0) ≡ n → take n work′ ≡ orderFrom (drop (2 * n) work) n n 0
+  pub numbers :
+      length (orderFrom (drop (2 * n) work) n n 0) ≡ n
+      → Accepted f
+      → n ≡ blockCount f
+      → (counts : List ℕ)
+      → HasCounts f counts
+      → take n (drop (2 * n) work′) ≡ numbersFrom limit counts (drop (2 * n) work) n 0 n 0

@@ -3,14 +3,13 @@ use block_file::FoundBlock;
 use block_file::block_at;
 ghost use mathlib.Core.Path.{_≡_};
 ghost use mathlib.Core.Bool.{cond};
-ghost use mathlib.Core.List.{List};
-ghost use Prim.Native.Nat.{ℕ, _+_, _*_, _≤_, _<_, _^_};
-ghost use lib.ListN.{length, getD, set, take, drop};
+ghost use Prim.Native.Nat.{_+_, _*_, _≤_, _<_, _^_};
+ghost use lib.ListN.{length, set, drop};
 ghost use Rattle.block_file.specs.Trailer.{blockCount, blockStart};
 ghost use Rattle.block_file.specs.BlockRecord.{countAt};
 ghost use Rattle.plan.specs.Accepted.{Accepted};
-ghost use Rattle.plan.specs.Links.{HasRoots, Linked};
-ghost use Rattle.plan.specs.Order.{closes, orderFrom, numbersFrom, HasCounts};
+ghost use Rattle.plan.specs.Links.{Linked};
+ghost use Rattle.plan.specs.Order.{closes, Placed};
 
 // The part of a component that is being filled: the number of its group, and its instructions.
 pub(crate) struct Part {
@@ -56,4 +55,49 @@ fn put_row(work: &mut [u32], n: usize, place: usize, i: u32, group: u32)
 {
     work[place] = i;
     work[2 * n + place] = group;
+}
+
+// The number of the next group: an open part closes with its component.
+fn close_part(group: u32, open: bool) -> u32
+    requires { ⌜ group ≤ 65536 ⌝ }
+    ensures { λ r. ⌜ r ≡ cond «open» (group + 1) group ⌝ }
+{
+    if open { group + 1 } else { group }
+}
+
+// Places all blocks: goes along the links of each component in turn. `r` counts the components begun, `h` is the next member of the last of them, or n.
+pub(crate) fn place_blocks(file: &[u8], work: &mut [u32], n: u32, limit: u64)
+    requires { ⌜ (n ≤ 65536) × (4 * n ≤ length (now work)) ⌝ }
+    requires { ⌜ Linked (drop (2 * n) (now work)) n 0 (now work) ⌝ }
+    ensures { λ _. ⌜ Placed (now (file .entry)) n limit (now (work .entry)) (now (work .exit)) ⌝ }
+{
+    let size = n as usize;
+    let mut place = 0;
+    let mut group = 0;
+    let mut total = 0;
+    let mut open = false;
+    let mut r = 0;
+    let mut h = n;
+    while place < size {
+        if h < n {
+            let member = h as usize;
+            let count = count_of(file, member);
+            let part = take_block(limit, Part { group, total }, open, count);
+            group = part.group;
+            total = part.total;
+            open = true;
+            put_row(work, size, place, h, group);
+            place += 1;
+            h = work[size + member];
+        } else {
+            if size <= r {
+                return;
+            }
+            group = close_part(group, open);
+            total = 0;
+            open = false;
+            h = work[3 * size + r];
+            r += 1;
+        }
+    }
 }
