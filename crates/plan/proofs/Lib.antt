@@ -1,3 +1,5 @@
 mod Keys
 mod Linking
 mod Ordering
+pub mod Roots
+pub mod Ways

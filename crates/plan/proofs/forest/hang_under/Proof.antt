@@ -1,0 +1,68 @@
+-- `hang_under` makes an edge: after both searches, whose roots are still roots, it does what `hang` does to the parents that they left.
+-- Assumes nothing.
+use Prim.Native.Nat.{ℕ, _*_, _<_}
+use mathlib.Core.Path.{_≡_, sym, _∙_}
+use mathlib.Core.List.{List}
+use borrow.Author.Needs.{needs}
+use native.Mathlib.Omega.{arith}
+use lib.ListN.{length, set, length-set}
+use Rattle.plan.specs.Forest.{root, Forest, Flatter, Found, Hung}
+use Rattle.plan.proofs.Roots.{forest-hang, flatter-full, flatter-trans, found-own, same-flatter, same-hang}
+use Rattle.plan.proofs.forest.hang_under.Statement.{statement}
+use Rattle.plan.proofs.forest.hang_under.Tie as tie
+
+module _ {p p₁ p₂ : List ℕ} {i j source target : ℕ} (full : Forest (2 * length p) p) (inside-i : i < length p) (inside-j : j < length p)
+    (first : Found p i source p₁) (second : Found p₁ j target p₂) where
+  both : Flatter p p₂
+  both = flatter-trans (first .kept) (second .kept)
+
+  here : {k : ℕ} → k < length p → k < length p₂
+  here h = rw (both .lengths) h
+
+  source-root : source ≡ root p₂ i
+  source-root = first .is ∙ sym (both .roots i inside-i)
+
+  target-root : target ≡ root p₂ j
+  target-root = second .is ∙ sym (second .kept .roots j (rw (first .kept .lengths) inside-j))
+
+  joins : Hung p i j (set p₂ source target)
+  joins =
+      rw (source-root, target-root)
+      (record {
+        lengths = length-set p₂ _ _ ∙ both .lengths;
+        depth = λ d f. forest-hang (flatter-full both full) (here inside-i) (here inside-j) (both .depth d f);
+        roots = λ d q small same. same-hang (same-flatter both same) (rw (both .lengths) small) (here inside-i) (here inside-j);
+      })
+
+find-requires : tie.Need-find-requires
+find-requires c κs = search needs
+
+find-requires-2 : tie.Need-find-requires-2
+find-requires-2 c κs =
+    let flat = c .before .before .before .find .ensures .kept in
+    (flatter-full flat (c .before .before .before .before .before .before .pre .0), rw (flat .lengths) (c .before .before .before .before .before .before .pre .1 .1))
+
+cast-p : tie.Need-cast-p
+cast-p c =
+    let first = c .before .before .before .before .before .before .find .ensures .kept in
+    let pre = c .before .before .before .before .before .before .before .before .before .pre in
+    omega (arith, c .slice-known3 .given (c .before .before .find2 .result), found-own (flatter-full first (pre .0)) (rw (first .lengths) (pre .1 .1)) (c .before .before .find2 .ensures))
+
+mul-p : tie.Need-mul-p
+mul-p c = search needs
+
+slice-write-p : tie.Need-slice-write-p
+slice-write-p c = search needs
+
+returns : tie.Need-returns
+returns c =
+    let pre = c .before .before .before .before .before .before .before .before .before .pre in
+    joins (pre .0) (pre .1 .0) (pre .1 .1) (c .before .before .before .before .before .before .find .ensures) (c .before .before .find2 .ensures)
+
+same-length : tie.Need-same-length
+same-length c = returns c .lengths
+
+pub hang-under-spec : {M : Type 1} → statement M
+hang-under-spec =
+    tie.close
+    (tie.spec find-requires find-requires-2 cast-p mul-p slice-write-p same-length returns)
