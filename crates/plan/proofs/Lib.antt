@@ -1,5 +1,7 @@
+-- The laws that the functions' proofs share.
 mod Keys
 mod Linking
+mod Numbering
 mod Ordering
 pub mod Roots
 pub mod Ways

@@ -72,7 +72,7 @@ whole : (xs ys zs : List ℕ) → zs ≡ xs ++ ys → length zs ≡ length xs �
 whole xs [] zs e h = sym (e ∙ append-nil xs)
 whole xs (y ∷ ys) zs e h = absurd (omega (arith, ap length e, length-append xs (y ∷ ys)))
 
-length-numbers : (limit : ℕ) (counts : List ℕ) (g t : ℕ) (o : Bool) (is : List ℕ) → length (numbersOf limit counts g t o is) ≡ length is
+pub length-numbers : (limit : ℕ) (counts : List ℕ) (g t : ℕ) (o : Bool) (is : List ℕ) → length (numbersOf limit counts g t o is) ≡ length is
 unfolding numbersOf
 length-numbers limit counts g t o [] = refl
 length-numbers limit counts g t o (i ∷ is) = go (closes limit t o (getD counts i 0)) (length-numbers limit counts (suc g) (getD counts i 0) true is) (length-numbers limit counts g (t + getD counts i 0) true is)

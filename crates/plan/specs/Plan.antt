@@ -106,3 +106,9 @@ rowsFrom g (is ∷ gs) = groupRows g is ++ rowsFrom (suc g) gs
 -- the plan (document 01): in emission order two numbers for each block, group from 0 and block index
 unfoldable pub plan : ℕ → List Block → List ℕ
 plan limit bs = rowsFrom 0 (groups limit bs)
+
+-- two lists as one, number by number in turn
+unfoldable pub interleave : List ℕ → List ℕ → List ℕ
+interleave [] ys = []
+interleave (x ∷ xs) [] = []
+interleave (x ∷ xs) (y ∷ ys) = x ∷ y ∷ interleave xs ys
