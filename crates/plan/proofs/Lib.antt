@@ -1,5 +1,6 @@
 -- The laws that the functions' proofs share.
 mod Keys
+mod Lending
 mod Linking
 mod Numbering
 mod Ordering

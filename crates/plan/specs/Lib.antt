@@ -2,6 +2,7 @@
 pub mod Accepted
 pub mod Exits
 pub mod Forest
+pub mod Groups
 pub mod Links
 pub mod Order
 pub mod Plan

@@ -1,0 +1,69 @@
+-- The parents, part 1 of the work numbers, lent and given back.
+-- Assumes nothing.
+use mathlib.Core.Path.{_≡_, refl, sym, ap, _∙_, subst}
+use mathlib.Core.List.{List, _++_, append-assoc}
+use Prim.Native.Nat.{ℕ, _+_, _*_, _-_, _≤_, _<_}
+use native.Mathlib.Omega.{arith}
+use borrow.Rule.Slice.PartMut.{putMid, midOf, postOf, same-len-mid, mid-len, take-put, drop-put}
+use lib.ListN.{length, getD, set, take, drop, length-set}
+use lib.Seq.{take-at, drop-at, length-take-le, getD-take, getD-drop, getD-set-same, getD-set-other, take-set-le, drop-set-lt, drop-set-add}
+use Rattle.plan.specs.Forest.{Forest, Flatter, Found, root}
+use Rattle.plan.specs.Groups.{part1, Rooted}
+
+twice : (n : ℕ) → 2 * n - n ≡ n
+twice n = omega arith
+
+-- the part that is lent is part 1
+pub lent-is : (n : ℕ) (w : List ℕ) → take (2 * n - n) (drop n w) ≡ part1 n w
+lent-is n w = ap (λ (k : ℕ). take k (drop n w)) (twice n)
+
+pub part-length : (n : ℕ) (w : List ℕ) → 4 * n ≤ length w → length (part1 n w) ≡ n
+part-length n w room = ap length (sym (lent-is n w)) ∙ mid-len n (2 * n) w (omega arith) ∙ twice n
+
+module _ (n : ℕ) (w ys : List ℕ) (room : 4 * n ≤ length w) (long : length ys ≡ n) where
+  abbrev back : List ℕ
+  back = putMid n (2 * n - n) w ys
+
+  pub back-length : length back ≡ length w
+  back-length = same-len-mid n (2 * n - n) w ys (long ∙ sym (twice n) ∙ sym (mid-len n (2 * n) w (omega arith)))
+
+  -- part 1 is what came back
+  pub back-part : part1 n back ≡ ys
+  back-part =
+      ap (take n) (drop-at (take n w) (ys ++ postOf n (2 * n - n) w) n (length-take-le n w (omega arith)))
+      ∙ take-at ys (postOf n (2 * n - n) w) n long
+
+  pub back-after : (k : ℕ) → 2 * n ≤ k → getD back k 0 ≡ getD w k 0
+  back-after k h =
+      let split : 2 * n + (k - 2 * n) ≡ k = omega arith in
+      ap (λ (m : ℕ). getD back m 0) (sym split)
+      ∙ sym (getD-drop (2 * n) back (k - 2 * n) 0)
+      ∙ ap (λ (l : List ℕ). getD l (k - 2 * n) 0) (drop-put n (2 * n) w ys (omega arith) (omega arith) (long ∙ sym (twice n)))
+      ∙ getD-drop (2 * n) w (k - 2 * n) 0
+      ∙ ap (λ (m : ℕ). getD w m 0) split
+
+  pub back-before : (k : ℕ) → k < n → getD back k 0 ≡ getD w k 0
+  back-before k h =
+      sym (getD-take n back k 0 h) ∙ ap (λ (l : List ℕ). getD l k 0) (take-put n (2 * n - n) w ys (omega arith)) ∙ getD-take n w k 0 h
+
+-- a store past part 1 leaves it as it is
+pub part-set : (n : ℕ) (w : List ℕ) (k v : ℕ) → 2 * n ≤ k → part1 n (set w k v) ≡ part1 n w
+part-set n w k v h =
+    let split : n + (k - n) ≡ k = omega arith in
+    ap (λ (m : ℕ). take n (drop n (set w m v))) (sym split)
+    ∙ ap (take n) (drop-set-add n w (k - n) v)
+    ∙ take-set-le n (drop n w) (k - n) v (omega arith)
+
+-- what finding a root in the lent part makes of the work numbers
+pub rooted : (n i : ℕ) (w p′ : List ℕ) (r : ℕ) → 4 * n ≤ length w → i < n → Found (part1 n w) i r p′
+    → Rooted n i w (set (putMid n (2 * n - n) w p′) (2 * n + i) r)
+rooted n i w p′ r room h e =
+    let long : length p′ ≡ n = e .kept .lengths ∙ part-length n w room in
+    let at : getD (set (putMid n (2 * n - n) w p′) (2 * n + i) r) (2 * n + i) 0 ≡ r = getD-set-same (putMid n (2 * n - n) w p′) (2 * n + i) r 0 (omega (arith, back-length n w p′ room long)) in
+    record {
+      same = length-set (putMid n (2 * n - n) w p′) (2 * n + i) r ∙ back-length n w p′ room long;
+      flatter = subst (Flatter (part1 n w)) (sym (part-set n (putMid n (2 * n - n) w p′) (2 * n + i) r (omega arith) ∙ back-part n w p′ room long)) (e .kept);
+      here = at ∙ e .is;
+      small = subst (λ (m : ℕ). m < n) (sym at) (subst (λ (m : ℕ). r < m) long (e .inside));
+      other = λ k l ne. getD-set-other (putMid n (2 * n - n) w p′) (2 * n + i) k r 0 ne ∙ back-after n w p′ room long k l;
+    }

@@ -1,0 +1,18 @@
+-- What the steps of grouping make of the work numbers.
+use Prim.Native.Nat.{ℕ, _+_, _*_, _≤_, _<_}
+use mathlib.Core.Path.{_≡_}
+use mathlib.Core.List.{List}
+use lib.ListN.{length, getD, take, drop}
+use Rattle.plan.specs.Forest.{Flatter, root}
+
+-- part 1 of the work numbers: the parents
+abbrev pub part1 : ℕ → List ℕ → List ℕ
+part1 n work = take n (drop n work)
+
+-- part 2 has the root of block i; of the other numbers only parents may have changed, to no other roots
+pub record Rooted (n i : ℕ) (work work′ : List ℕ) : Type 0 where
+  pub same : length work′ ≡ length work
+  pub flatter : Flatter (part1 n work) (part1 n work′)
+  pub here : getD work′ (2 * n + i) 0 ≡ root (part1 n work) i
+  pub small : getD work′ (2 * n + i) 0 < n
+  pub other : (k : ℕ) → 2 * n ≤ k → (k ≡ 2 * n + i → ⊥) → getD work′ k 0 ≡ getD work k 0
