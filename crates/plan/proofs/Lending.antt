@@ -4,11 +4,14 @@ use mathlib.Core.Path.{_≡_, refl, sym, ap, _∙_, subst}
 use mathlib.Core.List.{List, _++_, append-assoc}
 use Prim.Native.Nat.{ℕ, _+_, _*_, _-_, _≤_, _<_}
 use native.Mathlib.Omega.{arith}
+use native.Mathlib.Nat.{not-suc-le-zero}
+use native.Mathlib.Decide.{ℕ-discrete}
 use borrow.Rule.Slice.PartMut.{putMid, midOf, postOf, same-len-mid, mid-len, take-put, drop-put}
 use lib.ListN.{length, getD, set, take, drop, length-set}
 use lib.Seq.{take-at, drop-at, length-take-le, getD-take, getD-drop, getD-set-same, getD-set-other, take-set-le, drop-set-lt, drop-set-add}
 use Rattle.plan.specs.Forest.{Forest, Flatter, Found, root}
-use Rattle.plan.specs.Groups.{part1, Rooted}
+use Rattle.plan.specs.Groups.{part1, Rooted, AllRooted}
+use Rattle.plan.proofs.Roots.{flatter-trans}
 
 twice : (n : ℕ) → 2 * n - n ≡ n
 twice n = omega arith
@@ -67,3 +70,39 @@ rooted n i w p′ r room h e =
       small = subst (λ (m : ℕ). m < n) (sym at) (subst (λ (m : ℕ). r < m) long (e .inside));
       other = λ k l ne. getD-set-other (putMid n (2 * n - n) w p′) (2 * n + i) k r 0 ne ∙ back-after n w p′ room long k l;
     }
+
+flatter-self : (p : List ℕ) → Flatter p p
+flatter-self p = record { lengths = refl; roots = λ k h. refl; depth = λ d f. f }
+
+pub rooted-none : (n : ℕ) (w : List ℕ) → AllRooted n 0 w w
+rooted-none n w =
+    record {
+      same = refl;
+      flatter = flatter-self (part1 n w);
+      here = λ j h. absurd (not-suc-le-zero h);
+      small = λ j h. absurd (not-suc-le-zero h);
+      after = λ k h. refl;
+    }
+
+pub rooted-more : (n m : ℕ) (w w₁ w₂ : List ℕ) → 4 * n ≤ length w → m < n → AllRooted n m w w₁ → Rooted n m w₁ w₂ → AllRooted n (m + 1) w w₂
+rooted-more n m w w₁ w₂ room h a e =
+    let root-is : root (part1 n w₁) m ≡ root (part1 n w) m = a .flatter .roots m (omega (arith, part-length n w room)) in
+    record {
+      same = e .same ∙ a .same;
+      flatter = flatter-trans (a .flatter) (e .flatter);
+      here = λ j l.
+          elim (ℕ-discrete j m) [
+            | yes g ↦ subst (λ (k : ℕ). getD w₂ (2 * n + k) 0 ≡ root (part1 n w) k) (sym g) (e .here ∙ root-is)
+            | no g ↦ e .other (2 * n + j) (omega arith) (omega arith) ∙ a .here j (omega arith)
+          ];
+      small = λ j l.
+          elim (ℕ-discrete j m) [
+            | yes g ↦ subst (λ (k : ℕ). getD w₂ (2 * n + k) 0 < n) (sym g) (e .small)
+            | no g ↦ subst (λ (k : ℕ). k < n) (sym (e .other (2 * n + j) (omega arith) (omega arith))) (a .small j (omega arith))
+          ];
+      after = λ k l. e .other k (omega arith) (omega arith) ∙ a .after k l;
+    }
+
+-- the forest is still one
+pub rooted-forest : (n m : ℕ) (w w₁ : List ℕ) → AllRooted n m w w₁ → Forest (2 * n) (part1 n w) → Forest (2 * n) (part1 n w₁)
+rooted-forest n m w w₁ a f = a .flatter .depth (2 * n) f

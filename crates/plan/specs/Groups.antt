@@ -16,3 +16,11 @@ pub record Rooted (n i : ℕ) (work work′ : List ℕ) : Type 0 where
   pub here : getD work′ (2 * n + i) 0 ≡ root (part1 n work) i
   pub small : getD work′ (2 * n + i) 0 < n
   pub other : (k : ℕ) → 2 * n ≤ k → (k ≡ 2 * n + i → ⊥) → getD work′ k 0 ≡ getD work k 0
+
+-- part 2 has the roots of the first m blocks
+pub record AllRooted (n m : ℕ) (work work′ : List ℕ) : Type 0 where
+  pub same : length work′ ≡ length work
+  pub flatter : Flatter (part1 n work) (part1 n work′)
+  pub here : (j : ℕ) → j < m → getD work′ (2 * n + j) 0 ≡ root (part1 n work) j
+  pub small : (j : ℕ) → j < m → getD work′ (2 * n + j) 0 < n
+  pub after : (k : ℕ) → 3 * n ≤ k → getD work′ k 0 ≡ getD work k 0
