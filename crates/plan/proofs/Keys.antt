@@ -175,7 +175,7 @@ key-found f i b found k h e g s a =
     s ∙ ap (λ (r : BlockRecord). r .addr + cond (r .thumb) 1 0) (record-found f a i b h (sym e ∙ g)) ∙ key-of-record f (blockStart f i)
 
 -- a record that the reader found is one of the file's
-found-inside : (f : List ℕ) (i : ℕ) (b : BlockRecord) → foundBlock f i ≡ FoundBlock.At b → i < blockCount f
+pub found-inside : (f : List ℕ) (i : ℕ) (b : BlockRecord) → foundBlock f i ≡ FoundBlock.At b → i < blockCount f
 unfolding foundBlock
 found-inside f i b e = go (ltb i (blockCount f)) refl e
   where

@@ -1,4 +1,5 @@
 -- The laws that the functions' proofs share.
+mod Joining
 mod Keys
 mod Lending
 mod Linking

@@ -3,7 +3,7 @@ use Prim.Native.Nat.{ℕ, _+_, _*_, _≤_, _<_}
 use mathlib.Core.Path.{_≡_}
 use mathlib.Core.List.{List}
 use lib.ListN.{length, getD, take, drop}
-use Rattle.plan.specs.Forest.{Flatter, root}
+use Rattle.plan.specs.Forest.{Flatter, Forest, SameRoots, root}
 
 -- part 1 of the work numbers: the parents
 abbrev pub part1 : ℕ → List ℕ → List ℕ
@@ -24,3 +24,11 @@ pub record AllRooted (n m : ℕ) (work work′ : List ℕ) : Type 0 where
   pub here : (j : ℕ) → j < m → getD work′ (2 * n + j) 0 ≡ root (part1 n work) j
   pub small : (j : ℕ) → j < m → getD work′ (2 * n + j) 0 < n
   pub after : (k : ℕ) → 3 * n ≤ k → getD work′ k 0 ≡ getD work k 0
+
+-- what an edge, or several, from block i makes of the work numbers of n blocks: only parents may change, each edge makes a way at most one step longer, and the roots are those of the definition
+pub record Joined (edges n : ℕ) (work work′ : List ℕ) (joins : List ℕ → List ℕ) (accepted : Type 0) : Type 0 where
+  pub same : length work′ ≡ length work
+  pub before : (k : ℕ) → k < n → getD work′ k 0 ≡ getD work k 0
+  pub after : (k : ℕ) → 2 * n ≤ k → getD work′ k 0 ≡ getD work k 0
+  pub depth : (d : ℕ) → Forest d (part1 n work) → Forest (d + edges) (part1 n work′)
+  pub roots : accepted → (d : ℕ) (q : List ℕ) → d + edges ≤ 2 * n → SameRoots d (part1 n work) q → SameRoots (d + edges) (part1 n work′) (joins q)

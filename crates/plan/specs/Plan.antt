@@ -1,10 +1,11 @@
 -- The plan: which blocks share a group, and the order in which groups and blocks are emitted.
-use Prim.Native.Nat.{ℕ, zero, suc, _+_, _/_, _^_}
+use Prim.Native.Nat.{ℕ, zero, suc, _+_, _/_, _^_, _<_}
 use mathlib.Core.Bool.{Bool, true, false, not, cond, _&&_}
 use mathlib.Core.List.{List, [], _∷_, _++_, map}
 use mathlib.Core.Option.{Option, none, some}
 use lib.ListN.{length, getD}
 use lib.Dec.{leb, ltb, eqb}
+use Rattle.block_file.specs.Trailer.{blockCount}
 use Rattle.block_file.specs.Parse.{Block}
 use Rattle.plan.specs.declared.search.Target.{Target}
 use Rattle.plan.specs.Exits.{exits}
@@ -31,6 +32,11 @@ target k (b ∷ bs) i = cond (eqb (blockKey b) k && joinable b) (some i) (target
 abbrev pub targetOf : Target → Option ℕ
 targetOf (Target.At i) = some i
 targetOf Target.Nothing = none
+
+-- a block that was found is one of the file's
+abbrev pub TargetInside : List ℕ → Target → Type 0
+TargetInside f (Target.At i) = i < blockCount f
+TargetInside f Target.Nothing = Unit {0}
 
 -- the edge from block i to a key, if there is a block to join
 abbrev pub joinTo : ℕ → List ℕ → Option ℕ → List ℕ

@@ -1,10 +1,29 @@
 // The groups of an accepted file in the work numbers, four parts of n numbers each.
 use crate::forest::find;
+use crate::forest::hang_under;
+use crate::search::Target;
+use crate::search::find_target;
 ghost use mathlib.Core.Path.{_≡_};
-ghost use Prim.Native.Nat.{ℕ, _+_, _*_, _≤_, _<_, _^_};
-ghost use lib.ListN.{length, getD, take, drop};
-ghost use Rattle.plan.specs.Forest.{Forest, root};
-ghost use Rattle.plan.specs.Groups.{part1, Rooted, AllRooted};
+ghost use Prim.Native.Nat.{_*_, _≤_, _<_};
+ghost use lib.ListN.{length};
+ghost use Rattle.block_file.specs.Trailer.{blockCount};
+ghost use Rattle.plan.specs.Accepted.{Accepted, blocksOf};
+ghost use Rattle.plan.specs.Forest.{Forest};
+ghost use Rattle.plan.specs.Plan.{joinTo, target};
+ghost use Rattle.plan.specs.Groups.{part1, Joined, Rooted, AllRooted};
+
+// The edge from block i to a key, if there is a block of page 8 with that key.
+fn join_key(file: &[u8], work: &mut [u32], n: usize, i: usize, key: u32)
+    requires { ⌜ (4 * n ≤ length (now work)) × (n ≤ 65536) × (i < n) × (n ≡ blockCount (now file)) ⌝ }
+    requires { ⌜ Forest (2 * n) (part1 n (now work)) ⌝ }
+    ensures { λ _. ⌜ Joined 1 n (now (work .entry)) (now (work .exit)) (λ q. joinTo i q (target key (blocksOf (now (file .entry))) 0)) (Accepted (now (file .entry))) ⌝ }
+{
+    let Target::At(j) = find_target(file, key) else {
+        return;
+    };
+    let end = 2 * n;
+    hang_under(&mut work[n..end], i, j);
+}
 
 // Puts the root of block i, by the parents in part 1, into part 2.
 fn put_root(work: &mut [u32], n: usize, i: usize)

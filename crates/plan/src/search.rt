@@ -7,7 +7,7 @@ ghost use mathlib.Core.Path.{_≡_};
 ghost use mathlib.Core.Bool.{cond};
 ghost use Prim.Native.Nat.{_+_};
 ghost use Rattle.plan.specs.Accepted.{Accepted, blocksOf};
-ghost use Rattle.plan.specs.Plan.{target, targetOf};
+ghost use Rattle.plan.specs.Plan.{target, targetOf, TargetInside};
 ghost use Rattle.plan.specs.Search.{FirstFrom};
 
 // The number of a block, if there is one.
@@ -46,6 +46,7 @@ fn first_from(file: &[u8], key: u64) -> usize
 
 // The block of page 8 with a key.
 pub(crate) fn find_target(file: &[u8], key: u32) -> Target
+    ensures { λ r. ⌜ TargetInside (now (file .entry)) r ⌝ }
     ensures { λ r. ⌜ (Accepted (now (file .entry)) → targetOf r ≡ target key (blocksOf (now (file .entry))) 0) ⌝ }
 {
     let i = first_from(file, key as u64);

@@ -27,7 +27,7 @@ enum-told c = search needs
 
 -- src/search.rt:53:9
 returns : tie.Need-returns
-returns c = λ a. keys.search-missing _ _ _ a (c .before .before .before .first-from .ensures a) (sym (c .before .before .block-at .ensures) ∙ c .enum-told .given .1)
+returns c = (tt, λ a. keys.search-missing _ _ _ a (c .before .before .before .first-from .ensures a) (sym (c .before .before .block-at .ensures) ∙ c .enum-told .given .1))
 
 -- src/search.rt:55:8
 record-key-requires : tie.Need-record-key-requires
@@ -35,15 +35,18 @@ record-key-requires c κs = search needs
 
 -- src/search.rt:56:9
 returns-2 : tie.Need-returns-2
-returns-2 c = λ a. keys.search-other _ _ _ a (c .before .before .before .before .before .before .first-from .ensures a) _ (sym (c .before .before .before .before .before .block-at .ensures) ∙ c .before .before .before .block .given .1) (λ e. c .if1 .taken (c .before .record-key .ensures ∙ e))
+returns-2 c = (tt, λ a. keys.search-other _ _ _ a (c .before .before .before .before .before .before .first-from .ensures a) _ (sym (c .before .before .before .before .before .block-at .ensures) ∙ c .before .before .before .block .given .1) (λ e. c .if1 .taken (c .before .record-key .ensures ∙ e)))
 
 -- src/search.rt:48:1
 returns-3 : tie.Need-returns-3
-returns-3 c = λ a. keys.search-there _ _ _ a (c .before .before .before .before .before .before .before .before .first-from .ensures a) _ (sym (c .before .before .before .before .before .before .before .block-at .ensures) ∙ c .before .before .before .before .before .block .given .1) (sym (c .before .before .before .record-key .ensures) ∙ c .before .before .if1 .left) (c .if2 .taken)
+returns-3 c = (
+  keys.found-inside _ _ _ (sym (c .before .before .before .before .before .before .before .block-at .ensures) ∙ c .before .before .before .before .before .block .given .1),
+  λ a. keys.search-there _ _ _ a (c .before .before .before .before .before .before .before .before .first-from .ensures a) _ (sym (c .before .before .before .before .before .before .before .block-at .ensures) ∙ c .before .before .before .before .before .block .given .1) (sym (c .before .before .before .record-key .ensures) ∙ c .before .before .if1 .left) (c .if2 .taken),
+)
 
 -- src/search.rt:48:1
 returns-4 : tie.Need-returns-4
-returns-4 c = λ a. keys.search-apart _ _ _ a (c .before .before .before .before .before .before .before .before .first-from .ensures a) _ (sym (c .before .before .before .before .before .before .before .block-at .ensures) ∙ c .before .before .before .before .before .block .given .1) (c .if2 .left)
+returns-4 c = (tt, λ a. keys.search-apart _ _ _ a (c .before .before .before .before .before .before .before .before .first-from .ensures a) _ (sym (c .before .before .before .before .before .before .before .block-at .ensures) ∙ c .before .before .before .before .before .block .given .1) (c .if2 .left))
 
 pub find-target-spec : {M : Type 1} → statement M
 find-target-spec =

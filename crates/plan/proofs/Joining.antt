@@ -1,0 +1,89 @@
+-- Edges in the work numbers: one, those of a block, and those of all blocks.
+-- Assumes nothing.
+use mathlib.Core.Path.{_≡_, refl, sym, ap, _∙_, subst}
+use mathlib.Core.List.{List, [], _∷_}
+use mathlib.Core.Option.{Option, none, some}
+use Prim.Native.Nat.{ℕ, zero, suc, _+_, _*_, _-_, _≤_, _<_}
+use native.Mathlib.Nat.{add-assoc}
+use native.Mathlib.Omega.{arith}
+use borrow.Rule.Slice.PartMut.{putMid}
+use lib.ListN.{length, getD}
+use Rattle.block_file.specs.Trailer.{blockCount}
+use Rattle.plan.specs.declared.search.Target.{Target}
+use Rattle.plan.specs.Accepted.{blocksOf, Accepted}
+use Rattle.plan.specs.Forest.{Forest, SameRoots, Hung, root, hang}
+use Rattle.plan.specs.Plan.{target, targetOf, TargetInside, joinTo}
+use Rattle.plan.specs.Groups.{part1, Joined}
+use Rattle.plan.proofs.Lending.{part-length, back-length, back-part, back-after, back-before}
+use Rattle.plan.proofs.Roots.{deeper, same-deeper}
+
+module _ (f w : List ℕ) (n i key : ℕ) (found : Target) (says : Accepted f → targetOf found ≡ target key (blocksOf f) 0) where
+  abbrev joins : List ℕ → List ℕ
+  joins q = joinTo i q (target key (blocksOf f) 0)
+
+  -- no block to join
+  pub join-nothing : found ≡ Target.Nothing → Joined 1 n w w (λ q. joinTo i q (target key (blocksOf f) 0)) (Accepted f)
+  join-nothing e =
+      record {
+        same = refl;
+        before = λ k h. refl;
+        after = λ k h. refl;
+        depth = λ d g. deeper g (d + 1) (omega arith);
+        roots = λ a d q room g.
+            subst (SameRoots (d + 1) (part1 n w)) (ap (joinTo i q) (sym (ap targetOf e) ∙ says a)) (same-deeper g (d + 1) (omega arith));
+      }
+
+  -- a block to join
+  pub join-at : (j : ℕ) (p′ : List ℕ) → 4 * n ≤ length w → found ≡ Target.At j → Hung (part1 n w) i j p′
+      → Joined 1 n w (putMid n (2 * n - n) w p′) (λ q. joinTo i q (target key (blocksOf f) 0)) (Accepted f)
+  join-at j p′ room e h =
+      let long : length p′ ≡ n = h .lengths ∙ part-length n w room in
+      let part-is : part1 n (putMid n (2 * n - n) w p′) ≡ p′ = back-part n w p′ room long in
+      record {
+        same = back-length n w p′ room long;
+        before = back-before n w p′ room long;
+        after = back-after n w p′ room long;
+        depth = λ d g. subst (Forest (d + 1)) (sym part-is) (h .depth d g);
+        roots = λ a d q few g.
+            subst (λ (l : List ℕ). SameRoots (d + 1) l (joins q)) (sym part-is)
+            (subst (SameRoots (d + 1) p′) (ap (joinTo i q) (sym (ap targetOf e) ∙ says a)) (h .roots d q (omega (arith, part-length n w room)) g));
+      }
+
+-- the block found is inside
+pub target-inside : (f : List ℕ) (found : Target) (j n : ℕ) → TargetInside f found → found ≡ Target.At j → n ≡ blockCount f → j < n
+target-inside f found j n h e g = subst (λ (m : ℕ). j < m) (sym g) (subst (TargetInside f) e h)
+
+-- no edge
+pub joined-none : (n : ℕ) (w : List ℕ) (accepted : Type 0) → Joined 0 n w w (λ q. q) accepted
+joined-none n w accepted =
+    record {
+      same = refl;
+      before = λ k h. refl;
+      after = λ k h. refl;
+      depth = λ d g. deeper g (d + 0) (omega arith);
+      roots = λ a d q few g. same-deeper g (d + 0) (omega arith);
+    }
+
+-- some edges and then some more
+pub joined-then : {e₁ e₂ n : ℕ} {w w₁ w₂ : List ℕ} {j₁ j₂ : List ℕ → List ℕ} {accepted : Type 0}
+    → Joined e₁ n w w₁ j₁ accepted → Joined e₂ n w₁ w₂ j₂ accepted → Joined (e₁ + e₂) n w w₂ (λ q. j₂ (j₁ q)) accepted
+joined-then {e₁} {e₂} {n} {w} {w₁} {w₂} {j₁} {j₂} a b =
+    record {
+      same = b .same ∙ a .same;
+      before = λ k h. b .before k h ∙ a .before k h;
+      after = λ k h. b .after k h ∙ a .after k h;
+      depth = λ d g. subst (λ (m : ℕ). Forest m (part1 n w₂)) (add-assoc d e₁ e₂) (b .depth (d + e₁) (a .depth d g));
+      roots = λ acc d q few g.
+          subst (λ (m : ℕ). SameRoots m (part1 n w₂) (j₂ (j₁ q))) (add-assoc d e₁ e₂) (b .roots acc (d + e₁) (j₁ q) (omega arith) (a .roots acc d q (omega arith) g));
+    }
+
+-- edges that make no way longer than more edges would
+pub joined-more : {e₁ n : ℕ} {w w₁ : List ℕ} {j : List ℕ → List ℕ} {accepted : Type 0} (e₂ : ℕ) → e₁ ≤ e₂ → Joined e₁ n w w₁ j accepted → Joined e₂ n w w₁ j accepted
+joined-more {e₁} {n} {w} {w₁} e₂ h a =
+    record {
+      same = a .same;
+      before = a .before;
+      after = a .after;
+      depth = λ d g. deeper (a .depth d g) (d + e₂) (omega arith);
+      roots = λ acc d q few g. same-deeper (a .roots acc d q (omega arith) g) (d + e₂) (omega arith);
+    }
