@@ -5,5 +5,6 @@ mod Lending
 mod Linking
 mod Numbering
 mod Ordering
+mod Rows
 pub mod Roots
 pub mod Ways

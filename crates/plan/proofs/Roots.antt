@@ -106,10 +106,14 @@ same-flatter {d} flat same =
       roots = λ k h. let inside = rw (flat .lengths) at h in flat .roots k inside ∙ same .roots k inside;
     }
 
+-- what a search asks of the parents
+pub same-full : {d : ℕ} {p q : List ℕ} → SameRoots d p q → d ≤ 2 * length p → Forest (2 * length p) p
+same-full same small = deeper (same .left) _ small
+
+-- an edge in both keeps the roots the same, where every way has a step to spare
 module _ {d : ℕ} {p q : List ℕ} (same : SameRoots d p q) (small : d + 1 ≤ 2 * length p) {i j : ℕ} (inside-i : i < length p) (inside-j : j < length p) where
-  -- edges keep pace where every way has a step to spare
   full-left : Forest (2 * length p) p
-  full-left = deeper (same .left) _ (omega arith)
+  full-left = same-full same (omega arith)
 
   full-right : Forest (2 * length q) q
   full-right = deeper (same .right) _ (rw (← same .lengths) (omega arith))

@@ -32,7 +32,7 @@ pub(crate) fn find(p: &mut [u32], i: usize) -> usize
     }
 }
 
-// Hangs the root of i under the root of j. Where both have one root, this changes no parent of it.
+// Hangs the root of i under the root of j. Where both have the same root, it stays its own parent.
 pub(crate) fn hang_under(p: &mut [u32], i: usize, j: usize)
     requires { ⌜ Forest (2 * length (now p)) (now p) ⌝ }
     requires { ⌜ i < length (now p) ⌝ }

@@ -1,4 +1,5 @@
 // Exits of blocks, and the plan: which blocks share a group, in lent work numbers.
+mod buffers;
 mod forest;
 mod groups;
 mod links;

@@ -6,6 +6,7 @@ use mathlib.Core.List.{List}
 use native.Mathlib.Nat.{le-refl}
 use native.Mathlib.Omega.{arith}
 use lib.ListN.{length, length-set}
+use mir.Facts.{fits-32-64}
 use Rattle.plan.specs.Forest.{parent, root, Forest, Found}
 use Rattle.plan.proofs.Ways.{Leads, start-inside, parent-inside, above, way, forest, ended, halved, halve, steps, nearer}
 use Rattle.plan.proofs.Roots.{root-of}
@@ -61,7 +62,7 @@ slice-read-up : tie.Need-slice-read-up Inv-loop μ-loop
 slice-read-up c = c .before .loop .inv .inside
 
 cast-up : tie.Need-cast-up Inv-loop μ-loop
-cast-up c = omega (arith, c .slice-known .given (c .before .loop .at))
+cast-up c = fits-32-64 (c .slice-known .given _)
 
 mul-next : tie.Need-mul-next Inv-loop μ-loop
 mul-next c = omega (arith, parent-inside (c .before .before .loop .inv .left))
@@ -76,7 +77,7 @@ slice-write-p : tie.Need-slice-write-p Inv-loop μ-loop
 slice-write-p c = c .before .before .before .loop .inv .inside
 
 cast-at : tie.Need-cast-at Inv-loop μ-loop
-cast-at c = omega (arith, c .slice-known2 .given (parent (c .before .before .before .loop .p) (c .before .before .before .loop .at)))
+cast-at c = fits-32-64 (c .slice-known2 .given _)
 
 loop-less : tie.Need-loop-less Inv-loop μ-loop
 loop-less c = nearer _ (c .before .before .before .loop .inv .left) (c .before .if1 .left)

@@ -6,8 +6,8 @@ use mathlib.Core.List.{List}
 use borrow.Author.Needs.{needs}
 use native.Mathlib.Omega.{arith}
 use lib.ListN.{length, set, length-set}
-use Rattle.plan.specs.Forest.{root, Forest, Flatter, Found, Hung}
-use Rattle.plan.proofs.Roots.{forest-hang, flatter-full, flatter-trans, found-own, same-flatter, same-hang}
+use Rattle.plan.specs.Forest.{parent, root, Forest, Flatter, Found, Hung}
+use Rattle.plan.proofs.Roots.{root-own, forest-hang, flatter-full, flatter-trans, same-flatter, same-hang}
 use Rattle.plan.proofs.forest.hang_under.Statement.{statement}
 use Rattle.plan.proofs.forest.hang_under.Tie as tie
 
@@ -24,6 +24,12 @@ module _ {p p₁ p₂ : List ℕ} {i j source target : ℕ} (full : Forest (2 * 
 
   target-root : target ≡ root p₂ j
   target-root = second .is ∙ sym (second .kept .roots j (rw (first .kept .lengths) inside-j))
+
+  -- neither search moves a root that the other found
+  own-roots : (parent p₂ source ≡ source) × (parent p₂ target ≡ target)
+  own-roots =
+      let full₂ = flatter-full both full in
+      (rw source-root (root-own full₂ (here inside-i)), rw target-root (root-own full₂ (here inside-j)))
 
   joins : Hung p i j (set p₂ source target)
   joins =
@@ -42,11 +48,15 @@ find-requires-2 c κs =
     let flat = c .before .before .before .find .ensures .kept in
     (flatter-full flat (c .before .before .before .before .before .before .pre .0), rw (flat .lengths) (c .before .before .before .before .before .before .pre .1 .1))
 
+-- both roots are elements of the parents, so they fit
 cast-p : tie.Need-cast-p
 cast-p c =
-    let first = c .before .before .before .before .before .before .find .ensures .kept in
     let pre = c .before .before .before .before .before .before .before .before .before .pre in
-    omega (arith, c .slice-known3 .given (c .before .before .find2 .result), found-own (flatter-full first (pre .0)) (rw (first .lengths) (pre .1 .1)) (c .before .before .find2 .ensures))
+    let first = c .before .before .before .before .before .before .find in
+    let second = c .before .before .find2 in
+    let known = c .slice-known3 .given in
+    let owned = own-roots (pre .0) (pre .1 .0) (pre .1 .1) (first .ensures) (second .ensures) in
+    omega (arith, known (first .result), owned .0, known (second .result), owned .1)
 
 mul-p : tie.Need-mul-p
 mul-p c = search needs
