@@ -5,20 +5,13 @@ use mathlib.Core.Bool.{Bool, true, false}
 use mathlib.Core.List.{List, [], _∷_, _++_, List·Memᴰ, List·Memᴰ·head, List·Memᴰ·tail, List·Memᴰ·not-nil, List·Memᴰ·cases-cons}
 use mathlib.Core.Logic.{⊎-elim, _↔_}
 use mathlib.Core.Option.{Option, none, some}
-use Prim.Native.Nat.{ℕ, _-_}
+use Prim.Native.Nat.{ℕ, _-_, _≤_}
 use native.Mathlib.Omega.{arith}
 use lib.ListN.{getD}
 use Rattle.block_file.specs.Trailer.{blockCount}
-use Rattle.block_file.specs.Refusal.{Row, number, place, broken, pick, firstBroken, rows, Applies}
-use Rattle.block_file.specs.Parse.{Block, Parsed, blocksFrom, parsed, parse}
-
--- a row whose rule is broken, with rows before it whose rules are not
-record First (f : List ℕ) (xs : List Row) (r : Row) : Type 0 where
-  before : List Row
-  after : List Row
-  placed : xs ≡ before ++ (r ∷ after)
-  here : broken f r ≡ true
-  earlier : (s : Row) → List·Memᴰ s before → broken f s ≡ false
+use Rattle.block_file.specs.Refusal.{Row, number, place, broken, pick, firstBroken, rows, First, Applies}
+use Rattle.block_file.specs.Parse.{Block, Parsed, blocksFrom, parsed, parse, checkAnswer}
+use Rattle.block_file.specs.Answer.{refusal}
 
 -- the first broken row is the one found
 found-first : (f : List ℕ) (before : List Row) (r : Row) (after : List Row) → broken f r ≡ true
@@ -80,9 +73,7 @@ module _ (f : List ℕ) where
       ap some (same-row s r n i)
 
   applies : (r : Row) → firstBroken f (rows f) ≡ some r → Applies f r
-  applies r e =
-      let t = first-found f (rows f) r e in
-      record { before = t .before; after = t .after; placed = t .placed; here = t .here; earlier = t .earlier }
+  applies r e = first-found f (rows f) r e
 
   applied : (r : Row) → Applies f r → firstBroken f (rows f) ≡ some r
   applied r a = ap (firstBroken f) (a .placed) ∙ found-first f (a .before) r (a .after) (a .here) (a .earlier)
@@ -103,3 +94,25 @@ module _ (f : List ℕ) where
       go : (o : Option Row) → firstBroken f (rows f) ≡ o → ((r : Row) → Applies f r → ⊥) → parsed f o ≡ Parsed.accepted (blocksFrom f (blockCount f) 0 0)
       go none e never = refl
       go (some r) e never = absurd (never r (applies r e))
+
+  -- and so the check answers with it
+  pub answer-exactly : (r : Row) → (checkAnswer (parse f) ≡ refusal (number r) (place r)) ↔ Applies f r
+  unfolding checkAnswer
+  answer-exactly r = (λ e. refused-exactly r .0 (unanswer (parse f) e), λ a. ap checkAnswer (refused-exactly r .1 a))
+    where
+      unanswer : (p : Parsed) {n i : ℕ} → checkAnswer p ≡ refusal n i → p ≡ Parsed.refused n i
+      unanswer (Parsed.refused m j) {n} {i} e =
+          let same-number : m ≡ n = cc in
+          let same-place : j ≡ i = cc in
+          ap₂ Parsed.refused same-number same-place
+      unanswer (Parsed.accepted bs) e = absurd (let z : _≡_ {A = ℕ} 0 1 = cc in omega arith)
+
+-- a refusal's number is 1 to 7, so 0 means accepted
+pub number-range : (r : Row) → (1 ≤ number r) × (number r ≤ 7)
+number-range Row.short = omega arith
+number-range Row.limits = omega arith
+number-range Row.trailer = omega arith
+number-range (Row.block i) = omega arith
+number-range (Row.order i) = omega arith
+number-range Row.sum = omega arith
+number-range (Row.instr i) = omega arith

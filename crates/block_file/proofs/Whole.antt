@@ -13,11 +13,26 @@ use lib.ListN.{length}
 use lib.Dec.{eqb}
 use Rattle.block_file.specs.declared.refusal.Checked.{Checked}
 use Rattle.block_file.specs.declared.refusal.Found.{Found}
+use Rattle.block_file.specs.Answer.{answerOf}
 use Rattle.block_file.specs.declared.decode.TimedInstr.{TimedInstr}
 use Rattle.block_file.specs.Trailer.{blockCount, instrCount, blockStart, withinLimits, trailerRight}
 use Rattle.block_file.specs.BlockRecord.{countAt, countSum}
 use Rattle.block_file.specs.Refusal.{Row, broken, pick, firstBroken, blockRows, instrRows, rows, found}
-use Rattle.block_file.specs.Parse.{Block, Parsed, instrsFrom, blockAt, blocksFrom, parsed, parse, instrTotal, checked}
+use Rattle.block_file.specs.Parse.{Block, Parsed, instrsFrom, blockAt, blocksFrom, parsed, parse, instrTotal, checkAnswer}
+
+-- the answer to a file as the code makes it
+unfoldable pub checked : Parsed → Checked
+checked (Parsed.refused n i) = Checked.Refused n i
+checked (Parsed.accepted bs) = Checked.Accepted (length bs) (instrTotal bs)
+
+-- it stands for the answer of the definition
+pub answered : (p : Parsed) (r : Checked) → r ≡ checked p → answerOf r ≡ checkAnswer p
+unfolding answerOf checked checkAnswer
+answered p r e = ap answerOf e ∙ stands p
+  where
+    stands : (p′ : Parsed) → answerOf (checked p′) ≡ checkAnswer p′
+    stands (Parsed.refused n i) = refl
+    stands (Parsed.accepted bs) = refl
 
 -- the answer of a pass, or another answer where it found nothing
 abbrev pub orElse : Found → Checked → Checked
@@ -28,6 +43,7 @@ orElse Found.Nothing other = other
 one-more : (f : List ℕ) (b : Bool) (r : Row) (o later : Option Row) (other : Checked)
     → orElse (found o) other ≡ checked (parsed f later)
     → orElse (found (pick b r o)) other ≡ checked (parsed f (pick b r later))
+unfolding checked
 one-more f true r o later other e = refl
 one-more f false r o later other e = e
 
@@ -101,16 +117,16 @@ module _ (f : List ℕ) where
   last-pass ys = rw append-nil at (passes f ys [])
 
   pub too-short : length f < 32 → Checked.Refused 1 0 ≡ checked (parse f)
-  unfolding parse
+  unfolding parse checked
   too-short h = simp (lt-leb _ _ h)
 
   module _ (long : 32 ≤ length f) where
     pub over-limits : withinLimits f ≡ false → Checked.Refused 2 0 ≡ checked (parse f)
-    unfolding parse
+    unfolding parse checked
     over-limits e = simp (le-leb _ _ long, e)
 
     pub wrong-trailer : withinLimits f ≡ true → trailerRight f ≡ false → Checked.Refused 3 0 ≡ checked (parse f)
-    unfolding parse
+    unfolding parse checked
     wrong-trailer e h = simp (le-leb _ _ long, e, h)
 
     -- with a right trailer, the pass over the blocks decides, and then the one over the instructions
@@ -127,7 +143,7 @@ module _ (f : List ℕ) where
   -- a file whose blocks pass has the counts of its trailer
   counts : Found.Nothing ≡ found (firstBroken f (blockRows (blockCount f) 0 ++ (Row.sum ∷ [])))
       → Checked.Accepted (blockCount f) (instrCount f) ≡ checked (parsed f none)
-  unfolding countSum
+  unfolding countSum checked
   counts clean =
       let sums : countSum f (blockCount f) ≡ instrCount f = eqb-true _ _ (not-false _ (each-kept f (blockRows (blockCount f) 0 ++ (Row.sum ∷ [])) Row.sum (found-none _ clean) (sum-last (blockRows (blockCount f) 0)))) in
       let total : instrTotal (blocksFrom f (blockCount f) 0 0) ≡ countSum f (blockCount f) = sym (zero-add _) ∙ total-blocks f (blockCount f) 0 0 ∙ ap (countSum f) (zero-add (blockCount f)) in

@@ -1,4 +1,5 @@
 -- The definitions that the crate's promises name, in the order of document 01.
+pub mod Answer
 pub mod Bytes
 pub mod Trailer
 pub mod BlockRecord
@@ -7,3 +8,4 @@ pub mod Decode
 pub mod Refusal
 pub mod Parse
 pub mod Read
+pub mod Examples

@@ -6,7 +6,7 @@ use mathlib.Core.Option.{Option, none, some}
 use lib.ListN.{length, take, drop}
 use Rattle.armv4t.specs.Instr.{sizeOf}
 use Rattle.block_file.specs.declared.decode.TimedInstr.{TimedInstr}
-use Rattle.block_file.specs.declared.refusal.Checked.{Checked}
+use Rattle.block_file.specs.Answer.{Answer, refusal, value, Counts}
 use Rattle.block_file.specs.Trailer.{blockCount, blockStart, instrStart}
 use Rattle.block_file.specs.BlockRecord.{addrAt, countAt, offsetAt, thumbAt, presentAt, lengthAt}
 use Rattle.block_file.specs.Decode.{timedAt}
@@ -52,11 +52,12 @@ pub data Parsed : Type 0 where
   refused : ℕ → ℕ → Parsed
   accepted : List Block → Parsed
 
--- the first row that applies refuses the file
+-- the first broken row refuses the file
 abbrev pub parsed : List ℕ → Option Row → Parsed
 parsed f none = accepted (blocksFrom f (blockCount f) 0 0)
 parsed f (some r) = refused (number r) (place r)
 
+-- a file, by the first rule that it breaks
 unfoldable pub parse : List ℕ → Parsed
 parse f = parsed f (firstBroken f (rows f))
 
@@ -65,7 +66,7 @@ unfoldable pub instrTotal : List Block → ℕ
 instrTotal [] = 0
 instrTotal (b ∷ bs) = length (b .instrs) + instrTotal bs
 
--- the answer of the check
-abbrev pub checked : Parsed → Checked
-checked (refused n i) = Checked.Refused n i
-checked (accepted bs) = Checked.Accepted (length bs) (instrTotal bs)
+-- what the check of a file answers: its refusal, or how many blocks and instructions it has
+unfoldable pub checkAnswer : Parsed → Answer Counts
+checkAnswer (refused n i) = refusal n i
+checkAnswer (accepted bs) = value (record { blocks = length bs; instructions = instrTotal bs })

@@ -1,4 +1,4 @@
--- The refusal table of a file: its rows in the order of their places, and the first that applies.
+-- The refusal table of a file: its rows in the order of their places, and the first whose rule is broken.
 use Prim.Native.Nat.{ℕ, zero, suc}
 use mathlib.Core.Bool.{Bool, true, false, not}
 use mathlib.Core.Path.{_≡_}
@@ -78,10 +78,14 @@ abbrev pub found : Option Row → Found
 found none = Found.Nothing
 found (some r) = Found.Row (number r) (place r)
 
--- a row applies where the table gives its refusal: it is one of the file's rows, its rule is broken, and that of no earlier row is
-pub record Applies (f : List ℕ) (r : Row) : Type 0 where
+-- the first of some rows whose rule is broken, as a fact: it stands among them, its rule is broken, and that of no earlier one is
+pub record First (f : List ℕ) (xs : List Row) (r : Row) : Type 0 where
   pub before : List Row
   pub after : List Row
-  pub placed : rows f ≡ before ++ (r ∷ after)
+  pub placed : xs ≡ before ++ (r ∷ after)
   pub here : broken f r ≡ true
   pub earlier : (s : Row) → List·Memᴰ s before → broken f s ≡ false
+
+-- the table gives a row's refusal: the row is the first broken one of the file
+abbrev pub Applies : List ℕ → Row → Type 0
+Applies f r = First f (rows f) r

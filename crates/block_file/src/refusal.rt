@@ -12,7 +12,8 @@ ghost use mathlib.Core.Bool.{true};
 ghost use mathlib.Core.List.{_∷_, [], _++_};
 ghost use Rattle.block_file.specs.Trailer.{blockCount, instrCount, trailerRight};
 ghost use Rattle.block_file.specs.Refusal.{Row, blockRows, instrRows, firstBroken, found};
-ghost use Rattle.block_file.specs.Parse.{parse, checked};
+ghost use Rattle.block_file.specs.Answer.{answerOf};
+ghost use Rattle.block_file.specs.Parse.{parse, checkAnswer};
 
 // The answer of the check.
 pub enum Checked {
@@ -86,7 +87,7 @@ fn check_instrs(file: &[u8]) -> Found
 
 // Whether a file is accepted, or which refusal it gets.
 pub fn check(file: &[u8]) -> Checked
-    ensures { λ r. ⌜ r ≡ checked (parse (now (file .entry))) ⌝ }
+    ensures { λ r. ⌜ answerOf r ≡ checkAnswer (parse (now (file .entry))) ⌝ }
 {
     if file.len() < 32 {
         return Checked::Refused { number: 1, at: 0 };

@@ -1,12 +1,12 @@
 -- The numbers that a vector of the check holds.
 use Prim.Native.Nat.{ℕ}
 use mathlib.Core.List.{List, [], _∷_}
-use Rattle.block_file.specs.declared.refusal.Checked.{Checked}
+use Rattle.block_file.specs.Answer.{Answer, Counts}
 use Rattle.recomp.specs.Answer.{CheckNumbers, checkNumbers}
 
 abbrev pub inOrder : CheckNumbers → List ℕ
 inOrder n = n .number ∷ n .at ∷ n .blocks ∷ n .instructions ∷ []
 
 -- the numbers of the answer, in the order in which a vector has them
-abbrev pub answerNumbers : Checked → List ℕ
+abbrev pub answerNumbers : Answer Counts → List ℕ
 answerNumbers c = inOrder (checkNumbers c)

@@ -7,7 +7,7 @@ use crate::sections::Outcome;
 use crate::sections::Section;
 use recomp::Checked;
 ghost use mathlib.Core.Path.{_≡_};
-ghost use Rattle.block_file.specs.Parse.{parse, checked};
+ghost use Rattle.block_file.specs.Parse.{parse, checkAnswer};
 ghost use Rattle.cases.specs.Same.{sameNumbers};
 ghost use Rattle.cases.specs.CheckCases.{answerNumbers};
 
@@ -16,7 +16,7 @@ const LONGEST: usize = 4096;
 
 // What the check answers: the refusal's number or 0, its i, the blocks, the instructions.
 fn answer(file: &[u8]) -> [u64; 4]
-    ensures { λ r. ⌜ r ≡ answerNumbers (checked (parse (now (file .entry)))) ⌝ }
+    ensures { λ r. ⌜ r ≡ answerNumbers (checkAnswer (parse (now (file .entry)))) ⌝ }
 {
     match recomp::check(file) {
         Checked::Accepted {
@@ -29,7 +29,7 @@ fn answer(file: &[u8]) -> [u64; 4]
 
 // Whether the check answers all the expected numbers. Where it does not, both answers are printed.
 fn is_right(k: u64, expected: &[u64; 4], file: &[u8]) -> bool
-    ensures { λ r. ⌜ r ≡ sameNumbers (now (expected .entry)) (answerNumbers (checked (parse (now (file .entry))))) ⌝ }
+    ensures { λ r. ⌜ r ≡ sameNumbers (now (expected .entry)) (answerNumbers (checkAnswer (parse (now (file .entry))))) ⌝ }
 {
     let got = answer(file);
     if compare::same(expected, &got) {

@@ -1,7 +1,6 @@
--- The numbers that an answer hands over through the C interface: 0 or the refusal's number, its i, and the values of a success.
+-- The numbers that an answer hands over through the C interface: 0 or the refusal's number, its i, and the values of a success, which are 0 on refusal.
 use Prim.Native.Nat.{ℕ}
-use Rattle.block_file.specs.declared.refusal.Checked.{Checked}
-use Rattle.block_file.specs.declared.refusal.Checked.the-variants.{Accepted, Refused}
+use Rattle.block_file.specs.Answer.{Answer, refusal, value, Counts}
 
 -- what the check hands over
 pub record CheckNumbers : Type 0 where
@@ -10,6 +9,6 @@ pub record CheckNumbers : Type 0 where
   pub blocks : ℕ
   pub instructions : ℕ
 
-abbrev pub checkNumbers : Checked → CheckNumbers
-checkNumbers (Accepted b i) = record { number = 0; at = 0; blocks = b; instructions = i }
-checkNumbers (Refused n i) = record { number = n; at = i; blocks = 0; instructions = 0 }
+abbrev pub checkNumbers : Answer Counts → CheckNumbers
+checkNumbers (refusal n i) = record { number = n; at = i; blocks = 0; instructions = 0 }
+checkNumbers (value c) = record { number = 0; at = 0; blocks = c .blocks; instructions = c .instructions }

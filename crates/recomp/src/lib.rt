@@ -1,12 +1,13 @@
 // The public calls, and their C forms.
 pub use block_file::Checked;
 ghost use mathlib.Core.Path.{_≡_};
-ghost use Rattle.block_file.specs.Parse.{parse, checked};
+ghost use Rattle.block_file.specs.Answer.{answerOf};
+ghost use Rattle.block_file.specs.Parse.{parse, checkAnswer};
 ghost use Rattle.recomp.specs.Answer.{CheckNumbers, checkNumbers};
 
 // Whether a file is accepted, with its counts of blocks and instructions, or which of refusals 1 to 7 it gets, with its i.
 pub fn check(file: &[u8]) -> Checked
-    ensures { λ r. ⌜ r ≡ checked (parse (now (file .entry))) ⌝ }
+    ensures { λ r. ⌜ answerOf r ≡ checkAnswer (parse (now (file .entry))) ⌝ }
 {
     block_file::check(file)
 }
@@ -19,7 +20,7 @@ pub extern "C" fn recomp_check(
     blocks: &mut u64,
     instructions: &mut u64,
 ) -> u32
-    ensures { λ r. ⌜ record { number = r; at = now (at .exit); blocks = now (blocks .exit); instructions = now (instructions .exit) } ≡ checkNumbers (checked (parse (now (file .entry)))) ⌝ }
+    ensures { λ r. ⌜ record { number = r; at = now (at .exit); blocks = now (blocks .exit); instructions = now (instructions .exit) } ≡ checkNumbers (checkAnswer (parse (now (file .entry)))) ⌝ }
 {
     match check(file) {
         Checked::Accepted {

@@ -1,3 +1,4 @@
+use Rattle.block_file.specs.Answer.{answerOf}
 use borrow.Author.Needs.{needs}
 use Rattle.recomp.proofs.recomp_check.Statement.{statement}
 use Rattle.recomp.proofs.recomp_check.Tie as tie
@@ -19,10 +20,12 @@ enum-known-number c = search needs
 
 -- src/lib.rt:16:1
 returns : tie.Need-returns
+unfolding answerOf
 returns c = rw (← c .before .before .before .check .ensures, c .before .b .given .1)
 
 -- src/lib.rt:16:1
 returns-2 : tie.Need-returns-2
+unfolding answerOf
 returns-2 c = rw (← c .before .before .before .check .ensures, c .before .number .given .1)
 
 pub recomp-check-spec : {M : Type 1} → statement M

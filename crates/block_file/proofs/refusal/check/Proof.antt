@@ -16,7 +16,7 @@ use Rattle.block_file.proofs.trailer.within_limits.Reads as within-limi
 
 -- src/refusal.rt:92:9
 returns : tie.Need-returns
-returns c = whole.too-short _ (c .if1 .taken)
+returns c = whole.answered _ _ (whole.too-short _ (c .if1 .taken))
 
 -- src/refusal.rt:94:9
 within-limits-requires : tie.Need-within-limits-requires
@@ -24,7 +24,7 @@ within-limits-requires c κs = search needs
 
 -- src/refusal.rt:95:9
 returns-2 : tie.Need-returns-2
-returns-2 c = whole.over-limits _ (c .before .before .if1 .left) (sym (c .before .within-limits .ensures) ∙ not-true _ (c .if2 .taken))
+returns-2 c = whole.answered _ _ (whole.over-limits _ (c .before .before .if1 .left) (sym (c .before .within-limits .ensures) ∙ not-true _ (c .if2 .taken)))
 
 -- src/refusal.rt:97:9
 trailer-right-requires : tie.Need-trailer-right-requires
@@ -32,7 +32,7 @@ trailer-right-requires c κs = search needs
 
 -- src/refusal.rt:98:9
 returns-3 : tie.Need-returns-3
-returns-3 c = whole.wrong-trailer _ (c .before .before .before .before .if1 .left) (sym (c .before .before .before .within-limits .ensures) ∙ not-false _ (c .before .before .if2 .left)) (sym (c .before .trailer-right .ensures) ∙ not-true _ (c .if3 .taken))
+returns-3 c = whole.answered _ _ (whole.wrong-trailer _ (c .before .before .before .before .if1 .left) (sym (c .before .before .before .within-limits .ensures) ∙ not-false _ (c .before .before .if2 .left)) (sym (c .before .trailer-right .ensures) ∙ not-true _ (c .if3 .taken)))
 
 -- src/refusal.rt:100:40
 check-blocks-requires : tie.Need-check-blocks-requires
@@ -44,7 +44,7 @@ enum-known-number c = search needs
 
 -- src/refusal.rt:101:9
 returns-4 : tie.Need-returns-4
-returns-4 c = whole.blocks-refused _ (c .before .before .before .before .before .before .before .before .if1 .left) (sym (c .before .before .before .before .before .before .before .within-limits .ensures) ∙ not-false _ (c .before .before .before .before .before .before .if2 .left)) (sym (c .before .before .before .before .before .trailer-right .ensures) ∙ not-false _ (c .before .before .before .before .if3 .left)) _ (c .before .before .before .check-blocks .ensures) _ _ (c .before .number .given .1)
+returns-4 c = whole.answered _ _ (whole.blocks-refused _ (c .before .before .before .before .before .before .before .before .if1 .left) (sym (c .before .before .before .before .before .before .before .within-limits .ensures) ∙ not-false _ (c .before .before .before .before .before .before .if2 .left)) (sym (c .before .before .before .before .before .trailer-right .ensures) ∙ not-false _ (c .before .before .before .before .if3 .left)) _ (c .before .before .before .check-blocks .ensures) _ _ (c .before .number .given .1))
 
 enum-told : tie.Need-enum-told
 enum-told c = search needs
@@ -59,7 +59,7 @@ enum-known-number-2 c = search needs
 
 -- src/refusal.rt:104:9
 returns-5 : tie.Need-returns-5
-returns-5 c = whole.instrs-refused _ (c .before .before .before .before .before .before .before .before .before .before .before .if1 .left) (sym (c .before .before .before .before .before .before .before .before .before .before .within-limits .ensures) ∙ not-false _ (c .before .before .before .before .before .before .before .before .before .if2 .left)) (sym (c .before .before .before .before .before .before .before .before .trailer-right .ensures) ∙ not-false _ (c .before .before .before .before .before .before .before .if3 .left)) _ (c .before .before .before .before .before .before .check-blocks .ensures) (c .before .before .before .before .enum-told .given .1) _ (c .before .before .before .check-instrs .ensures) _ _ (c .before .number2 .given .1)
+returns-5 c = whole.answered _ _ (whole.instrs-refused _ (c .before .before .before .before .before .before .before .before .before .before .before .if1 .left) (sym (c .before .before .before .before .before .before .before .before .before .before .within-limits .ensures) ∙ not-false _ (c .before .before .before .before .before .before .before .before .before .if2 .left)) (sym (c .before .before .before .before .before .before .before .before .trailer-right .ensures) ∙ not-false _ (c .before .before .before .before .before .before .before .if3 .left)) _ (c .before .before .before .before .before .before .check-blocks .ensures) (c .before .before .before .before .enum-told .given .1) _ (c .before .before .before .check-instrs .ensures) _ _ (c .before .number2 .given .1))
 
 enum-told-2 : tie.Need-enum-told-2
 enum-told-2 c = search needs
@@ -82,8 +82,8 @@ cast-t14 c = search needs
 
 -- src/refusal.rt:88:1
 returns-6 : tie.Need-returns-6
-returns-6 c = ap₂ Checked.Accepted (c .before .trailer-word .ensures) (c .trailer-word2 .ensures)
-    ∙ whole.all-kept _ (c .before .before .before .before .before .before .before .before .before .before .before .before .if1 .left) (sym (c .before .before .before .before .before .before .before .before .before .before .before .within-limits .ensures) ∙ not-false _ (c .before .before .before .before .before .before .before .before .before .before .if2 .left)) (sym (c .before .before .before .before .before .before .before .before .before .trailer-right .ensures) ∙ not-false _ (c .before .before .before .before .before .before .before .before .if3 .left)) _ (c .before .before .before .before .before .before .before .check-blocks .ensures) (c .before .before .before .before .before .enum-told .given .1) _ (c .before .before .before .before .check-instrs .ensures) (c .before .before .enum-told2 .given .1)
+returns-6 c = whole.answered _ _ (ap₂ Checked.Accepted (c .before .trailer-word .ensures) (c .trailer-word2 .ensures)
+    ∙ whole.all-kept _ (c .before .before .before .before .before .before .before .before .before .before .before .before .if1 .left) (sym (c .before .before .before .before .before .before .before .before .before .before .before .within-limits .ensures) ∙ not-false _ (c .before .before .before .before .before .before .before .before .before .before .if2 .left)) (sym (c .before .before .before .before .before .before .before .before .before .trailer-right .ensures) ∙ not-false _ (c .before .before .before .before .before .before .before .before .if3 .left)) _ (c .before .before .before .before .before .before .before .check-blocks .ensures) (c .before .before .before .before .before .enum-told .given .1) _ (c .before .before .before .before .check-instrs .ensures) (c .before .before .enum-told2 .given .1))
 
 pub check-spec : {M : Type 1} → statement M
 check-spec =
