@@ -1,28 +1,31 @@
 -- What the readers give of an accepted file: block by block and instruction by instruction what parse has.
 -- Assumes nothing.
 use mathlib.Core.Path.{_≡_, refl, sym, ap, ap₂, _∙_}
-use mathlib.Core.Bool.{Bool, true, false, cond}
+use mathlib.Core.Bool.{Bool, true, false, cond, true≢false}
 use mathlib.Core.List.{List, [], _∷_, List·Memᴰ, List·Memᴰ·head, List·Memᴰ·tail, Memᴰ·cast, Memᴰ·append-left, Memᴰ·append-right}
 use mathlib.Core.Option.{Option, none, some}
 use Prim.Native.Nat.{ℕ, zero, suc, _+_, _*_, _-_, _≤_, _<_, _^_}
 use native.Mathlib.Nat.{add-zero, zero-add, mul-zero, mul-suc, le-of-suc-le-suc, not-suc-le-zero}
 use native.Mathlib.Omega.{arith}
-use borrow.Author.Tests.{not-false}
+use borrow.Author.Tests.{not-false, eqb-true, leb-true, le-leb}
+use native.Mathlib.Decide.{le-ind}
 use lib.ListN.{length, getD}
+use lib.Dec.{leb}
 use Rattle.armv4t.specs.Instr.{sizeOf}
 use Rattle.block_file.specs.declared.decode.TimedInstr.{TimedInstr}
+use Rattle.block_file.specs.declared.read.BlockRecord.{BlockRecord}
 use Rattle.block_file.specs.declared.read.FoundBlock.{FoundBlock}
 use Rattle.block_file.specs.declared.read.FoundInstr.{FoundInstr}
-use Rattle.block_file.specs.Trailer.{blockCount, instrCount, blockStart, instrStart, trailerRight}
-use Rattle.block_file.specs.BlockRecord.{countAt, countSum, blockRight, keyRises}
+use Rattle.block_file.specs.Trailer.{blockCount, instrCount, codeCount, blockStart, instrStart, trailerRight, withinLimits}
+use Rattle.block_file.specs.BlockRecord.{addrAt, countAt, offsetAt, thumbAt, presentAt, lengthAt, countSum, codeRight, blockRight, keyRises}
 use Rattle.block_file.specs.InstrRecord.{instrRight}
 use Rattle.block_file.specs.Decode.{timedAt}
 use Rattle.block_file.specs.Refusal.{Row, broken, firstBroken, blockRows, instrRows, rows}
-use Rattle.block_file.specs.Parse.{Block, Parsed, instrsFrom, blockAt, blocksFrom, parsed, parse}
-use Rattle.block_file.specs.Read.{recordAt, foundBlock, foundInstr}
+use Rattle.block_file.specs.Parse.{Block, Parsed, instrsFrom, codeAt, blockAt, blocksFrom, parsed, parse}
+use Rattle.block_file.specs.Read.{recordAt, foundBlock, foundInstr, codeBytes}
 use Rattle.block_file.proofs.Parts.{Parts, parts}
 use Rattle.block_file.proofs.Rules as rules
-use Rattle.block_file.proofs.Whole.{length-blocks, each-kept, block-rows, instr-rows}
+use Rattle.block_file.proofs.Whole.{length-instrs, length-blocks, each-kept, block-rows, instr-rows}
 
 shift : (i j : ℕ) → suc i + j ≡ i + suc j
 shift i j = omega arith
@@ -54,6 +57,21 @@ in-blocks f m = List·Memᴰ·tail (List·Memᴰ·tail (List·Memᴰ·tail (Mem�
 
 in-instrs : (f : List ℕ) {r : Row} → List·Memᴰ r (instrRows (instrCount f) 0) → List·Memᴰ r (rows f)
 in-instrs f m = List·Memᴰ·tail (List·Memᴰ·tail (List·Memᴰ·tail (Memᴰ·append-right (blockRows (blockCount f) 0) (List·Memᴰ·tail m))))
+
+in-sum : (f : List ℕ) → List·Memᴰ Row.sum (rows f)
+in-sum f = List·Memᴰ·tail (List·Memᴰ·tail (List·Memᴰ·tail (Memᴰ·append-right (blockRows (blockCount f) 0) (List·Memᴰ·head refl))))
+
+-- the instructions of block i are among those of the first n blocks
+sum-above : (f : List ℕ) (i n : ℕ) → i < n → countSum f i + countAt f (blockStart f i) ≤ countSum f n
+unfolding countSum
+sum-above f i n h = le-ind (λ (m : ℕ). countSum f i + countAt f (blockStart f i) ≤ countSum f m) (omega arith) (λ m _ below. omega arith) n h
+
+-- a record has the fields of a block
+pub record Reads (f : List ℕ) (b : Block) (r : BlockRecord) : Type 0 where
+  pub addr : r .addr ≡ b .addr
+  pub thumb : r .thumb ≡ b .thumb
+  pub count : r .count ≡ length (b .instrs)
+  pub code : b .code ≡ cond (r .present) (some (codeBytes f r)) none
 
 module _ (f : List ℕ) (bs : List Block) (accepted : parse f ≡ Parsed.accepted bs) where
   no-row : (o : Option Row) → parsed f o ≡ Parsed.accepted bs → o ≡ none
@@ -97,3 +115,71 @@ module _ (f : List ℕ) (bs : List Block) (accepted : parse f ≡ Parsed.accepte
 
   pub instr-found : (i addr : ℕ) (thumb : Bool) → i < instrCount f → foundInstr f i addr thumb ≡ FoundInstr.At (timedAt f (instrStart f i) addr thumb)
   instr-found i addr thumb h = sym (rules.instr-there f i _ addr thumb h refl (omega (arith, parts-of)))
+
+  -- the limits hold
+  limits : withinLimits f ≡ true
+  limits = not-false _ (kept Row.limits (List·Memᴰ·tail (List·Memᴰ·head refl)))
+
+  pub few-blocks : blockCount f ≤ 65536
+  few-blocks =
+      let never : 65536 < blockCount f → ⊥ = λ h. true≢false (sym limits ∙ sym (rules.many-blocks f h)) in
+      omega arith
+
+  pub few-instrs : instrCount f ≤ 1048576
+  few-instrs =
+      let never : 1048576 < instrCount f → ⊥ = λ h. true≢false (sym limits ∙ sym (rules.many-instrs f h)) in
+      omega arith
+
+  -- the counts sum to I
+  pub sums : countSum f (blockCount f) ≡ instrCount f
+  sums = eqb-true _ _ (not-false _ (kept Row.sum (in-sum f)))
+
+  -- what the rules say of block i
+  module _ (i : ℕ) (inside : i < blockCount f) where
+    right : blockRight f (blockStart f i) ≡ true
+    right = block-right i inside
+
+    pub has-instr : 1 ≤ countAt f (blockStart f i)
+    has-instr =
+        let never : countAt f (blockStart f i) < 1 → ⊥ = λ h. true≢false (sym right ∙ sym (rules.no-count f (blockStart f i) h)) in
+        omega arith
+
+    pub ends-inside : addrAt f (blockStart f i) + lengthAt f (blockStart f i) ≤ 2 ^ 32
+    ends-inside =
+        let never : 2 ^ 32 < addrAt f (blockStart f i) + lengthAt f (blockStart f i) → ⊥ = λ h. true≢false (sym right ∙ sym (rules.end-past f (blockStart f i) h)) in
+        omega arith
+
+    pub instrs-inside : countSum f i + countAt f (blockStart f i) ≤ instrCount f
+    instrs-inside = omega (arith, sum-above f i (blockCount f) inside, sums)
+
+    -- present code bytes are inside the file
+    pub code-inside : presentAt f (blockStart f i) ≡ true → offsetAt f (blockStart f i) + lengthAt f (blockStart f i) ≤ length f
+    unfolding codeRight
+    code-inside e =
+        let within : leb (offsetAt f (blockStart f i) + lengthAt f (blockStart f i)) (codeCount f) ≡ true = (rw e at (rules.code-kept f (blockStart f i) right)) in
+        let below : offsetAt f (blockStart f i) + lengthAt f (blockStart f i) ≤ codeCount f = leb-true _ _ within in
+        omega (arith, below, parts-of)
+
+    -- the reader gives the fields of the block
+    pub record-reads : Reads f (blockAt f (blockStart f i) (countSum f i)) (recordAt f (blockStart f i))
+    unfolding blockAt recordAt codeBytes
+    record-reads =
+        record
+          { addr = refl
+          ; thumb = refl
+          ; count = sym (length-instrs f (countAt f (blockStart f i)) (countSum f i) _ _)
+          ; code = same-code (presentAt f (blockStart f i)) refl
+          }
+      where
+        same-code : (b : Bool) → presentAt f (blockStart f i) ≡ b
+            → codeAt f (blockStart f i) ≡ cond (presentAt f (blockStart f i)) (some (codeBytes f (recordAt f (blockStart f i)))) none
+        same-code true e = rw (e, le-leb _ _ (code-inside e))
+        same-code false e = rw e
+
+    pub instr-reads : (j : ℕ) (d : TimedInstr) → j < countAt f (blockStart f i)
+        → foundInstr f (countSum f i + j) (addrAt f (blockStart f i) + sizeOf (thumbAt f (blockStart f i)) * j) (thumbAt f (blockStart f i))
+        ≡ FoundInstr.At (getD (blockAt f (blockStart f i) (countSum f i) .instrs) j d)
+    unfolding blockAt
+    instr-reads j d h =
+        instr-found (countSum f i + j) _ _ (omega (arith, instrs-inside))
+        ∙ ap FoundInstr.At (sym (instr-of f (countAt f (blockStart f i)) (countSum f i) (addrAt f (blockStart f i)) (thumbAt f (blockStart f i)) j d h))

@@ -8,6 +8,7 @@ use native.Mathlib.Nat.{add-sub-cancel-left}
 use lib.ListN.{length, take, drop}
 use lib.Dec.{leb, ltb, eqb}
 use borrow.Author.Tests.{le-ltb, lt-ltb, le-leb, lt-leb, eq-eqb, ne-eqb}
+use Rattle.block_file.proofs.Parts.{right-true}
 use Rattle.block_file.specs.Bytes.{byteAt}
 use Rattle.block_file.specs.Trailer.{edition, blocksBack, blockCount, instrsBack, instrCount, codeBack, codeCount, fileLength, withinLimits, trailerRight}
 use Rattle.block_file.specs.BlockRecord.{addrAt, flagsAt, countAt, lengthAt, aligned, codeRight, blockRight}
@@ -23,6 +24,10 @@ module _ (f : List ℕ) where
   pub many-blocks : 65536 < blockCount f → false ≡ withinLimits f
   unfolding withinLimits
   many-blocks h = simp (lt-leb _ _ h)
+
+  pub many-instrs : 1048576 < instrCount f → false ≡ withinLimits f
+  unfolding withinLimits
+  many-instrs h = simp (lt-leb _ _ h, and-false)
 
   pub few-blocks : blockCount f ≤ 65536 → leb (instrCount f) 1048576 ≡ withinLimits f
   unfolding withinLimits
@@ -78,6 +83,13 @@ module _ (f : List ℕ) (at : ℕ) where
       → codeRight f at ≡ blockRight f at
   unfolding blockRight
   right-but-code a b c d e = simp (lt-ltb _ _ a, le-leb _ _ b, le-leb _ _ c, d, le-leb _ _ e)
+
+  pub code-kept : blockRight f at ≡ true → codeRight f at ≡ true
+  unfolding blockRight
+  code-kept e =
+      right-true
+      (ltb (flagsAt f at) 4 && leb 1 (countAt f at) && leb (countAt f at) 65535 && aligned f at && leb (addrAt f at + lengthAt f at) (2 ^ 32))
+      (codeRight f at) e
 
   pub even-target : byteAt f at ≡ 5 → even (byteAt f (at + 12)) ≡ evenFields f at
   unfolding evenFields

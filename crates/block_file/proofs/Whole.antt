@@ -53,7 +53,7 @@ passes : (f : List ℕ) (xs ys : List Row)
 passes f [] ys = refl
 passes f (r ∷ xs) ys = one-more f (broken f r) r (firstBroken f xs) (firstBroken f (xs ++ ys)) _ (passes f xs ys)
 
-length-instrs : (f : List ℕ) (n k addr : ℕ) (thumb : Bool) → length (instrsFrom f n k addr thumb) ≡ n
+pub length-instrs : (f : List ℕ) (n k addr : ℕ) (thumb : Bool) → length (instrsFrom f n k addr thumb) ≡ n
 length-instrs f zero k addr thumb = refl
 length-instrs f (suc n) k addr thumb = ap suc (length-instrs f n (suc k) _ thumb)
 
