@@ -1,48 +1,39 @@
-use Rattle.block_file.proofs.Rows.{within-false, within-same, within-all}
+use mathlib.Core.Path.{_≡_, refl, _∙_}
 use mathlib.Core.Logic.{⊎-elim}
-use Rattle.block_file.specs.InstrRecord.{within as row-within}
-use lib.ListN.{length, take}
-use Prim.Native.Nat.{ℕ, _+_, _-_, _≤_}
-use mathlib.Core.Path.{_≡_, refl, _∙_, ap, sym}
-use borrow.Author.Needs.{needs}
+use Prim.Native.Nat.{_+_, _-_, _≤_}
 use native.Mathlib.Omega.{arith}
+use lib.ListN.{length, take}
+use borrow.Author.Needs.{needs}
+use Rattle.block_file.specs.InstrRecord.{within as row-within}
+use Rattle.block_file.proofs.Rows.{within-false, within-same, within-all}
 use Rattle.block_file.proofs.instr_record.within.Statement.{statement}
 use Rattle.block_file.proofs.instr_record.within.Tie as tie
-use Rattle.block_file.proofs.instr_record.within.Reads as reads
-use Rattle.block_file.proofs.instr_record.within.Lts as lts
 
 abbrev Inv-loop : tie.InvT-loop
-Inv-loop file at row ok₀ k₀ ok k = (k ≤ 16) × (at + 16 ≤ length file) × (length row ≡ 16) × (ok ≡ row-within file at (take k row))
+Inv-loop file at row ok₀ k₀ ok k = (k ≤ 12) × (at + 12 ≤ length file) × (length row ≡ 12) × (ok ≡ row-within file at (take k row))
 
 abbrev μ-loop : tie.MeasureT-loop
-μ-loop file at row ok₀ k₀ ok k = 16 - k
+μ-loop file at row ok₀ k₀ ok k = 12 - k
 
--- src/instr.rt:59:5
 loop-holds : tie.Need-loop-holds Inv-loop μ-loop
 unfolding row-within
 loop-holds c = (omega arith, search needs, search needs, refl)
 
--- src/instr.rt:60:12
 array-read-if1 : tie.Need-array-read-if1 Inv-loop μ-loop
 array-read-if1 c = omega arith
 
--- src/instr.rt:60:26
 add-if1 : tie.Need-add-if1 Inv-loop μ-loop
 add-if1 c = omega arith
 
--- src/instr.rt:60:21
 shared-slice-read-if1 : tie.Need-shared-slice-read-if1 Inv-loop μ-loop
 shared-slice-read-if1 c = omega arith
 
--- src/instr.rt:63:9
 add-k : tie.Need-add-k Inv-loop μ-loop
 add-k c = omega arith
 
--- src/instr.rt:59:5
 loop-less : tie.Need-loop-less Inv-loop μ-loop
 loop-less c = omega arith
 
--- src/instr.rt:59:5
 loop-again : tie.Need-loop-again Inv-loop μ-loop
 loop-again c = (
   omega arith,
@@ -52,7 +43,6 @@ loop-again c = (
       (λ w. w .1 ∙ c .before .before .before .loop .inv .3 ∙ within-same _ _ _ _ (omega arith) (w .0 .left)) (c .if1 .came),
 )
 
--- src/instr.rt:53:1
 returns : tie.Need-returns Inv-loop μ-loop
 returns c = let full : length (c .before .before .args .t3) ≤ c .before .loop .k = omega arith in
     c .before .loop .inv .3 ∙ within-all _ _ _ _ full

@@ -1,0 +1,13 @@
+use borrow.Author.Needs.{needs}
+use Rattle.block_file.proofs.Rows.{no-form}
+use Rattle.block_file.proofs.instr_record.row_form.Statement.{statement}
+use Rattle.block_file.proofs.instr_record.row_form.Tie as tie
+
+returns : tie.Need-returns
+returns c = search needs
+
+returns-2 : tie.Need-returns-2
+returns-2 c = (search needs, λ kind. no-form kind (c .before .args .form) (c .if1 .left))
+
+pub row-form-spec : {M : Type 1} → statement M
+row-form-spec = tie.close (tie.spec returns returns-2)

@@ -1,0 +1,13 @@
+use borrow.Author.Needs.{needs}
+use Rattle.block_file.proofs.Rows.{free-kind}
+use Rattle.block_file.proofs.instr_record.row_kind.Statement.{statement}
+use Rattle.block_file.proofs.instr_record.row_kind.Tie as tie
+
+returns : tie.Need-returns
+returns c = search needs
+
+returns-2 : tie.Need-returns-2
+returns-2 c = (search needs, λ form. free-kind (c .before .args .kind) form (c .if1 .left))
+
+pub row-kind-spec : {M : Type 1} → statement M
+row-kind-spec = tie.close (tie.spec returns returns-2)
