@@ -18,7 +18,7 @@ use Rattle.block_file.specs.declared.read.FoundBlock.{FoundBlock}
 use Rattle.block_file.specs.declared.read.FoundInstr.{FoundInstr}
 use Rattle.block_file.specs.Decode.{timedAt}
 use Rattle.block_file.specs.Read.{recordAt, foundBlock, foundInstr, codeBytes}
-use Rattle.block_file.specs.InstrRecord.{largest, within, even, evenFields, instrRight}
+use Rattle.block_file.specs.InstrRecord.{largest, within, evenFields, instrRight}
 
 module _ (f : List ℕ) where
   pub many-blocks : 65536 < blockCount f → false ≡ withinLimits f
@@ -90,22 +90,6 @@ module _ (f : List ℕ) (at : ℕ) where
       right-true
       (ltb (flagsAt f at) 4 && leb 1 (countAt f at) && leb (countAt f at) 65535 && aligned f at && leb (addrAt f at + lengthAt f at) (2 ^ 32))
       (codeRight f at) e
-
-  pub even-target : byteAt f at ≡ 5 → even (byteAt f (at + 12)) ≡ evenFields f at
-  unfolding evenFields
-  even-target k = simp k
-
-  pub other-even : (byteAt f at ≡ 5 → ⊥) → (byteAt f at ≡ 0 → ⊥) → true ≡ evenFields f at
-  unfolding evenFields
-  other-even k h = simp (ne-eqb _ _ k, ne-eqb _ _ h)
-
-  pub shifted-even : byteAt f at ≡ 0 → (byteAt f (at + 8) ≡ 0 → ⊥) → true ≡ evenFields f at
-  unfolding evenFields
-  shifted-even k h = simp (k, ne-eqb _ _ h)
-
-  pub even-ror : byteAt f at ≡ 0 → byteAt f (at + 8) ≡ 0 → even (byteAt f (at + 9)) ≡ evenFields f at
-  unfolding evenFields
-  even-ror k h = simp (k, h)
 
   pub out-of-range : within f at (largest (byteAt f at) (byteAt f (at + 8))) ≡ false → false ≡ instrRight f at
   unfolding instrRight
