@@ -164,12 +164,12 @@ module _ (f : List ℕ) (bs : List Block) (accepted : parse f ≡ Parsed.accepte
     pub record-reads : Reads f (blockAt f (blockStart f i) (countSum f i)) (recordAt f (blockStart f i))
     unfolding blockAt recordAt codeBytes
     record-reads =
-        record
-          { addr = refl
-          ; thumb = refl
-          ; count = sym (length-instrs f (countAt f (blockStart f i)) (countSum f i) _ _)
-          ; code = same-code (presentAt f (blockStart f i)) refl
-          }
+        record {
+          addr = refl;
+          thumb = refl;
+          count = sym (length-instrs f (countAt f (blockStart f i)) (countSum f i) _ _);
+          code = same-code (presentAt f (blockStart f i)) refl;
+        }
       where
         same-code : (b : Bool) → presentAt f (blockStart f i) ≡ b
             → codeAt f (blockStart f i) ≡ cond (presentAt f (blockStart f i)) (some (codeBytes f (recordAt f (blockStart f i)))) none

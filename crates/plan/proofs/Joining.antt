@@ -12,7 +12,9 @@ use Rattle.block_file.specs.Trailer.{blockCount}
 use Rattle.plan.specs.declared.search.Target.{Target}
 use Rattle.plan.specs.Accepted.{blocksOf, Accepted}
 use Rattle.plan.specs.Forest.{Forest, SameRoots, Hung, root, hang}
-use Rattle.plan.specs.Plan.{target, targetOf, TargetInside, joinTo}
+use Rattle.plan.specs.declared.exits.Exits.{Exits}
+use Rattle.plan.specs.Exits.{keysOf}
+use Rattle.plan.specs.Plan.{target, targetOf, TargetInside, joinTo, joinExits}
 use Rattle.plan.specs.Groups.{part1, Joined}
 use Rattle.plan.proofs.Lending.{part-length, back-length, back-part, back-after, back-before}
 use Rattle.plan.proofs.Roots.{deeper, same-deeper}
@@ -87,3 +89,20 @@ joined-more {e₁} {n} {w} {w₁} e₂ h a =
       depth = λ d g. deeper (a .depth d g) (d + e₂) (omega arith);
       roots = λ acc d q few g. same-deeper (a .roots acc d q (omega arith) g) (d + e₂) (omega arith);
     }
+
+-- the edges of an exit list, by its case
+module _ (f : List ℕ) (i n : ℕ) (w : List ℕ) (x : Exits) where
+  pub exits-none : x ≡ Exits.None → Joined 2 n w w (λ q. joinExits (blocksOf f) i q (keysOf x)) (Accepted f)
+  unfolding joinExits
+  exits-none e = rw e (joined-more 2 (omega arith) (joined-none n w (Accepted f)))
+
+  pub exits-one : (k : ℕ) (w₁ : List ℕ) → x ≡ Exits.One k → Joined 1 n w w₁ (λ q. joinTo i q (target k (blocksOf f) 0)) (Accepted f)
+      → Joined 2 n w w₁ (λ q. joinExits (blocksOf f) i q (keysOf x)) (Accepted f)
+  unfolding joinExits
+  exits-one k w₁ e a = rw e (joined-more 2 (omega arith) a)
+
+  pub exits-two : (k l : ℕ) (w₁ w₂ : List ℕ) → x ≡ Exits.Two k l → Joined 1 n w w₁ (λ q. joinTo i q (target k (blocksOf f) 0)) (Accepted f)
+      → Joined 1 n w₁ w₂ (λ q. joinTo i q (target l (blocksOf f) 0)) (Accepted f)
+      → Joined 2 n w w₂ (λ q. joinExits (blocksOf f) i q (keysOf x)) (Accepted f)
+  unfolding joinExits
+  exits-two k l w₁ w₂ e a b = rw e (joined-then a b)

@@ -1,10 +1,13 @@
 -- The laws that the functions' proofs share.
+mod Accepted
+mod Closing
 mod Joining
 mod Keys
 mod Lending
 mod Linking
 mod Numbering
 mod Ordering
-mod Rows
 pub mod Roots
+mod Rows
+mod StarredExits
 pub mod Ways

@@ -2,6 +2,7 @@
 use Prim.Native.Nat.{ℕ, _+_, _/_, _%_, _^_}
 use mathlib.Core.Bool.{Bool, true, false, cond, _&&_}
 use mathlib.Core.List.{List, [], _∷_}
+use mathlib.Core.Option.{Option, none, some}
 use lib.Dec.{eqb}
 use Rattle.armv4t.specs.declared.Cond.{Cond}
 use Rattle.armv4t.specs.declared.Cond.the-variants.{Eq, Ne, Cs, Cc, Mi, Pl, Vs, Vc, Hi, Ls, Ge, Lt, Gt, Le, Al, Nv}
@@ -15,6 +16,8 @@ use Rattle.armv4t.specs.Instr.{sizeOf}
 use Rattle.armv4t.specs.Fused.{fuse}
 use Rattle.block_file.specs.declared.decode.TimedInstr.{TimedInstr}
 use Rattle.block_file.specs.Parse.{Block}
+use Rattle.plan.specs.declared.exits.Exits.{Exits}
+use Rattle.plan.specs.declared.exits.FoundExits.{FoundExits}
 
 -- an address with the block's Thumb bit
 abbrev pub keyOf : ℕ → Bool → ℕ
@@ -29,24 +32,28 @@ fallThrough thumb i = keyOf ((i .addr + sizeOf (i .thumb)) % 2 ^ 32) thumb
 abbrev pub listsPc : ℕ → Bool
 listsPc rlist = eqb (rlist / 2 ^ 15 % 2) 1
 
+-- whether a condition always holds
+abbrev pub isAlways : Cond → Bool
+isAlways Eq = false
+isAlways Ne = false
+isAlways Cs = false
+isAlways Cc = false
+isAlways Mi = false
+isAlways Pl = false
+isAlways Vs = false
+isAlways Vc = false
+isAlways Hi = false
+isAlways Ls = false
+isAlways Ge = false
+isAlways Lt = false
+isAlways Gt = false
+isAlways Le = false
+isAlways Al = true
+isAlways Nv = false
+
 -- the exits of a branch to a key: a condition other than Al adds the fall-through
 abbrev pub branchExits : Cond → ℕ → ℕ → List ℕ
-branchExits Eq target fall = target ∷ fall ∷ []
-branchExits Ne target fall = target ∷ fall ∷ []
-branchExits Cs target fall = target ∷ fall ∷ []
-branchExits Cc target fall = target ∷ fall ∷ []
-branchExits Mi target fall = target ∷ fall ∷ []
-branchExits Pl target fall = target ∷ fall ∷ []
-branchExits Vs target fall = target ∷ fall ∷ []
-branchExits Vc target fall = target ∷ fall ∷ []
-branchExits Hi target fall = target ∷ fall ∷ []
-branchExits Ls target fall = target ∷ fall ∷ []
-branchExits Ge target fall = target ∷ fall ∷ []
-branchExits Lt target fall = target ∷ fall ∷ []
-branchExits Gt target fall = target ∷ fall ∷ []
-branchExits Le target fall = target ∷ fall ∷ []
-branchExits Al target fall = target ∷ []
-branchExits Nv target fall = target ∷ fall ∷ []
+branchExits c target fall = target ∷ cond (isAlways c) [] (fall ∷ [])
 
 -- the exits by a block's last operation, given its condition, the block's Thumb bit and the fall-through: none where control leaves for an address that the text does not fix
 abbrev pub opExits : Op → Cond → Bool → ℕ → List ℕ
@@ -85,3 +92,14 @@ instrExits thumb (x ∷ y ∷ z ∷ rest) = instrExits thumb (y ∷ z ∷ rest)
 -- the exit list of a block (document 01): 0, 1 or 2 keys, the target before the fall-through
 unfoldable pub exits : Block → List ℕ
 exits b = instrExits (b .thumb) (b .instrs)
+
+-- the keys of an answer
+abbrev pub keysOf : Exits → List ℕ
+keysOf Exits.None = []
+keysOf (Exits.One k) = k ∷ []
+keysOf (Exits.Two k l) = k ∷ l ∷ []
+
+-- the keys of an answer for a block by its number, where there is one
+abbrev pub foundKeys : FoundExits → Option (List ℕ)
+foundKeys (FoundExits.Exits e) = some (keysOf e)
+foundKeys FoundExits.Nothing = none

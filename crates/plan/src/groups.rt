@@ -1,4 +1,5 @@
 // The groups of an accepted file in the work numbers, four parts of n numbers each.
+use crate::exits::Exits;
 use crate::forest::find;
 use crate::forest::hang_under;
 use crate::search::Target;
@@ -8,8 +9,9 @@ ghost use Prim.Native.Nat.{_*_, _≤_, _<_};
 ghost use lib.ListN.{length};
 ghost use Rattle.block_file.specs.Trailer.{blockCount};
 ghost use Rattle.plan.specs.Accepted.{Accepted, blocksOf};
+ghost use Rattle.plan.specs.Exits.{keysOf};
 ghost use Rattle.plan.specs.Forest.{Forest};
-ghost use Rattle.plan.specs.Plan.{joinTo, target};
+ghost use Rattle.plan.specs.Plan.{joinTo, joinExits, target};
 ghost use Rattle.plan.specs.Groups.{part1, Joined, Rooted, AllRooted};
 
 // The edge from block i to a key, if there is a block of page 8 with that key.
@@ -23,6 +25,22 @@ fn join_key(file: &[u8], work: &mut [u32], n: usize, i: usize, key: u32)
     };
     let end = 2 * n;
     hang_under(&mut work[n..end], i, j);
+}
+
+// The edges from block i, in the order of its exits.
+fn join_exits(file: &[u8], work: &mut [u32], n: usize, i: usize, exits: Exits)
+    requires { ⌜ (4 * n ≤ length (now work)) × (n ≤ 65536) × (i < n) × (n ≡ blockCount (now file)) ⌝ }
+    requires { ⌜ Forest (2 * i) (part1 n (now work)) ⌝ }
+    ensures { λ _. ⌜ Joined 2 n (now (work .entry)) (now (work .exit)) (λ q. joinExits (blocksOf (now (file .entry))) i q (keysOf exits)) (Accepted (now (file .entry))) ⌝ }
+{
+    match exits {
+        Exits::None => {}
+        Exits::One(key) => join_key(file, work, n, i, key),
+        Exits::Two(first, second) => {
+            join_key(file, work, n, i, first);
+            join_key(file, work, n, i, second);
+        }
+    }
 }
 
 // Puts the root of block i, by the parents in part 1, into part 2.
