@@ -3,19 +3,28 @@
 use mathlib.Core.Path.{_≡_, refl, sym, ap, _∙_, subst}
 use mathlib.Core.List.{List, [], _∷_}
 use mathlib.Core.Option.{Option, none, some}
-use Prim.Native.Nat.{ℕ, zero, suc, _+_, _*_, _-_, _≤_, _<_}
+use Prim.Native.Nat.{ℕ, zero, suc, _+_, _*_, _-_, _/_, _≤_, _<_, _^_}
 use native.Mathlib.Nat.{add-assoc}
 use native.Mathlib.Omega.{arith}
 use borrow.Rule.Slice.PartMut.{putMid}
 use lib.ListN.{length, getD}
-use Rattle.block_file.specs.Trailer.{blockCount}
+use borrow.Author.Tests.{eq-eqb, ne-eqb}
+use lib.Dec.{eqb}
+use Rattle.block_file.specs.declared.read.BlockRecord.{BlockRecord}
+use Rattle.block_file.specs.declared.read.FoundBlock.{FoundBlock}
+use Rattle.block_file.specs.Trailer.{blockCount, blockStart}
+use Rattle.block_file.specs.BlockRecord.{countSum}
+use Rattle.block_file.specs.Parse.{blockAt}
+use Rattle.block_file.specs.Read.{recordAt, foundBlock}
 use Rattle.plan.specs.declared.search.Target.{Target}
 use Rattle.plan.specs.Accepted.{blocksOf, Accepted}
 use Rattle.plan.specs.Forest.{Forest, SameRoots, Hung, root, hang}
 use Rattle.plan.specs.declared.exits.Exits.{Exits}
-use Rattle.plan.specs.Exits.{keysOf}
-use Rattle.plan.specs.Plan.{target, targetOf, TargetInside, joinTo, joinExits}
-use Rattle.plan.specs.Groups.{part1, Joined}
+use Rattle.plan.specs.Exits.{keysOf, exits}
+use Rattle.plan.specs.Plan.{target, targetOf, TargetInside, joinTo, joinExits, joinable}
+use Rattle.plan.specs.Groups.{part1, Joined, joinBlock}
+use Rattle.plan.proofs.Accepted.{found-record}
+use Rattle.plan.proofs.Keys.{not-missing}
 use Rattle.plan.proofs.Lending.{part-length, back-length, back-part, back-after, back-before}
 use Rattle.plan.proofs.Roots.{deeper, same-deeper}
 
@@ -106,3 +115,49 @@ module _ (f : List ℕ) (i n : ℕ) (w : List ℕ) (x : Exits) where
       → Joined 2 n w w₂ (λ q. joinExits (blocksOf f) i q (keysOf x)) (Accepted f)
   unfolding joinExits
   exits-two k l w₁ w₂ e a b = rw e (joined-then a b)
+
+-- block i as a pass over the records has it
+module _ (f : List ℕ) (i n : ℕ) (w : List ℕ) (found : FoundBlock) (reads : found ≡ foundBlock f i) (inside : i < n) (all : n ≡ blockCount f) where
+  -- the reader finds nothing: not in an accepted file
+  pub block-missing : found ≡ FoundBlock.Nothing → Joined 2 n w w (joinBlock f i) (Accepted f)
+  block-missing e =
+      record
+        { same = refl
+        ; before = λ k h. refl
+        ; after = λ k h. refl
+        ; depth = λ d g. deeper g (d + 2) (omega arith)
+        ; roots = λ a. absurd (not-missing f a i (subst (λ (m : ℕ). i < m) all inside) (sym reads ∙ e))
+        }
+
+  module _ (b : BlockRecord) (at : found ≡ FoundBlock.At b) where
+    record-is : b ≡ recordAt f (blockStart f i)
+    record-is = found-record f i b (sym reads ∙ at)
+
+    page-is : joinable (blockAt f (blockStart f i) (countSum f i)) ≡ eqb (b .addr / 2 ^ 24) 8
+    unfolding blockAt recordAt
+    page-is = ap (λ (r : BlockRecord). eqb (r .addr / 2 ^ 24) 8) (sym record-is)
+
+    -- a block of another page makes no edge
+    pub block-apart : (b .addr / 2 ^ 24 ≡ 8 → ⊥) → Joined 2 n w w (joinBlock f i) (Accepted f)
+    block-apart ne =
+        record
+          { same = refl
+          ; before = λ k h. refl
+          ; after = λ k h. refl
+          ; depth = λ d g. deeper g (d + 2) (omega arith)
+          ; roots = λ a d q few g. subst (SameRoots (d + 2) (part1 n w)) (sym (rw (page-is, ne-eqb _ _ ne))) (same-deeper g (d + 2) (omega arith))
+          }
+
+    -- a block of page 8 makes those of its exits
+    pub block-joins : b .addr / 2 ^ 24 ≡ 8 → (x : Exits) (w₁ : List ℕ)
+        → (Accepted f → keysOf x ≡ exits (blockAt f (blockStart f i) (countSum f i)))
+        → Joined 2 n w w₁ (λ q. joinExits (blocksOf f) i q (keysOf x)) (Accepted f) → Joined 2 n w w₁ (joinBlock f i) (Accepted f)
+    block-joins e x w₁ keys j =
+        record
+          { same = j .same
+          ; before = j .before
+          ; after = j .after
+          ; depth = j .depth
+          ; roots = λ a d q few g.
+              subst (SameRoots (d + 2) (part1 n w₁)) (ap (joinExits (blocksOf f) i q) (keys a) ∙ sym (rw (page-is, eq-eqb _ _ e))) (j .roots a d q few g)
+          }

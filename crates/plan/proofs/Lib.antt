@@ -1,6 +1,7 @@
 -- The laws that the functions' proofs share.
 mod Accepted
 mod Closing
+mod Grouping
 mod Joining
 mod Keys
 mod Lending

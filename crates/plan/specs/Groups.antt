@@ -3,6 +3,13 @@ use Prim.Native.Nat.{ℕ, _+_, _*_, _≤_, _<_}
 use mathlib.Core.Path.{_≡_}
 use mathlib.Core.List.{List}
 use lib.ListN.{length, getD, take, drop}
+use mathlib.Core.Bool.{cond}
+use Rattle.block_file.specs.Trailer.{blockCount, blockStart}
+use Rattle.block_file.specs.BlockRecord.{countSum}
+use Rattle.block_file.specs.Parse.{blockAt}
+use Rattle.plan.specs.Accepted.{blocksOf, Accepted}
+use Rattle.plan.specs.Exits.{exits}
+use Rattle.plan.specs.Plan.{joinable, joinExits, parents, interleave, plan}
 use Rattle.plan.specs.Forest.{Flatter, Forest, SameRoots, root}
 
 -- part 1 of the work numbers: the parents
@@ -32,3 +39,31 @@ pub record Joined (edges n : ℕ) (work work′ : List ℕ) (joins : List ℕ �
   pub after : (k : ℕ) → 2 * n ≤ k → getD work′ k 0 ≡ getD work k 0
   pub depth : (d : ℕ) → Forest d (part1 n work) → Forest (d + edges) (part1 n work′)
   pub roots : accepted → (d : ℕ) (q : List ℕ) → d + edges ≤ 2 * n → SameRoots d (part1 n work) q → SameRoots (d + edges) (part1 n work′) (joins q)
+
+-- part 0 has the number of each block's first instruction
+abbrev pub HasFirsts : List ℕ → ℕ → List ℕ → Type 0
+HasFirsts f n work = (i : ℕ) → i < n → getD work i 0 ≡ countSum f i
+
+-- part 0 was filled, and no other number changed
+pub record Firsts (f : List ℕ) (n : ℕ) (work work′ : List ℕ) : Type 0 where
+  pub same : length work′ ≡ length work
+  pub after : (k : ℕ) → n ≤ k → getD work′ k 0 ≡ getD work k 0
+  pub firsts : Accepted f → n ≡ blockCount f → HasFirsts f n work′
+
+-- the edges from block i, as its record has it
+abbrev pub joinBlock : List ℕ → ℕ → List ℕ → List ℕ
+joinBlock f i q =
+    cond (joinable (blockAt f (blockStart f i) (countSum f i))) (joinExits (blocksOf f) i q (exits (blockAt f (blockStart f i) (countSum f i)))) q
+
+-- part 1 has parents with the roots of the definition
+pub record AllJoined (f : List ℕ) (n : ℕ) (work work′ : List ℕ) : Type 0 where
+  pub same : length work′ ≡ length work
+  pub after : (k : ℕ) → 2 * n ≤ k → getD work′ k 0 ≡ getD work k 0
+  pub forest : Forest (2 * n) (part1 n work′)
+  pub roots : Accepted f → (k : ℕ) → k < n → root (part1 n work′) k ≡ root (parents (blocksOf f)) k
+
+-- what grouping makes of the work numbers: parts 0 and 2 have the blocks in emission order and their group numbers, and nothing past the four parts changed
+pub record Grouped (f : List ℕ) (n limit : ℕ) (work work′ : List ℕ) : Type 0 where
+  pub same : length work′ ≡ length work
+  pub after : (k : ℕ) → 4 * n ≤ k → getD work′ k 0 ≡ getD work k 0
+  pub rows : Accepted f → interleave (take n (drop (2 * n) work′)) (take n work′) ≡ plan limit (blocksOf f)

@@ -1,9 +1,17 @@
 // The groups of an accepted file in the work numbers, four parts of n numbers each.
 use crate::exits::Exits;
+use crate::exits::exits_at;
 use crate::forest::find;
 use crate::forest::hang_under;
+use crate::forest::own_roots;
+use crate::links::link_members;
+use crate::links::wide;
+use crate::order::count_of;
+use crate::order::place_blocks;
 use crate::search::Target;
 use crate::search::find_target;
+use block_file::FoundBlock;
+use block_file::block_at;
 ghost use mathlib.Core.Path.{_≡_};
 ghost use Prim.Native.Nat.{_*_, _≤_, _<_};
 ghost use lib.ListN.{length};
@@ -12,7 +20,7 @@ ghost use Rattle.plan.specs.Accepted.{Accepted, blocksOf};
 ghost use Rattle.plan.specs.Exits.{keysOf};
 ghost use Rattle.plan.specs.Forest.{Forest};
 ghost use Rattle.plan.specs.Plan.{joinTo, joinExits, target};
-ghost use Rattle.plan.specs.Groups.{part1, Joined, Rooted, AllRooted};
+ghost use Rattle.plan.specs.Groups.{part1, Joined, HasFirsts, Firsts, joinBlock, AllJoined, Rooted, AllRooted, Grouped};
 
 // The edge from block i to a key, if there is a block of page 8 with that key.
 fn join_key(file: &[u8], work: &mut [u32], n: usize, i: usize, key: u32)
@@ -43,6 +51,53 @@ fn join_exits(file: &[u8], work: &mut [u32], n: usize, i: usize, exits: Exits)
     }
 }
 
+// The edges from block i, if it is one of page 8.
+fn join_block(file: &[u8], work: &mut [u32], n: usize, i: usize)
+    requires { ⌜ (4 * n ≤ length (now work)) × (n ≤ 65536) × (i < n) × (n ≡ blockCount (now file)) ⌝ }
+    requires { ⌜ Forest (2 * i) (part1 n (now work)) ⌝ }
+    requires { ⌜ (Accepted (now file) → HasFirsts (now file) n (now work)) ⌝ }
+    ensures { λ _. ⌜ Joined 2 n (now (work .entry)) (now (work .exit)) (joinBlock (now (file .entry)) i) (Accepted (now (file .entry))) ⌝ }
+{
+    let FoundBlock::At(block) = block_at(file, i) else {
+        return;
+    };
+    if block.addr / 16777216 != 8 {
+        return;
+    }
+    let first = wide(work[i]);
+    let exits = exits_at(file, block, first);
+    join_exits(file, work, n, i, exits);
+}
+
+// The edges from all blocks, in their order; at first each block is its own root.
+fn join_blocks(file: &[u8], work: &mut [u32], n: usize)
+    requires { ⌜ (4 * n ≤ length (now work)) × (n ≤ 65536) × (n ≡ blockCount (now file)) ⌝ }
+    requires { ⌜ (Accepted (now file) → HasFirsts (now file) n (now work)) ⌝ }
+    ensures { λ _. ⌜ AllJoined (now (file .entry)) n (now (work .entry)) (now (work .exit)) ⌝ }
+{
+    let end = 2 * n;
+    own_roots(&mut work[n..end]);
+    let mut i = 0;
+    while i < n {
+        join_block(file, work, n, i);
+        i += 1;
+    }
+}
+
+// Puts the number of each block's first instruction into part 0. In an accepted file it fits.
+fn first_instrs(file: &[u8], work: &mut [u32], n: usize)
+    requires { ⌜ (4 * n ≤ length (now work)) × (n ≤ 65536) ⌝ }
+    ensures { λ _. ⌜ Firsts (now (file .entry)) n (now (work .entry)) (now (work .exit)) ⌝ }
+{
+    let mut sum: u64 = 0;
+    let mut i = 0;
+    while i < n {
+        work[i] = (sum % 4294967296) as u32;
+        sum += count_of(file, i);
+        i += 1;
+    }
+}
+
 // Puts the root of block i, by the parents in part 1, into part 2.
 fn put_root(work: &mut [u32], n: usize, i: usize)
     requires { ⌜ (4 * n ≤ length (now work)) × (n ≤ 65536) × (i < n) ⌝ }
@@ -65,4 +120,17 @@ fn put_roots(work: &mut [u32], n: usize)
         put_root(work, n, i);
         i += 1;
     }
+}
+
+// Groups the blocks of a file: parts 0 and 2 get the blocks in emission order and the number of the group of each.
+pub(crate) fn group_blocks(file: &[u8], work: &mut [u32], n: u32, limit: u64)
+    requires { ⌜ (4 * n ≤ length (now work)) × (n ≤ 65536) × (n ≡ blockCount (now file)) ⌝ }
+    ensures { λ _. ⌜ Grouped (now (file .entry)) n limit (now (work .entry)) (now (work .exit)) ⌝ }
+{
+    let size = n as usize;
+    first_instrs(file, work, size);
+    join_blocks(file, work, size);
+    put_roots(work, size);
+    link_members(work, n);
+    place_blocks(file, work, n, limit);
 }

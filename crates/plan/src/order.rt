@@ -18,7 +18,7 @@ pub(crate) struct Part {
 }
 
 // How many instructions a block has.
-fn count_of(file: &[u8], i: usize) -> u64
+pub(crate) fn count_of(file: &[u8], i: usize) -> u64
     ensures { λ r. ⌜ r < 2 ^ 32 ⌝ }
     ensures { λ r. ⌜ (Accepted (now (file .entry)) → i < blockCount (now (file .entry)) → r ≡ countAt (now (file .entry)) (blockStart (now (file .entry)) i)) ⌝ }
 {

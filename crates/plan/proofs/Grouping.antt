@@ -1,0 +1,145 @@
+-- The passes over all blocks: first instructions, edges, and what they make together.
+-- Assumes nothing.
+use mathlib.Core.Path.{_≡_, refl, sym, ap, ap₂, _∙_, subst}
+use mathlib.Core.Bool.{cond, false}
+use mathlib.Core.List.{List, [], _∷_, map}
+use mathlib.Core.Option.{none}
+use Prim.Native.Nat.{ℕ, zero, suc, zero-le, _+_, _*_, _-_, _%_, _≤_, _<_, _^_}
+use native.Mathlib.Nat.{not-suc-le-zero, mod-eq-of-lt, le-refl}
+use native.Mathlib.Numerals.{add-one}
+use native.Mathlib.Omega.{arith}
+use native.Mathlib.Decide.{ℕ-discrete}
+use borrow.Rule.Slice.PartMut.{putMid}
+use lib.ListN.{length, getD, set, take, drop, length-set}
+use lib.Seq.{getD-set-same, getD-set-other, drop-cons, drop-length}
+use Rattle.block_file.specs.Trailer.{blockCount, blockStart}
+use Rattle.block_file.specs.BlockRecord.{countAt, countSum}
+use Rattle.block_file.specs.Parse.{Block, blockAt}
+use Rattle.block_file.proofs.Accepted.{few-instrs, instrs-inside, length-of}
+use Rattle.plan.specs.Accepted.{blocksOf, Accepted}
+use Rattle.plan.specs.Exits.{exits}
+use Rattle.plan.specs.Forest.{Forest, SameRoots, range, root}
+use Rattle.plan.specs.Plan.{joinable, joinExits, joinBlocks, parents}
+use Rattle.plan.specs.Groups.{part1, Joined, HasFirsts, Firsts, joinBlock, AllJoined}
+use Rattle.plan.proofs.Accepted.{nth-block}
+use Rattle.plan.proofs.Lending.{part-length, back-length, back-part, back-after, back-before}
+use Rattle.plan.proofs.Roots.{forest-range, same-self, length-range}
+
+-- what the pass over the counts keeps
+pub record Counting (f : List ℕ) (n : ℕ) (work : List ℕ) (sum m : ℕ) (work′ : List ℕ) : Type 0 where
+  pub few : m ≤ n
+  pub small : sum ≤ 2 ^ 32 * m
+  pub same : length work′ ≡ length work
+  pub after : (k : ℕ) → m ≤ k → getD work′ k 0 ≡ getD work k 0
+  pub sums : Accepted f → n ≡ blockCount f → sum ≡ countSum f m
+  pub firsts : Accepted f → n ≡ blockCount f → (j : ℕ) → j < m → getD work′ j 0 ≡ countSum f j
+
+pub counting-none : (f : List ℕ) (n : ℕ) (w : List ℕ) → Counting f n w 0 0 w
+unfolding countSum
+counting-none f n w =
+    record
+      { few = zero-le
+      ; small = zero-le
+      ; same = refl
+      ; after = λ k h. refl
+      ; sums = λ a e. refl
+      ; firsts = λ a e j h. absurd (not-suc-le-zero h)
+      }
+
+pub counting-more : (f : List ℕ) (n : ℕ) (w : List ℕ) (sum m : ℕ) (w′ : List ℕ) (count : ℕ) → 4 * n ≤ length w → m < n → count < 2 ^ 32
+    → (Accepted f → m < blockCount f → count ≡ countAt f (blockStart f m)) → Counting f n w sum m w′
+    → Counting f n w (sum + count) (m + 1) (set w′ m (sum % 4294967296))
+unfolding countSum
+counting-more f n w sum m w′ count room h fits counted c =
+    record
+      { few = omega arith
+      ; small = omega (arith, c .small)
+      ; same = length-set w′ m _ ∙ c .same
+      ; after = λ k l. getD-set-other w′ m k _ 0 (omega arith) ∙ c .after k (omega arith)
+      ; sums = λ a e. sum-next a e
+      ; firsts = λ a e j l.
+          elim (ℕ-discrete j m) [
+            | yes g ↦ subst (λ (k : ℕ). getD (set w′ m (sum % 4294967296)) k 0 ≡ countSum f k) (sym g) (here a e)
+            | no g ↦ getD-set-other w′ m j _ 0 (omega arith) ∙ c .firsts a e j (omega arith)
+          ]
+      }
+  where
+    sum-next : Accepted f → n ≡ blockCount f → sum + count ≡ countSum f (m + 1)
+    sum-next a e = ap₂ (λ (x y : ℕ). x + y) (c .sums a e) (counted a (subst (λ (k : ℕ). m < k) e h)) ∙ sym (rw (add-one m))
+
+    here : Accepted f → n ≡ blockCount f → getD (set w′ m (sum % 4294967296)) m 0 ≡ countSum f m
+    here a e =
+        let inside : m < blockCount f = subst (λ (k : ℕ). m < k) e h in
+        let fits′ : sum < 4294967296 = omega (arith, c .sums a e, instrs-inside f (blocksOf f) a m inside, few-instrs f (blocksOf f) a) in
+        getD-set-same w′ m _ 0 (omega (arith, c .same)) ∙ mod-eq-of-lt fits′ ∙ c .sums a e
+
+pub counted-all : (f : List ℕ) (n : ℕ) (w : List ℕ) (sum : ℕ) (w′ : List ℕ) → Counting f n w sum n w′ → Firsts f n w w′
+counted-all f n w sum w′ c = record { same = c .same; after = c .after; firsts = λ a e j h. c .firsts a e j h }
+
+-- what the pass over the edges keeps
+pub record Edges (f : List ℕ) (n i : ℕ) (work work′ : List ℕ) : Type 0 where
+  pub few : i ≤ n
+  pub same : length work′ ≡ length work
+  pub before : (k : ℕ) → k < n → getD work′ k 0 ≡ getD work k 0
+  pub after : (k : ℕ) → 2 * n ≤ k → getD work′ k 0 ≡ getD work k 0
+  pub forest : Forest (2 * i) (part1 n work′)
+  pub roots : Accepted f → (q : List ℕ) × SameRoots (2 * i) (part1 n work′) q × (parents (blocksOf f) ≡ joinBlocks (blocksOf f) q i (drop i (blocksOf f)))
+
+pub edges-none : (f : List ℕ) (n : ℕ) (w p′ : List ℕ) → 4 * n ≤ length w → n ≡ blockCount f → p′ ≡ range (length (part1 n w)) 0 → Edges f n 0 w (putMid n (2 * n - n) w p′)
+unfolding parents
+edges-none f n w p′ room all own =
+    let own-n : p′ ≡ range n 0 = own ∙ ap (λ (m : ℕ). range m 0) (part-length n w room) in
+    let long : length p′ ≡ n = ap length own-n ∙ length-range n 0 in
+    let part-is : part1 n (putMid n (2 * n - n) w p′) ≡ range n 0 = back-part n w p′ room long ∙ own-n in
+    record
+      { few = zero-le
+      ; same = back-length n w p′ room long
+      ; before = back-before n w p′ room long
+      ; after = back-after n w p′ room long
+      ; forest = subst (Forest 0) (sym part-is) (forest-range n)
+      ; roots = λ a.
+          (range n 0, subst (λ (p : List ℕ). SameRoots 0 p (range n 0)) (sym part-is) (same-self (forest-range n)),
+          ap (λ (m : ℕ). joinBlocks (blocksOf f) (range m 0) 0 (blocksOf f)) (length-of f (blocksOf f) a ∙ sym all))
+      }
+
+-- the edges of one block more
+next-block : (f : List ℕ) → Accepted f → (i : ℕ) → i < blockCount f → (q : List ℕ)
+    → joinBlocks (blocksOf f) q i (drop i (blocksOf f)) ≡ joinBlocks (blocksOf f) (joinBlock f i q) (i + 1) (drop (i + 1) (blocksOf f))
+unfolding joinBlocks
+next-block f a i h q =
+    let nowhere : Block = record { addr = 0; thumb = false; code = none; instrs = [] } in
+    ap (joinBlocks (blocksOf f) q i) (drop-cons (blocksOf f) i nowhere (omega (arith, length-of f (blocksOf f) a)) ∙ ap (λ (b : Block). b ∷ drop (suc i) (blocksOf f)) (nth-block f i nowhere h))
+    ∙ rw (add-one i)
+
+pub edges-more : (f : List ℕ) (n i : ℕ) (w w′ w″ : List ℕ) → i < n → n ≡ blockCount f → Edges f n i w w′ → Joined 2 n w′ w″ (joinBlock f i) (Accepted f) → Edges f n (i + 1) w w″
+edges-more f n i w w′ w″ h all e j =
+    let twice : 2 * i + 2 ≡ 2 * (i + 1) = omega arith in
+    record
+      { few = omega arith
+      ; same = j .same ∙ e .same
+      ; before = λ k l. j .before k l ∙ e .before k l
+      ; after = λ k l. j .after k l ∙ e .after k l
+      ; forest = subst (λ (d : ℕ). Forest d (part1 n w″)) twice (j .depth (2 * i) (e .forest))
+      ; roots = λ a.
+          let t = e .roots a in
+          (joinBlock f i (t .0),
+          subst (λ (d : ℕ). SameRoots d (part1 n w″) (joinBlock f i (t .0))) twice (j .roots a (2 * i) (t .0) (omega arith) (t .1)),
+          t .2 ∙ next-block f a i (subst (λ (k : ℕ). i < k) all h) (t .0))
+      }
+
+pub edges-all : (f : List ℕ) (n : ℕ) (w w′ : List ℕ) → 4 * n ≤ length w → n ≡ blockCount f → Edges f n n w w′ → AllJoined f n w w′
+unfolding joinBlocks
+edges-all f n w w′ room all e =
+    record
+      { same = e .same
+      ; after = e .after
+      ; forest = e .forest
+      ; roots = λ a k h.
+          let t = e .roots a in
+          t .1 .roots k (omega (arith, part-length n w′ (let r : 4 * n ≤ length w′ = omega (arith, e .same) in r)))
+          ∙ ap (λ (q : List ℕ). root q k) (sym (t .2 ∙ last-block a (t .0)))
+      }
+  where
+    last-block : Accepted f → (q : List ℕ) → joinBlocks (blocksOf f) q n (drop n (blocksOf f)) ≡ q
+    last-block a q =
+        ap (joinBlocks (blocksOf f) q n) (ap (λ (m : ℕ). drop m (blocksOf f)) (all ∙ sym (length-of f (blocksOf f) a)) ∙ drop-length (blocksOf f))
