@@ -5,22 +5,27 @@ use mathlib.Core.Bool.{cond, false}
 use mathlib.Core.List.{List, [], _∷_, map}
 use mathlib.Core.Option.{none}
 use Prim.Native.Nat.{ℕ, zero, suc, zero-le, _+_, _*_, _-_, _%_, _≤_, _<_, _^_}
-use native.Mathlib.Nat.{not-suc-le-zero, mod-eq-of-lt, le-refl}
+use native.Mathlib.Nat.{not-suc-le-zero, mod-eq-of-lt, le-of-lt}
 use native.Mathlib.Numerals.{add-one}
 use native.Mathlib.Omega.{arith}
 use native.Mathlib.Decide.{ℕ-discrete}
 use borrow.Rule.Slice.PartMut.{putMid}
-use lib.ListN.{length, getD, set, take, drop, length-set}
-use lib.Seq.{getD-set-same, getD-set-other, drop-cons, drop-length}
+use lib.ListN.{length, getD, set, take, drop, length-set, List·getD-map}
+use lib.Seq.{getD-set-same, getD-set-other, drop-cons, drop-length, getD-drop}
 use Rattle.block_file.specs.Trailer.{blockCount, blockStart}
-use Rattle.block_file.specs.BlockRecord.{countAt, countSum}
+use Rattle.block_file.specs.BlockRecord.{countAt, countSum, keyAt}
 use Rattle.block_file.specs.Parse.{Block, blockAt}
-use Rattle.block_file.proofs.Accepted.{few-instrs, instrs-inside, length-of}
+use Rattle.block_file.proofs.Accepted.{few-instrs, instrs-inside, length-of, record-reads}
+use Rattle.block_file.specs.Read.{recordAt}
 use Rattle.plan.specs.Accepted.{blocksOf, Accepted}
 use Rattle.plan.specs.Exits.{exits}
 use Rattle.plan.specs.Forest.{Forest, SameRoots, range, root}
-use Rattle.plan.specs.Plan.{joinable, joinExits, joinBlocks, parents}
-use Rattle.plan.specs.Groups.{part1, Joined, HasFirsts, Firsts, joinBlock, AllJoined}
+use Rattle.plan.specs.Plan.{blockKey, joinable, joinExits, joinBlocks, parents, interleave, plan}
+use Rattle.plan.specs.Groups.{part1, Joined, HasFirsts, Firsts, joinBlock, AllJoined, AllRooted, Grouped}
+use Rattle.plan.specs.Links.{HasRoots, Linked, Outside}
+use Rattle.plan.specs.Order.{HasCounts, Placed}
+use Rattle.plan.proofs.Keys.{block-key, keys-rise}
+use Rattle.plan.proofs.Numbering.{countsOf, plan-is, order-all}
 use Rattle.plan.proofs.Accepted.{nth-block}
 use Rattle.plan.proofs.Lending.{part-length, back-length, back-part, back-after, back-before}
 use Rattle.plan.proofs.Roots.{forest-range, same-self, length-range}
@@ -37,32 +42,32 @@ pub record Counting (f : List ℕ) (n : ℕ) (work : List ℕ) (sum m : ℕ) (wo
 pub counting-none : (f : List ℕ) (n : ℕ) (w : List ℕ) → Counting f n w 0 0 w
 unfolding countSum
 counting-none f n w =
-    record
-      { few = zero-le
-      ; small = zero-le
-      ; same = refl
-      ; after = λ k h. refl
-      ; sums = λ a e. refl
-      ; firsts = λ a e j h. absurd (not-suc-le-zero h)
-      }
+    record {
+      few = zero-le;
+      small = zero-le;
+      same = refl;
+      after = λ k h. refl;
+      sums = λ a e. refl;
+      firsts = λ a e j h. absurd (not-suc-le-zero h);
+    }
 
 pub counting-more : (f : List ℕ) (n : ℕ) (w : List ℕ) (sum m : ℕ) (w′ : List ℕ) (count : ℕ) → 4 * n ≤ length w → m < n → count < 2 ^ 32
     → (Accepted f → m < blockCount f → count ≡ countAt f (blockStart f m)) → Counting f n w sum m w′
     → Counting f n w (sum + count) (m + 1) (set w′ m (sum % 4294967296))
 unfolding countSum
 counting-more f n w sum m w′ count room h fits counted c =
-    record
-      { few = omega arith
-      ; small = omega (arith, c .small)
-      ; same = length-set w′ m _ ∙ c .same
-      ; after = λ k l. getD-set-other w′ m k _ 0 (omega arith) ∙ c .after k (omega arith)
-      ; sums = λ a e. sum-next a e
-      ; firsts = λ a e j l.
+    record {
+      few = omega arith;
+      small = omega (arith, c .small);
+      same = length-set w′ m _ ∙ c .same;
+      after = λ k l. getD-set-other w′ m k _ 0 (omega arith) ∙ c .after k (omega arith);
+      sums = λ a e. sum-next a e;
+      firsts = λ a e j l.
           elim (ℕ-discrete j m) [
             | yes g ↦ subst (λ (k : ℕ). getD (set w′ m (sum % 4294967296)) k 0 ≡ countSum f k) (sym g) (here a e)
             | no g ↦ getD-set-other w′ m j _ 0 (omega arith) ∙ c .firsts a e j (omega arith)
-          ]
-      }
+          ];
+    }
   where
     sum-next : Accepted f → n ≡ blockCount f → sum + count ≡ countSum f (m + 1)
     sum-next a e = ap₂ (λ (x y : ℕ). x + y) (c .sums a e) (counted a (subst (λ (k : ℕ). m < k) e h)) ∙ sym (rw (add-one m))
@@ -85,61 +90,159 @@ pub record Edges (f : List ℕ) (n i : ℕ) (work work′ : List ℕ) : Type 0 w
   pub forest : Forest (2 * i) (part1 n work′)
   pub roots : Accepted f → (q : List ℕ) × SameRoots (2 * i) (part1 n work′) q × (parents (blocksOf f) ≡ joinBlocks (blocksOf f) q i (drop i (blocksOf f)))
 
-pub edges-none : (f : List ℕ) (n : ℕ) (w p′ : List ℕ) → 4 * n ≤ length w → n ≡ blockCount f → p′ ≡ range (length (part1 n w)) 0 → Edges f n 0 w (putMid n (2 * n - n) w p′)
-unfolding parents
-edges-none f n w p′ room all own =
-    let own-n : p′ ≡ range n 0 = own ∙ ap (λ (m : ℕ). range m 0) (part-length n w room) in
-    let long : length p′ ≡ n = ap length own-n ∙ length-range n 0 in
-    let part-is : part1 n (putMid n (2 * n - n) w p′) ≡ range n 0 = back-part n w p′ room long ∙ own-n in
-    record
-      { few = zero-le
-      ; same = back-length n w p′ room long
-      ; before = back-before n w p′ room long
-      ; after = back-after n w p′ room long
-      ; forest = subst (Forest 0) (sym part-is) (forest-range n)
-      ; roots = λ a.
-          (range n 0, subst (λ (p : List ℕ). SameRoots 0 p (range n 0)) (sym part-is) (same-self (forest-range n)),
-          ap (λ (m : ℕ). joinBlocks (blocksOf f) (range m 0) 0 (blocksOf f)) (length-of f (blocksOf f) a ∙ sym all))
+-- each block its own root, in the part that was lent
+module _ (f : List ℕ) (n : ℕ) (w p′ : List ℕ) (room : 4 * n ≤ length w) (own : p′ ≡ range (length (part1 n w)) 0) where
+  own-n : p′ ≡ range n 0
+  own-n = own ∙ ap (λ (m : ℕ). range m 0) (part-length n w room)
+
+  own-long : length p′ ≡ n
+  own-long = ap length own-n ∙ length-range n 0
+
+  pub own-room : 4 * n ≤ length (putMid n (2 * n - n) w p′)
+  own-room = omega (arith, back-length n w p′ room own-long)
+
+  pub own-length : length (putMid n (2 * n - n) w p′) ≡ length w
+  own-length = back-length n w p′ room own-long
+
+  pub own-firsts : HasFirsts f n w → HasFirsts f n (putMid n (2 * n - n) w p′)
+  own-firsts h k l = back-before n w p′ room own-long k l ∙ h k l
+
+  pub edges-none : n ≡ blockCount f → Edges f n 0 (putMid n (2 * n - n) w p′) (putMid n (2 * n - n) w p′)
+  unfolding parents
+  edges-none all =
+      let part-is : part1 n (putMid n (2 * n - n) w p′) ≡ range n 0 = back-part n w p′ room own-long ∙ own-n in
+      record {
+        few = zero-le;
+        same = refl;
+        before = λ k h. refl;
+        after = λ k h. refl;
+        forest = subst (Forest 0) (sym part-is) (forest-range n);
+        roots = λ a. (
+          range n 0,
+          subst (λ (p : List ℕ). SameRoots 0 p (range n 0)) (sym part-is) (same-self (forest-range n)),
+          ap (λ (m : ℕ). joinBlocks (blocksOf f) (range m 0) 0 (blocksOf f)) (length-of f (blocksOf f) a ∙ sym all),
+        );
       }
+
+  -- all edges, from the numbers before the part was lent
+  pub edges-from : (w′ : List ℕ) → AllJoined f n (putMid n (2 * n - n) w p′) w′ → AllJoined f n w w′
+  edges-from w′ e =
+      record {
+        same = e .same ∙ own-length;
+        after = λ k h. e .after k h ∙ back-after n w p′ room own-long k h;
+        forest = e .forest;
+        roots = e .roots;
+      }
+
+-- what a block's edges ask for
+pub edges-asks : (f : List ℕ) (n i : ℕ) (w w′ : List ℕ) → 4 * n ≤ length w → (Accepted f → HasFirsts f n w) → Edges f n i w w′
+    → (4 * n ≤ length w′) × (Accepted f → HasFirsts f n w′)
+edges-asks f n i w w′ room firsts e = (omega (arith, e .same), λ a k h. e .before k h ∙ firsts a k h)
+
+-- a block to read past the end of a list
+nowhere : Block
+nowhere = record { addr = 0; thumb = false; code = none; instrs = [] }
 
 -- the edges of one block more
 next-block : (f : List ℕ) → Accepted f → (i : ℕ) → i < blockCount f → (q : List ℕ)
     → joinBlocks (blocksOf f) q i (drop i (blocksOf f)) ≡ joinBlocks (blocksOf f) (joinBlock f i q) (i + 1) (drop (i + 1) (blocksOf f))
 unfolding joinBlocks
 next-block f a i h q =
-    let nowhere : Block = record { addr = 0; thumb = false; code = none; instrs = [] } in
     ap (joinBlocks (blocksOf f) q i) (drop-cons (blocksOf f) i nowhere (omega (arith, length-of f (blocksOf f) a)) ∙ ap (λ (b : Block). b ∷ drop (suc i) (blocksOf f)) (nth-block f i nowhere h))
     ∙ rw (add-one i)
 
 pub edges-more : (f : List ℕ) (n i : ℕ) (w w′ w″ : List ℕ) → i < n → n ≡ blockCount f → Edges f n i w w′ → Joined 2 n w′ w″ (joinBlock f i) (Accepted f) → Edges f n (i + 1) w w″
 edges-more f n i w w′ w″ h all e j =
     let twice : 2 * i + 2 ≡ 2 * (i + 1) = omega arith in
-    record
-      { few = omega arith
-      ; same = j .same ∙ e .same
-      ; before = λ k l. j .before k l ∙ e .before k l
-      ; after = λ k l. j .after k l ∙ e .after k l
-      ; forest = subst (λ (d : ℕ). Forest d (part1 n w″)) twice (j .depth (2 * i) (e .forest))
-      ; roots = λ a.
-          let t = e .roots a in
-          (joinBlock f i (t .0),
-          subst (λ (d : ℕ). SameRoots d (part1 n w″) (joinBlock f i (t .0))) twice (j .roots a (2 * i) (t .0) (omega arith) (t .1)),
-          t .2 ∙ next-block f a i (subst (λ (k : ℕ). i < k) all h) (t .0))
-      }
+    record {
+      few = omega arith;
+      same = j .same ∙ e .same;
+      before = λ k l. j .before k l ∙ e .before k l;
+      after = λ k l. j .after k l ∙ e .after k l;
+      forest = subst (λ (d : ℕ). Forest d (part1 n w″)) twice (j .depth (2 * i) (e .forest));
+      roots = λ a.
+          let t = e .roots a in (
+            joinBlock f i (t .0),
+            subst (λ (d : ℕ). SameRoots d (part1 n w″) (joinBlock f i (t .0))) twice (j .roots a (2 * i) (t .0) (omega arith) (t .1)),
+            t .2 ∙ next-block f a i (subst (λ (k : ℕ). i < k) all h) (t .0),
+          );
+    }
 
-pub edges-all : (f : List ℕ) (n : ℕ) (w w′ : List ℕ) → 4 * n ≤ length w → n ≡ blockCount f → Edges f n n w w′ → AllJoined f n w w′
+edges-all : (f : List ℕ) (n : ℕ) (w w′ : List ℕ) → 4 * n ≤ length w → n ≡ blockCount f → Edges f n n w w′ → AllJoined f n w w′
 unfolding joinBlocks
 edges-all f n w w′ room all e =
-    record
-      { same = e .same
-      ; after = e .after
-      ; forest = e .forest
-      ; roots = λ a k h.
+    record {
+      same = e .same;
+      after = e .after;
+      forest = e .forest;
+      roots = λ a k h.
           let t = e .roots a in
           t .1 .roots k (omega (arith, part-length n w′ (let r : 4 * n ≤ length w′ = omega (arith, e .same) in r)))
-          ∙ ap (λ (q : List ℕ). root q k) (sym (t .2 ∙ last-block a (t .0)))
-      }
+          ∙ ap (λ (q : List ℕ). root q k) (sym (t .2 ∙ last-block a (t .0)));
+    }
   where
     last-block : Accepted f → (q : List ℕ) → joinBlocks (blocksOf f) q n (drop n (blocksOf f)) ≡ q
     last-block a q =
         ap (joinBlocks (blocksOf f) q n) (ap (λ (m : ℕ). drop m (blocksOf f)) (all ∙ sym (length-of f (blocksOf f) a)) ∙ drop-length (blocksOf f))
+
+pub edges-done : (f : List ℕ) (n i : ℕ) (w w′ : List ℕ) → 4 * n ≤ length w → n ≡ blockCount f → i ≡ n → Edges f n i w w′ → AllJoined f n w w′
+edges-done f n i w w′ room all done e = edges-all f n w w′ room all (subst (λ (m : ℕ). Edges f n m w w′) done e)
+
+-- the counts of the blocks of an accepted file
+has-counts : (f : List ℕ) → Accepted f → HasCounts f (countsOf (blocksOf f))
+unfolding nowhere
+has-counts f a i h =
+    List·getD-map (λ (b : Block). length (b .instrs)) (blocksOf f) i nowhere
+    ∙ ap (λ (b : Block). length (b .instrs)) (nth-block f i nowhere h)
+    ∙ sym (record-reads f (blocksOf f) a i h .count)
+    ∙ (unfold recordAt in refl)
+
+keys-rising : (f : List ℕ) → Accepted f → (i j : ℕ) → i < j → j < length (blocksOf f) → getD (map blockKey (blocksOf f)) i 0 ≤ getD (map blockKey (blocksOf f)) j 0
+unfolding nowhere
+keys-rising f a i j l h =
+    let inside : j < blockCount f = subst (λ (m : ℕ). j < m) (length-of f (blocksOf f) a) h in
+    let key-of : (k : ℕ) → k < blockCount f → getD (map blockKey (blocksOf f)) k 0 ≡ keyAt f (blockStart f k) = λ k b. List·getD-map blockKey (blocksOf f) k nowhere ∙ block-key f a k nowhere b in
+    rw (key-of i (omega arith), key-of j inside) (le-of-lt (keys-rise f a i j l inside))
+
+-- the steps of grouping, one after the other
+module _ (f : List ℕ) (n limit : ℕ) (w w₂ w₃ w₄ : List ℕ) (few : n ≤ 65536) (all : n ≡ blockCount f) (room : 4 * n ≤ length w) (joined : AllJoined f n w w₂)
+    (rooted : AllRooted n n w₂ w₃) (outside : Outside n w₃ w₄) (links : (roots : List ℕ) → HasRoots n roots w₃ → Linked roots n 0 w₄) where
+  abbrev roots : List ℕ
+  roots = drop (2 * n) w₄
+
+  roots-here : HasRoots n (drop (2 * n) w₄) w₃
+  roots-here i h = sym (outside .middle (2 * n + i) (omega arith) (omega arith)) ∙ sym (getD-drop (2 * n) w₄ i 0)
+
+  room₄ : 4 * n ≤ length w₄
+  room₄ = omega (arith, joined .same, rooted .same, outside .same)
+
+  -- what placing asks for
+  pub place-asks : ((n ≤ 65536) × (4 * n ≤ length w₄)) × Linked (drop (2 * n) w₄) n 0 w₄
+  place-asks = ((few, room₄), links (drop (2 * n) w₄) roots-here)
+
+  root-at : (j : ℕ) → j < n → getD roots j 0 ≡ root (part1 n w₂) j
+  root-at j h = sym (roots-here j h) ∙ rooted .here j h
+
+  root-small : (j : ℕ) → j < n → getD roots j 0 < n
+  root-small j h = subst (λ (m : ℕ). m < n) (roots-here j h) (rooted .small j h)
+
+  pub grouped : (w₅ : List ℕ) → Placed f n limit w₄ w₅ → Grouped f n limit w w₅
+  grouped w₅ placed =
+      record {
+        same = placed .same ∙ outside .same ∙ rooted .same ∙ joined .same;
+        after = λ k h. placed .after k h ∙ outside .after k h ∙ rooted .after k (omega arith) ∙ joined .after k (omega arith);
+        rows = rows;
+      }
+    where
+      rows : Accepted f → interleave (take n (drop (2 * n) w₅)) (take n w₅) ≡ plan limit (blocksOf f)
+      rows a =
+          let long = order-all (drop (2 * n) w₄) n root-small in
+          let size : length (blocksOf f) ≡ n = length-of f (blocksOf f) a ∙ sym all in
+          let is = plan-is limit (blocksOf f) (drop (2 * n) w₄) (λ j h. let small : j < n = subst (λ (m : ℕ). j < m) size h in root-at j small ∙ joined .roots a j small) (keys-rising f a) in
+          ap₂ interleave (placed .numbers long a all (countsOf (blocksOf f)) (has-counts f a)) (placed .order long)
+          ∙ sym (rw size at is)
+
+-- from the numbers before the first step
+pub grouped-from : (f : List ℕ) (n limit : ℕ) (w w₁ w₅ : List ℕ) → Firsts f n w w₁ → Grouped f n limit w₁ w₅ → Grouped f n limit w w₅
+grouped-from f n limit w w₁ w₅ e g =
+    record { same = g .same ∙ e .same; after = λ k h. g .after k h ∙ e .after k (omega arith); rows = g .rows }

@@ -121,13 +121,13 @@ module _ (f : List ℕ) (i n : ℕ) (w : List ℕ) (found : FoundBlock) (reads :
   -- the reader finds nothing: not in an accepted file
   pub block-missing : found ≡ FoundBlock.Nothing → Joined 2 n w w (joinBlock f i) (Accepted f)
   block-missing e =
-      record
-        { same = refl
-        ; before = λ k h. refl
-        ; after = λ k h. refl
-        ; depth = λ d g. deeper g (d + 2) (omega arith)
-        ; roots = λ a. absurd (not-missing f a i (subst (λ (m : ℕ). i < m) all inside) (sym reads ∙ e))
-        }
+      record {
+        same = refl;
+        before = λ k h. refl;
+        after = λ k h. refl;
+        depth = λ d g. deeper g (d + 2) (omega arith);
+        roots = λ a. absurd (not-missing f a i (subst (λ (m : ℕ). i < m) all inside) (sym reads ∙ e));
+      }
 
   module _ (b : BlockRecord) (at : found ≡ FoundBlock.At b) where
     record-is : b ≡ recordAt f (blockStart f i)
@@ -140,24 +140,24 @@ module _ (f : List ℕ) (i n : ℕ) (w : List ℕ) (found : FoundBlock) (reads :
     -- a block of another page makes no edge
     pub block-apart : (b .addr / 2 ^ 24 ≡ 8 → ⊥) → Joined 2 n w w (joinBlock f i) (Accepted f)
     block-apart ne =
-        record
-          { same = refl
-          ; before = λ k h. refl
-          ; after = λ k h. refl
-          ; depth = λ d g. deeper g (d + 2) (omega arith)
-          ; roots = λ a d q few g. subst (SameRoots (d + 2) (part1 n w)) (sym (rw (page-is, ne-eqb _ _ ne))) (same-deeper g (d + 2) (omega arith))
-          }
+        record {
+          same = refl;
+          before = λ k h. refl;
+          after = λ k h. refl;
+          depth = λ d g. deeper g (d + 2) (omega arith);
+          roots = λ a d q few g. subst (SameRoots (d + 2) (part1 n w)) (sym (rw (page-is, ne-eqb _ _ ne))) (same-deeper g (d + 2) (omega arith));
+        }
 
     -- a block of page 8 makes those of its exits
     pub block-joins : b .addr / 2 ^ 24 ≡ 8 → (x : Exits) (w₁ : List ℕ)
         → (Accepted f → keysOf x ≡ exits (blockAt f (blockStart f i) (countSum f i)))
         → Joined 2 n w w₁ (λ q. joinExits (blocksOf f) i q (keysOf x)) (Accepted f) → Joined 2 n w w₁ (joinBlock f i) (Accepted f)
     block-joins e x w₁ keys j =
-        record
-          { same = j .same
-          ; before = j .before
-          ; after = j .after
-          ; depth = j .depth
-          ; roots = λ a d q few g.
-              subst (SameRoots (d + 2) (part1 n w₁)) (ap (joinExits (blocksOf f) i q) (keys a) ∙ sym (rw (page-is, eq-eqb _ _ e))) (j .roots a d q few g)
-          }
+        record {
+          same = j .same;
+          before = j .before;
+          after = j .after;
+          depth = j .depth;
+          roots = λ a d q few g.
+              subst (SameRoots (d + 2) (part1 n w₁)) (ap (joinExits (blocksOf f) i q) (keys a) ∙ sym (rw (page-is, eq-eqb _ _ e))) (j .roots a d q few g);
+        }

@@ -69,9 +69,9 @@ returns-3 c = let args = c .before .before .before .before .before .before .befo
     let reads = c .before .before .before .before .before .before .before .before .before .before .before .before .block-at .ensures in
     joining.block-joins _ _ _ _ _ reads (pre .0 .2) (pre .0 .3) _ found (c .before .before .before .before .before .before .before .if1 .left) (c .before .before .before .before .exits-at .result) _
     (λ a.
-      let starts = c .before .before .before .before .before .wide .ensures ∙ pre .1 .1 a _ (pre .0 .2) in
-      c .before .before .before .before .exits-at .ensures _ (record { accepted = a; found = sym reads ∙ found; starts = starts })
-      ∙ ap (λ (k : ℕ). exits (blockAt (now (args .file)) (blockStart (now (args .file)) (args .i)) k)) starts)
+    let starts = c .before .before .before .before .before .wide .ensures ∙ pre .1 .1 a _ (pre .0 .2) in
+    c .before .before .before .before .exits-at .ensures _ (record { accepted = a; found = sym reads ∙ found; starts = starts })
+    ∙ ap (λ (k : ℕ). exits (blockAt (now (args .file)) (blockStart (now (args .file)) (args .i)) k)) starts)
     (c .before .before .join-exits .ensures)
 
 pub join-block-spec : {M : Type 1} → statement M
