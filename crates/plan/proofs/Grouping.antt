@@ -25,7 +25,8 @@ use Rattle.plan.specs.Groups.{part1, Joined, HasFirsts, Firsts, joinBloc
 use Rattle.plan.specs.Links.{HasRoots, Linked, Outside}
 use Rattle.plan.specs.Order.{HasCounts, Placed}
 use Rattle.plan.proofs.Keys.{block-key, keys-rise}
-use Rattle.plan.proofs.Numbering.{countsOf, plan-is, order-all}
+use Rattle.plan.proofs.Components.{countsOf}
+use Rattle.plan.proofs.Numbering.{plan-is, order-all}
 use Rattle.plan.proofs.Accepted.{nth-block}
 use Rattle.plan.proofs.Lending.{part-length, back-length, back-part, back-after, back-before}
 use Rattle.plan.proofs.Roots.{forest-range, same-self, length-range}

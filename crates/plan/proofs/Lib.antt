@@ -1,11 +1,16 @@
 -- The laws that the functions' proofs share.
 mod Accepted
 mod Closing
+pub mod Components
+pub mod Cutting
+pub mod Edges
+pub mod GroupLaws
 mod Grouping
 mod Joining
 mod Keys
 mod Lending
 mod Linking
+pub mod Listing
 mod Numbering
 mod Ordering
 pub mod Roots

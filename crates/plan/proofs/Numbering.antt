@@ -6,6 +6,7 @@ use mathlib.Core.List.{List, [], _∷_, _++_, map, append-assoc, append-nil}
 use Prim.Native.Nat.{ℕ, zero, suc, zero-le, _+_, _≤_, _<_}
 use native.Mathlib.Nat.{zero-add, le-refl}
 use native.Mathlib.Numerals.{one-add}
+use Rattle.plan.proofs.Components.{countsOf}
 use Rattle.plan.proofs.Ordering.{length-numbers}
 use native.Mathlib.Omega.{arith}
 use borrow.Author.Tests.{le-leb, eq-eqb, ne-eqb}
@@ -89,9 +90,6 @@ interleave-append [] [] xs′ ys′ e = refl
 interleave-append [] (y ∷ ys) xs′ ys′ e = absurd (omega arith)
 interleave-append (x ∷ xs) [] xs′ ys′ e = absurd (omega arith)
 interleave-append (x ∷ xs) (y ∷ ys) xs′ ys′ e = ap (λ (l : List ℕ). x ∷ y ∷ l) (interleave-append xs ys xs′ ys′ (omega arith))
-
-abbrev pub countsOf : List Block → List ℕ
-countsOf bs = map (λ (b : Block). length (b .instrs)) bs
 
 -- the rows of the components from component r on
 rows-groups : (limit : ℕ) (bs : List Block) (p roots : List ℕ) (g left r : ℕ)
