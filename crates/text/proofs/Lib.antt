@@ -1,0 +1,4 @@
+pub mod Overlay
+pub mod Numerals
+pub mod Printers
+pub mod Laws

@@ -1,0 +1,48 @@
+-- `text::last_digits` meets its contract: at each turn the digits still to come, laid over the part, give what all digits laid over it would have given.
+use mathlib.Core.Path.{_≡_, refl}
+use native.Mathlib.Omega.{arith}
+use borrow.Author.Needs.{needs}
+use lib.ListN.{length}
+use Rattle.text.specs.Digits.{fixed}
+use Rattle.text.specs.Wrote.{overlay}
+use Rattle.text.proofs.Numerals.{digit-more, store-end}
+use Rattle.text.proofs.last_digits.Statement.{statement}
+use Rattle.text.proofs.last_digits.Tie as tie
+
+abbrev Inv-loop : tie.InvT-loop
+Inv-loop part₀ n k rest₀ at₀ part rest at =
+    (overlay part 0 (fixed 16 at rest) ≡ overlay part₀ 0 (fixed 16 k n)) × (length part ≡ length part₀)
+
+abbrev μ-loop : tie.MeasureT-loop
+μ-loop part₀ n k rest₀ at₀ part rest at = at
+
+loop-holds : tie.Need-loop-holds Inv-loop μ-loop
+loop-holds c = (refl, refl)
+
+sub-at : tie.Need-sub-at Inv-loop μ-loop
+sub-at c = omega arith
+
+digit-requires : tie.Need-digit-requires Inv-loop μ-loop
+digit-requires c κs = search needs
+
+loop-less : tie.Need-loop-less Inv-loop μ-loop
+loop-less c = omega arith
+
+loop-again : tie.Need-loop-again Inv-loop μ-loop
+loop-again c =
+    let l = c .before .before .before .before .before .loop in (
+      digit-more (l .at) (l .rest) _ (c .before .before .before .before .loop-test .taken)
+          (c .before .before .digit .ensures) (l .inv .0),
+      search needs,
+    )
+
+same-length : tie.Need-same-length Inv-loop μ-loop
+same-length c = search needs
+
+returns : tie.Need-returns Inv-loop μ-loop
+returns c = store-end 16 (c .before .loop .at) (c .before .loop .rest) _ _ (c .loop-test .left) (c .before .loop .inv .0)
+
+pub last-digits-spec : {M : Type 1} → statement M
+last-digits-spec =
+    tie.close
+    (tie.spec Inv-loop μ-loop loop-holds sub-at digit-requires loop-less loop-again same-length returns)

@@ -1,0 +1,4 @@
+pub mod Digits
+pub mod Doc
+pub mod Wrote
+pub mod Examples
