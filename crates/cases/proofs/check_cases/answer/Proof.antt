@@ -1,5 +1,6 @@
 -- `cases::check_cases::answer` meets its contract: the numbers are those of the variant that the check answers.
 use borrow.Author.Needs.{needs}
+use Rattle.block_file.specs.Answer.{answerOf}
 use Rattle.cases.proofs.check_cases.answer.Statement.{statement}
 use Rattle.cases.proofs.check_cases.answer.Tie as tie
 
@@ -16,9 +17,11 @@ cast-t8 : tie.Need-cast-t8
 cast-t8 c = search needs
 
 returns : tie.Need-returns
+unfolding answerOf
 returns c = rw (← c .before .before .before .check .ensures, c .before .blocks2 .given .1)
 
 returns-2 : tie.Need-returns-2
+unfolding answerOf
 returns-2 c = rw (← c .before .before .before .check .ensures, c .before .number .given .1)
 
 pub answer-spec : {M : Type 1} → statement M
