@@ -1,5 +1,6 @@
 -- The laws that the functions' proofs share.
 mod Accepted
+mod Answers
 mod Closing
 pub mod Components
 pub mod Cutting
@@ -13,6 +14,7 @@ mod Linking
 pub mod Listing
 mod Numbering
 mod Ordering
+mod Planning
 pub mod Roots
 mod Rows
 mod StarredExits

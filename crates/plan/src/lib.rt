@@ -1,5 +1,6 @@
 // Exits of blocks, and the plan: which blocks share a group, in lent work numbers.
 mod buffers;
+mod calls;
 mod exits;
 mod forest;
 mod groups;
@@ -7,6 +8,8 @@ mod links;
 mod order;
 mod search;
 
+pub use calls::Exiting;
+pub use calls::Planned;
+pub use calls::exits_of;
+pub use calls::plan;
 pub use exits::Exits;
-pub use exits::FoundExits;
-pub use exits::block_exits;

@@ -1,0 +1,57 @@
+-- `plan::calls::plan` meets its contract, by what the check says of the file.
+-- Assumes nothing.
+use borrow.Author.Needs.{needs}
+use denote.Ref.{now}
+use mathlib.Core.Path.{sym, ap, _∙_}
+use native.Mathlib.Omega.{arith}
+use Rattle.block_file.proofs.Accepted.{few-blocks}
+use Rattle.plan.proofs.Answers.{refused-file, accepted-file, accepted-blocks}
+use Rattle.plan.proofs.calls.plan.Statement.{statement}
+use Rattle.plan.proofs.calls.plan.Tie as tie
+use Rattle.plan.specs.Calls.{plannedOf, planCall}
+
+check-requires : tie.Need-check-requires
+check-requires c κs = search needs
+
+enum-known-blocks : tie.Need-enum-known-blocks
+enum-known-blocks c = search needs
+
+cast-plan-blocks : tie.Need-cast-plan-blocks
+cast-plan-blocks c = let checked = c .before .before .before .before .before .check .ensures in
+    let given = c .before .before .before .blocks2 .given .1 in
+    omega (arith, accepted-blocks _ _ checked _ _ given, few-blocks _ _ (accepted-file _ _ checked _ _ given))
+
+plan-blocks-requires : tie.Need-plan-blocks-requires
+plan-blocks-requires c κs = let checked = c .before .before .before .before .before .check .ensures in
+    (accepted-file _ _ checked _ _ (c .before .before .before .blocks2 .given .1), accepted-blocks _ _ checked _ _ (c .before .before .before .blocks2 .given .1))
+
+enum-known-number : tie.Need-enum-known-number
+enum-known-number c = search needs
+
+same-length : tie.Need-same-length
+same-length c = search needs
+
+same-length-2 : tie.Need-same-length-2
+same-length-2 c = search needs
+
+returns : tie.Need-returns
+unfolding planCall
+returns c = c .before .before .before .before .plan-blocks .ensures ∙ ap (λ p. planCall p (now (c .before .before .before .before .before .before .before .before .before .before .before .before .before .before .args .work)) (now (c .before .before .before .before .before .before .before .before .before .before .before .before .before .before .args .result))) (sym (accepted-file _ _ (c .before .before .before .before .before .before .before .before .before .before .check .ensures) _ _ (c .before .before .before .before .before .before .before .before .blocks2 .given .1)))
+
+returns-2 : tie.Need-returns-2
+unfolding plannedOf planCall
+returns-2 c = rw (refused-file _ _ (c .before .before .before .check .ensures) _ _ (c .before .number .given .1))
+
+pub plan-spec : {M : Type 1} → statement M
+plan-spec =
+    tie.close
+    (tie.spec
+    check-requires
+    enum-known-blocks
+    cast-plan-blocks
+    plan-blocks-requires
+    enum-known-number
+    same-length
+    same-length-2
+    returns
+    returns-2)
