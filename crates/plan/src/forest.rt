@@ -1,7 +1,7 @@
 // Parents in lent numbers: element i is the parent of i, and a number that is its own parent is a root.
 ghost use Prim.Native.Nat.{_*_, _≤_, _<_, _^_};
 ghost use mathlib.Core.Path.{_≡_};
-ghost use lib.ListN.{length};
+ghost use lib.ListN.{length, set};
 ghost use Rattle.plan.specs.Forest.{Forest, Found, Hung, range};
 
 // Makes every number its own root.
@@ -32,6 +32,15 @@ pub(crate) fn find(p: &mut [u32], i: usize) -> usize
     }
 }
 
+// Makes `parent` the parent of r.
+fn set_parent(p: &mut [u32], r: usize, parent: usize)
+    requires { ⌜ (r < length (now p)) × (parent < length (now p)) ⌝ }
+    requires { ⌜ (r < 2 ^ 32) × (parent < 2 ^ 32) ⌝ }
+    ensures { λ _. ⌜ now (p .exit) ≡ set (now (p .entry)) r parent ⌝ }
+{
+    p[r] = parent as u32;
+}
+
 // Hangs the root of i under the root of j. Where both have the same root, it stays its own parent.
 pub(crate) fn hang_under(p: &mut [u32], i: usize, j: usize)
     requires { ⌜ Forest (2 * length (now p)) (now p) ⌝ }
@@ -41,5 +50,5 @@ pub(crate) fn hang_under(p: &mut [u32], i: usize, j: usize)
 {
     let source = find(&mut *p, i);
     let target = find(&mut *p, j);
-    p[source] = target as u32;
+    set_parent(p, source, target);
 }

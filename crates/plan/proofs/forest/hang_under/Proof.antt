@@ -49,30 +49,25 @@ find-requires-2 c κs =
     (flatter-full flat (c .before .before .before .before .before .before .pre .0), rw (flat .lengths) (c .before .before .before .before .before .before .pre .1 .1))
 
 -- both roots are elements of the parents, so they fit
-cast-p : tie.Need-cast-p
-cast-p c =
-    let pre = c .before .before .before .before .before .before .before .before .before .pre in
-    let first = c .before .before .before .before .before .before .find in
-    let second = c .before .before .find2 in
-    let known = c .slice-known3 .given in
+set-parent-requires : tie.Need-set-parent-requires
+set-parent-requires c κs =
+    let pre = c .before .before .before .before .before .before .before .before .before .before .pre in
+    let first = c .before .before .before .before .before .before .before .find in
+    let second = c .before .before .before .find2 in
+    let known = c .before .slice-known3 .given in
     let owned = own-roots (pre .0) (pre .1 .0) (pre .1 .1) (first .ensures) (second .ensures) in
-    omega (arith, known (first .result), owned .0, known (second .result), owned .1)
-
-mul-p : tie.Need-mul-p
-mul-p c = search needs
-
-slice-write-p : tie.Need-slice-write-p
-slice-write-p c = search needs
+    let kept = both (pre .0) (pre .1 .0) (pre .1 .1) (first .ensures) (second .ensures) in (
+      (omega (arith, first .ensures .inside, kept .lengths), omega (arith, second .ensures .inside, kept .lengths)),
+      omega (arith, known (first .result), owned .0, known (second .result), owned .1),
+    )
 
 returns : tie.Need-returns
 returns c =
-    let pre = c .before .before .before .before .before .before .before .before .before .pre in
-    joins (pre .0) (pre .1 .0) (pre .1 .1) (c .before .before .before .before .before .before .find .ensures) (c .before .before .find2 .ensures)
+    let pre = c .before .before .before .before .before .before .before .before .before .before .before .before .before .pre in
+    rw (c .before .before .set-parent .ensures) (joins (pre .0) (pre .1 .0) (pre .1 .1) (c .before .before .before .before .before .before .before .before .before .before .find .ensures) (c .before .before .before .before .before .before .find2 .ensures))
 
 same-length : tie.Need-same-length
 same-length c = returns c .lengths
 
 pub hang-under-spec : {M : Type 1} → statement M
-hang-under-spec =
-    tie.close
-    (tie.spec find-requires find-requires-2 cast-p mul-p slice-write-p same-length returns)
+hang-under-spec = tie.close (tie.spec find-requires find-requires-2 set-parent-requires same-length returns)
