@@ -54,7 +54,7 @@ fn plan_blocks(file: &[u8], work: &mut [u32], result: &mut [u32], n: u32) -> Pla
 }
 
 // The plan of a file: two numbers for each block in emission order, its group and its index.
-pub fn plan(file: &[u8], work: &mut [u32], result: &mut [u32]) -> Planned
+pub fn plan_of(file: &[u8], work: &mut [u32], result: &mut [u32]) -> Planned
     ensures { λ r. ⌜ record { answer = plannedOf r; work = now (work .exit); result = now (result .exit) } ≡ planCall (parse (now (file .entry))) (now (work .entry)) (now (result .entry)) ⌝ }
 {
     match check(file) {

@@ -11,5 +11,5 @@ mod search;
 pub use calls::Exiting;
 pub use calls::Planned;
 pub use calls::exits_of;
-pub use calls::plan;
+pub use calls::plan_of;
 pub use exits::Exits;

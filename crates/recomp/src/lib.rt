@@ -1,42 +1,15 @@
 // The public calls, and their C forms.
+mod c_check;
+mod c_exits;
+mod c_plan;
+
 pub use block_file::Checked;
-ghost use mathlib.Core.Path.{_≡_};
-ghost use Rattle.block_file.specs.Answer.{answerOf};
-ghost use Rattle.block_file.specs.Parse.{parse, checkAnswer};
-ghost use Rattle.recomp.specs.Answer.{CheckNumbers, checkNumbers};
-
-// Whether a file is accepted, with its counts of blocks and instructions, or which of refusals 1 to 7 it gets, with its i.
-pub fn check(file: &[u8]) -> Checked
-    ensures { λ r. ⌜ answerOf r ≡ checkAnswer (parse (now (file .entry))) ⌝ }
-{
-    block_file::check(file)
-}
-
-// The check's numbers, as the C interface hands them over.
-#[no_mangle]
-pub extern "C" fn recomp_check(
-    file: &[u8],
-    at: &mut u64,
-    blocks: &mut u64,
-    instructions: &mut u64,
-) -> u32
-    ensures { λ r. ⌜ record { number = r; at = now (at .exit); blocks = now (blocks .exit); instructions = now (instructions .exit) } ≡ checkNumbers (checkAnswer (parse (now (file .entry)))) ⌝ }
-{
-    match check(file) {
-        Checked::Accepted {
-            blocks: b,
-            instructions: i,
-        } => {
-            *at = 0;
-            *blocks = b;
-            *instructions = i;
-            0
-        }
-        Checked::Refused { number, at: i } => {
-            *at = i;
-            *blocks = 0;
-            *instructions = 0;
-            number
-        }
-    }
-}
+pub use block_file::check;
+pub use c_check::recomp_check;
+pub use c_exits::recomp_exits;
+pub use c_plan::recomp_plan;
+pub use plan::Exiting;
+pub use plan::Exits;
+pub use plan::Planned;
+pub use plan::exits_of;
+pub use plan::plan_of;

@@ -1,4 +1,4 @@
--- `plan::calls::plan` meets its contract, by what the check says of the file.
+-- `plan::calls::plan_of` meets its contract, by what the check says of the file.
 -- Assumes nothing.
 use borrow.Author.Needs.{needs}
 use denote.Ref.{now}
@@ -6,8 +6,8 @@ use mathlib.Core.Path.{sym, ap, _∙_}
 use native.Mathlib.Omega.{arith}
 use Rattle.block_file.proofs.Accepted.{few-blocks}
 use Rattle.plan.proofs.Answers.{refused-file, accepted-file, accepted-blocks}
-use Rattle.plan.proofs.calls.plan.Statement.{statement}
-use Rattle.plan.proofs.calls.plan.Tie as tie
+use Rattle.plan.proofs.calls.plan_of.Statement.{statement}
+use Rattle.plan.proofs.calls.plan_of.Tie as tie
 use Rattle.plan.specs.Calls.{plannedOf, planCall}
 
 check-requires : tie.Need-check-requires
@@ -42,8 +42,8 @@ returns-2 : tie.Need-returns-2
 unfolding plannedOf planCall
 returns-2 c = rw (refused-file _ _ (c .before .before .before .check .ensures) _ _ (c .before .number .given .1))
 
-pub plan-spec : {M : Type 1} → statement M
-plan-spec =
+pub plan-of-spec : {M : Type 1} → statement M
+plan-of-spec =
     tie.close
     (tie.spec
     check-requires
