@@ -17,5 +17,5 @@ mod Ordering
 mod Planning
 pub mod Roots
 mod Rows
-mod StarredExits
+pub mod Starred
 pub mod Ways

@@ -1,10 +1,11 @@
--- The starred cases of document 01 for exits: blocks with the keys that they must give.
+-- The starred cases of document 01 for exits and parts.
 -- Assumes nothing.
 use Prim.Native.Nat.{ℕ}
 use mathlib.Core.Path.{_≡_, refl}
 use mathlib.Core.Bool.{Bool, true, false}
 use mathlib.Core.List.{List, [], _∷_, map, List·Memᴰ, List·Memᴰ·head, List·Memᴰ·tail}
 use mathlib.Core.Option.{none}
+use lib.ListN.{length}
 use Rattle.armv4t.specs.declared.Cond.{Cond}
 use Rattle.armv4t.specs.declared.Cond.the-variants.{Eq, Al}
 use Rattle.armv4t.specs.declared.Op.{Op}
@@ -12,7 +13,10 @@ use Rattle.armv4t.specs.declared.Op.the-variants.{Bx, Branch, ThumbBlHigh, Thum
 use Rattle.armv4t.specs.Fused.{fuse}
 use Rattle.block_file.specs.declared.decode.TimedInstr.{TimedInstr}
 use Rattle.block_file.specs.Parse.{Block}
+use Rattle.plan.specs.Calls.{partLimit}
 use Rattle.plan.specs.Exits.{instrExits, exits}
+use Rattle.plan.specs.Forest.{range}
+use Rattle.plan.specs.Plan.{parts}
 
 -- an instruction of one cycle
 timed : ℕ → Bool → Cond → Op → TimedInstr
@@ -32,19 +36,32 @@ pair lr off =
       instrs = timed 0x0800_0100 true Al (ThumbBlHigh lr) ∷ timed 0x0800_0102 true Al (ThumbBlLow off) ∷ [];
     }
 
--- a block and its exits
-pub record Case : Type 0 where
-  pub block : Block
-  pub keys : List ℕ
+pub data Case : Type 0 where
+  -- a block and its exits
+  exit : Block → List ℕ → Case
+  -- the instruction counts of a component's blocks, and the parts that it is cut into
+  part : List ℕ → List (List ℕ) → Case
 
 pub cases : List Case
 cases =
-    record { block = one Eq (Branch false 0x0800_0040); keys = 0x0800_0040 ∷ 0x0800_0014 ∷ [] }
-    ∷ record { block = one Al (Branch false 0x0800_0040); keys = 0x0800_0040 ∷ [] }
-    ∷ record { block = one Eq (Bx 14); keys = [] }
-    ∷ record { block = one Al (Swi 0); keys = [] }
-    ∷ record { block = pair 0x0800_0104 3; keys = 0x0800_010b ∷ [] }
+    exit (one Eq (Branch false 0x0800_0040)) (0x0800_0040 ∷ 0x0800_0014 ∷ [])
+    ∷ exit (one Al (Branch false 0x0800_0040)) (0x0800_0040 ∷ [])
+    ∷ exit (one Eq (Bx 14)) []
+    ∷ exit (one Al (Swi 0)) []
+    ∷ exit (pair 0x0800_0104 3) (0x0800_010b ∷ [])
+    ∷ part (8191 ∷ 1 ∷ []) ((0 ∷ 1 ∷ []) ∷ [])
+    ∷ part (8192 ∷ 1 ∷ []) ((0 ∷ []) ∷ (1 ∷ []) ∷ [])
     ∷ []
+
+-- what the definitions give for a case
+pub defined : Case → List (List ℕ)
+defined (exit b keys) = exits b ∷ []
+defined (part counts cut) = parts partLimit counts [] 0 (range (length counts) 0)
+
+-- what document 01 says of a case
+pub stated : Case → List (List ℕ)
+stated (exit b keys) = keys ∷ []
+stated (part counts cut) = cut
 
 -- what two functions agree on along a list they agree on at each of its members
 each : {A B : Type 0} (g h : A → B) {x : A} {xs : List A} → List·Memᴰ x xs → map g xs ≡ map h xs → g x ≡ h x
@@ -52,6 +69,6 @@ each g h (List·Memᴰ·head same) e = cc
 each g h (List·Memᴰ·tail m) e = each g h m (cc)
 
 -- each starred case holds
-pub starred : (c : Case) → List·Memᴰ c cases → exits (c .block) ≡ c .keys
-unfolding exits instrExits fuse cases one pair timed
-starred c m = each (λ d. exits (d .block)) (λ d. d .keys) m refl
+pub starred : (c : Case) → List·Memᴰ c cases → defined c ≡ stated c
+unfolding exits instrExits fuse cases one pair timed defined stated parts range
+starred c m = each defined stated m refl
