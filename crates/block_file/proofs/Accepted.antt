@@ -17,7 +17,7 @@ use Rattle.block_file.specs.declared.read.BlockRecord.{BlockRecord}
 use Rattle.block_file.specs.declared.read.FoundBlock.{FoundBlock}
 use Rattle.block_file.specs.declared.read.FoundInstr.{FoundInstr}
 use Rattle.block_file.specs.Trailer.{blockCount, instrCount, codeCount, blockStart, instrStart, trailerRight, withinLimits}
-use Rattle.block_file.specs.BlockRecord.{addrAt, countAt, offsetAt, thumbAt, presentAt, lengthAt, countSum, codeRight, blockRight, keyRises}
+use Rattle.block_file.specs.BlockRecord.{addrAt, countAt, codeOffsetAt, thumbAt, presentAt, lengthAt, countSum, codeRight, blockRight, keyRises}
 use Rattle.block_file.specs.InstrRecord.{instrRight}
 use Rattle.block_file.specs.Decode.{timedAt}
 use Rattle.block_file.specs.Refusal.{Row, broken, firstBroken, blockRows, instrRows, rows}
@@ -153,11 +153,11 @@ module _ (f : List ℕ) (bs : List Block) (accepted : parse f ≡ Parsed.accepte
     instrs-inside = omega (arith, sum-above f i (blockCount f) inside, sums)
 
     -- present code bytes are inside the file
-    pub code-inside : presentAt f (blockStart f i) ≡ true → offsetAt f (blockStart f i) + lengthAt f (blockStart f i) ≤ length f
+    pub code-inside : presentAt f (blockStart f i) ≡ true → codeOffsetAt f (blockStart f i) + lengthAt f (blockStart f i) ≤ length f
     unfolding codeRight
     code-inside e =
-        let within : leb (offsetAt f (blockStart f i) + lengthAt f (blockStart f i)) (codeCount f) ≡ true = (rw e at (rules.code-kept f (blockStart f i) right)) in
-        let below : offsetAt f (blockStart f i) + lengthAt f (blockStart f i) ≤ codeCount f = leb-true _ _ within in
+        let within : leb (codeOffsetAt f (blockStart f i) + lengthAt f (blockStart f i)) (codeCount f) ≡ true = (rw e at (rules.code-kept f (blockStart f i) right)) in
+        let below : codeOffsetAt f (blockStart f i) + lengthAt f (blockStart f i) ≤ codeCount f = leb-true _ _ within in
         omega (arith, below, parts-of)
 
     -- the reader gives the fields of the block

@@ -7,9 +7,11 @@ use Rattle.armv4t.specs.Instr.{sizeOf}
 use Rattle.block_file.specs.Bytes.{wordAt}
 use Rattle.block_file.specs.Trailer.{codeCount, blockStart}
 
+-- the address of the block's first instruction
 abbrev pub addrAt : List ℕ → ℕ → ℕ
 addrAt f at = wordAt f at
 
+-- the flags, of which bits 0 and 1 have a meaning
 abbrev pub flagsAt : List ℕ → ℕ → ℕ
 flagsAt f at = wordAt f (at + 4)
 
@@ -18,8 +20,8 @@ abbrev pub countAt : List ℕ → ℕ → ℕ
 countAt f at = wordAt f (at + 8)
 
 -- the offset of the block's code bytes from the file's start
-abbrev pub offsetAt : List ℕ → ℕ → ℕ
-offsetAt f at = wordAt f (at + 12)
+abbrev pub codeOffsetAt : List ℕ → ℕ → ℕ
+codeOffsetAt f at = wordAt f (at + 12)
 
 -- flag bit 0: a block of Thumb instructions
 abbrev pub thumbAt : List ℕ → ℕ → Bool
@@ -43,9 +45,9 @@ aligned f at = eqb (addrAt f at % sizeOf (thumbAt f at)) 0
 
 -- present code bytes end inside the code area; the offset of absent ones is 0
 unfoldable pub codeRight : List ℕ → ℕ → Bool
-codeRight f at = cond (presentAt f at) (leb (offsetAt f at + lengthAt f at) (codeCount f)) (eqb (offsetAt f at) 0)
+codeRight f at = cond (presentAt f at) (leb (codeOffsetAt f at + lengthAt f at) (codeCount f)) (eqb (codeOffsetAt f at) 0)
 
--- rule 4: flags, count, alignment, an end not past 2^32, code bytes
+-- the rule of refusal 4: flags, count, alignment, an end not past 2^32, code bytes
 unfoldable pub blockRight : List ℕ → ℕ → Bool
 blockRight f at =
     ltb (flagsAt f at) 4
@@ -55,7 +57,7 @@ blockRight f at =
     && leb (addrAt f at + lengthAt f at) (2 ^ 32)
     && codeRight f at
 
--- rule 5: the key of block i is above the last one
+-- the rule of refusal 5: the key of block i is above that of the block before it, if there is one
 unfoldable pub keyRises : List ℕ → ℕ → Bool
 keyRises f zero = true
 keyRises f (suc i) = ltb (keyAt f (blockStart f i)) (keyAt f (blockStart f (suc i)))

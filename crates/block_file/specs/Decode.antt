@@ -36,14 +36,14 @@ operandAt f at =
     (Operand2.Reg (byteAt f (at + 9)) (shiftAt f at))
 
 -- the offset of a Mem record: a value in form 0
-abbrev pub offsetAt : List ℕ → ℕ → MemOffset
-offsetAt f at =
+abbrev pub memOffsetAt : List ℕ → ℕ → MemOffset
+memOffsetAt f at =
     cond (eqb (byteAt f (at + 8)) 0) (MemOffset.Imm (halfAt f (at + 12)))
     (MemOffset.Reg (byteAt f (at + 9)) (shiftAt f at))
 
--- the width that a number encodes
+-- the width that a number encodes; the check refuses numbers from 3 on
 abbrev pub widthOf : ℕ → MemWidth
-widthOf n = getD (MemWidth.Byte ∷ MemWidth.Half ∷ []) n MemWidth.Word
+widthOf n = getD (MemWidth.Byte ∷ MemWidth.Half ∷ MemWidth.Word ∷ []) n MemWidth.Word
 
 unfoldable pub aluAt : List ℕ → ℕ → Op
 aluAt f at = Op.Alu (aluOpOf (byteAt f (at + 4) % 16)) (flagAt f (at + 5)) (byteAt f (at + 6)) (byteAt f (at + 7)) (operandAt f at)
@@ -62,7 +62,7 @@ mulLongAt f at =
 unfoldable pub memAt : List ℕ → ℕ → Op
 memAt f at =
     Op.Mem (bitAt f (at + 4) 0) (widthOf (byteAt f (at + 5))) (bitAt f (at + 4) 1) (byteAt f (at + 6)) (byteAt f (at + 7))
-    (offsetAt f at) (bitAt f (at + 4) 2) (bitAt f (at + 4) 3) (bitAt f (at + 4) 4)
+    (memOffsetAt f at) (bitAt f (at + 4) 2) (bitAt f (at + 4) 3) (bitAt f (at + 4) 4)
 
 -- load, rn, rlist, pre, up, s_bit, writeback
 unfoldable pub blockMemAt : List ℕ → ℕ → Op

@@ -76,6 +76,6 @@ evenFields f at =
     cond (eqb (byteAt f at) 0 && eqb (byteAt f (at + 8)) 0) (even (byteAt f (at + 9)))
     (cond (eqb (byteAt f at) 5) (even (byteAt f (at + 12))) true)
 
--- rule 7: each byte is in its range, and what must be even is
+-- the rule of refusal 7: each byte is in its range, and what must be even is
 unfoldable pub instrRight : List ℕ → ℕ → Bool
 instrRight f at = within f at (largest (byteAt f at) (byteAt f (at + 8))) && evenFields f at

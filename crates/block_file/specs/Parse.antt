@@ -8,7 +8,7 @@ use Rattle.armv4t.specs.Instr.{sizeOf}
 use Rattle.block_file.specs.declared.decode.TimedInstr.{TimedInstr}
 use Rattle.block_file.specs.Answer.{Answer, refusal, value, Counts}
 use Rattle.block_file.specs.Trailer.{blockCount, blockStart, instrStart}
-use Rattle.block_file.specs.BlockRecord.{addrAt, countAt, offsetAt, thumbAt, presentAt, lengthAt}
+use Rattle.block_file.specs.BlockRecord.{addrAt, countAt, codeOffsetAt, thumbAt, presentAt, lengthAt}
 use Rattle.block_file.specs.Decode.{timedAt}
 use Rattle.block_file.specs.Refusal.{Row, number, place, firstBroken, rows}
 
@@ -24,13 +24,13 @@ abbrev pub instrsFrom : List ℕ → ℕ → ℕ → ℕ → Bool → List Timed
 instrsFrom f zero k addr thumb = []
 instrsFrom f (suc n) k addr thumb = timedAt f (instrStart f k) addr thumb ∷ instrsFrom f n (suc k) (addr + sizeOf thumb) thumb
 
--- the bytes of the file at an offset
+-- n bytes of the file from an offset on, or those up to its end where it has fewer
 abbrev pub part : List ℕ → ℕ → ℕ → List ℕ
 part f start n = take n (drop start f)
 
 -- the code bytes that the block record at an offset names
 abbrev pub codeAt : List ℕ → ℕ → Option (List ℕ)
-codeAt f at = cond (presentAt f at) (some (part f (offsetAt f at) (lengthAt f at))) none
+codeAt f at = cond (presentAt f at) (some (part f (codeOffsetAt f at) (lengthAt f at))) none
 
 -- the block of the record at an offset, whose instructions are those from record k on
 unfoldable pub blockAt : List ℕ → ℕ → ℕ → Block

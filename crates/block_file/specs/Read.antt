@@ -1,4 +1,5 @@
--- Single records of a file, by number, whether or not the file is accepted.
+-- Single records by number, and code bytes by offset and length, whether or not the file is accepted. A record that the trailer does not count, or
+-- that does not lie inside the file, is Nothing; code bytes that are absent, or do not lie inside it, are the empty list.
 use Prim.Native.Nat.{ℕ, _+_, _*_}
 use mathlib.Core.Bool.{Bool, cond, _&&_}
 use mathlib.Core.List.{List, []}
@@ -9,7 +10,7 @@ use Rattle.block_file.specs.declared.read.BlockRecord.{BlockRecord}
 use Rattle.block_file.specs.declared.read.FoundBlock.{FoundBlock}
 use Rattle.block_file.specs.declared.read.FoundInstr.{FoundInstr}
 use Rattle.block_file.specs.Trailer.{blockCount, instrCount, blockStart, instrStart}
-use Rattle.block_file.specs.BlockRecord.{addrAt, countAt, offsetAt, thumbAt, presentAt}
+use Rattle.block_file.specs.BlockRecord.{addrAt, countAt, codeOffsetAt, thumbAt, presentAt}
 use Rattle.block_file.specs.Decode.{timedAt}
 use Rattle.block_file.specs.Parse.{part}
 
@@ -21,23 +22,23 @@ recordAt f at =
       thumb = thumbAt f at;
       present = presentAt f at;
       count = countAt f at;
-      offset = offsetAt f at;
+      offset = codeOffsetAt f at;
     }
 
--- block record i, where the file has one
+-- block record i, where the trailer counts it and it lies inside the file
 unfoldable pub foundBlock : List ℕ → ℕ → FoundBlock
 foundBlock f i =
     cond (ltb i (blockCount f) && leb (blockStart f i + 16) (length f)) (FoundBlock.At (recordAt f (blockStart f i)))
     FoundBlock.Nothing
 
--- instruction record i as the instruction at an address of a block, where the file has one
+-- instruction record i as the instruction at an address of a block, where the trailer counts it and it lies inside the file
 unfoldable pub foundInstr : List ℕ → ℕ → ℕ → Bool → FoundInstr
 foundInstr f i addr thumb =
     cond (ltb i (instrCount f) && leb (instrStart f i + 16) (length f))
     (FoundInstr.At (timedAt f (instrStart f i) addr thumb))
     FoundInstr.Nothing
 
--- the code bytes that a block record names; none where they are absent or run past the file's end
+-- the bytes at a block record's offset, of the block's length; none where they are absent or run past the file's end
 unfoldable pub codeBytes : List ℕ → BlockRecord → List ℕ
 codeBytes f b =
     cond (b .present)

@@ -39,15 +39,15 @@ codeCount f = trailerWord f 6
 abbrev pub fileLength : List ℕ → ℕ
 fileLength f = trailerWord f 7
 
--- rule 1: the file holds a trailer
+-- the rule of refusal 1: the file holds a trailer
 abbrev pub hasTrailer : List ℕ → Bool
 hasTrailer f = leb 32 (length f)
 
--- rule 2: B and I are within their limits
+-- the rule of refusal 2: B and I are within their limits
 unfoldable pub withinLimits : List ℕ → Bool
 withinLimits f = leb (blockCount f) 65536 && leb (instrCount f) 1048576
 
--- rule 3: the edition, the distances of parts that touch, and the lengths
+-- the rule of refusal 3: the edition, the distances of parts that touch, and the lengths
 unfoldable pub trailerRight : List ℕ → Bool
 trailerRight f =
     eqb (edition f) 1

@@ -5,7 +5,7 @@ ghost use mathlib.Core.Path.{_≡_};
 ghost use Prim.Native.Nat.{_+_, _*_, _≤_, _<_, _^_};
 ghost use lib.ListN.{length};
 ghost use Rattle.armv4t.specs.Instr.{sizeOf};
-ghost use Rattle.block_file.specs.BlockRecord.{addrAt, flagsAt, countAt, offsetAt, thumbAt, presentAt, lengthAt, keyAt, aligned as specAligned, codeRight, blockRight};
+ghost use Rattle.block_file.specs.BlockRecord.{addrAt, flagsAt, countAt, codeOffsetAt, thumbAt, presentAt, lengthAt, keyAt, aligned as specAligned, codeRight, blockRight};
 
 pub(crate) fn addr(file: &[u8], at: usize) -> u32
     requires { ⌜ at + 16 ≤ length (now file) ⌝ }
@@ -30,7 +30,7 @@ pub(crate) fn count(file: &[u8], at: usize) -> u32
 
 pub(crate) fn offset(file: &[u8], at: usize) -> u32
     requires { ⌜ at + 16 ≤ length (now file) ⌝ }
-    ensures { λ r. ⌜ r ≡ offsetAt (now (file .entry)) at ⌝ }
+    ensures { λ r. ⌜ r ≡ codeOffsetAt (now (file .entry)) at ⌝ }
 {
     word(file, at + 12)
 }

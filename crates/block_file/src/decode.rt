@@ -13,7 +13,7 @@ use armv4t::ShiftKind;
 ghost use mathlib.Core.Path.{_≡_};
 ghost use Prim.Native.Nat.{_+_, _≤_};
 ghost use lib.ListN.{length};
-ghost use Rattle.block_file.specs.Decode.{flagAt, bitAt, shiftAt, operandAt, offsetAt, widthOf, aluAt, mulAt, mulLongAt, memAt, blockMemAt, freeOp, opAt, timedAt};
+ghost use Rattle.block_file.specs.Decode.{flagAt, bitAt, shiftAt, operandAt, memOffsetAt, widthOf, aluAt, mulAt, mulLongAt, memAt, blockMemAt, freeOp, opAt, timedAt};
 
 // An instruction with its cost in cycles.
 pub struct TimedInstr {
@@ -54,7 +54,7 @@ fn operand(file: &[u8], at: usize) -> Operand2
 
 fn mem_offset(file: &[u8], at: usize) -> MemOffset
     requires { ⌜ at + 16 ≤ length (now file) ⌝ }
-    ensures { λ r. ⌜ r ≡ offsetAt (now (file .entry)) at ⌝ }
+    ensures { λ r. ⌜ r ≡ memOffsetAt (now (file .entry)) at ⌝ }
 {
     if file[at + 8] == 0 {
         MemOffset::Imm(half(file, at + 12))

@@ -1,4 +1,5 @@
-// Readers of single records, by number. They lean on no check: what is not in the file is answered by Nothing.
+// Readers that lean on no check. Records are read by number: the answer is Nothing where the trailer counts no such record, or it does not lie
+// inside the file. Code bytes are read by offset and length: an empty part where they are absent, or do not lie inside the file.
 use crate::block_record::addr;
 use crate::block_record::count;
 use crate::block_record::instrs_length;
@@ -17,10 +18,15 @@ ghost use Rattle.block_file.specs.Read.{recordAt, foundBlock, foundInstr
 
 // The fields of a block record.
 pub struct BlockRecord {
+    // The address of its first instruction.
     pub addr: u32,
+    // Whether its instructions are Thumb (flag bit 0), or else ARM.
     pub thumb: bool,
+    // Whether its code bytes are present (flag bit 1).
     pub present: bool,
+    // How many instructions it has.
     pub count: u32,
+    // The offset of its code bytes from the file's start. In an accepted file it is 0 where they are absent.
     pub offset: u32,
 }
 
@@ -82,7 +88,7 @@ pub fn instr_at(file: &[u8], i: usize, address: u32, is_thumb: bool) -> FoundIns
     FoundInstr::At(timed_instr(file, at, address, is_thumb))
 }
 
-// The code bytes that a block record names, as a part of the file; none where they are absent or run past its end.
+// The part of the file at a block record's offset, of the block's length; empty where the bytes are absent or run past the file's end.
 pub fn code_bytes(file: &[u8], block: BlockRecord) -> &[u8]
     ensures { λ r. ⌜ now r ≡ codeBytes (now (file .entry)) block ⌝ }
 {

@@ -29,7 +29,7 @@ pub(crate) enum Found {
     Nothing,
 }
 
-// Rules 4 to 6. `least` is the least key that is above the last one.
+// Refusals 4 to 6. `least` is the least key that is above the one before.
 fn check_blocks(file: &[u8]) -> Found
     requires { ⌜ trailerRight (now file) ≡ true ⌝ }
     ensures { λ r. ⌜ r ≡ found (firstBroken (now (file .entry)) (blockRows (blockCount (now (file .entry))) 0 ++ (Row.sum ∷ []))) ⌝ }
@@ -65,7 +65,7 @@ fn check_blocks(file: &[u8]) -> Found
     }
 }
 
-// Rule 7.
+// Refusal 7.
 fn check_instrs(file: &[u8]) -> Found
     requires { ⌜ trailerRight (now file) ≡ true ⌝ }
     ensures { λ r. ⌜ r ≡ found (firstBroken (now (file .entry)) (instrRows (instrCount (now (file .entry))) 0)) ⌝ }
