@@ -72,7 +72,7 @@ fn refuse<T>(number: u32, at: usize) -> Result<T, Refused> {
 }
 
 /// Little-endian words of a record or trailer.
-fn words<const BYTES: usize, const WORDS: usize>(bytes: &[u8; BYTES]) -> [u32; WORDS] {
+pub(crate) fn words<const BYTES: usize, const WORDS: usize>(bytes: &[u8; BYTES]) -> [u32; WORDS] {
     let (words, _) = bytes.as_chunks::<4>();
     std::array::from_fn(|n| u32::from_le_bytes(words[n]))
 }
