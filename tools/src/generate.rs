@@ -1,8 +1,10 @@
 //! Accepted block files made from a seed: sizes, places and shapes as `Params` asks.
 
 mod closing;
+pub mod closings;
 mod instructions;
 mod layout;
+pub mod linked;
 
 use crate::file::{self, Block, File};
 use crate::record::Record;
@@ -27,6 +29,8 @@ pub enum Lengths {
     Above(usize),
     /// Blocks 2k and 2k+1 have twice this number together.
     Mean(usize),
+    /// These, time and again.
+    Listed(&'static [usize]),
 }
 
 /// Where the blocks lie.

@@ -53,6 +53,23 @@ pub fn lead_on(rng: &mut Rng, spans: &[Span], i: usize, backwards: bool) -> Vec<
     }
 }
 
+/// A closing of `own` that leads to `to`, or to where `to` would be in `own`'s instruction set if no
+/// exit leads to `to` itself. It goes on to the next block too where `both` asks so.
+pub fn lead_to(rng: &mut Rng, own: &Span, to: &Span, both: bool) -> Vec<Record> {
+    let branch = Record::branch(rng.percent(30), to.address);
+    if both && own.thumb == to.thumb {
+        return vec![branch.with_cond(not_always(rng))];
+    }
+    let pairs = to.thumb && own.count > 1;
+    match rng.below(4) {
+        _ if pairs && !own.thumb => pair_to(rng, to.key()),
+        0 if own.thumb == to.thumb && to.address == own.end() => vec![fall_through(rng)],
+        1 if pairs => pair_to(rng, to.key()),
+        2 => vec![branch.with_cond(not_always(rng))],
+        _ => vec![branch],
+    }
+}
+
 /// A record after which the next one follows.
 fn fall_through(rng: &mut Rng) -> Record {
     let (rd, rn) = (rng.byte(15), register(rng));

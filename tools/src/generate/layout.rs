@@ -53,25 +53,27 @@ impl Span {
 
 /// The blocks of `params` with rising keys.
 pub fn spans(rng: &mut Rng, params: &Params) -> Vec<Span> {
-    let counts = counts(rng, params);
+    let counts = counts(rng, params.blocks, params.lengths);
     match params.place {
         Place::Anywhere => scattered(rng, &counts, params.thumb),
         Place::Runs(starts) => runs(rng, &counts, params.thumb, starts),
     }
 }
 
-fn counts(rng: &mut Rng, params: &Params) -> Vec<usize> {
-    let mut counts = Vec::with_capacity(params.blocks);
+/// The lengths of `blocks` blocks, or of as many as the most instructions of a file allow.
+pub fn counts(rng: &mut Rng, blocks: usize, lengths: Lengths) -> Vec<usize> {
+    let mut counts = Vec::with_capacity(blocks);
     let (mut part, mut total) = (0, 0);
-    while counts.len() < params.blocks {
-        let count = match params.lengths {
+    while counts.len() < blocks {
+        let count = match lengths {
             Lengths::Between(least, most) => rng.between(least, most),
             Lengths::Around(limit) => around(rng, limit, part),
             Lengths::Above(limit) => above(rng, limit),
             Lengths::Mean(mean) if counts.len() % 2 == 0 => rng.between(1, 2 * mean - 1),
             Lengths::Mean(mean) => 2 * mean - counts[counts.len() - 1],
+            Lengths::Listed(list) => list[counts.len() % list.len()],
         };
-        if let Lengths::Around(limit) = params.lengths {
+        if let Lengths::Around(limit) = lengths {
             part = if part + count < limit - 1 {
                 part + count
             } else {

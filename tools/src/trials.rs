@@ -1,0 +1,56 @@
+//! The generated files that exits and plan are compared on.
+
+use crate::file::File;
+use crate::generate::closings::{self, Closings};
+use crate::generate::linked::Linked;
+use crate::generate::{self, Params};
+
+/// What a file is made from; printed, it names the file.
+#[derive(Clone, Copy, Debug)]
+pub enum Trial {
+    Scattered(Params),
+    Linked(Linked),
+    Closings(Closings),
+}
+
+impl Trial {
+    pub fn file(&self) -> File {
+        match self {
+            Trial::Scattered(params) => generate::file(params),
+            Trial::Linked(linked) => linked.file(),
+            Trial::Closings(closings) => closings.file(),
+        }
+    }
+}
+
+/// Small files unless told otherwise.
+pub const FILES: u64 = 6_000;
+
+/// A block for every closing, then `files` small files from seed `first` on.
+pub fn small(files: u64, first: u64) -> impl Iterator<Item = Trial> {
+    let seeds = first..first + files;
+    let small = seeds.map(|seed| match seed % 2 {
+        0 => Trial::Scattered(Params::small(seed)),
+        _ => Trial::Linked(Linked::small(seed)),
+    });
+    closings::all().map(Trial::Closings).chain(small)
+}
+
+/// Components at the limit of a part and long blocks, then files with as many blocks as there may
+/// be, some of them with as many instructions.
+pub fn large(first: u64) -> impl Iterator<Item = Trial> {
+    let seeds = move |n| first..first + n;
+    let parts = seeds(40).map(|s| Trial::Scattered(Params::components(s)));
+    let long = seeds(20).map(|s| Trial::Scattered(Params::long(s)));
+    let limit = seeds(60).map(|s| Trial::Linked(Linked::limit(s)));
+    parts.chain(long).chain(limit).chain(largest(first))
+}
+
+/// Files with as many blocks as there may be.
+pub fn largest(first: u64) -> impl Iterator<Item = Trial> {
+    let seeds = move |n| first..first + n;
+    let chains = seeds(4).map(|s| Trial::Scattered(Params::chain(s)));
+    let regions = seeds(4).map(|s| Trial::Scattered(Params::largest(s)));
+    let linked = seeds(32).map(|s| Trial::Linked(Linked::large(s)));
+    chains.chain(regions).chain(linked)
+}
