@@ -1,6 +1,10 @@
 //! The calls of the proved library, as its C interface has them, behind safe functions.
 
+// Each program calls some of them.
+#![allow(dead_code)]
+
 use recomp_tools::check::Numbers;
+use recomp_tools::model::{ExitNumbers, PlanNumbers};
 
 extern "C" {
     fn recomp_check(
@@ -9,6 +13,27 @@ extern "C" {
         at: *mut u64,
         blocks: *mut u64,
         instructions: *mut u64,
+    ) -> u32;
+
+    fn recomp_exits(
+        file: *const u8,
+        file_len: usize,
+        block: u64,
+        at: *mut u64,
+        count: *mut u64,
+        first: *mut u64,
+        second: *mut u64,
+    ) -> u32;
+
+    fn recomp_plan(
+        file: *const u8,
+        file_len: usize,
+        work: *mut u32,
+        work_len: usize,
+        plan: *mut u32,
+        plan_len: usize,
+        at: *mut u64,
+        blocks: *mut u64,
     ) -> u32;
 }
 
@@ -33,4 +58,46 @@ pub fn check(file: &[u8]) -> Numbers {
         blocks,
         instructions,
     }
+}
+
+pub fn exits(file: &[u8], block: u64) -> ExitNumbers {
+    let [mut at, mut count, mut first, mut second] = [UNWRITTEN; 4];
+    // SAFETY: the slice and the four numbers outlive the call, which keeps none of them.
+    let number = unsafe {
+        recomp_exits(
+            file.as_ptr(),
+            file.len(),
+            block,
+            &mut at,
+            &mut count,
+            &mut first,
+            &mut second,
+        )
+    };
+    ExitNumbers {
+        number,
+        at,
+        count,
+        first,
+        second,
+    }
+}
+
+pub fn plan(file: &[u8], work: &mut [u32], plan: &mut [u32]) -> PlanNumbers {
+    let [mut at, mut blocks] = [UNWRITTEN; 2];
+    // SAFETY: the three slices and the two numbers are apart and outlive the call, which keeps none
+    // of them.
+    let number = unsafe {
+        recomp_plan(
+            file.as_ptr(),
+            file.len(),
+            work.as_mut_ptr(),
+            work.len(),
+            plan.as_mut_ptr(),
+            plan.len(),
+            &mut at,
+            &mut blocks,
+        )
+    };
+    PlanNumbers { number, at, blocks }
 }

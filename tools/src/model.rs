@@ -1,6 +1,6 @@
 //! Exits and plan of an accepted block file, written from document 01 ('Exits and plan').
 
-use crate::check::words;
+use crate::check::{check, words};
 use crate::file::{self, RECORD, TRAILER};
 use std::collections::HashMap;
 
@@ -130,6 +130,70 @@ pub fn plan(file: &[u8]) -> Vec<[u32; 2]> {
         group += 1;
     }
     out
+}
+
+/// The answer for a block's exits as the C interface gives it: numbers it does not have are 0.
+#[derive(Clone, Copy, Debug, Default, PartialEq, Eq)]
+pub struct ExitNumbers {
+    /// The refusal's number, 0 for an exit list.
+    pub number: u32,
+    pub at: u64,
+    pub count: u64,
+    pub first: u64,
+    pub second: u64,
+}
+
+impl From<&[u32]> for ExitNumbers {
+    fn from(exits: &[u32]) -> ExitNumbers {
+        let key = |n: usize| exits.get(n).map_or(0, |&key| key.into());
+        ExitNumbers {
+            count: exits.len() as u64,
+            first: key(0),
+            second: key(1),
+            ..ExitNumbers::default()
+        }
+    }
+}
+
+/// The answer for block `block` of any file.
+pub fn exit_numbers(file: &[u8], block: u64) -> ExitNumbers {
+    let refused = |number, at| ExitNumbers {
+        number,
+        at,
+        ..ExitNumbers::default()
+    };
+    match check(file) {
+        Err(refusal) => refused(refusal.number, refusal.at),
+        Ok(counts) if block >= counts.blocks => refused(9, 0),
+        Ok(_) => blocks(file)[block as usize].exits()[..].into(),
+    }
+}
+
+/// The answer for a plan as the C interface gives it, the plan itself apart.
+#[derive(Clone, Copy, Debug, Default, PartialEq, Eq)]
+pub struct PlanNumbers {
+    /// The refusal's number, 0 for a plan.
+    pub number: u32,
+    pub at: u64,
+    pub blocks: u64,
+}
+
+/// The answer for any file with so many numbers lent as work and for the plan.
+pub fn plan_numbers(file: &[u8], work_len: usize, plan_len: usize) -> PlanNumbers {
+    let refused = |number, at| PlanNumbers {
+        number,
+        at,
+        ..PlanNumbers::default()
+    };
+    match check(file) {
+        Err(refusal) => refused(refusal.number, refusal.at),
+        Ok(counts) if (work_len as u64) < 4 * counts.blocks => refused(8, 0),
+        Ok(counts) if (plan_len as u64) < 2 * counts.blocks => refused(10, 0),
+        Ok(counts) => PlanNumbers {
+            blocks: counts.blocks,
+            ..PlanNumbers::default()
+        },
+    }
 }
 
 /// The members of each component by key, the components by root number.

@@ -1,16 +1,41 @@
-//! Compares the proved library with plain Rust on generated files: a command for each of its calls.
+//! Compares the proved library with plain Rust, or with the original, on generated files: a command for each of its calls.
 
 mod check;
+mod exits;
 #[path = "../../library.rs"]
 mod library;
+mod plan;
 
+use recomp_tools::damage::damaged;
+use recomp_tools::file::File;
+use recomp_tools::original::Original;
+use recomp_tools::rng::Rng;
+use recomp_tools::trials;
 use std::process::ExitCode;
 
 /// A command by name, with the words that it takes. It answers the number of mismatches, or nothing
 /// where its words are not understood.
 type Command = (&'static str, &'static str, fn(&[String]) -> Option<u64>);
 
-const COMMANDS: [Command; 1] = [("check", "[FILES] [FIRST_SEED]", check::run)];
+const COMMANDS: [Command; 3] = [
+    ("check", "[FILES] [FIRST_SEED]", check::run),
+    ("exits", "[FILES] [FIRST_SEED]", exits::run),
+    ("plan", "[FILES] [FIRST_SEED]", plan::run),
+];
+
+/// How many small files, from which seed on, and the original, whose place the environment names.
+fn trial_words(words: &[String]) -> Option<(u64, u64, Original)> {
+    let number = |n: usize, usual: u64| words.get(n).map_or(Some(usual), |w| w.parse().ok());
+    let original = Original::new().map_err(|reason| eprintln!("{reason}"));
+    Some((number(0, trials::FILES)?, number(1, 0)?, original.ok()?))
+}
+
+/// Refusals 1 to 7 for a damaged copy of a file: made again by the same file.
+fn damaged_copy(file: &File) -> Vec<u8> {
+    let rng = &mut Rng::new(file.bytes.len() as u64);
+    let faults = rng.between(1, 4);
+    damaged(rng, file, faults)
+}
 
 fn main() -> ExitCode {
     let args: Vec<String> = std::env::args().skip(1).collect();
