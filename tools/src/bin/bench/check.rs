@@ -1,15 +1,10 @@
-//! Times the check of the largest file: the proved library against plain Rust, in one run.
+//! `bench check`: the check of the largest file, the proved library against plain Rust.
 
-#[path = "../library.rs"]
-mod library;
-
+use crate::{in_order, library, ROUNDS, WARM_UP};
 use recomp_tools::check::{check, Numbers};
 use recomp_tools::generate::{file, Params};
 use std::hint::black_box;
 use std::time::Instant;
-
-const WARM_UP: usize = 3;
-const ROUNDS: usize = 31;
 
 type Side = (&'static str, fn(&[u8]) -> Numbers);
 
@@ -18,7 +13,7 @@ const SIDES: [Side; 2] = [
     ("rust", |file| check(file).into()),
 ];
 
-fn main() {
+pub fn run() {
     let file = file(&Params::largest(1));
     println!(
         "{} blocks, {} instructions, {} code bytes, {} bytes in all",
@@ -51,10 +46,7 @@ fn measure(bytes: &[u8], expected: Numbers) -> [Vec<f64>; 2] {
             }
         }
     }
-    times.map(|mut times| {
-        times.sort_by(f64::total_cmp);
-        times
-    })
+    times.map(in_order)
 }
 
 fn report(times: [Vec<f64>; 2], bytes: usize) {
