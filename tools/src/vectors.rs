@@ -1,6 +1,7 @@
-//! Stored vectors for the check of block files: each a file with the answer that it must get.
+//! Stored vectors: each a file with the answer that it must get, from the check or another call.
 
 mod blocks;
+pub mod grouping;
 mod instructions;
 mod long;
 mod order;
@@ -68,18 +69,30 @@ pub fn all() -> Vec<Vector> {
     out.list
 }
 
-/// The vector file: a count, then for each vector five words and the bytes of its file.
+/// A count, then for each vector the four numbers of the answer, the length of the file and its
+/// bytes.
 pub fn encode(vectors: &[Vector]) -> Vec<u8> {
-    let mut out = (vectors.len() as u32).to_le_bytes().to_vec();
+    let mut out = vec![];
+    push_numbers(&mut out, &[vectors.len() as u64]);
     for v in vectors {
         let e = &v.expected;
-        let length = v.file.len() as u64;
-        for number in [e.number.into(), e.at, e.blocks, e.instructions, length] {
-            out.extend_from_slice(&(number as u32).to_le_bytes());
-        }
-        out.extend_from_slice(&v.file);
+        push_numbers(&mut out, &[e.number.into(), e.at, e.blocks, e.instructions]);
+        push_file(&mut out, &v.file);
     }
     out
+}
+
+fn push_numbers(out: &mut Vec<u8>, numbers: &[u64]) {
+    for &number in numbers {
+        let number = u32::try_from(number).expect("numbers of vectors have 32 bits");
+        out.extend_from_slice(&number.to_le_bytes());
+    }
+}
+
+fn push_file(out: &mut Vec<u8>, file: &[u8]) {
+    assert!(file.len() <= LONGEST_FILE);
+    push_numbers(out, &[file.len() as u64]);
+    out.extend_from_slice(file);
 }
 
 /// `count` blocks of one Bx each, 256 bytes apart from `address` on.

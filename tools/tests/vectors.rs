@@ -1,5 +1,6 @@
 //! The stored vectors: enough of each number, in the sizes that their reader has room for.
 
+use recomp_tools::vectors::grouping::{encode_exits, encode_plans, exits, plans};
 use recomp_tools::vectors::{all, encode};
 
 #[test]
@@ -16,4 +17,38 @@ fn numbers_and_sizes() {
     let short = vectors.iter().filter(|v| v.file.len() <= 400).count();
     assert!(vectors.len() >= 1_500 && short * 20 > vectors.len() * 19);
     assert!(encode(&vectors).len() < 700_000);
+}
+
+#[test]
+fn exit_numbers_and_sizes() {
+    let vectors = exits();
+    for count in 0..=2 {
+        let of = |n: u32| vectors.iter().filter(move |v| v.expected.number == n);
+        let lists = of(0).filter(|v| v.expected.count == count).count();
+        assert!(lists >= 50, "{lists} lists of {count}");
+        assert!(of(9).count() >= 50);
+    }
+    assert!(encode_exits(&vectors).len() < 300_000);
+}
+
+#[test]
+fn plan_numbers_and_sizes() {
+    let vectors = plans();
+    for (number, least) in [(0, 100), (8, 15), (10, 15)] {
+        let count = vectors
+            .iter()
+            .filter(|v| v.expected.number == number)
+            .count();
+        assert!(count >= least, "{count} vectors with {number}");
+    }
+    // Some groups have several blocks, and some plans are not in file order.
+    let several = |v: &&_| plan_of(v).windows(2).any(|w| w[0][0] == w[1][0]);
+    let moved = |v: &&_| plan_of(v).windows(2).any(|w| w[0][1] > w[1][1]);
+    assert!(vectors.iter().filter(several).count() >= 50);
+    assert!(vectors.iter().filter(moved).count() >= 20);
+    assert!(encode_plans(&vectors).len() < 150_000);
+}
+
+fn plan_of(v: &recomp_tools::vectors::grouping::PlanVector) -> &[[u32; 2]] {
+    &v.plan
 }

@@ -1,29 +1,69 @@
-//! Writes the stored vectors of the check to the path given, and prints how many there are.
+//! Writes sections of stored vectors to the path given, in the order given, and prints how many
+//! vectors there are for each answer.
 
+use recomp_tools::vectors::grouping::{encode_exits, encode_plans, exits, plans};
 use recomp_tools::vectors::{all, encode};
 use std::process::ExitCode;
 
+/// A section's bytes, and the number of the answer of each of its vectors.
+type Section = (Vec<u8>, Vec<u32>);
+
+fn section(name: &str) -> Option<Section> {
+    match name {
+        "check" => {
+            let vectors = all();
+            let numbers = vectors.iter().map(|v| v.expected.number).collect();
+            Some((encode(&vectors), numbers))
+        }
+        "exits" => {
+            let vectors = exits();
+            let numbers = vectors.iter().map(|v| v.expected.number).collect();
+            Some((encode_exits(&vectors), numbers))
+        }
+        "plan" => {
+            let vectors = plans();
+            let numbers = vectors.iter().map(|v| v.expected.number).collect();
+            Some((encode_plans(&vectors), numbers))
+        }
+        _ => None,
+    }
+}
+
+fn print(name: &str, bytes: &[u8], numbers: &[u32]) {
+    for number in 0..=10 {
+        match (number, numbers.iter().filter(|&&n| n == number).count()) {
+            (_, 0) => {}
+            (0, count) => println!("answered   {count:5}"),
+            (_, count) => println!("refused {number:2} {count:5}"),
+        }
+    }
+    println!("{name}: {} vectors, {} bytes", numbers.len(), bytes.len());
+}
+
 fn main() -> ExitCode {
-    let Some(path) = std::env::args().nth(1) else {
-        eprintln!("usage: vectors PATH");
-        return ExitCode::from(2);
+    let words: Vec<String> = std::env::args().skip(1).collect();
+    let usage = || {
+        eprintln!("usage: vectors PATH [check | exits | plan]...");
+        ExitCode::from(2)
     };
-    let vectors = all();
-    let bytes = encode(&vectors);
-    if let Err(error) = std::fs::write(&path, &bytes) {
+    let Some((path, names)) = words.split_first() else {
+        return usage();
+    };
+    let names = match names {
+        [] => &["check".to_string()],
+        names => names,
+    };
+    let mut out = vec![];
+    for name in names {
+        let Some((bytes, numbers)) = section(name) else {
+            return usage();
+        };
+        print(name, &bytes, &numbers);
+        out.extend_from_slice(&bytes);
+    }
+    if let Err(error) = std::fs::write(path, &out) {
         eprintln!("{path}: {error}");
         return ExitCode::FAILURE;
     }
-    for number in 0..=7 {
-        let count = vectors
-            .iter()
-            .filter(|v| v.expected.number == number)
-            .count();
-        match number {
-            0 => println!("accepted  {count:5}"),
-            _ => println!("refused {number} {count:5}"),
-        }
-    }
-    println!("{} vectors, {} bytes", vectors.len(), bytes.len());
     ExitCode::SUCCESS
 }

@@ -111,13 +111,13 @@ fn records(near: u32) -> Vec<Record> {
 
 impl Closings {
     /// One block for each record, touching one another, so that a fall-through leads to the next.
-    pub fn file(&self) -> File {
+    pub fn blocks(&self) -> Vec<Block> {
         let size = if self.thumb { 2 } else { 4 };
         let length = self.front.records(0).len() + 1;
         let bytes = (size * length) as u32;
         let count = records(0).len() as u32;
         let start = self.end.wrapping_sub(bytes * count);
-        let blocks: Vec<Block> = (0..count)
+        (0..count)
             .map(|n| {
                 let address = start.wrapping_add(bytes * n);
                 // Two blocks ahead; beyond the last one there is none.
@@ -131,7 +131,10 @@ impl Closings {
                     records: block.into_iter().map(|r| r.with_cond(self.cond)).collect(),
                 }
             })
-            .collect();
-        file::build(&blocks)
+            .collect()
+    }
+
+    pub fn file(&self) -> File {
+        file::build(&self.blocks())
     }
 }

@@ -1,0 +1,70 @@
+//! The files that exits and plan are compared on: all are accepted, and what they are for occurs.
+
+use recomp_tools::check::check;
+use recomp_tools::generate::linked::{Graph, Linked};
+use recomp_tools::model::{exits, plan};
+use recomp_tools::trials::{large, largest, small};
+
+/// The sizes of a plan's groups.
+fn group_sizes(plan: &[[u32; 2]]) -> Vec<usize> {
+    plan.chunk_by(|a, b| a[0] == b[0]).map(<[_]>::len).collect()
+}
+
+#[test]
+fn small_files() {
+    let mut lists = [0; 3];
+    let [mut moved, mut grouped] = [0; 2];
+    for trial in small(1_000, 0) {
+        let file = trial.file();
+        assert!(check(&file.bytes).is_ok(), "{trial:?}");
+        exits(&file.bytes).iter().for_each(|e| lists[e.len()] += 1);
+        let plan = plan(&file.bytes);
+        moved += plan.windows(2).any(|w| w[0][1] > w[1][1]) as usize;
+        grouped += group_sizes(&plan).iter().any(|&n| n > 2) as usize;
+    }
+    assert!(lists.iter().all(|&n| n > 1_000), "{lists:?}");
+    assert!(moved > 200 && grouped > 200, "{moved:?} {grouped:?}");
+}
+
+/// Parts that reach the limit exactly, and components that go over it.
+#[test]
+fn large_files() {
+    let [mut full, mut over] = [0; 2];
+    let smaller = large(0).take(120);
+    for trial in smaller {
+        let file = trial.file();
+        assert!(check(&file.bytes).is_ok(), "{trial:?}");
+        let length = |i: u32| file.word(file.block_at(i as usize, 2));
+        let plan = plan(&file.bytes);
+        for group in plan.chunk_by(|a, b| a[0] == b[0]) {
+            let instructions: u32 = group.iter().map(|row| length(row[1])).sum();
+            full += (instructions == 8_192 && group.len() > 1) as usize;
+            over += (instructions > 8_192) as usize;
+        }
+    }
+    assert!(full > 20 && over > 20, "{full} {over}");
+}
+
+#[test]
+fn largest_files() {
+    let mut most_instructions = 0;
+    for trial in largest(0).skip(8).step_by(5) {
+        let file = trial.file();
+        assert!(check(&file.bytes).is_ok(), "{trial:?}");
+        assert_eq!(file.blocks, 65_536);
+        most_instructions += (file.instructions == 1_048_576) as usize;
+    }
+    assert!(most_instructions >= 3);
+}
+
+/// The chains are one component each, in parts that come in the order of keys.
+#[test]
+fn chains() {
+    for graph in [Graph::Rising, Graph::Falling, Graph::First, Graph::Zigzag] {
+        let chain = Linked::most(0, graph);
+        let plan = plan(&chain.file().bytes);
+        assert!(plan.iter().map(|row| row[1]).eq(0..65_536), "{graph:?}");
+        let sizes = group_sizes(&plan);
+        assert!(sizes.len() < 20, "{graph:?}: {}", sizes.len());
+    }
+}
