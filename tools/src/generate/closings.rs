@@ -60,15 +60,9 @@ pub fn all() -> impl Iterator<Item = Closings> {
 /// at which a block may stand.
 fn records(near: u32) -> Vec<Record> {
     let value = Operand::Value { value: 4, ror: 0 };
-    let (by_amount, by_register) = {
-        let (rm, kind) = (15, 3);
-        let amount = 31;
-        let rs = 15;
-        (
-            Shifted::ByAmount { rm, kind, amount },
-            Shifted::ByRegister { rm, kind, rs },
-        )
-    };
+    let (rm, kind, amount, rs) = (15, 3, 31, 15);
+    let by_amount = Shifted::ByAmount { rm, kind, amount };
+    let by_register = Shifted::ByRegister { rm, kind, rs };
     let load = mem::LOAD | mem::PRE | mem::UP;
     let all = 0x1f;
     let mut out = vec![

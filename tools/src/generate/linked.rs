@@ -189,7 +189,7 @@ impl Linked {
         }
     }
 
-    pub fn spans(&self, rng: &mut Rng) -> Vec<Span> {
+    fn spans(&self, rng: &mut Rng) -> Vec<Span> {
         let counts = layout::counts(rng, self.blocks, self.lengths);
         let mut spans: Vec<Span> = Vec::with_capacity(counts.len());
         let mut next = 0;

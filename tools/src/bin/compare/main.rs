@@ -30,7 +30,7 @@ fn trial_words(words: &[String]) -> Option<(u64, u64, Original)> {
     Some((number(0, trials::FILES)?, number(1, 0)?, original.ok()?))
 }
 
-/// Refusals 1 to 7 for a damaged copy of a file: made again by the same file.
+/// A damaged copy of a file, the same on every run; most are refused.
 fn damaged_copy(file: &File) -> Vec<u8> {
     let rng = &mut Rng::new(file.bytes.len() as u64);
     let faults = rng.between(1, 4);
