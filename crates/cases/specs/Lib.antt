@@ -1,4 +1,5 @@
 -- The definitions that the crate's promises name.
 pub mod CheckCases
+pub mod ExitsCases
 pub mod Input
 pub mod Same

@@ -1,6 +1,7 @@
 // Replays the stored vectors of standard input, section by section, and prints what differs.
 mod check_cases;
 mod compare;
+mod exits_cases;
 mod input;
 mod report;
 mod sections;
@@ -11,6 +12,9 @@ use sections::Section;
 // vectors that nothing replays.
 fn main() {
     if !sections::replay(Section::Check) {
+        return;
+    }
+    if !sections::replay(Section::Exits) {
         return;
     }
     if !input::at_end() {

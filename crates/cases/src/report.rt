@@ -15,6 +15,9 @@ fn name(section: Section) {
         Section::Check => {
             text(b"check");
         }
+        Section::Exits => {
+            text(b"exits");
+        }
     }
 }
 

@@ -1,11 +1,13 @@
 // The sections of the input: a count of vectors, and the vectors.
 use crate::check_cases;
+use crate::exits_cases;
 use crate::input;
 use crate::input::Read;
 use crate::report;
 
 pub(crate) enum Section {
     Check,
+    Exits,
 }
 
 // What became of a vector.
@@ -19,6 +21,7 @@ pub(crate) enum Outcome {
 fn replay_one(section: Section, k: u64) -> Outcome {
     match section {
         Section::Check => check_cases::replay_one(k),
+        Section::Exits => exits_cases::replay_one(k),
     }
 }
 

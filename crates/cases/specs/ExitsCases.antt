@@ -1,0 +1,12 @@
+-- The numbers that a vector of the exits holds.
+use Prim.Native.Nat.{ℕ}
+use mathlib.Core.List.{List, [], _∷_}
+use Rattle.block_file.specs.Answer.{Answer}
+use Rattle.recomp.specs.Answer.{ExitsNumbers, exitsNumbers}
+
+abbrev pub exitsInOrder : ExitsNumbers → List ℕ
+exitsInOrder n = n .number ∷ n .at ∷ n .count ∷ n .first ∷ n .second ∷ []
+
+-- the numbers of the answer, in the order in which a vector has them
+abbrev pub exitsAnswer : Answer (List ℕ) → List ℕ
+exitsAnswer a = exitsInOrder (exitsNumbers a)
