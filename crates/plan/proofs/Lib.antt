@@ -1,5 +1,5 @@
 -- The laws that the functions' proofs share.
-mod Accepted
+pub mod Accepted
 mod Answers
 mod Closing
 pub mod Components

@@ -13,3 +13,5 @@ pub use calls::Planned;
 pub use calls::exits_of;
 pub use calls::plan_of;
 pub use exits::Exits;
+pub use exits::exits_at;
+pub use exits::key_of;

@@ -1,0 +1,126 @@
+-- `put_listing` writes the listing. The loop's invariant: the lines of the blocks before block i are written.
+-- Assumes nothing.
+use Prim.Native.Nat.{ℕ, _-_, _≤_, _<_}
+use borrow.Author.Needs.{needs}
+use lib.ListN.{length, getD, take}
+use lib.Seq.{take-all}
+use mathlib.Core.List.{List, []}
+use mathlib.Core.Path.{_≡_, refl, sym, ap, _∙_, subst}
+use native.Mathlib.Omega.{arith}
+use Rattle.block_file.proofs.Accepted.{length-of}
+use Rattle.block_file.specs.BlockRecord.{countSum}
+use Rattle.block_file.specs.Parse.{Block, blockAt}
+use Rattle.block_file.specs.Trailer.{blockCount, blockStart}
+use Rattle.list_blocks.proofs.Blocks.{lines-next}
+use Rattle.list_blocks.proofs.lines.put_listing.Statement.{statement}
+use Rattle.list_blocks.proofs.lines.put_listing.Tie as tie
+use Rattle.list_blocks.specs.Listing.{linesFrom, listing}
+use Rattle.plan.proofs.Accepted.{missing, sum-next, nth-block}
+use Rattle.plan.specs.Accepted.{blocksOf, IsBlock}
+use Rattle.plan.specs.Calls.{partLimit}
+use Rattle.plan.specs.Plan.{plan}
+use Rattle.text.proofs.Laws.{seq, said, kept}
+use Rattle.text.specs.Doc.{Doc, text, _▸_, flat}
+use Rattle.text.specs.Wrote.{Wrote}
+
+abbrev header : Doc
+header = text "key group exits\n"
+
+abbrev Inv-loop : tie.InvT-loop
+Inv-loop file work n out₀ at₀ first₀ i₀ out at first i = (i ≤ n) × (first ≡ countSum file i) × ((o : List ℕ) → Wrote o 0 header out₀ at₀ → Wrote o 0 (header ▸ linesFrom (plan partLimit (blocksOf file)) 0 (take i (blocksOf file))) out at)
+
+abbrev μ-loop : tie.MeasureT-loop
+μ-loop file work n out₀ at₀ first₀ i₀ out at first i = n - i
+
+slice-aggregate-put : tie.Need-slice-aggregate-put Inv-loop μ-loop
+slice-aggregate-put c = search needs
+
+put-requires : tie.Need-put-requires Inv-loop μ-loop
+put-requires c κs = search needs
+
+loop-holds : tie.Need-loop-holds Inv-loop μ-loop
+unfolding countSum linesFrom
+loop-holds c = (omega arith, refl, λ o w. said w refl)
+
+block-at-requires : tie.Need-block-at-requires Inv-loop μ-loop
+block-at-requires c κs = search needs
+
+enum-known-block : tie.Need-enum-known-block Inv-loop μ-loop
+enum-known-block c = search needs
+
+enum-told : tie.Need-enum-told Inv-loop μ-loop
+enum-told c = search needs
+
+same-length : tie.Need-same-length Inv-loop μ-loop
+same-length c = absurd (omega (arith, missing _ (c .before .before .before .before .before .before .before .before .before .before .before .before .before .pre .1 .0) _ (sym (c .before .before .block-at .ensures) ∙ c .enum-told .given .1), c .before .before .before .before .before .before .before .before .before .before .before .before .before .pre .0 .2))
+
+returns : tie.Need-returns Inv-loop μ-loop
+returns c = absurd (omega (arith, missing _ (c .before .before .before .before .before .before .before .before .before .before .before .before .before .pre .1 .0) _ (sym (c .before .before .block-at .ensures) ∙ c .enum-told .given .1), c .before .before .before .before .before .before .before .before .before .before .before .before .before .pre .0 .2))
+
+add-put-block : tie.Need-add-put-block Inv-loop μ-loop
+add-put-block c = omega arith
+
+mul-put-block : tie.Need-mul-put-block Inv-loop μ-loop
+mul-put-block c = omega arith
+
+shared-slice-read-put-block : tie.Need-shared-slice-read-put-block Inv-loop μ-loop
+shared-slice-read-put-block c = omega arith
+
+put-block-requires : tie.Need-put-block-requires Inv-loop μ-loop
+put-block-requires c κs = search needs
+
+cast-wrapping-add-usize : tie.Need-cast-wrapping-add-usize Inv-loop μ-loop
+cast-wrapping-add-usize c = search needs
+
+wrapping-add-usize-requires : tie.Need-wrapping-add-usize-requires Inv-loop μ-loop
+wrapping-add-usize-requires c κs = search needs
+
+add-i : tie.Need-add-i Inv-loop μ-loop
+add-i c = omega arith
+
+loop-less : tie.Need-loop-less Inv-loop μ-loop
+loop-less c = omega arith
+
+loop-again : tie.Need-loop-again Inv-loop μ-loop
+loop-again c = let pre = c .before .before .before .before .before .before .before .before .before .before .before .before .before .before .before .before .before .before .before .before .before .pre in
+    let inv = c .before .before .before .before .before .before .before .before .before .before .before .before .loop .inv in
+    let found = sym (c .before .before .before .before .before .before .before .before .before .before .block-at .ensures) ∙ c .before .before .before .before .before .before .before .before .block .given .1 in
+    let is : IsBlock _ _ _ _ = record { accepted = pre .1 .0; found = found; starts = inv .1 } in
+    let inside : c .before .before .before .before .before .before .before .before .before .before .before .before .loop .i < blockCount (c .before .before .before .before .before .before .before .before .before .before .before .before .before .before .before .before .before .before .before .before .before .args .file .now) = omega (arith, pre .0 .2) in
+    let block : blockAt (c .before .before .before .before .before .before .before .before .before .before .before .before .before .before .before .before .before .before .before .before .before .args .file .now) (blockStart (c .before .before .before .before .before .before .before .before .before .before .before .before .before .before .before .before .before .before .before .before .before .args .file .now) (c .before .before .before .before .before .before .before .before .before .before .before .before .loop .i)) (c .before .before .before .before .before .before .before .before .before .before .before .before .loop .first) ≡ getD (blocksOf (c .before .before .before .before .before .before .before .before .before .before .before .before .before .before .before .before .before .before .before .before .before .args .file .now)) (c .before .before .before .before .before .before .before .before .before .before .before .before .loop .i) (blockAt (c .before .before .before .before .before .before .before .before .before .before .before .before .before .before .before .before .before .before .before .before .before .args .file .now) 0 0) = ap (blockAt (c .before .before .before .before .before .before .before .before .before .before .before .before .before .before .before .before .before .before .before .before .before .args .file .now) (blockStart (c .before .before .before .before .before .before .before .before .before .before .before .before .before .before .before .before .before .before .before .before .before .args .file .now) (c .before .before .before .before .before .before .before .before .before .before .before .before .loop .i))) (inv .1) ∙ sym (nth-block (c .before .before .before .before .before .before .before .before .before .before .before .before .before .before .before .before .before .before .before .before .before .args .file .now) (c .before .before .before .before .before .before .before .before .before .before .before .before .loop .i) (blockAt (c .before .before .before .before .before .before .before .before .before .before .before .before .before .before .before .before .before .before .before .before .before .args .file .now) 0 0) inside) in
+    (omega arith, c .wrapping-add-usize .ensures ∙ sum-next is, λ o w. said (seq (inv .2 o w) (c .before .before .before .before .put-block .ensures _ is)) (lines-next header _ (blocksOf (c .before .before .before .before .before .before .before .before .before .before .before .before .before .before .before .before .before .before .before .before .before .args .file .now)) _ _ _ _ (omega (arith, inside, length-of _ _ (pre .1 .0))) (pre .1 .1 _ (omega arith)) block))
+
+same-length-2 : tie.Need-same-length-2 Inv-loop μ-loop
+same-length-2 c = kept (c .before .loop .inv .2 _ (said (c .before .before .before .before .put .ensures) refl))
+
+returns-2 : tie.Need-returns-2 Inv-loop μ-loop
+unfolding listing
+returns-2 c = let f = c .before .before .before .before .before .before .before .before .before .before .args .file .now in
+    let all : take (c .before .loop .i) (blocksOf f) ≡ blocksOf f = take-all (c .before .loop .i) (blocksOf f) (omega (arith, length-of _ _ (c .before .before .before .before .before .before .before .before .before .before .pre .1 .0), c .before .before .before .before .before .before .before .before .before .before .pre .0 .2)) in
+    said (c .before .loop .inv .2 _ (said (c .before .before .before .before .put .ensures) refl)) (ap (λ (bs : List Block). flat (header ▸ linesFrom (plan partLimit (blocksOf f)) 0 bs) []) all)
+
+pub put-listing-spec : {M : Type 1} → statement M
+put-listing-spec =
+    tie.close
+    (tie.spec
+    Inv-loop
+    μ-loop
+    slice-aggregate-put
+    put-requires
+    loop-holds
+    block-at-requires
+    enum-known-block
+    enum-told
+    same-length
+    returns
+    add-put-block
+    mul-put-block
+    shared-slice-read-put-block
+    put-block-requires
+    cast-wrapping-add-usize
+    wrapping-add-usize-requires
+    add-i
+    loop-less
+    loop-again
+    same-length-2
+    returns-2)

@@ -1,0 +1,38 @@
+-- The listing of a file: a header, and one line for each block in file order.
+use Prim.Native.Nat.{ℕ, suc}
+use mathlib.Core.Bool.{cond}
+use mathlib.Core.List.{List, [], _∷_}
+use lib.Dec.{eqb}
+use Rattle.block_file.specs.Parse.{Block}
+use Rattle.text.specs.Doc.{Doc, nothing, text, dec, hex8, _▸_, each}
+use Rattle.plan.specs.Calls.{partLimit}
+use Rattle.plan.specs.Exits.{keyOf, exits}
+use Rattle.plan.specs.Plan.{plan}
+
+-- the group of block i in the rows of a plan
+unfoldable pub groupOf : ℕ → List ℕ → ℕ
+groupOf i [] = 0
+groupOf i (g ∷ []) = 0
+groupOf i (g ∷ j ∷ rows) = cond (eqb j i) g (groupOf i rows)
+
+-- the exits of a line: one space before each key, or `-` if there is none
+abbrev pub exitsText : List ℕ → Doc
+exitsText [] = text " -"
+exitsText (k ∷ ks) = each (λ (l : ℕ). text " " ▸ hex8 l) (k ∷ ks)
+
+-- a line: key, group, exits
+abbrev pub line : ℕ → ℕ → List ℕ → Doc
+line key group keys = hex8 key ▸ text " " ▸ dec group ▸ exitsText keys ▸ text "\n"
+
+-- the line of a block
+unfoldable pub blockLine : ℕ → Block → Doc
+blockLine group b = line (keyOf (b .addr) (b .thumb)) group (exits b)
+
+-- the lines of blocks counted from i
+unfoldable pub linesFrom : List ℕ → ℕ → List Block → Doc
+linesFrom rows i [] = nothing
+linesFrom rows i (b ∷ bs) = blockLine (groupOf i rows) b ▸ linesFrom rows (suc i) bs
+
+-- the listing of some blocks
+unfoldable pub listing : List Block → Doc
+listing bs = text "key group exits\n" ▸ linesFrom (plan partLimit bs) 0 bs

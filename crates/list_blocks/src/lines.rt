@@ -1,0 +1,75 @@
+// The lines of a listing.
+use block_file::BlockRecord;
+use block_file::FoundBlock;
+use block_file::block_at;
+use plan::Exits;
+use plan::exits_at;
+use plan::key_of;
+ghost use mathlib.Core.Path.{_≡_};
+ghost use Prim.Native.Nat.{ℕ, _+_, _*_, _≤_, _<_};
+ghost use lib.ListN.{length, getD};
+ghost use Rattle.block_file.specs.Trailer.{blockCount, blockStart};
+ghost use Rattle.block_file.specs.Parse.{blockAt};
+ghost use Rattle.text.specs.Wrote.{Wrote};
+ghost use Rattle.plan.specs.Accepted.{blocksOf, Accepted, IsBlock};
+ghost use Rattle.plan.specs.Calls.{partLimit};
+ghost use Rattle.plan.specs.Plan.{plan};
+ghost use Rattle.plan.specs.Exits.{keysOf};
+ghost use Rattle.list_blocks.specs.Listing.{groupOf, exitsText, line, blockLine, listing};
+
+fn put_exits(out: &mut [u8], at: usize, exits: Exits) -> usize
+    ensures { λ r. ⌜ Wrote (now (out .entry)) at (exitsText (keysOf exits)) (now (out .exit)) r ⌝ }
+{
+    match exits {
+        Exits::None => text::put(out, at, b" -"),
+        Exits::One(k) => text::put_then_hex8(out, at, b" ", k),
+        Exits::Two(k, l) => {
+            let p = text::put_then_hex8(out, at, b" ", k);
+            text::put_then_hex8(out, p, b" ", l)
+        }
+    }
+}
+
+fn put_line(out: &mut [u8], at: usize, key: u32, group: u32, exits: Exits) -> usize
+    ensures { λ r. ⌜ Wrote (now (out .entry)) at (line key group (keysOf exits)) (now (out .exit)) r ⌝ }
+{
+    let p = text::put_hex8(out, at, key);
+    let q = text::put_then_dec(out, p, b" ", group as u64);
+    let s = put_exits(out, q, exits);
+    text::put(out, s, b"\n")
+}
+
+// The line of a block, whose instructions are those from record `first` on.
+fn put_block(
+    file: &[u8],
+    out: &mut [u8],
+    at: usize,
+    group: u32,
+    block: BlockRecord,
+    first: usize,
+) -> usize
+    ensures { λ r. ⌜ ((i : ℕ) → IsBlock (now (file .entry)) i block first → Wrote (now (out .entry)) at (blockLine group (blockAt (now (file .entry)) (blockStart (now (file .entry)) i) first)) (now (out .exit)) r) ⌝ }
+{
+    let exits = exits_at(file, block, first);
+    put_line(out, at, key_of(block.addr, block.thumb), group, exits)
+}
+
+// The header, and the lines of the n blocks of an accepted file, whose groups are in part 1 of the work numbers.
+pub fn put_listing(file: &[u8], work: &[u32], n: usize, out: &mut [u8]) -> usize
+    requires { ⌜ (4 * n ≤ length (now work)) × (n ≤ 65536) × (n ≡ blockCount (now file)) ⌝ }
+    requires { ⌜ Accepted (now file) × ((i : ℕ) → i < n → getD (now work) (n + i) 0 ≡ groupOf i (plan partLimit (blocksOf (now file)))) ⌝ }
+    ensures { λ r. ⌜ Wrote (now (out .entry)) 0 (listing (blocksOf (now (file .entry)))) (now (out .exit)) r ⌝ }
+{
+    let mut at = text::put(out, 0, b"key group exits\n");
+    let mut first: usize = 0;
+    let mut i = 0;
+    while i < n {
+        let FoundBlock::At(block) = block_at(file, i) else {
+            return at;
+        };
+        at = put_block(file, out, at, work[n + i], block, first);
+        first = std::num::wrapping_add_usize(first, block.count as usize);
+        i += 1;
+    }
+    at
+}
