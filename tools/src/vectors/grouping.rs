@@ -90,6 +90,14 @@ fn damaged_files() -> impl Iterator<Item = Vec<u8>> {
         })
 }
 
+/// Ends of a file that are too short for a trailer.
+fn cut_files() -> impl Iterator<Item = Vec<u8>> {
+    let whole = named_files().remove(0).bytes;
+    [0, 1, 16, 30, 31]
+        .into_iter()
+        .map(move |n| whole[whole.len() - n..].to_vec())
+}
+
 pub fn exits() -> Vec<ExitVector> {
     let mut out = vec![];
     let mut ask = |file: &[u8], block: u64| {
@@ -117,7 +125,7 @@ pub fn exits() -> Vec<ExitVector> {
             ask(&file.bytes, block);
         }
     }
-    for copy in damaged_files() {
+    for copy in damaged_files().chain(cut_files()) {
         ask(&copy, 0);
     }
     out
@@ -151,7 +159,7 @@ pub fn plans() -> Vec<PlanVector> {
             _ => {}
         }
     }
-    for copy in damaged_files() {
+    for copy in damaged_files().chain(cut_files()) {
         ask(&copy, 508, 254);
     }
     out
