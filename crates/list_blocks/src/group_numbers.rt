@@ -30,7 +30,7 @@ fn put_group(work: &mut [u32], n: usize, p: usize)
 }
 
 // From the last row to the first, so that a block has the group of its first row.
-pub fn put_groups(work: &mut [u32], n: usize)
+pub(crate) fn put_groups(work: &mut [u32], n: usize)
     requires { ⌜ (4 * n ≤ length (now work)) × (n ≤ 65536) ⌝ }
     ensures { λ _. ⌜ GroupsFrom n 0 (now (work .entry)) (now (work .exit)) ⌝ }
 {

@@ -55,7 +55,7 @@ fn put_block(
 }
 
 // The header, and the lines of the n blocks of an accepted file, whose groups are in part 1 of the work numbers.
-pub fn put_listing(file: &[u8], work: &[u32], n: usize, out: &mut [u8]) -> usize
+pub(crate) fn put_listing(file: &[u8], work: &[u32], n: usize, out: &mut [u8]) -> usize
     requires { ⌜ (4 * n ≤ length (now work)) × (n ≤ 65536) × (n ≡ blockCount (now file)) ⌝ }
     requires { ⌜ Accepted (now file) × ((i : ℕ) → i < n → getD (now work) (n + i) 0 ≡ groupOf i (plan partLimit (blocksOf (now file)))) ⌝ }
     ensures { λ r. ⌜ Wrote (now (out .entry)) 0 (listing (blocksOf (now (file .entry)))) (now (out .exit)) r ⌝ }
