@@ -1,12 +1,13 @@
 -- The laws that the functions' proofs share.
 pub mod Accepted
-mod Answers
+pub mod Answers
 mod Closing
 pub mod Components
 pub mod Cutting
 pub mod Edges
 pub mod GroupLaws
 mod Grouping
+pub mod HandOver
 mod Joining
 mod Keys
 mod Lending
@@ -14,7 +15,7 @@ mod Linking
 pub mod Listing
 mod Numbering
 mod Ordering
-mod Planning
+pub mod PlanLength
 pub mod Roots
 mod Rows
 pub mod Starred

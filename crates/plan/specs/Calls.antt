@@ -25,23 +25,41 @@ unfoldable pub plannedOf : Planned → Answer ℕ
 plannedOf (Planned.Blocks n) = value n
 plannedOf (Planned.Refused n i) = refusal n i
 
--- what a call for the plan leaves: its answer, the work numbers and the numbers of the result
-pub record PlanCall : Type 0 where
-  pub answer : Answer ℕ
+-- what a call makes of the blocks of a file: the values of its answer, and what goes into the lent result, a plan or a text
+pub record Made (A : Type 0) : Type 0 where
+  pub values : A
+  pub content : List ℕ
+
+-- what a call that groups leaves: its answer, the work numbers and the lent result
+pub record Left (A : Type 0) : Type 0 where
+  pub answer : Answer A
   pub work : List ℕ
   pub result : List ℕ
 
--- the call for the plan of some blocks: 8 with nothing written, 10 with the work numbers cleared, or the plan in the front of the result
-unfoldable pub planBlocks : List Block → List ℕ → List ℕ → PlanCall
-planBlocks bs work result =
-    cond (ltb (length work) (4 * length bs)) (record { answer = refusal 8 0; work = work; result = result })
-    (cond (ltb (length result) (2 * length bs)) (record { answer = refusal 10 0; work = cleared (4 * length bs) work; result = result })
-    (record { answer = value (length bs); work = cleared (4 * length bs) work; result = plan partLimit bs ++ drop (2 * length bs) result }))
+-- with work numbers that are cleared: 9 where nothing was made, 10 where the result is shorter than what was made, or the result with that in its front
+abbrev pub handOver : {A : Type 0} → Option (Made A) → List ℕ → List ℕ → Left A
+handOver none work result = record { answer = refusal 9 0; work = work; result = result }
+handOver (some m) work result =
+    cond (ltb (length result) (length (m .content))) (record { answer = refusal 10 0; work = work; result = result })
+    (record { answer = value (m .values); work = work; result = m .content ++ drop (length (m .content)) result })
 
--- the call for the plan of a file: refusals 1 to 7 write nothing
-unfoldable pub planCall : Parsed → List ℕ → List ℕ → PlanCall
-planCall (Parsed.refused n i) work result = record { answer = refusal n i; work = work; result = result }
-planCall (Parsed.accepted bs) work result = planBlocks bs work result
+-- a call that groups, for n blocks: 8 with nothing written, or with the first 4 n work numbers cleared
+unfoldable pub groupedCall : {A : Type 0} → ℕ → Option (Made A) → List ℕ → List ℕ → Left A
+groupedCall n made work result =
+    cond (ltb (length work) (4 * n)) (record { answer = refusal 8 0; work = work; result = result }) (handOver made (cleared (4 * n) work) result)
+
+-- a call that groups, for a file: refusals 1 to 7 with nothing written
+unfoldable pub groupingCall : {A : Type 0} → (List Block → Option (Made A)) → Parsed → List ℕ → List ℕ → Left A
+groupingCall make (Parsed.refused n i) work result = record { answer = refusal n i; work = work; result = result }
+groupingCall make (Parsed.accepted bs) work result = groupedCall (length bs) (make bs) work result
+
+-- what the call for the plan makes: the number of blocks, and two numbers for each
+abbrev pub madePlan : List Block → Option (Made ℕ)
+madePlan bs = some (record { values = length bs; content = plan partLimit bs })
+
+-- the call for the plan of a file
+abbrev pub planCall : Parsed → List ℕ → List ℕ → Left ℕ
+planCall = groupingCall madePlan
 
 -- what the cases of Exiting stand for: the keys of the exits, or a refusal
 unfoldable pub exitingOf : Exiting → Answer (List ℕ)

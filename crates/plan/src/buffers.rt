@@ -6,7 +6,7 @@ ghost use lib.ListN.{length, take, drop, replicate};
 ghost use Rattle.plan.specs.Plan.{interleave};
 
 // The first m numbers become 0.
-pub(crate) fn clear(work: &mut [u32], m: usize)
+pub fn clear(work: &mut [u32], m: usize)
     requires { ⌜ m ≤ length (now work) ⌝ }
     ensures { λ _. ⌜ now (work .exit) ≡ replicate m 0 ++ drop m (now (work .entry)) ⌝ }
 {

@@ -11,13 +11,13 @@ ghost use mathlib.Core.Path.{_≡_};
 ghost use mathlib.Core.List.{map};
 ghost use lib.ListN.{getElem?};
 ghost use Rattle.block_file.specs.Trailer.{blockCount};
-ghost use Rattle.block_file.specs.Parse.{parse};
+ghost use Rattle.block_file.specs.Parse.{Parsed, parse};
 ghost use Rattle.plan.specs.Accepted.{blocksOf, Accepted};
-ghost use Rattle.plan.specs.Calls.{plannedOf, planBlocks, planCall, exitingOf, foundOr9, exitsCall};
+ghost use Rattle.plan.specs.Calls.{plannedOf, planCall, exitingOf, foundOr9, exitsCall};
 ghost use Rattle.plan.specs.Exits.{exits};
 
 // The most instructions of a part that holds several blocks.
-const PART_LIMIT: u64 = 8192;
+pub const PART_LIMIT: u64 = 8192;
 
 // The answer of the call for the plan.
 pub enum Planned {
@@ -37,7 +37,7 @@ pub enum Exiting {
 // The plan of an accepted file with n blocks.
 fn plan_blocks(file: &[u8], work: &mut [u32], result: &mut [u32], n: u32) -> Planned
     requires { ⌜ Accepted (now file) × (n ≡ blockCount (now file)) ⌝ }
-    ensures { λ r. ⌜ record { answer = plannedOf r; work = now (work .exit); result = now (result .exit) } ≡ planBlocks (blocksOf (now (file .entry))) (now (work .entry)) (now (result .entry)) ⌝ }
+    ensures { λ r. ⌜ record { answer = plannedOf r; work = now (work .exit); result = now (result .exit) } ≡ planCall (Parsed.accepted (blocksOf (now (file .entry)))) (now (work .entry)) (now (result .entry)) ⌝ }
 {
     let size = n as usize;
     if work.len() < 4 * size {

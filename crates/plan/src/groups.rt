@@ -123,7 +123,7 @@ fn put_roots(work: &mut [u32], n: usize)
 }
 
 // Groups the blocks of a file: parts 0 and 2 get the blocks in emission order and the number of the group of each.
-pub(crate) fn group_blocks(file: &[u8], work: &mut [u32], n: u32, limit: u64)
+pub fn group_blocks(file: &[u8], work: &mut [u32], n: u32, limit: u64)
     requires { ⌜ (4 * n ≤ length (now work)) × (n ≤ 65536) × (n ≡ blockCount (now file)) ⌝ }
     ensures { λ _. ⌜ Grouped (now (file .entry)) n limit (now (work .entry)) (now (work .exit)) ⌝ }
 {

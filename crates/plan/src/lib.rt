@@ -8,10 +8,13 @@ mod links;
 mod order;
 mod search;
 
+pub use buffers::clear;
 pub use calls::Exiting;
+pub use calls::PART_LIMIT;
 pub use calls::Planned;
 pub use calls::exits_of;
 pub use calls::plan_of;
 pub use exits::Exits;
 pub use exits::exits_at;
 pub use exits::key_of;
+pub use groups::group_blocks;

@@ -2,3 +2,4 @@ pub mod Overlay
 pub mod Numerals
 pub mod Printers
 pub mod Laws
+pub mod Lengths

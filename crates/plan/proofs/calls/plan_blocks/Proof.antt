@@ -2,18 +2,24 @@
 -- Assumes nothing.
 use borrow.Author.Needs.{needs}
 use native.Mathlib.Omega.{arith}
-use Rattle.block_file.proofs.Accepted.{few-blocks}
-use Rattle.plan.proofs.Planning.{refused-8, refused-10, planned}
+use Prim.Native.Nat.{ℕ, _*_}
+use mathlib.Core.List.{List, _++_}
+use mathlib.Core.Path.{refl, sym, ap, ap₂, _∙_}
+use lib.ListN.{drop}
+use Rattle.plan.specs.Accepted.{blocksOf}
+use Rattle.block_file.proofs.Accepted.{few-blocks, length-of}
+use Rattle.plan.proofs.HandOver.{cleared-same, refused-8, refused-10, handed-over}
+use Rattle.plan.proofs.PlanLength.{plan-length}
 use Rattle.plan.proofs.calls.plan_blocks.Statement.{statement}
 use Rattle.plan.proofs.calls.plan_blocks.Tie as tie
-use Rattle.plan.specs.Calls.{plannedOf}
+use Rattle.plan.specs.Calls.{partLimit, plannedOf, madePlan}
 
 mul-if1 : tie.Need-mul-if1
 mul-if1 c = search needs
 
 returns : tie.Need-returns
 unfolding plannedOf
-returns c = refused-8 _ (c .before .before .before .before .pre .0) _ (c .before .before .before .before .pre .1) _ _ (omega arith)
+returns c = refused-8 madePlan _ (c .before .before .before .before .pre .0) _ (c .before .before .before .before .pre .1) _ _ (omega arith)
 
 mul-if2 : tie.Need-mul-if2
 mul-if2 c = search needs
@@ -29,7 +35,8 @@ same-length c = search needs
 
 returns-2 : tie.Need-returns-2
 unfolding plannedOf
-returns-2 c = refused-10 _ (c .before .before .before .before .before .before .before .before .before .pre .0) _ (c .before .before .before .before .before .before .before .before .before .pre .1) _ _ _ (c .before .before .clear .ensures) (omega arith) (omega arith)
+returns-2 c = let pre = c .before .before .before .before .before .before .before .before .before .pre in
+    refused-10 madePlan _ (pre .0) _ (pre .1) _ _ _ refl (omega arith) _ (c .before .before .clear .ensures) (omega (arith, plan-length (blocksOf (c .before .before .before .before .before .before .before .before .before .args .file .now)) partLimit, length-of _ _ (pre .0), pre .1))
 
 group-blocks-requires : tie.Need-group-blocks-requires
 group-blocks-requires c κs = (omega arith, omega (arith, few-blocks _ _ (c .before .before .before .before .before .before .pre .0), c .before .before .before .before .before .before .pre .1), c .before .before .before .before .before .before .pre .1)
@@ -51,7 +58,12 @@ same-length-3 c = search needs
 
 returns-3 : tie.Need-returns-3
 unfolding plannedOf
-returns-3 c = planned _ (c .before .before .before .before .before .before .before .before .before .before .before .before .before .before .before .before .before .before .pre .0) _ (c .before .before .before .before .before .before .before .before .before .before .before .before .before .before .before .before .before .before .pre .1) _ _ _ _ _ (omega arith) (omega arith) (c .before .before .before .before .before .before .before .before .before .before .before .group-blocks .ensures) (c .before .before .before .before .before .before .put-rows .ensures) (c .before .before .clear2 .ensures)
+returns-3 c = let f = c .before .before .before .before .before .before .before .before .before .before .before .before .before .before .before .before .before .before .args .file .now in
+    let pre = c .before .before .before .before .before .before .before .before .before .before .before .before .before .before .before .before .before .before .pre in
+    let grouped = c .before .before .before .before .before .before .before .before .before .before .before .group-blocks .ensures in
+    let long = plan-length (blocksOf f) partLimit ∙ ap (λ (n : ℕ). 2 * n) (length-of _ _ (pre .0) ∙ sym (pre .1)) in
+    let rows = c .before .before .before .before .before .before .put-rows .ensures ∙ ap₂ (λ (l : List ℕ) (k : ℕ). l ++ drop k (c .before .before .before .before .before .before .before .before .before .before .before .before .before .before .before .before .before .before .args .result .now)) (grouped .rows (pre .0)) (sym long) in
+    handed-over madePlan _ (pre .0) _ (pre .1) _ _ _ refl (omega arith) _ (c .before .before .clear2 .ensures ∙ cleared-same _ _ _ (grouped .same) (grouped .after)) _ _ (pre .1 ∙ sym (length-of _ _ (pre .0))) (omega (arith, long)) rows
 
 pub plan-blocks-spec : {M : Type 1} → statement M
 plan-blocks-spec =
