@@ -9,7 +9,9 @@ use native.Mathlib.Omega.{arith}
 use borrow.Author.Tests.{eq-eqb, ne-eqb}
 use lib.ListN.{length, getD, set, take, drop, length-set, length-take, length-drop, drop-of-length-le}
 use lib.Seq.{length-take-le, drop-cons, getD-take, getD-drop, getD-set-same, getD-set-other}
-use Rattle.plan.specs.Plan.{interleave}
+use Rattle.plan.specs.Accepted.{blocksOf, Accepted}
+use Rattle.plan.specs.Groups.{Grouped}
+use Rattle.plan.specs.Plan.{interleave, plan}
 use Rattle.list_blocks.specs.Listing.{groupOf}
 use Rattle.list_blocks.specs.Numbers.{rowsAt, GroupsFrom}
 
@@ -102,3 +104,14 @@ module _ (n p i : ℕ) (work₀ work : List ℕ) (h : p < n) (room : 4 * n ≤ l
   -- a row of none of them
   pub groups-kept : n ≤ i → GroupsFrom n p work₀ work
   groups-kept b = record { same = from .same; before = from .before; after = from .after; groups = λ j c. other j c (λ e. omega arith) }
+
+-- the groups of all rows, where the rows are a plan
+module _ {f : List ℕ} {n limit : ℕ} {work work₁ work₂ : List ℕ} (grouped : Grouped f n limit work work₁) (put : GroupsFrom n 0 work₁ work₂) where
+  pub groups-planned : Accepted f → (i : ℕ) → i < n → getD work₂ (n + i) 0 ≡ groupOf i (plan limit (blocksOf f))
+  groups-planned ok i h = put .groups i h ∙ ap (groupOf i) (grouped .rows ok)
+
+  pub groups-room : length work₂ ≡ length work
+  groups-room = put .same ∙ grouped .same
+
+  pub groups-past : (k : ℕ) → 4 * n ≤ k → getD work₂ k 0 ≡ getD work k 0
+  groups-past k h = put .after k (omega arith) ∙ grouped .after k h

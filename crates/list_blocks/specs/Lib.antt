@@ -1,3 +1,4 @@
 -- The definitions that the crate's promises name.
+pub mod Calls
 pub mod Listing
 pub mod Numbers

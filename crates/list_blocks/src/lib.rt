@@ -1,3 +1,7 @@
 // The listing of a file, into a lent buffer.
+mod calls;
 mod group_numbers;
 mod lines;
+
+pub use calls::Listed;
+pub use calls::listing_of;

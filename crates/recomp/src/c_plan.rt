@@ -4,7 +4,7 @@ use crate::plan_of;
 ghost use mathlib.Core.Path.{_≡_};
 ghost use Rattle.block_file.specs.Parse.{parse};
 ghost use Rattle.plan.specs.Calls.{planCall};
-ghost use Rattle.recomp.specs.Answer.{PlanNumbers, planNumbers};
+ghost use Rattle.recomp.specs.Answer.{leftNumbers};
 
 // The numbers of the plan.
 #[no_mangle]
@@ -15,7 +15,7 @@ pub extern "C" fn recomp_plan(
     at: &mut u64,
     blocks: &mut u64,
 ) -> u32
-    ensures { λ r. ⌜ record { number = r; at = now (at .exit); blocks = now (blocks .exit); work = now (work .exit); result = now (plan .exit) } ≡ planNumbers (planCall (parse (now (file .entry))) (now (work .entry)) (now (plan .entry))) ⌝ }
+    ensures { λ r. ⌜ record { number = r; at = now (at .exit); value = now (blocks .exit); work = now (work .exit); result = now (plan .exit) } ≡ leftNumbers (planCall (parse (now (file .entry))) (now (work .entry)) (now (plan .entry))) ⌝ }
 {
     match plan_of(file, work, plan) {
         Planned::Blocks(b) => {

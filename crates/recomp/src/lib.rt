@@ -1,13 +1,17 @@
 // The public calls, and their C forms.
 mod c_check;
 mod c_exits;
+mod c_listing;
 mod c_plan;
 
 pub use block_file::Checked;
 pub use block_file::check;
 pub use c_check::recomp_check;
 pub use c_exits::recomp_exits;
+pub use c_listing::recomp_listing;
 pub use c_plan::recomp_plan;
+pub use list_blocks::Listed;
+pub use list_blocks::listing_of;
 pub use plan::Exiting;
 pub use plan::Exits;
 pub use plan::Planned;

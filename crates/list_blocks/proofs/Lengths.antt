@@ -1,0 +1,33 @@
+-- How long a listing can be: short enough that its length is exact in 64 bits.
+-- Assumes nothing.
+use Prim.Native.Nat.{ℕ, suc, zero-le, _+_, _*_, _≤_, _<_}
+use mathlib.Core.Path.{_≡_, refl, ap}
+use mathlib.Core.List.{List, [], _∷_}
+use native.Mathlib.Omega.{arith}
+use lib.ListN.{length}
+use Rattle.block_file.specs.Parse.{Block}
+use Rattle.text.specs.Doc.{text, print}
+use Rattle.text.specs.Wrote.{top}
+use Rattle.text.proofs.Lengths.{most, length-most}
+use Rattle.plan.specs.Calls.{partLimit}
+use Rattle.plan.specs.Exits.{keyOf, exits}
+use Rattle.plan.specs.Plan.{plan}
+use Rattle.plan.proofs.Edges.{exits-few}
+use Rattle.list_blocks.specs.Listing.{groupOf, line, blockLine, linesFrom, listing}
+
+-- a line: 8 digits, a space, at most 20 digits, two exits with 9 bytes each, and the line's end
+line-most : (key group : ℕ) (keys : List ℕ) → length keys ≤ 2 → most (line key group keys) ≤ 48
+unfolding most
+line-most key group [] h = omega arith
+line-most key group (k ∷ []) h = omega arith
+line-most key group (k ∷ l ∷ []) h = omega arith
+line-most key group (k ∷ l ∷ m ∷ keys) h = absurd (omega arith)
+
+lines-most : (rows : List ℕ) (i : ℕ) (bs : List Block) → most (linesFrom rows i bs) ≤ 48 * length bs
+unfolding most linesFrom blockLine
+lines-most rows i [] = zero-le
+lines-most rows i (b ∷ bs) = omega (arith, line-most (keyOf (b .addr) (b .thumb)) (groupOf i rows) (exits b) (exits-few b), lines-most rows (suc i) bs)
+
+pub listing-short : (bs : List Block) → length bs ≤ 65536 → length (print (listing bs)) < top
+unfolding most listing
+listing-short bs h = omega (arith, length-most (listing bs), lines-most (plan partLimit bs) 0 bs)

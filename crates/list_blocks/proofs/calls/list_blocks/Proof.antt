@@ -1,0 +1,95 @@
+-- One law for each of the three answers; the work numbers that grouping and the groups of the blocks changed are all cleared.
+-- Assumes nothing.
+use Prim.Native.Nat.{_≤_}
+use Rattle.block_file.proofs.Accepted.{few-blocks}
+use Rattle.list_blocks.proofs.Groups.{groups-planned, groups-room, groups-past}
+use Rattle.list_blocks.proofs.calls.list_blocks.Statement.{statement}
+use Rattle.list_blocks.proofs.calls.list_blocks.Tie as tie
+use Rattle.list_blocks.specs.Calls.{listedOf, madeListing}
+use Rattle.list_blocks.specs.Listing.{listing}
+use Rattle.plan.proofs.HandOver.{cleared-same, refused-8, refused-10, handed-over}
+use Rattle.plan.specs.Accepted.{blocksOf}
+use Rattle.text.proofs.Laws.{whole}
+use Rattle.text.specs.Doc.{print}
+use borrow.Author.Needs.{needs}
+use lib.ListN.{length}
+use mathlib.Core.Path.{refl, _∙_}
+use native.Mathlib.Omega.{arith}
+
+mul-if1 : tie.Need-mul-if1
+mul-if1 c = search needs
+
+returns : tie.Need-returns
+unfolding listedOf
+returns c = refused-8 madeListing _ (c .before .before .before .before .pre .0) _ (c .before .before .before .before .pre .1) _ _ (omega arith)
+
+group-blocks-requires : tie.Need-group-blocks-requires
+group-blocks-requires c κs = (omega arith, omega (arith, few-blocks _ _ (c .before .before .before .before .before .pre .0), c .before .before .before .before .before .pre .1), c .before .before .before .before .before .pre .1)
+
+put-groups-requires : tie.Need-put-groups-requires
+put-groups-requires c κs = (omega (arith, c .before .before .before .group-blocks .ensures .same), omega (arith, few-blocks _ _ (c .before .before .before .before .before .before .before .before .before .pre .0), c .before .before .before .before .before .before .before .before .before .pre .1))
+
+listing-length-requires : tie.Need-listing-length-requires
+listing-length-requires c κs = let grouped = c .before .before .before .before .before .before .before .group-blocks .ensures in
+    let put = c .before .before .before .put-groups .ensures in
+    ((omega (arith, groups-room grouped put), omega (arith, few-blocks _ _ (c .before .before .before .before .before .before .before .before .before .before .before .before .before .pre .0), c .before .before .before .before .before .before .before .before .before .before .before .before .before .pre .1), c .before .before .before .before .before .before .before .before .before .before .before .before .before .pre .1), (c .before .before .before .before .before .before .before .before .before .before .before .before .before .pre .0, groups-planned grouped put (c .before .before .before .before .before .before .before .before .before .before .before .before .before .pre .0)))
+
+mul-clear : tie.Need-mul-clear
+mul-clear c = search needs
+
+clear-requires : tie.Need-clear-requires
+clear-requires c κs = search needs
+
+same-length : tie.Need-same-length
+same-length c = search needs
+
+returns-2 : tie.Need-returns-2
+unfolding listedOf
+returns-2 c = let grouped = c .before .before .before .before .before .before .before .before .before .before .before .before .before .group-blocks .ensures in
+    let put = c .before .before .before .before .before .before .before .before .before .put-groups .ensures in
+    refused-10 madeListing _ (c .before .before .before .before .before .before .before .before .before .before .before .before .before .before .before .before .before .before .before .pre .0) _ (c .before .before .before .before .before .before .before .before .before .before .before .before .before .before .before .before .before .before .before .pre .1) _ _ _ refl (omega arith) _ (c .before .before .clear .ensures ∙ cleared-same _ _ _ (groups-room grouped put) (groups-past grouped put)) (omega (arith, c .before .before .before .before .before .listing-length .ensures))
+
+put-listing-requires : tie.Need-put-listing-requires
+put-listing-requires c κs = let grouped = c .before .before .before .before .before .before .before .before .before .before .before .group-blocks .ensures in
+    let put = c .before .before .before .before .before .before .before .put-groups .ensures in
+    ((omega (arith, groups-room grouped put), omega (arith, few-blocks _ _ (c .before .before .before .before .before .before .before .before .before .before .before .before .before .before .before .before .before .pre .0), c .before .before .before .before .before .before .before .before .before .before .before .before .before .before .before .before .before .pre .1), c .before .before .before .before .before .before .before .before .before .before .before .before .before .before .before .before .before .pre .1), (c .before .before .before .before .before .before .before .before .before .before .before .before .before .before .before .before .before .pre .0, groups-planned grouped put (c .before .before .before .before .before .before .before .before .before .before .before .before .before .before .before .before .before .pre .0)))
+
+mul-clear-2 : tie.Need-mul-clear-2
+mul-clear-2 c = search needs
+
+clear-requires-2 : tie.Need-clear-requires-2
+clear-requires-2 c κs = search needs
+
+same-length-2 : tie.Need-same-length-2
+same-length-2 c = search needs
+
+same-length-3 : tie.Need-same-length-3
+same-length-3 c = search needs
+
+returns-3 : tie.Need-returns-3
+unfolding listedOf
+returns-3 c = let grouped = c .before .before .before .before .before .before .before .before .before .before .before .before .before .before .before .before .before .before .group-blocks .ensures in
+    let put = c .before .before .before .before .before .before .before .before .before .before .before .before .before .before .put-groups .ensures in
+    let long = c .before .before .before .before .before .before .before .before .before .before .listing-length .ensures in
+    let fits : length (print (listing (blocksOf (c .before .before .before .before .before .before .before .before .before .before .before .before .before .before .before .before .before .before .before .before .before .before .before .before .args .file .now)))) ≤ length (c .before .before .before .before .before .before .before .before .before .before .before .before .before .before .before .before .before .before .before .before .before .before .before .before .args .out .now) = omega (arith, long) in
+    handed-over madeListing _ (c .before .before .before .before .before .before .before .before .before .before .before .before .before .before .before .before .before .before .before .before .before .before .before .before .pre .0) _ (c .before .before .before .before .before .before .before .before .before .before .before .before .before .before .before .before .before .before .before .before .before .before .before .before .pre .1) _ _ _ refl (omega arith) _ (c .before .before .clear2 .ensures ∙ cleared-same _ _ _ (groups-room grouped put) (groups-past grouped put)) _ _ long fits (whole (c .before .before .before .before .before .before .put-listing .ensures) fits .0)
+
+pub list-blocks-spec : {M : Type 1} → statement M
+list-blocks-spec =
+    tie.close
+    (tie.spec
+    mul-if1
+    returns
+    group-blocks-requires
+    put-groups-requires
+    listing-length-requires
+    mul-clear
+    clear-requires
+    same-length
+    returns-2
+    put-listing-requires
+    mul-clear-2
+    clear-requires-2
+    same-length-2
+    same-length-3
+    returns-3)

@@ -1,0 +1,24 @@
+-- The public call for the listing: what it answers, and what every lent buffer holds afterwards.
+use Prim.Native.Nat.{ℕ}
+use mathlib.Core.List.{List}
+use mathlib.Core.Option.{Option, some}
+use lib.ListN.{length}
+use Rattle.block_file.specs.Answer.{Answer, refusal, value}
+use Rattle.block_file.specs.Parse.{Block, Parsed}
+use Rattle.text.specs.Doc.{print}
+use Rattle.plan.specs.Calls.{Made, Left, groupingCall}
+use Rattle.list_blocks.specs.declared.calls.Listed.{Listed}
+use Rattle.list_blocks.specs.Listing.{listing}
+
+-- what the cases of Listed stand for: the length of the text, or a refusal
+unfoldable pub listedOf : Listed → Answer ℕ
+listedOf (Listed.Length n) = value n
+listedOf (Listed.Refused n i) = refusal n i
+
+-- what the call for the listing makes: the length of the text, and the text
+abbrev pub madeListing : List Block → Option (Made ℕ)
+madeListing bs = some (record { values = length (print (listing bs)); content = print (listing bs) })
+
+-- the call for the listing of a file
+abbrev pub listingCall : Parsed → List ℕ → List ℕ → Left ℕ
+listingCall = groupingCall madeListing

@@ -1,0 +1,68 @@
+// The public call for the listing. It checks its file and its lent buffers itself.
+use crate::group_numbers::put_groups;
+use crate::lines::put_listing;
+use block_file::Checked;
+use block_file::check;
+use plan::PART_LIMIT;
+use plan::clear;
+use plan::group_blocks;
+ghost use mathlib.Core.Path.{_≡_};
+ghost use Prim.Native.Nat.{ℕ, _+_, _*_, _≤_, _<_};
+ghost use lib.ListN.{length, getD};
+ghost use Rattle.block_file.specs.Trailer.{blockCount};
+ghost use Rattle.block_file.specs.Parse.{Parsed, parse};
+ghost use Rattle.text.specs.Doc.{print};
+ghost use Rattle.plan.specs.Accepted.{blocksOf, Accepted};
+ghost use Rattle.plan.specs.Calls.{partLimit};
+ghost use Rattle.plan.specs.Plan.{plan};
+ghost use Rattle.list_blocks.specs.Listing.{groupOf, listing};
+ghost use Rattle.list_blocks.specs.Calls.{listedOf, listingCall};
+
+// The answer of the call for the listing.
+pub enum Listed {
+    // How many bytes the text has.
+    Length(u64),
+    // The number of the refusal, and i or 0.
+    Refused { number: u32, at: u64 },
+}
+
+// The length of the listing: it is written to no bytes at all.
+fn listing_length(file: &[u8], work: &[u32], n: usize) -> usize
+    requires { ⌜ (4 * n ≤ length (now work)) × (n ≤ 65536) × (n ≡ blockCount (now file)) ⌝ }
+    requires { ⌜ Accepted (now file) × ((i : ℕ) → i < n → getD (now work) (n + i) 0 ≡ groupOf i (plan partLimit (blocksOf (now file)))) ⌝ }
+    ensures { λ r. ⌜ r ≡ length (print (listing (blocksOf (now (file .entry))))) ⌝ }
+{
+    let mut nothing = [0u8; 0];
+    put_listing(file, work, n, &mut nothing)
+}
+
+// The listing of an accepted file with n blocks.
+fn list_blocks(file: &[u8], work: &mut [u32], out: &mut [u8], n: u32) -> Listed
+    requires { ⌜ Accepted (now file) × (n ≡ blockCount (now file)) ⌝ }
+    ensures { λ r. ⌜ record { answer = listedOf r; work = now (work .exit); result = now (out .exit) } ≡ listingCall (Parsed.accepted (blocksOf (now (file .entry)))) (now (work .entry)) (now (out .entry)) ⌝ }
+{
+    let size = n as usize;
+    if work.len() < 4 * size {
+        return Listed::Refused { number: 8, at: 0 };
+    }
+    group_blocks(file, work, n, PART_LIMIT);
+    put_groups(work, size);
+    let length = listing_length(file, work, size);
+    if out.len() < length {
+        clear(work, 4 * size);
+        return Listed::Refused { number: 10, at: 0 };
+    }
+    put_listing(file, work, size, out);
+    clear(work, 4 * size);
+    Listed::Length(length as u64)
+}
+
+// The listing of a file: its text in the front of `out`.
+pub fn listing_of(file: &[u8], work: &mut [u32], out: &mut [u8]) -> Listed
+    ensures { λ r. ⌜ record { answer = listedOf r; work = now (work .exit); result = now (out .exit) } ≡ listingCall (parse (now (file .entry))) (now (work .entry)) (now (out .entry)) ⌝ }
+{
+    match check(file) {
+        Checked::Accepted { blocks, .. } => list_blocks(file, work, out, blocks as u32),
+        Checked::Refused { number, at } => Listed::Refused { number, at },
+    }
+}
