@@ -28,6 +28,10 @@ unfolding most linesFrom blockLine
 lines-most rows i [] = zero-le
 lines-most rows i (b ∷ bs) = omega (arith, line-most (keyOf (b .addr) (b .thumb)) (groupOf i rows) (exits b) (exits-few b), lines-most rows (suc i) bs)
 
-pub listing-short : (bs : List Block) → length bs ≤ 65536 → length (print (listing bs)) < top
+-- a listing: its first line has 16 bytes
+pub listing-most : (bs : List Block) → length (print (listing bs)) ≤ 16 + 48 * length bs
 unfolding most listing
-listing-short bs h = omega (arith, length-most (listing bs), lines-most (plan partLimit bs) 0 bs)
+listing-most bs = omega (arith, length-most (listing bs), lines-most (plan partLimit bs) 0 bs)
+
+pub listing-short : (bs : List Block) → length bs ≤ 65536 → length (print (listing bs)) < top
+listing-short bs h = omega (arith, listing-most bs)

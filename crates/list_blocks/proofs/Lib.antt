@@ -1,4 +1,4 @@
 -- The laws that the functions' proofs share.
 mod Groups
 mod Blocks
-mod Lengths
+pub mod Lengths

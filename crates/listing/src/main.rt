@@ -1,0 +1,48 @@
+// Prints the listing of the block file on standard input.
+use libc::STDIN_FILENO;
+use libc::STDOUT_FILENO;
+use recomp::Listed;
+ghost use mathlib.Core.Path.{_≡_};
+ghost use Prim.Native.Nat.{_≤_};
+ghost use lib.ListN.{length, take};
+ghost use Rattle.block_file.specs.Parse.{parse};
+ghost use Rattle.text.specs.Doc.{print};
+ghost use Rattle.text.specs.Wrote.{Wrote};
+ghost use Rattle.listing.specs.Output.{refusalLine, output};
+
+// The longest file that is read.
+const LONGEST: usize = 65536;
+
+fn put_refusal(out: &mut [u8], number: u32, at: u64) -> usize
+    ensures { λ r. ⌜ Wrote (now (out .entry)) 0 (refusalLine number at) (now (out .exit)) r ⌝ }
+{
+    let p = text::put_then_dec(out, 0, b"refused ", number as u64);
+    let q = text::put_then_dec(out, p, b" at ", at);
+    text::put(out, q, b"\n")
+}
+
+// Writes what is printed for a file, and answers how many bytes that is. A file that is not longer
+// than LONGEST has at most 4,094 blocks, so the work numbers and the text always suffice.
+fn put_output(file: &[u8], out: &mut [u8]) -> usize
+    requires { ⌜ (length (now file) ≤ 65536) × (196608 ≤ length (now out)) ⌝ }
+    ensures { λ r. ⌜ (r ≤ length (now (out .exit))) × (take r (now (out .exit)) ≡ print (output (parse (now (file .entry))))) ⌝ }
+{
+    let mut work = [0u32; 16384];
+    match recomp::listing_of(file, &mut work, out) {
+        Listed::Length(n) => n as usize,
+        Listed::Refused { number, at } => put_refusal(out, number, at),
+    }
+}
+
+// One byte more than the longest file is asked for, which tells a longer one.
+fn main() {
+    let mut file = [0u8; LONGEST + 1];
+    let n = io::read_full(STDIN_FILENO, &mut file);
+    if n > LONGEST {
+        io::write_all(STDOUT_FILENO, b"too long\n");
+        return;
+    }
+    let mut out = [0u8; 196608];
+    let length = put_output(&file[..n], &mut out);
+    io::write_all(STDOUT_FILENO, &out[..length]);
+}
