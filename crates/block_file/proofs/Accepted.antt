@@ -4,7 +4,7 @@ use mathlib.Core.Path.{_≡_, refl, sym, ap, ap₂, _∙_}
 use mathlib.Core.Bool.{Bool, true, false, cond, true≢false}
 use mathlib.Core.List.{List, [], _∷_, List·Memᴰ, List·Memᴰ·head, List·Memᴰ·tail, Memᴰ·cast, Memᴰ·append-left, Memᴰ·append-right}
 use mathlib.Core.Option.{Option, none, some}
-use Prim.Native.Nat.{ℕ, zero, suc, _+_, _*_, _-_, _≤_, _<_, _^_}
+use Prim.Native.Nat.{ℕ, zero, suc, _+_, _*_, _%_, _-_, _≤_, _<_, _^_}
 use native.Mathlib.Nat.{add-zero, zero-add, mul-zero, mul-suc, le-of-suc-le-suc, not-suc-le-zero}
 use native.Mathlib.Omega.{arith}
 use borrow.Author.Tests.{not-false, eqb-true, leb-true, le-leb}
@@ -17,7 +17,7 @@ use Rattle.block_file.specs.declared.read.BlockRecord.{BlockRecord}
 use Rattle.block_file.specs.declared.read.FoundBlock.{FoundBlock}
 use Rattle.block_file.specs.declared.read.FoundInstr.{FoundInstr}
 use Rattle.block_file.specs.Trailer.{blockCount, instrCount, codeCount, blockStart, instrStart, trailerRight, withinLimits}
-use Rattle.block_file.specs.BlockRecord.{addrAt, countAt, codeOffsetAt, thumbAt, presentAt, lengthAt, countSum, codeRight, blockRight, keyRises}
+use Rattle.block_file.specs.BlockRecord.{addrAt, countAt, codeOffsetAt, thumbAt, presentAt, lengthAt, aligned, countSum, codeRight, blockRight, keyRises}
 use Rattle.block_file.specs.InstrRecord.{instrRight}
 use Rattle.block_file.specs.Decode.{timedAt}
 use Rattle.block_file.specs.Refusal.{Row, broken, firstBroken, blockRows, instrRows, rows}
@@ -134,6 +134,10 @@ module _ (f : List ℕ) (bs : List Block) (accepted : parse f ≡ Parsed.accepte
   pub sums : countSum f (blockCount f) ≡ instrCount f
   sums = eqb-true _ _ (not-false _ (kept Row.sum (in-sum f)))
 
+  unless-false : (b : Bool) → (b ≡ false → ⊥) → b ≡ true
+  unless-false true never = refl
+  unless-false false never = absurd (never refl)
+
   -- what the rules say of block i
   module _ (i : ℕ) (inside : i < blockCount f) where
     right : blockRight f (blockStart f i) ≡ true
@@ -148,6 +152,10 @@ module _ (f : List ℕ) (bs : List Block) (accepted : parse f ≡ Parsed.accepte
     ends-inside =
         let never : 2 ^ 32 < addrAt f (blockStart f i) + lengthAt f (blockStart f i) → ⊥ = λ h. true≢false (sym right ∙ sym (rules.end-past f (blockStart f i) h)) in
         omega arith
+
+    pub address-aligned : addrAt f (blockStart f i) % sizeOf (thumbAt f (blockStart f i)) ≡ 0
+    unfolding aligned
+    address-aligned = eqb-true _ _ (unless-false (aligned f (blockStart f i)) (λ h. true≢false (sym right ∙ sym (rules.not-aligned f (blockStart f i) h))))
 
     pub instrs-inside : countSum f i + countAt f (blockStart f i) ≤ instrCount f
     instrs-inside = omega (arith, sum-above f i (blockCount f) inside, sums)

@@ -2,6 +2,7 @@
 -- Assumes nothing.
 use Prim.Native.Nat.{ℕ, zero, suc, _+_, _≤_, _<_}
 use mathlib.Core.Path.{_≡_, refl, sym, ap, ap₂, _∙_}
+use mathlib.Core.Bool.{cond}
 use mathlib.Core.List.{List, [], _∷_}
 use native.Mathlib.Nat.{zero-add}
 use native.Mathlib.Numerals.{add-one}
@@ -14,14 +15,14 @@ use Rattle.block_file.specs.Read.{recordAt}
 use Rattle.text.specs.Doc.{Doc, flat, _▸_}
 use Rattle.plan.specs.Accepted.{IsBlock}
 use Rattle.plan.specs.Exits.{keyOf, exits}
-use Rattle.plan.proofs.Accepted.{block-record}
+use Rattle.plan.proofs.Accepted.{block-record, key-plus}
 use Rattle.list_blocks.specs.Listing.{groupOf, line, blockLine, linesFrom}
 
 -- a line by the record is the block's
 pub block-line : {f : List ℕ} {i : ℕ} {b : BlockRecord} {first : ℕ} → IsBlock f i b first → (group key : ℕ) (keys : List ℕ) → key ≡ keyOf (b .addr) (b .thumb)
     → keys ≡ exits (blockAt f (blockStart f i) first) → line key group keys ≡ blockLine group (blockAt f (blockStart f i) first)
 unfolding blockLine blockAt recordAt
-block-line is group key keys e h = ap₂ (λ (k : ℕ) (l : List ℕ). line k group l) (e ∙ ap (λ (r : BlockRecord). keyOf (r .addr) (r .thumb)) (block-record is)) h
+block-line is group key keys e h = ap₂ (λ (k : ℕ) (l : List ℕ). line k group l) (e ∙ key-plus is ∙ ap (λ (r : BlockRecord). r .addr + cond (r .thumb) 1 0) (block-record is)) h
 
 -- the lines of one more block
 pub lines-more : (rows : List ℕ) (j : ℕ) (bs : List Block) (i : ℕ) (d : Block) (k : List ℕ) → i < length bs

@@ -10,8 +10,8 @@ use Rattle.text.specs.Doc.{text, print}
 use Rattle.text.specs.Wrote.{top}
 use Rattle.text.proofs.Lengths.{most, length-most}
 use Rattle.plan.specs.Calls.{partLimit}
-use Rattle.plan.specs.Exits.{keyOf, exits}
-use Rattle.plan.specs.Plan.{plan}
+use Rattle.plan.specs.Exits.{exits}
+use Rattle.plan.specs.Plan.{blockKey, plan}
 use Rattle.plan.proofs.Edges.{exits-few}
 use Rattle.list_blocks.specs.Listing.{groupOf, line, blockLine, linesFrom, listing}
 
@@ -26,7 +26,7 @@ line-most key group (k ∷ l ∷ m ∷ keys) h = absurd (omega arith)
 lines-most : (rows : List ℕ) (i : ℕ) (bs : List Block) → most (linesFrom rows i bs) ≤ 48 * length bs
 unfolding most linesFrom blockLine
 lines-most rows i [] = zero-le
-lines-most rows i (b ∷ bs) = omega (arith, line-most (keyOf (b .addr) (b .thumb)) (groupOf i rows) (exits b) (exits-few b), lines-most rows (suc i) bs)
+lines-most rows i (b ∷ bs) = omega (arith, line-most (blockKey b) (groupOf i rows) (exits b) (exits-few b), lines-most rows (suc i) bs)
 
 -- a listing: its first line has 16 bytes
 pub listing-most : (bs : List Block) → length (print (listing bs)) ≤ 16 + 48 * length bs

@@ -6,8 +6,8 @@ use lib.Dec.{eqb}
 use Rattle.block_file.specs.Parse.{Block}
 use Rattle.text.specs.Doc.{Doc, nothing, text, dec, hex8, _▸_, each}
 use Rattle.plan.specs.Calls.{partLimit}
-use Rattle.plan.specs.Exits.{keyOf, exits}
-use Rattle.plan.specs.Plan.{plan}
+use Rattle.plan.specs.Exits.{exits}
+use Rattle.plan.specs.Plan.{blockKey, plan}
 
 -- the group of block i in the rows of a plan
 unfoldable pub groupOf : ℕ → List ℕ → ℕ
@@ -26,7 +26,7 @@ line key group keys = hex8 key ▸ text " " ▸ dec group ▸ exitsText keys ▸
 
 -- the line of a block
 unfoldable pub blockLine : ℕ → Block → Doc
-blockLine group b = line (keyOf (b .addr) (b .thumb)) group (exits b)
+blockLine group b = line (blockKey b) group (exits b)
 
 -- the lines of blocks counted from i
 unfoldable pub linesFrom : List ℕ → ℕ → List Block → Doc

@@ -1,10 +1,10 @@
 -- What a pass over the records of an accepted file has of a block.
 -- Assumes nothing.
 use Prim.Native.Nat.{ℕ, _+_, _*_, _%_, _≤_, _<_, _^_}
-use mathlib.Core.Path.{_≡_, refl, _∙_}
+use mathlib.Core.Path.{_≡_, refl, sym, _∙_}
 use mathlib.Core.Bool.{Bool, true, false, cond, _&&_}
 use mathlib.Core.List.{List}
-use native.Mathlib.Nat.{zero-add, mod-eq-of-lt}
+use native.Mathlib.Nat.{add-zero, zero-add, mod-eq-of-lt}
 use native.Mathlib.Numerals.{add-one}
 use native.Mathlib.Omega.{arith}
 use borrow.Author.Tests.{ltb-true}
@@ -14,11 +14,12 @@ use Rattle.armv4t.specs.Instr.{sizeOf}
 use Rattle.block_file.specs.declared.read.BlockRecord.{BlockRecord}
 use Rattle.block_file.specs.declared.read.FoundBlock.{FoundBlock}
 use Rattle.block_file.specs.Trailer.{blockCount, instrCount, blockStart}
-use Rattle.block_file.specs.BlockRecord.{countSum}
+use Rattle.block_file.specs.BlockRecord.{addrAt, thumbAt, countSum}
 use Rattle.block_file.specs.Parse.{Block, blockAt}
 use Rattle.block_file.specs.Read.{recordAt, foundBlock}
-use Rattle.block_file.proofs.Accepted.{block-of, length-of, block-found, few-instrs, has-instr, ends-inside, instrs-inside}
+use Rattle.block_file.proofs.Accepted.{block-of, length-of, block-found, few-instrs, has-instr, ends-inside, address-aligned, instrs-inside}
 use Rattle.plan.specs.Accepted.{blocksOf, Accepted, IsBlock}
+use Rattle.plan.specs.Exits.{keyOf}
 
 -- the reader of block records misses none
 pub missing : (f : List ℕ) → Accepted f → (i : ℕ) → foundBlock f i ≡ FoundBlock.Nothing → blockCount f ≤ i
@@ -63,6 +64,15 @@ module _ {f : List ℕ} {i : ℕ} {b : BlockRecord} {first : ℕ} (is : IsBlock 
   pub ends : b .addr + b .count * sizeOf (b .thumb) ≤ 2 ^ 32
   unfolding recordAt
   ends = rw block-record (ends-inside f (blocksOf f) (is .accepted) i block-inside)
+
+  -- the key that an exit to the block would have is the block's own: a Thumb address is even
+  pub key-plus : keyOf (b .addr) (b .thumb) ≡ b .addr + cond (b .thumb) 1 0
+  unfolding recordAt
+  key-plus = rw block-record (even (thumbAt f (blockStart f i)) (addrAt f (blockStart f i)) (address-aligned f (blocksOf f) (is .accepted) i block-inside))
+    where
+      even : (thumb : Bool) (addr : ℕ) → addr % sizeOf thumb ≡ 0 → keyOf addr thumb ≡ addr + cond thumb 1 0
+      even true addr e = omega arith
+      even false addr e = sym (add-zero addr)
 
   pub among : first + b .count ≤ instrCount f
   unfolding recordAt
