@@ -1,4 +1,5 @@
 -- The definitions that the crate's promises name.
 pub mod Calls
+mod Examples
 pub mod Listing
 pub mod Numbers
