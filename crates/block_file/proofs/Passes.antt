@@ -1,10 +1,10 @@
 -- The passes over the records: what one more record says of the first broken row.
 -- Assumes nothing.
 use mathlib.Core.Path.{_≡_, refl, sym, ap, _∙_}
-use mathlib.Core.Bool.{Bool, true, false, true≢false}
+use mathlib.Core.Bool.{true, false, true≢false}
 use mathlib.Core.List.{List, [], _∷_, _++_}
-use mathlib.Core.Option.{Option, none, some}
-use Prim.Native.Nat.{ℕ, zero, suc, zero-le, _+_, _*_, _-_, _≤_, _<_, _^_}
+use mathlib.Core.Option.{none, some}
+use Prim.Native.Nat.{ℕ, zero, suc, zero-le, _+_, _*_, _-_, _≤_, _<_}
 use native.Mathlib.Numerals.{add-one}
 use native.Mathlib.Omega.{arith}
 use lib.ListN.{length}
@@ -12,7 +12,7 @@ use lib.Dec.{leb, leb·zero}
 use borrow.Author.Tests.{le-leb, lt-leb, eq-eqb, ne-eqb}
 use native.Mathlib.Nat.{sub-zero}
 use Rattle.block_file.proofs.Rules.{large-count}
-use Rattle.block_file.specs.Trailer.{blocksBack, blockCount, instrsBack, instrCount, blockStart, instrStart}
+use Rattle.block_file.specs.Trailer.{blocksBack, blockCount, instrsBack, instrCount, blockStart}
 use Rattle.block_file.specs.BlockRecord.{keyAt, countAt, blockRight, keyRises, countSum}
 use Rattle.block_file.specs.InstrRecord.{instrRight}
 use Rattle.block_file.specs.Refusal.{Row, blockRows, instrRows, firstBroken}

@@ -1,7 +1,7 @@
 -- The whole check: its passes one after the other give the first broken row, and an accepted file has the counts of its trailer.
 -- Assumes nothing.
 use mathlib.Core.Path.{_≡_, refl, sym, ap, ap₂, _∙_}
-use mathlib.Core.Bool.{Bool, true, false, not, true≢false}
+use mathlib.Core.Bool.{Bool, true, false}
 use mathlib.Core.List.{List, [], _∷_, _++_, append-assoc, append-nil, List·Memᴰ, List·Memᴰ·head, List·Memᴰ·tail, List·Memᴰ·not-nil, List·Memᴰ·cases-cons, Memᴰ·cast}
 use mathlib.Core.Logic.{_⊎_, inl, inr}
 use mathlib.Core.Option.{Option, none, some}
@@ -10,15 +10,13 @@ use native.Mathlib.Nat.{zero-add, add-zero, add-assoc, le-of-suc-le-suc, not-suc
 use native.Mathlib.Omega.{arith}
 use borrow.Author.Tests.{le-leb, lt-leb, eqb-true, not-false}
 use lib.ListN.{length}
-use lib.Dec.{eqb}
 use Rattle.block_file.specs.declared.refusal.Checked.{Checked}
 use Rattle.block_file.specs.declared.refusal.Found.{Found}
 use Rattle.block_file.specs.Answer.{answerOf}
-use Rattle.block_file.specs.declared.decode.TimedInstr.{TimedInstr}
 use Rattle.block_file.specs.Trailer.{blockCount, instrCount, blockStart, withinLimits, trailerRight}
 use Rattle.block_file.specs.BlockRecord.{countAt, countSum}
-use Rattle.block_file.specs.Refusal.{Row, broken, pick, firstBroken, blockRows, instrRows, rows, found}
-use Rattle.block_file.specs.Parse.{Block, Parsed, instrsFrom, blockAt, blocksFrom, parsed, parse, instrTotal, checkAnswer}
+use Rattle.block_file.specs.Refusal.{Row, broken, pick, firstBroken, blockRows, instrRows, found}
+use Rattle.block_file.specs.Parse.{Parsed, instrsFrom, blockAt, blocksFrom, parsed, parse, instrTotal, checkAnswer}
 
 -- the answer to a file as the code makes it
 unfoldable pub checked : Parsed → Checked

@@ -1,29 +1,22 @@
+-- `aligned` tells whether a block's address suits its instruction set: the Thumb bit chooses the divisor in code and definition alike.
 use Rattle.block_file.specs.BlockRecord.{aligned}
 use lib.Dec.{eqb}
 use Prim.Native.Nat.{ℕ, _%_}
-use mathlib.Core.Path.{ap, _∙_, sym}
+use mathlib.Core.Path.{ap}
 use borrow.Author.Needs.{needs}
 use Rattle.block_file.proofs.block_record.aligned.Statement.{statement}
 use Rattle.block_file.proofs.block_record.aligned.Tie as tie
-use Rattle.block_file.proofs.block_record.aligned.Reads as reads
-use Rattle.block_file.proofs.block_record.aligned.Lts as lts
-use Rattle.block_file.proofs.block_record.addr.Reads as addr-reads
-use Rattle.block_file.proofs.block_record.thumb.Reads as thumb-reads
 
--- src/block.rt:72:9
 addr-requires : tie.Need-addr-requires
 addr-requires c κs = search needs
 
--- src/block.rt:73:8
 thumb-requires : tie.Need-thumb-requires
 thumb-requires c κs = search needs
 
--- src/block.rt:68:1
 returns : tie.Need-returns
 unfolding aligned
 returns c = rw (← c .before .thumb .ensures, c .if1 .taken) (ap (λ (n : ℕ). eqb (n % 2) 0) (c .before .before .addr .ensures))
 
--- src/block.rt:68:1
 returns-2 : tie.Need-returns-2
 unfolding aligned
 returns-2 c = rw (← c .before .thumb .ensures, c .if1 .left) (ap (λ (n : ℕ). eqb (n % 4) 0) (c .before .before .addr .ensures))

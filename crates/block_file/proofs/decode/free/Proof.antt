@@ -1,36 +1,29 @@
+-- `free` gives the operation of a kind whose bytes are free. For the last arm each test of the definition fails in turn.
 use borrow.Author.Tests.{ne-eqb}
 use Rattle.block_file.specs.Decode.{freeOp}
 use Rattle.block_file.proofs.decode.free.Statement.{statement}
 use Rattle.block_file.proofs.decode.free.Tie as tie
-use Rattle.block_file.proofs.decode.free.Reads as reads
-use Rattle.block_file.proofs.decode.free.Lts as lts
 
--- src/decode.rt:156:1
 returns : tie.Need-returns
 unfolding freeOp
 returns c = rw (c .match .keys1)
 
--- src/decode.rt:156:1
 returns-2 : tie.Need-returns-2
 unfolding freeOp
 returns-2 c = rw (c .match .keys2)
 
--- src/decode.rt:156:1
 returns-3 : tie.Need-returns-3
 unfolding freeOp
 returns-3 c = rw (c .match .keys3)
 
--- src/decode.rt:156:1
 returns-4 : tie.Need-returns-4
 unfolding freeOp
 returns-4 c = rw (c .match .keys4)
 
--- src/decode.rt:156:1
 returns-5 : tie.Need-returns-5
 unfolding freeOp
 returns-5 c = rw (c .match .keys5)
 
--- src/decode.rt:156:1
 returns-6 : tie.Need-returns-6
 unfolding freeOp
 returns-6 c = simp (ne-eqb _ _ (c .match .rest .0 .0 .0 .0 .1), ne-eqb _ _ (c .match .rest .0 .0 .0 .1), ne-eqb _ _ (c .match .rest .0 .0 .1), ne-eqb _ _ (c .match .rest .0 .1), ne-eqb _ _ (c .match .rest .1))

@@ -1,60 +1,46 @@
+-- `mul` reads the six fields of a Mul. It is the definition field by field, once all reads are within the record.
 use mathlib.Core.Path.{refl}
 use Rattle.block_file.specs.Decode.{mulAt}
 use borrow.Author.Needs.{needs}
 use Rattle.block_file.proofs.decode.mul.Statement.{statement}
 use Rattle.block_file.proofs.decode.mul.Tie as tie
-use Rattle.block_file.proofs.decode.mul.Reads as reads
-use Rattle.block_file.proofs.decode.mul.Lts as lts
 
--- src/decode.rt:97:19
 add-t3 : tie.Need-add-t3
 add-t3 c = search needs
 
--- src/decode.rt:97:14
 shared-slice-read-t5 : tie.Need-shared-slice-read-t5
 shared-slice-read-t5 c = search needs
 
--- src/decode.rt:98:17
 add-t7 : tie.Need-add-t7
 add-t7 c = search needs
 
--- src/decode.rt:98:12
 shared-slice-read-t9 : tie.Need-shared-slice-read-t9
 shared-slice-read-t9 c = search needs
 
--- src/decode.rt:99:18
 add-t11 : tie.Need-add-t11
 add-t11 c = search needs
 
--- src/decode.rt:99:13
 shared-slice-read-t13 : tie.Need-shared-slice-read-t13
 shared-slice-read-t13 c = search needs
 
--- src/decode.rt:100:18
 add-t14 : tie.Need-add-t14
 add-t14 c = search needs
 
--- src/decode.rt:100:13
 shared-slice-read-t16 : tie.Need-shared-slice-read-t16
 shared-slice-read-t16 c = search needs
 
--- src/decode.rt:101:18
 add-t17 : tie.Need-add-t17
 add-t17 c = search needs
 
--- src/decode.rt:101:13
 shared-slice-read-t19 : tie.Need-shared-slice-read-t19
 shared-slice-read-t19 c = search needs
 
--- src/decode.rt:102:18
 add-t20 : tie.Need-add-t20
 add-t20 c = search needs
 
--- src/decode.rt:102:13
 shared-slice-read-t22 : tie.Need-shared-slice-read-t22
 shared-slice-read-t22 c = search needs
 
--- src/decode.rt:92:1
 returns : tie.Need-returns
 unfolding mulAt
 returns c = refl

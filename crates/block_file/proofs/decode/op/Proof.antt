@@ -1,146 +1,107 @@
+-- `op` reads the operation of a record. The definition looks the kind up in a list of ten; the last arm's kinds, past all ten, get the list's default.
 use Prim.Native.Nat.{zero-le}
 use lib.ListN.{List·getD-eq-default}
-use Rattle.block_file.specs.Decode.{opsAt, freeOp}
-use Rattle.block_file.specs.Decode.{opAt}
+use Rattle.block_file.specs.Decode.{opsAt, freeOp, opAt}
 use Rattle.block_file.proofs.Rows.{next}
-use mathlib.Core.Path.{_≡_, _∙_, ap, sym}
+use mathlib.Core.Path.{_∙_, sym}
 use borrow.Author.Needs.{needs}
 use Rattle.block_file.proofs.decode.op.Statement.{statement}
 use Rattle.block_file.proofs.decode.op.Tie as tie
-use Rattle.block_file.proofs.decode.op.Reads as reads
-use Rattle.block_file.proofs.decode.op.Lts as lts
-use Rattle.block_file.proofs.bytes.half.Reads as half-reads
-use Rattle.block_file.proofs.bytes.word.Reads as word-reads
-use Rattle.block_file.proofs.decode.alu.Reads as alu-reads
-use Rattle.block_file.proofs.decode.block_mem.Reads as block-mem-reads
-use Rattle.block_file.proofs.decode.free.Reads as free-reads
-use Rattle.block_file.proofs.decode.mem.Reads as mem-reads
-use Rattle.block_file.proofs.decode.mul.Reads as mul-reads
-use Rattle.block_file.proofs.decode.mul_long.Reads as mul-long-reads
 
--- src/decode.rt:186:16
 shared-slice-read-kind : tie.Need-shared-slice-read-kind
 shared-slice-read-kind c = search needs
 
--- src/decode.rt:188:14
 alu-requires : tie.Need-alu-requires
 alu-requires c κs = search needs
 
--- src/decode.rt:189:14
 mul-requires : tie.Need-mul-requires
 mul-requires c κs = search needs
 
--- src/decode.rt:190:14
 mul-long-requires : tie.Need-mul-long-requires
 mul-long-requires c κs = search needs
 
--- src/decode.rt:191:14
 free-requires : tie.Need-free-requires
 free-requires c κs = search needs
 
--- src/decode.rt:192:32
 add-t7 : tie.Need-add-t7
 add-t7 c = search needs
 
--- src/decode.rt:192:27
 shared-slice-read-t9 : tie.Need-shared-slice-read-t9
 shared-slice-read-t9 c = search needs
 
--- src/decode.rt:194:24
 add-t10 : tie.Need-add-t10
 add-t10 c = search needs
 
--- src/decode.rt:194:19
 shared-slice-read-t12 : tie.Need-shared-slice-read-t12
 shared-slice-read-t12 c = search needs
 
--- src/decode.rt:195:32
 add-word : tie.Need-add-word
 add-word c = search needs
 
--- src/decode.rt:195:21
 word-requires : tie.Need-word-requires
 word-requires c κs = search needs
 
--- src/decode.rt:198:36
 add-word-2 : tie.Need-add-word-2
 add-word-2 c = search needs
 
--- src/decode.rt:198:25
 word-requires-2 : tie.Need-word-requires-2
 word-requires-2 c κs = search needs
 
--- src/decode.rt:201:29
 add-half : tie.Need-add-half
 add-half c = search needs
 
--- src/decode.rt:201:18
 half-requires : tie.Need-half-requires
 half-requires c κs = search needs
 
--- src/decode.rt:203:14
 mem-requires : tie.Need-mem-requires
 mem-requires c κs = search needs
 
--- src/decode.rt:204:14
 block-mem-requires : tie.Need-block-mem-requires
 block-mem-requires c κs = search needs
 
--- src/decode.rt:205:14
 free-requires-2 : tie.Need-free-requires-2
 free-requires-2 c κs = search needs
 
--- src/decode.rt:182:1
 returns : tie.Need-returns
 unfolding opAt
 returns c = c .alu .ensures ∙ sym (rw (c .before .match .keys1))
 
--- src/decode.rt:182:1
 returns-2 : tie.Need-returns-2
 unfolding opAt
 returns-2 c = c .mul .ensures ∙ sym (rw (c .before .match .keys2))
 
--- src/decode.rt:182:1
 returns-3 : tie.Need-returns-3
 unfolding opAt
 returns-3 c = c .mul-long .ensures ∙ sym (rw (c .before .match .keys3))
 
--- src/decode.rt:182:1
 returns-4 : tie.Need-returns-4
 unfolding opAt
 returns-4 c = c .free .ensures ∙ rw (c .before .match .keys4)
 
--- src/decode.rt:182:1
 returns-5 : tie.Need-returns-5
 unfolding opAt
 returns-5 c = rw (c .before .match .keys5)
 
--- src/decode.rt:182:1
 returns-6 : tie.Need-returns-6
 unfolding opAt
 returns-6 c = rw (c .before .before .match .keys6, c .word .ensures)
 
--- src/decode.rt:182:1
 returns-7 : tie.Need-returns-7
 unfolding opAt
 returns-7 c = rw (c .before .match .keys7, c .word2 .ensures)
 
--- src/decode.rt:182:1
 returns-8 : tie.Need-returns-8
 unfolding opAt
 returns-8 c = rw (c .before .match .keys8, c .half .ensures)
 
--- src/decode.rt:182:1
 returns-9 : tie.Need-returns-9
 unfolding opAt
 returns-9 c = c .mem .ensures ∙ sym (rw (c .before .match .keys9))
 
--- src/decode.rt:182:1
 returns-10 : tie.Need-returns-10
 unfolding opAt
 returns-10 c = c .block-mem .ensures ∙ sym (rw (c .before .match .keys10))
 
--- src/decode.rt:182:1
 returns-11 : tie.Need-returns-11
 unfolding opAt
 returns-11 c = c .free2 .ensures ∙ sym (List·getD-eq-default (opsAt _ _) (freeOp _) (next (next (next (next (next (next (next (next (next (next zero-le (c .before .match .rest .0 .0 .0 .0 .0 .0 .0 .0 .0 .1)) (c .before .match .rest .0 .0 .0 .0 .0 .0 .0 .0 .1)) (c .before .match .rest .0 .0 .0 .0 .0 .0 .0 .1)) (c .before .match .rest .0 .0 .0 .0 .0 .0 .1)) (c .before .match .rest .0 .0 .0 .0 .0 .1)) (c .before .match .rest .0 .0 .0 .0 .1)) (c .before .match .rest .0 .0 .0 .1)) (c .before .match .rest .0 .0 .1)) (c .before .match .rest .0 .1)) (c .before .match .rest .1)))

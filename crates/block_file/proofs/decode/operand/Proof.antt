@@ -1,45 +1,33 @@
+-- `operand` reads the second operand of an Alu: a value in form 0, a shifted register in the others.
 use borrow.Author.Tests.{eq-eqb, ne-eqb}
 use borrow.Author.Needs.{needs}
 use Rattle.block_file.proofs.decode.operand.Statement.{statement}
 use Rattle.block_file.proofs.decode.operand.Tie as tie
-use Rattle.block_file.proofs.decode.operand.Reads as reads
-use Rattle.block_file.proofs.decode.operand.Lts as lts
-use Rattle.block_file.proofs.bytes.word.Reads as word-reads
-use Rattle.block_file.proofs.decode.shift.Reads as shift-reads
 
--- src/decode.rt:41:19
 add-rm : tie.Need-add-rm
 add-rm c = search needs
 
--- src/decode.rt:41:14
 shared-slice-read-rm : tie.Need-shared-slice-read-rm
 shared-slice-read-rm c = search needs
 
--- src/decode.rt:42:13
 add-if1 : tie.Need-add-if1
 add-if1 c = search needs
 
--- src/decode.rt:42:8
 shared-slice-read-if1 : tie.Need-shared-slice-read-if1
 shared-slice-read-if1 c = search needs
 
--- src/decode.rt:44:31
 add-word : tie.Need-add-word
 add-word c = search needs
 
--- src/decode.rt:44:20
 word-requires : tie.Need-word-requires
 word-requires c κs = search needs
 
--- src/decode.rt:50:20
 shift-requires : tie.Need-shift-requires
 shift-requires c κs = search needs
 
--- src/decode.rt:37:1
 returns : tie.Need-returns
 returns c = simp (eq-eqb _ _ (c .before .if1 .taken), c .word .ensures)
 
--- src/decode.rt:37:1
 returns-2 : tie.Need-returns-2
 returns-2 c = simp (ne-eqb _ _ (c .before .if1 .left), c .shift .ensures)
 

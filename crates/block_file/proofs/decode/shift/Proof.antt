@@ -1,44 +1,33 @@
+-- `shift` reads how a register is shifted: the test of the form chooses between amount and register, as the definition's does.
 use borrow.Author.Tests.{eq-eqb, ne-eqb}
 use borrow.Author.Needs.{needs}
 use Rattle.block_file.proofs.decode.shift.Statement.{statement}
 use Rattle.block_file.proofs.decode.shift.Tie as tie
-use Rattle.block_file.proofs.decode.shift.Reads as reads
-use Rattle.block_file.proofs.decode.shift.Lts as lts
-use Rattle.armv4t.proofs.ShiftKind.from_bits.Reads as from-bits-reads
 
--- src/decode.rt:28:42
 add-from-bits : tie.Need-add-from-bits
 add-from-bits c = search needs
 
--- src/decode.rt:28:37
 shared-slice-read-from-bits : tie.Need-shared-slice-read-from-bits
 shared-slice-read-from-bits c = search needs
 
--- src/decode.rt:28:9
 from-bits-requires : tie.Need-from-bits-requires
 from-bits-requires c κs = search needs
 
--- src/decode.rt:29:19
 add-by : tie.Need-add-by
 add-by c = search needs
 
--- src/decode.rt:29:14
 shared-slice-read-by : tie.Need-shared-slice-read-by
 shared-slice-read-by c = search needs
 
--- src/decode.rt:30:13
 add-if1 : tie.Need-add-if1
 add-if1 c = search needs
 
--- src/decode.rt:30:8
 shared-slice-read-if1 : tie.Need-shared-slice-read-if1
 shared-slice-read-if1 c = search needs
 
--- src/decode.rt:24:1
 returns : tie.Need-returns
 returns c = simp (eq-eqb _ _ (c .if1 .taken), c .before .before .before .from-bits .ensures)
 
--- src/decode.rt:24:1
 returns-2 : tie.Need-returns-2
 returns-2 c = simp (ne-eqb _ _ (c .if1 .left), c .before .before .before .from-bits .ensures)
 

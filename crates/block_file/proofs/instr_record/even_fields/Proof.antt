@@ -1,3 +1,4 @@
+-- `even_fields` tells whether the fields that must be even are. Both tests are made at once, which is right since no kind is both Alu and Branch.
 use borrow.Author.Needs.{needs}
 use Rattle.block_file.proofs.Rows.{no-odd}
 use Rattle.block_file.proofs.instr_record.even_fields.Statement.{statement}

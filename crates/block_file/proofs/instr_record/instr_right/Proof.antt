@@ -1,3 +1,4 @@
+-- `instr_right` tells whether an instruction record keeps its rules. Kind and condition are tested first; the two bytes of the cost may be anything, so the row starts at byte 4.
 use mathlib.Core.Path.{_∙_}
 use native.Mathlib.Omega.{arith}
 use borrow.Author.Needs.{needs}

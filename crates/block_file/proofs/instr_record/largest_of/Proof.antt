@@ -1,3 +1,4 @@
+-- `largest_of` finds the row of a kind and a form: form and kind are the digits of the row's number, and each stands for the one that it replaced.
 use mathlib.Core.Path.{_∙_}
 use borrow.Author.Needs.{needs}
 use Rattle.block_file.proofs.Rows.{digits}

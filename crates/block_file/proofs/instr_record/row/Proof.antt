@@ -1,3 +1,4 @@
+-- `row` gives the largest values by ten times the form plus the kind. The arms of one kind share the last digit, and what no arm has ends in 3, the kind Swap.
 use mathlib.Core.Bool.{Bool}
 use mathlib.Core.List.{List, [], _∷_}
 use Prim.Native.Nat.{ℕ, _%_}

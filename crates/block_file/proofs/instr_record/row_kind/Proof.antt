@@ -1,3 +1,4 @@
+-- `row_kind` gives a kind below 10 with the same row of largest values: kinds from 10 on leave all free, as Swap does.
 use borrow.Author.Needs.{needs}
 use Rattle.block_file.proofs.Rows.{free-kind}
 use Rattle.block_file.proofs.instr_record.row_kind.Statement.{statement}

@@ -1,3 +1,4 @@
+-- `within` compares 12 bytes with a row. The loop's invariant: `ok` tells whether the first k bytes are at most theirs.
 use mathlib.Core.Path.{_≡_, refl, _∙_}
 use mathlib.Core.Logic.{⊎-elim}
 use Prim.Native.Nat.{_+_, _-_, _≤_}

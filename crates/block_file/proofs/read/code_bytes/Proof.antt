@@ -1,53 +1,40 @@
+-- `code_bytes` gives the part of the file at a record's offset. The definition's three cases: absent, inside the file, past its end.
 use borrow.Author.Tests.{not-true, not-false}
 use Rattle.block_file.proofs.Rules as rules
 use borrow.Author.Needs.{needs}
 use Rattle.block_file.proofs.read.code_bytes.Statement.{statement}
 use Rattle.block_file.proofs.read.code_bytes.Tie as tie
-use Rattle.block_file.proofs.read.code_bytes.Reads as reads
-use Rattle.block_file.proofs.read.code_bytes.Lts as lts
-use Rattle.block_file.proofs.block_record.instrs_length.Reads as instrs-length-reads
 
--- src/read.rt:81:17
 cast-start : tie.Need-cast-start
 cast-start c = search needs
 
--- src/read.rt:82:23
 instrs-length-requires : tie.Need-instrs-length-requires
 instrs-length-requires c κs = search needs
 
--- src/read.rt:82:15
 add-end : tie.Need-add-end
 add-end c = search needs
 
--- src/read.rt:84:9
 slice-aggregate-result : tie.Need-slice-aggregate-result
 slice-aggregate-result c = search needs
 
--- src/read.rt:84:9
 returns : tie.Need-returns
 returns c = rules.no-code _ _ _ (c .before .before .before .instrs-length .ensures .0) (not-true _ (c .before .if1 .taken))
 
--- src/read.rt:87:9
 sub-result : tie.Need-sub-result
 sub-result c = search needs
 
--- src/read.rt:87:9
 part-result-start : tie.Need-part-result-start
 part-result-start c = search needs
 
--- src/read.rt:87:9
 part-result-end : tie.Need-part-result-end
 part-result-end c = search needs
 
--- src/read.rt:89:9
 slice-aggregate-result-2 : tie.Need-slice-aggregate-result-2
 slice-aggregate-result-2 c = search needs
 
--- src/read.rt:78:1
 returns-2 : tie.Need-returns-2
 returns-2 c = rules.code-there _ _ _ (c .before .before .before .before .instrs-length .ensures .0) (not-false _ (c .before .before .if1 .left)) (c .before .if2 .taken)
 
--- src/read.rt:78:1
 returns-3 : tie.Need-returns-3
 returns-3 c = rules.code-past _ _ _ (c .before .before .before .before .instrs-length .ensures .0) (not-false _ (c .before .before .if1 .left)) (c .before .if2 .left)
 

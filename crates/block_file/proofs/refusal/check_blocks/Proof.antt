@@ -1,23 +1,14 @@
+-- `check_blocks` finds the first broken row of refusals 4 to 6. The loop's invariant: the blocks before block i keep their rows, so the first broken one is among the rest.
 use borrow.Author.Tests.{not-true, not-false}
-use Prim.Native.Nat.{ℕ, _+_}
-use mathlib.Core.Path.{ap₂}
+use Prim.Native.Nat.{ℕ, _+_, _-_}
+use mathlib.Core.Path.{ap₂, _∙_, ap, sym}
 use Rattle.block_file.specs.Refusal.{found}
 use Rattle.block_file.proofs.Parts.{parts}
-use Rattle.block_file.specs.BlockRecord.{countSum}
 use Rattle.block_file.proofs.Passes as passes
-use Prim.Native.Nat.{_-_}
-use mathlib.Core.Path.{_≡_, refl, _∙_, ap, sym}
 use borrow.Author.Needs.{needs}
 use native.Mathlib.Omega.{arith}
 use Rattle.block_file.proofs.refusal.check_blocks.Statement.{statement}
 use Rattle.block_file.proofs.refusal.check_blocks.Tie as tie
-use Rattle.block_file.proofs.refusal.check_blocks.Reads as reads
-use Rattle.block_file.proofs.refusal.check_blocks.Lts as lts
-use Rattle.block_file.proofs.block_record.block_right.Reads as block-right-reads
-use Rattle.block_file.proofs.block_record.count.Reads as count-reads
-use Rattle.block_file.proofs.block_record.key.Reads as key-reads
-use Rattle.block_file.proofs.trailer.part_start.Reads as part-start-reads
-use Rattle.block_file.proofs.trailer.trailer_word.Reads as trailer-word-reads
 
 abbrev Inv-loop : tie.InvT-loop
 Inv-loop file start blocks least₀ sum₀ i₀ least sum i = passes.Blocks file blocks least sum i
@@ -25,35 +16,27 @@ Inv-loop file start blocks least₀ sum₀ i₀ least sum i = passes.Blocks file
 abbrev μ-loop : tie.MeasureT-loop
 μ-loop file start blocks least₀ sum₀ i₀ least sum i = blocks - i
 
--- src/refusal.rt:36:9
 part-start-requires : tie.Need-part-start-requires Inv-loop μ-loop
 part-start-requires c κs = search needs
 
--- src/refusal.rt:37:18
 trailer-word-requires : tie.Need-trailer-word-requires Inv-loop μ-loop
 trailer-word-requires c κs = search needs
 
--- src/refusal.rt:37:18
 cast-blocks : tie.Need-cast-blocks Inv-loop μ-loop
 cast-blocks c = search needs
 
--- src/refusal.rt:41:5
 loop-holds : tie.Need-loop-holds Inv-loop μ-loop
 loop-holds c = passes.blocks-none _ _ (c .trailer-word .ensures)
 
--- src/refusal.rt:42:26
 mul-at : tie.Need-mul-at Inv-loop μ-loop
 mul-at c = search needs
 
--- src/refusal.rt:42:18
 add-at : tie.Need-add-at Inv-loop μ-loop
 add-at c = omega (arith, parts _ (c .before .before .before .before .before .pre))
 
--- src/refusal.rt:43:13
 block-right-requires : tie.Need-block-right-requires Inv-loop μ-loop
 block-right-requires c κs = omega (arith, parts _ (c .before .before .before .before .before .pre))
 
--- src/refusal.rt:44:13
 returns : tie.Need-returns Inv-loop μ-loop
 returns c = ap found
     (sym
@@ -61,11 +44,9 @@ returns c = ap found
     ∙ passes.block-broken _ _ _ _ _ (c .before .before .before .before .before .part-start .ensures) (c .before .before .loop-test .taken)
     (sym (c .before .block-right .ensures) ∙ not-true _ (c .if1 .taken))))
 
--- src/refusal.rt:49:13
 key-requires : tie.Need-key-requires Inv-loop μ-loop
 key-requires c κs = omega (arith, parts _ (c .before .before .before .before .before .before .before .pre))
 
--- src/refusal.rt:51:13
 returns-2 : tie.Need-returns-2 Inv-loop μ-loop
 returns-2 c = ap found
     (sym
@@ -73,31 +54,24 @@ returns-2 c = ap found
     ∙ passes.order-broken _ _ _ _ _ (c .before .before .before .before .before .before .before .part-start .ensures) (c .before .before .before .before .loop-test .taken)
     (sym (c .before .before .before .block-right .ensures) ∙ not-false _ (c .before .before .if1 .left)) (omega arith)))
 
--- src/refusal.rt:56:17
 add-least : tie.Need-add-least Inv-loop μ-loop
 add-least c = omega arith
 
--- src/refusal.rt:57:16
 count-requires : tie.Need-count-requires Inv-loop μ-loop
 count-requires c κs = omega (arith, parts _ (c .before .before .before .before .before .before .before .before .before .pre))
 
--- src/refusal.rt:57:16
 cast-sum : tie.Need-cast-sum Inv-loop μ-loop
 cast-sum c = search needs
 
--- src/refusal.rt:57:9
 add-sum : tie.Need-add-sum Inv-loop μ-loop
 add-sum c = omega arith
 
--- src/refusal.rt:58:9
 add-i : tie.Need-add-i Inv-loop μ-loop
 add-i c = omega arith
 
--- src/refusal.rt:41:5
 loop-less : tie.Need-loop-less Inv-loop μ-loop
 loop-less c = omega arith
 
--- src/refusal.rt:41:5
 loop-again : tie.Need-loop-again Inv-loop μ-loop
 loop-again c = let starts = c .before .before .before .before .before .before .before .before .part-start .ensures in
     let right = sym (c .before .before .before .before .block-right .ensures) ∙ not-false _ (c .before .before .before .if1 .left) in
@@ -109,15 +83,12 @@ loop-again c = let starts = c .before .before .before .before .before .before .b
       kept = c .before .before .before .before .before .before .loop .inv .kept ∙ passes.block-kept _ _ _ _ _ starts (c .before .before .before .before .before .loop-test .taken) right (omega arith);
     }
 
--- src/refusal.rt:60:15
 trailer-word-requires-2 : tie.Need-trailer-word-requires-2 Inv-loop μ-loop
 trailer-word-requires-2 c κs = search needs
 
--- src/refusal.rt:60:15
 cast-if3 : tie.Need-cast-if3 Inv-loop μ-loop
 cast-if3 c = search needs
 
--- src/refusal.rt:32:1
 returns-3 : tie.Need-returns-3 Inv-loop μ-loop
 returns-3 c = ap found
     (sym
@@ -125,7 +96,6 @@ returns-3 c = ap found
     ∙ passes.sum-right _ _ (c .before .before .before .before .trailer-word .ensures) _ (omega arith)
     (sym (c .before .before .before .loop .inv .counts) ∙ c .if3 .taken ∙ c .before .trailer-word2 .ensures)))
 
--- src/refusal.rt:32:1
 returns-4 : tie.Need-returns-4 Inv-loop μ-loop
 returns-4 c = ap found
     (sym

@@ -1,19 +1,15 @@
+-- `check_instrs` finds the first broken row of refusal 7. The loop's invariant: the instructions before i keep their rules, so the first broken row is among the rest.
 use Rattle.block_file.specs.Trailer.{instrCount}
 use Rattle.block_file.specs.Refusal.{found, firstBroken, instrRows}
 use Rattle.block_file.proofs.Parts.{parts}
 use Rattle.block_file.proofs.Passes as passes
 use Prim.Native.Nat.{_-_, _≤_}
 use borrow.Author.Tests.{not-true, not-false}
-use mathlib.Core.Path.{_≡_, refl, _∙_, ap, sym}
+use mathlib.Core.Path.{_≡_, _∙_, ap, sym}
 use borrow.Author.Needs.{needs}
 use native.Mathlib.Omega.{arith}
 use Rattle.block_file.proofs.refusal.check_instrs.Statement.{statement}
 use Rattle.block_file.proofs.refusal.check_instrs.Tie as tie
-use Rattle.block_file.proofs.refusal.check_instrs.Reads as reads
-use Rattle.block_file.proofs.refusal.check_instrs.Lts as lts
-use Rattle.block_file.proofs.instr_record.instr_right.Reads as instr-right-reads
-use Rattle.block_file.proofs.trailer.part_start.Reads as part-start-reads
-use Rattle.block_file.proofs.trailer.trailer_word.Reads as trailer-word-reads
 
 abbrev Inv-loop : tie.InvT-loop
 Inv-loop file start instrs i₀ i = (i ≤ instrs) × (firstBroken file (instrRows (instrCount file) 0) ≡ firstBroken file (instrRows (instrs - i) i))
@@ -21,35 +17,27 @@ Inv-loop file start instrs i₀ i = (i ≤ instrs) × (firstBroken file (instrRo
 abbrev μ-loop : tie.MeasureT-loop
 μ-loop file start instrs i₀ i = instrs - i
 
--- src/refusal.rt:72:9
 part-start-requires : tie.Need-part-start-requires Inv-loop μ-loop
 part-start-requires c κs = search needs
 
--- src/refusal.rt:73:18
 trailer-word-requires : tie.Need-trailer-word-requires Inv-loop μ-loop
 trailer-word-requires c κs = search needs
 
--- src/refusal.rt:73:18
 cast-instrs : tie.Need-cast-instrs Inv-loop μ-loop
 cast-instrs c = search needs
 
--- src/refusal.rt:75:5
 loop-holds : tie.Need-loop-holds Inv-loop μ-loop
 loop-holds c = (omega arith, passes.instrs-none _ _ (c .trailer-word .ensures))
 
--- src/refusal.rt:76:39
 mul-instr-right : tie.Need-mul-instr-right Inv-loop μ-loop
 mul-instr-right c = search needs
 
--- src/refusal.rt:76:31
 add-instr-right : tie.Need-add-instr-right Inv-loop μ-loop
 add-instr-right c = omega (arith, parts _ (c .before .before .before .before .before .pre))
 
--- src/refusal.rt:76:13
 instr-right-requires : tie.Need-instr-right-requires Inv-loop μ-loop
 instr-right-requires c κs = omega (arith, parts _ (c .before .before .before .before .before .pre))
 
--- src/refusal.rt:77:13
 returns : tie.Need-returns Inv-loop μ-loop
 returns c = ap found
     (sym
@@ -57,15 +45,12 @@ returns c = ap found
     ∙ passes.instr-broken _ _ _ _ (c .before .before .before .before .before .part-start .ensures) (c .before .before .loop-test .taken)
     (sym (c .before .instr-right .ensures) ∙ not-true _ (c .if1 .taken))))
 
--- src/refusal.rt:82:9
 add-i : tie.Need-add-i Inv-loop μ-loop
 add-i c = omega arith
 
--- src/refusal.rt:75:5
 loop-less : tie.Need-loop-less Inv-loop μ-loop
 loop-less c = omega arith
 
--- src/refusal.rt:75:5
 loop-again : tie.Need-loop-again Inv-loop μ-loop
 loop-again c = (
   omega arith,
@@ -74,7 +59,6 @@ loop-again c = (
       (sym (c .before .instr-right .ensures) ∙ not-false _ (c .if1 .left)),
 )
 
--- src/refusal.rt:68:1
 returns-2 : tie.Need-returns-2 Inv-loop μ-loop
 returns-2 c = ap found (sym (c .before .loop .inv .1 ∙ passes.instrs-all _ _ (c .before .before .trailer-word .ensures) _ (omega arith)))
 

@@ -1,121 +1,91 @@
+-- `trailer_right` tells whether the trailer keeps its rules: each early return breaks one of them, and where five hold the file length decides.
 use Rattle.block_file.proofs.Rules as rules
 use native.Mathlib.Omega.{arith}
 use borrow.Author.Needs.{needs}
 use Rattle.block_file.proofs.trailer.trailer_right.Statement.{statement}
 use Rattle.block_file.proofs.trailer.trailer_right.Tie as tie
-use Rattle.block_file.proofs.trailer.trailer_right.Reads as reads
-use Rattle.block_file.proofs.trailer.trailer_right.Lts as lts
-use Rattle.block_file.proofs.trailer.trailer_word.Reads as trailer-word-reads
 
--- src/trailer.rt:40:18
 trailer-word-requires : tie.Need-trailer-word-requires
 trailer-word-requires c κs = search needs
 
--- src/trailer.rt:40:18
 cast-blocks : tie.Need-cast-blocks
 cast-blocks c = search needs
 
--- src/trailer.rt:41:18
 trailer-word-requires-2 : tie.Need-trailer-word-requires-2
 trailer-word-requires-2 c κs = search needs
 
--- src/trailer.rt:41:18
 cast-instrs : tie.Need-cast-instrs
 cast-instrs c = search needs
 
--- src/trailer.rt:42:8
 trailer-word-requires-3 : tie.Need-trailer-word-requires-3
 trailer-word-requires-3 c κs = search needs
 
--- src/trailer.rt:43:9
 returns : tie.Need-returns
 returns c = rules.wrong-edition _ (omega arith)
 
--- src/trailer.rt:45:8
 trailer-word-requires-4 : tie.Need-trailer-word-requires-4
 trailer-word-requires-4 c κs = search needs
 
--- src/trailer.rt:45:8
 cast-if2 : tie.Need-cast-if2
 cast-if2 c = search needs
 
--- src/trailer.rt:45:47
 mul-if2 : tie.Need-mul-if2
 mul-if2 c = search needs
 
--- src/trailer.rt:45:42
 add-if2 : tie.Need-add-if2
 add-if2 c = search needs
 
--- src/trailer.rt:46:9
 returns-2 : tie.Need-returns-2
 returns-2 c = rules.wrong-blocks _ (omega arith)
 
--- src/trailer.rt:48:23
 trailer-word-requires-5 : tie.Need-trailer-word-requires-5
 trailer-word-requires-5 c κs = search needs
 
--- src/trailer.rt:48:23
 cast-instrs-back : tie.Need-cast-instrs-back
 cast-instrs-back c = search needs
 
--- src/trailer.rt:49:28
 mul-if3 : tie.Need-mul-if3
 mul-if3 c = search needs
 
--- src/trailer.rt:49:23
 add-if3 : tie.Need-add-if3
 add-if3 c = search needs
 
--- src/trailer.rt:49:42
 mul-if3-2 : tie.Need-mul-if3-2
 mul-if3-2 c = search needs
 
--- src/trailer.rt:49:23
 add-if3-2 : tie.Need-add-if3-2
 add-if3-2 c = search needs
 
--- src/trailer.rt:50:9
 returns-3 : tie.Need-returns-3
 returns-3 c = rules.wrong-instrs _ (omega arith)
 
--- src/trailer.rt:52:8
 trailer-word-requires-6 : tie.Need-trailer-word-requires-6
 trailer-word-requires-6 c κs = search needs
 
--- src/trailer.rt:52:8
 cast-if4 : tie.Need-cast-if4
 cast-if4 c = search needs
 
--- src/trailer.rt:53:9
 returns-4 : tie.Need-returns-4
 returns-4 c = rules.wrong-code _ (omega arith)
 
--- src/trailer.rt:55:8
 trailer-word-requires-7 : tie.Need-trailer-word-requires-7
 trailer-word-requires-7 c κs = search needs
 
--- src/trailer.rt:55:8
 cast-if5 : tie.Need-cast-if5
 cast-if5 c = search needs
 
--- src/trailer.rt:55:8
 add-if5 : tie.Need-add-if5
 add-if5 c = search needs
 
--- src/trailer.rt:56:9
 returns-5 : tie.Need-returns-5
 returns-5 c = rules.wrong-touch _ (omega arith)
 
--- src/trailer.rt:58:5
 trailer-word-requires-8 : tie.Need-trailer-word-requires-8
 trailer-word-requires-8 c κs = search needs
 
--- src/trailer.rt:58:5
 cast-result : tie.Need-cast-result
 cast-result c = search needs
 
--- src/trailer.rt:37:1
 returns-6 : tie.Need-returns-6
 returns-6 c = rw (c .trailer-word8 .ensures) (rules.right-but-length _ (omega arith) (omega arith) (omega arith) (omega arith) (omega arith))
 

@@ -1,28 +1,22 @@
+-- `within_limits` tells whether B and I are within their limits: too many blocks decide it alone, otherwise the instructions do.
 use lib.Dec.{leb}
 use Prim.Native.Nat.{ℕ}
-use mathlib.Core.Path.{ap, _∙_, sym}
+use mathlib.Core.Path.{ap, _∙_}
 use Rattle.block_file.proofs.Rules as rules
 use native.Mathlib.Omega.{arith}
 use borrow.Author.Needs.{needs}
 use Rattle.block_file.proofs.trailer.within_limits.Statement.{statement}
 use Rattle.block_file.proofs.trailer.within_limits.Tie as tie
-use Rattle.block_file.proofs.trailer.within_limits.Reads as reads
-use Rattle.block_file.proofs.trailer.within_limits.Lts as lts
-use Rattle.block_file.proofs.trailer.trailer_word.Reads as trailer-word-reads
 
--- src/trailer.rt:31:16
 trailer-word-requires : tie.Need-trailer-word-requires
 trailer-word-requires c κs = search needs
 
--- src/trailer.rt:32:9
 returns : tie.Need-returns
 returns c = rules.many-blocks _ (omega arith)
 
--- src/trailer.rt:34:5
 trailer-word-requires-2 : tie.Need-trailer-word-requires-2
 trailer-word-requires-2 c κs = search needs
 
--- src/trailer.rt:28:1
 returns-2 : tie.Need-returns-2
 returns-2 c = ap (λ (n : ℕ). leb n 1048576) (c .trailer-word2 .ensures) ∙ rules.few-blocks _ (omega arith)
 
