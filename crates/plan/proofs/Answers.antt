@@ -10,7 +10,7 @@ use Rattle.block_file.specs.declared.refusal.Checked.{Checked}
 use Rattle.block_file.specs.Answer.{Answer, refusal, value, Counts, answerOf}
 use Rattle.block_file.specs.Trailer.{blockCount}
 use Rattle.block_file.specs.Refusal.{Row, firstBroken, rows}
-use Rattle.block_file.specs.Parse.{Block, Parsed, parsed, parse, checkAnswer}
+use Rattle.block_file.specs.Parse.{Parsed, parsed, parse, checkAnswer}
 use Rattle.block_file.proofs.Accepted.{length-of}
 use Rattle.plan.specs.Accepted.{blocksOf, Accepted}
 

@@ -1,10 +1,10 @@
 -- The passes over all blocks: first instructions, edges, and what they make together.
 -- Assumes nothing.
 use mathlib.Core.Path.{_≡_, refl, sym, ap, ap₂, _∙_, subst}
-use mathlib.Core.Bool.{cond, false}
+use mathlib.Core.Bool.{false}
 use mathlib.Core.List.{List, [], _∷_, map}
 use mathlib.Core.Option.{none}
-use Prim.Native.Nat.{ℕ, zero, suc, zero-le, _+_, _*_, _-_, _%_, _≤_, _<_, _^_}
+use Prim.Native.Nat.{ℕ, suc, zero-le, _+_, _*_, _-_, _%_, _≤_, _<_, _^_}
 use native.Mathlib.Nat.{not-suc-le-zero, mod-eq-of-lt, le-of-lt}
 use native.Mathlib.Numerals.{add-one}
 use native.Mathlib.Omega.{arith}
@@ -14,13 +14,12 @@ use lib.ListN.{length, getD, set, take, drop, length-set, List·getD-map}
 use lib.Seq.{getD-set-same, getD-set-other, drop-cons, drop-length, getD-drop}
 use Rattle.block_file.specs.Trailer.{blockCount, blockStart}
 use Rattle.block_file.specs.BlockRecord.{countAt, countSum, keyAt}
-use Rattle.block_file.specs.Parse.{Block, blockAt}
+use Rattle.block_file.specs.Parse.{Block}
 use Rattle.block_file.proofs.Accepted.{few-instrs, instrs-inside, length-of, record-reads}
 use Rattle.block_file.specs.Read.{recordAt}
 use Rattle.plan.specs.Accepted.{blocksOf, Accepted}
-use Rattle.plan.specs.Exits.{exits}
 use Rattle.plan.specs.Forest.{Forest, SameRoots, range, root}
-use Rattle.plan.specs.Plan.{blockKey, joinable, joinExits, joinBlocks, parents, interleave, plan}
+use Rattle.plan.specs.Plan.{blockKey, joinBlocks, parents, interleave, plan}
 use Rattle.plan.specs.Groups.{part1, Joined, HasFirsts, Firsts, joinBlock, AllJoined, AllRooted, Grouped}
 use Rattle.plan.specs.Links.{HasRoots, Linked, Outside}
 use Rattle.plan.specs.Order.{HasCounts, Placed}

@@ -1,13 +1,12 @@
 -- Edges in the work numbers: one, those of a block, and those of all blocks.
 -- Assumes nothing.
 use mathlib.Core.Path.{_≡_, refl, sym, ap, _∙_, subst}
-use mathlib.Core.List.{List, [], _∷_}
-use mathlib.Core.Option.{Option, none, some}
-use Prim.Native.Nat.{ℕ, zero, suc, _+_, _*_, _-_, _/_, _≤_, _<_, _^_}
+use mathlib.Core.List.{List}
+use Prim.Native.Nat.{ℕ, _+_, _*_, _-_, _/_, _≤_, _<_, _^_}
 use native.Mathlib.Nat.{add-assoc}
 use native.Mathlib.Omega.{arith}
 use borrow.Rule.Slice.PartMut.{putMid}
-use lib.ListN.{length, getD}
+use lib.ListN.{length}
 use borrow.Author.Tests.{eq-eqb, ne-eqb}
 use lib.Dec.{eqb}
 use Rattle.block_file.specs.declared.read.BlockRecord.{BlockRecord}
@@ -18,7 +17,7 @@ use Rattle.block_file.specs.Parse.{blockAt}
 use Rattle.block_file.specs.Read.{recordAt, foundBlock}
 use Rattle.plan.specs.declared.search.Target.{Target}
 use Rattle.plan.specs.Accepted.{blocksOf, Accepted}
-use Rattle.plan.specs.Forest.{Forest, SameRoots, Hung, root, hang}
+use Rattle.plan.specs.Forest.{Forest, SameRoots, Hung}
 use Rattle.plan.specs.declared.exits.Exits.{Exits}
 use Rattle.plan.specs.Exits.{keysOf, exits}
 use Rattle.plan.specs.Plan.{target, targetOf, TargetInside, joinTo, joinExits, joinable}

@@ -3,8 +3,7 @@
 use mathlib.Core.Path.{_≡_, refl, sym, ap, _∙_, subst}
 use mathlib.Core.Bool.{Bool, true, false, cond, _&&_, and-false}
 use mathlib.Core.List.{List, [], _∷_}
-use mathlib.Core.Logic.{_⊎_, inl, inr, ⊎-elim}
-use mathlib.Core.Option.{Option, none, some}
+use mathlib.Core.Option.{none, some}
 use Prim.Native.Nat.{ℕ, zero, suc, suc-le-suc, zero-le, _+_, _/_, _%_, _≤_, _<_, _^_}
 use native.Mathlib.Nat.{add-zero, zero-add, le-of-suc-le-suc, not-suc-le-zero, lt-trans, le-trans, le-of-lt, le-refl, lt-irrefl, lt-of-le-of-lt, mod-lt}
 use native.Mathlib.Omega.{arith}
@@ -15,7 +14,7 @@ use lib.Dec.{eqb, ltb, leb, lit<}
 use Rattle.block_file.specs.declared.read.BlockRecord.{BlockRecord}
 use Rattle.block_file.specs.declared.read.FoundBlock.{FoundBlock}
 use Rattle.block_file.specs.Trailer.{blockCount, blockStart}
-use Rattle.block_file.specs.BlockRecord.{addrAt, flagsAt, thumbAt, keyAt, keyRises, countSum}
+use Rattle.block_file.specs.BlockRecord.{addrAt, flagsAt, keyAt, keyRises, countSum}
 use Rattle.block_file.specs.Parse.{Block, blockAt}
 use Rattle.block_file.specs.Read.{recordAt, foundBlock}
 use Rattle.block_file.proofs.Accepted.{block-of, length-of, key-rises, block-found}

@@ -1,14 +1,14 @@
 -- The parents, part 1 of the work numbers, lent and given back.
 -- Assumes nothing.
 use mathlib.Core.Path.{_≡_, refl, sym, ap, _∙_, subst}
-use mathlib.Core.List.{List, _++_, append-assoc}
+use mathlib.Core.List.{List, _++_}
 use Prim.Native.Nat.{ℕ, _+_, _*_, _-_, _≤_, _<_}
 use native.Mathlib.Omega.{arith}
 use native.Mathlib.Nat.{not-suc-le-zero}
 use native.Mathlib.Decide.{ℕ-discrete}
-use borrow.Rule.Slice.PartMut.{putMid, midOf, postOf, same-len-mid, mid-len, take-put, drop-put}
+use borrow.Rule.Slice.PartMut.{putMid, postOf, same-len-mid, mid-len, take-put, drop-put}
 use lib.ListN.{length, getD, set, take, drop, length-set}
-use lib.Seq.{take-at, drop-at, length-take-le, getD-take, getD-drop, getD-set-same, getD-set-other, take-set-le, drop-set-lt, drop-set-add}
+use lib.Seq.{take-at, drop-at, length-take-le, getD-take, getD-drop, getD-set-same, getD-set-other, take-set-le, drop-set-add}
 use Rattle.plan.specs.Forest.{Forest, Flatter, Found, root}
 use Rattle.plan.specs.Groups.{part1, Rooted, AllRooted}
 use Rattle.plan.proofs.Roots.{flatter-trans}

@@ -1,8 +1,8 @@
 -- The plan's rows are the emission order beside its group numbers, as the code makes them.
 -- Assumes nothing.
-use mathlib.Core.Path.{_≡_, refl, sym, ap, ap₂, _∙_, subst}
+use mathlib.Core.Path.{_≡_, refl, sym, ap, ap₂, _∙_}
 use mathlib.Core.Bool.{Bool, true, false, not, cond}
-use mathlib.Core.List.{List, [], _∷_, _++_, map, append-assoc, append-nil}
+use mathlib.Core.List.{List, [], _∷_, _++_, map, append-assoc}
 use Prim.Native.Nat.{ℕ, zero, suc, zero-le, _+_, _≤_, _<_}
 use native.Mathlib.Nat.{zero-add, le-refl}
 use native.Mathlib.Numerals.{one-add}
@@ -16,7 +16,7 @@ use lib.Dec.{eqb}
 use Rattle.block_file.specs.Parse.{Block}
 use Rattle.plan.specs.Forest.{root}
 use Rattle.plan.specs.Order.{chain, orderFrom, closes, numbersOf, nextGroup, numbersFrom}
-use Rattle.plan.specs.Plan.{members, insert, sortByKey, close, isEmpty, parts, groupsFrom, groups, groupRows, rowsFrom, plan, parents, blockKey, interleave}
+use Rattle.plan.specs.Plan.{members, insert, sortByKey, isEmpty, parts, groupsFrom, groups, groupRows, rowsFrom, plan, parents, blockKey, interleave}
 
 -- the members of a component, by a list of roots
 pub members-chain : (p roots : List ℕ) (r left k : ℕ) → ((j : ℕ) → k ≤ j → j < k + left → getD roots j 0 ≡ root p j) → members p r left k ≡ chain roots r left k

@@ -7,7 +7,7 @@ use Prim.Native.Nat.{ℕ, zero, suc, pred, zero-le, _+_, _*_, _-_, _≤_, _<_, _
 use native.Mathlib.Nat.{sub-zero, zero-add, le-refl}
 use native.Mathlib.Omega.{arith}
 use native.Mathlib.Numerals.{add-one}
-use borrow.Author.Tests.{eq-eqb, ne-eqb, eqb-true, eqb-false, lt-ltb, le-ltb}
+use borrow.Author.Tests.{eqb-true, lt-ltb, le-ltb}
 use lib.ListN.{length, getD, set, take, drop, length-set, length-append, length-drop}
 use lib.Seq.{getD-set-other, take-suc-set, take-set-le, drop-set-lt, drop-set-add, length-take-le}
 use lib.Dec.{eqb, ltb}

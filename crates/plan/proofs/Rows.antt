@@ -1,12 +1,12 @@
 -- The plan's rows, written one block after the other.
 -- Assumes nothing.
-use mathlib.Core.Path.{_≡_, refl, sym, ap, ap₂, _∙_, subst}
-use mathlib.Core.List.{List, [], _∷_, _++_, append-assoc, append-nil}
-use Prim.Native.Nat.{ℕ, zero, suc, _+_, _*_, _-_, _≤_, _<_}
+use mathlib.Core.Path.{_≡_, refl, sym, ap, ap₂, _∙_}
+use mathlib.Core.List.{List, [], _∷_, _++_, append-assoc}
+use Prim.Native.Nat.{ℕ, _+_, _*_, _≤_, _<_}
 use native.Mathlib.Omega.{arith}
 use native.Mathlib.Numerals.{add-one}
 use lib.ListN.{length, getD, set, take, drop, length-drop, length-append}
-use lib.Seq.{take-suc, drop-cons, length-take-le, set-at, getD-drop, drop-drop}
+use lib.Seq.{take-suc, length-take-le, set-at, getD-drop, drop-drop}
 use Rattle.plan.specs.Plan.{interleave}
 
 length-interleave : (xs ys : List ℕ) → length xs ≡ length ys → length (interleave xs ys) ≡ 2 * length xs

@@ -1,7 +1,7 @@
 -- The public calls for exits and plan: what each answers, and what every lent buffer holds afterwards.
 use Prim.Native.Nat.{ℕ, _*_}
 use mathlib.Core.Bool.{cond}
-use mathlib.Core.List.{List, [], _∷_, _++_, map}
+use mathlib.Core.List.{List, _++_, map}
 use mathlib.Core.Option.{Option, none, some}
 use lib.ListN.{length, drop, replicate, getElem?}
 use lib.Dec.{ltb}

@@ -1,16 +1,13 @@
-use Prim.Native.Nat.{_<_}
+-- `clear` makes the first m numbers 0. The loop's invariant: the first i are 0 and the rest are as they were.
+use Prim.Native.Nat.{_<_, ℕ, _-_, _≤_}
 use denote.Ref.{now}
 use borrow.Author.Fill.{fill-none, fill-more}
 use lib.ListN.{length, set, drop, replicate, length-set}
-use Prim.Native.Nat.{ℕ, _-_, _≤_}
 use mathlib.Core.List.{List, _++_}
-use mathlib.Core.Path.{_≡_, refl, sym, _∙_, ap, subst}
-use borrow.Author.Needs.{needs}
+use mathlib.Core.Path.{_≡_, refl, _∙_, ap}
 use native.Mathlib.Omega.{arith}
 use Rattle.plan.proofs.buffers.clear.Statement.{statement}
 use Rattle.plan.proofs.buffers.clear.Tie as tie
-use Rattle.plan.proofs.buffers.clear.Reads as reads
-use Rattle.plan.proofs.buffers.clear.Lts as lts
 
 abbrev Inv-loop : tie.InvT-loop
 Inv-loop work₀ m i₀ work i = (i ≤ m) × (m ≤ length work₀) × (length work ≡ length work₀) × (work ≡ replicate i 0 ++ drop i work₀)
@@ -18,27 +15,21 @@ Inv-loop work₀ m i₀ work i = (i ≤ m) × (m ≤ length work₀) × (length 
 abbrev μ-loop : tie.MeasureT-loop
 μ-loop work₀ m i₀ work i = m - i
 
--- src/buffers.rt:14:5
 loop-holds : tie.Need-loop-holds Inv-loop μ-loop
 loop-holds c = (omega arith, c .pre, refl, fill-none _ 0)
 
--- src/buffers.rt:15:9
 mul-work : tie.Need-mul-work Inv-loop μ-loop
 mul-work c = omega arith
 
--- src/buffers.rt:15:9
 slice-write-work : tie.Need-slice-write-work Inv-loop μ-loop
 slice-write-work c = omega arith
 
--- src/buffers.rt:16:9
 add-i : tie.Need-add-i Inv-loop μ-loop
 add-i c = omega arith
 
--- src/buffers.rt:14:5
 loop-less : tie.Need-loop-less Inv-loop μ-loop
 loop-less c = omega arith
 
--- src/buffers.rt:14:5
 loop-again : tie.Need-loop-again Inv-loop μ-loop
 loop-again c = let inv = c .before .loop .inv in
     let i = c .before .loop .i in
@@ -46,11 +37,9 @@ loop-again c = let inv = c .before .loop .inv in
     let inside : i < length w = omega arith in
     (omega arith, inv .1, simp length-set (inv .2), ap (λ (l : List ℕ). set l i 0) (inv .3) ∙ fill-more i 0 w inside)
 
--- src/buffers.rt:9:1
 same-length : tie.Need-same-length Inv-loop μ-loop
 same-length c = c .before .loop .inv .2
 
--- src/buffers.rt:9:1
 returns : tie.Need-returns Inv-loop μ-loop
 returns c = let done : c .before .loop .i ≡ c .before .before .args .m = omega arith in
     c .before .loop .inv .3 ∙ ap (λ (k : ℕ). replicate k 0 ++ drop k (now (c .before .before .args .work))) done

@@ -1,17 +1,13 @@
-use lib.ListN.{getD}
-use Prim.Native.Nat.{_+_, _*_}
+-- `put_rows` writes the plan's rows. The loop's invariant: the first p rows are written and the rest of the plan is as it was.
+use lib.ListN.{getD, length, set, length-set}
+use Prim.Native.Nat.{_+_, _*_, ℕ, _-_, _≤_}
 use Rattle.plan.proofs.Rows as rows
 use denote.Ref.{now}
-use lib.ListN.{length, set, length-set}
-use Prim.Native.Nat.{ℕ, _-_, _≤_}
-use mathlib.Core.List.{List, _++_}
-use mathlib.Core.Path.{_≡_, refl, sym, _∙_, ap, subst}
-use borrow.Author.Needs.{needs}
+use mathlib.Core.List.{List}
+use mathlib.Core.Path.{_≡_, refl, _∙_, ap}
 use native.Mathlib.Omega.{arith}
 use Rattle.plan.proofs.buffers.put_rows.Statement.{statement}
 use Rattle.plan.proofs.buffers.put_rows.Tie as tie
-use Rattle.plan.proofs.buffers.put_rows.Reads as reads
-use Rattle.plan.proofs.buffers.put_rows.Lts as lts
 
 abbrev Inv-loop : tie.InvT-loop
 Inv-loop work n plan₀ p₀ plan p = (p ≤ n) × (length plan ≡ length plan₀) × (plan ≡ rows.rowsTo work plan₀ n p)
@@ -19,71 +15,54 @@ Inv-loop work n plan₀ p₀ plan p = (p ≤ n) × (length plan ≡ length plan�
 abbrev μ-loop : tie.MeasureT-loop
 μ-loop work n plan₀ p₀ plan p = n - p
 
--- src/buffers.rt:26:5
 loop-holds : tie.Need-loop-holds Inv-loop μ-loop
 loop-holds c = (omega arith, refl, rows.rows-none (now (c .args .work)) (now (c .args .plan)) (c .args .n))
 
--- src/buffers.rt:27:28
 mul-plan : tie.Need-mul-plan Inv-loop μ-loop
 mul-plan c = omega arith
 
--- src/buffers.rt:27:28
 add-plan : tie.Need-add-plan Inv-loop μ-loop
 add-plan c = omega arith
 
--- src/buffers.rt:27:23
 mul-plan-2 : tie.Need-mul-plan-2 Inv-loop μ-loop
 mul-plan-2 c = omega arith
 
--- src/buffers.rt:27:23
 shared-slice-read-plan : tie.Need-shared-slice-read-plan Inv-loop μ-loop
 shared-slice-read-plan c = omega arith
 
--- src/buffers.rt:27:14
 mul-plan-3 : tie.Need-mul-plan-3 Inv-loop μ-loop
 mul-plan-3 c = omega arith
 
--- src/buffers.rt:27:9
 mul-plan-4 : tie.Need-mul-plan-4 Inv-loop μ-loop
 mul-plan-4 c = omega arith
 
--- src/buffers.rt:27:9
 slice-write-plan : tie.Need-slice-write-plan Inv-loop μ-loop
 slice-write-plan c = omega arith
 
--- src/buffers.rt:28:27
 mul-plan-5 : tie.Need-mul-plan-5 Inv-loop μ-loop
 mul-plan-5 c = omega arith
 
--- src/buffers.rt:28:27
 shared-slice-read-plan-2 : tie.Need-shared-slice-read-plan-2 Inv-loop μ-loop
 shared-slice-read-plan-2 c = omega arith
 
--- src/buffers.rt:28:14
 mul-plan-6 : tie.Need-mul-plan-6 Inv-loop μ-loop
 mul-plan-6 c = omega arith
 
--- src/buffers.rt:28:14
 add-plan-2 : tie.Need-add-plan-2 Inv-loop μ-loop
 add-plan-2 c = omega arith
 
--- src/buffers.rt:28:9
 mul-plan-7 : tie.Need-mul-plan-7 Inv-loop μ-loop
 mul-plan-7 c = omega arith
 
--- src/buffers.rt:28:9
 slice-write-plan-2 : tie.Need-slice-write-plan-2 Inv-loop μ-loop
 slice-write-plan-2 c = simp length-set (omega arith)
 
--- src/buffers.rt:29:9
 add-p : tie.Need-add-p Inv-loop μ-loop
 add-p c = omega arith
 
--- src/buffers.rt:26:5
 loop-less : tie.Need-loop-less Inv-loop μ-loop
 loop-less c = omega arith
 
--- src/buffers.rt:26:5
 loop-again : tie.Need-loop-again Inv-loop μ-loop
 loop-again c = let inv = c .before .before .before .loop .inv in
     let p = c .before .before .before .loop .p in
@@ -95,11 +74,9 @@ loop-again c = let inv = c .before .before .before .loop .inv in
           ∙ rows.rows-more _ _ _ (c .before .before .before .before .pre .0) (c .before .before .before .before .pre .1) _ (c .before .before .loop-test .taken),
     )
 
--- src/buffers.rt:21:1
 same-length : tie.Need-same-length Inv-loop μ-loop
 same-length c = c .before .loop .inv .1
 
--- src/buffers.rt:21:1
 returns : tie.Need-returns Inv-loop μ-loop
 returns c = let done : c .before .loop .p ≡ c .before .before .args .n = omega arith in
     c .before .loop .inv .2 ∙ ap (rows.rowsTo (now (c .before .before .args .work)) (now (c .before .before .args .plan)) (c .before .before .args .n)) done

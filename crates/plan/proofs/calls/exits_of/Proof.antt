@@ -2,7 +2,7 @@
 -- Assumes nothing.
 use borrow.Author.Needs.{needs}
 use mathlib.Core.Path.{sym, ap, _∙_}
-use Rattle.plan.proofs.Answers.{refused-file, accepted-file, accepted-blocks}
+use Rattle.plan.proofs.Answers.{refused-file, accepted-file}
 use Rattle.plan.proofs.calls.exits_of.Statement.{statement}
 use Rattle.plan.proofs.calls.exits_of.Tie as tie
 use Rattle.plan.specs.Calls.{exitingOf, exitsCall}

@@ -1,14 +1,12 @@
+-- `first_instrs` stores the number of each block's first instruction. The loop's invariant: `sum` is the sum of the counts passed, and part 0 has those sums for the blocks passed.
 use Rattle.plan.proofs.Grouping as grouping
 use denote.Ref.{now}
 use Prim.Native.Nat.{ℕ, _-_}
-use mathlib.Core.Path.{_≡_, sym, _∙_, subst}
+use mathlib.Core.Path.{_≡_, subst}
 use borrow.Author.Needs.{needs}
 use native.Mathlib.Omega.{arith}
 use Rattle.plan.proofs.groups.first_instrs.Statement.{statement}
 use Rattle.plan.proofs.groups.first_instrs.Tie as tie
-use Rattle.plan.proofs.groups.first_instrs.Reads as reads
-use Rattle.plan.proofs.groups.first_instrs.Lts as lts
-use Rattle.plan.proofs.order.count_of.Reads as count-of-reads
 
 abbrev Inv-loop : tie.InvT-loop
 Inv-loop file work₀ n sum₀ i₀ work sum i = grouping.Counting file n work₀ sum i work
@@ -16,47 +14,36 @@ Inv-loop file work₀ n sum₀ i₀ work sum i = grouping.Counting file n work�
 abbrev μ-loop : tie.MeasureT-loop
 μ-loop file work₀ n sum₀ i₀ work sum i = n - i
 
--- src/groups.rt:94:5
 loop-holds : tie.Need-loop-holds Inv-loop μ-loop
 loop-holds c = grouping.counting-none _ _ _
 
--- src/groups.rt:95:19
 cast-work : tie.Need-cast-work Inv-loop μ-loop
 cast-work c = search needs
 
--- src/groups.rt:95:9
 mul-work : tie.Need-mul-work Inv-loop μ-loop
 mul-work c = omega arith
 
--- src/groups.rt:95:9
 slice-write-work : tie.Need-slice-write-work Inv-loop μ-loop
 slice-write-work c = omega arith
 
--- src/groups.rt:96:16
 count-of-requires : tie.Need-count-of-requires Inv-loop μ-loop
 count-of-requires c κs = search needs
 
--- src/groups.rt:96:9
 add-sum : tie.Need-add-sum Inv-loop μ-loop
 add-sum c = omega arith
 
--- src/groups.rt:97:9
 add-i : tie.Need-add-i Inv-loop μ-loop
 add-i c = omega arith
 
--- src/groups.rt:94:5
 loop-less : tie.Need-loop-less Inv-loop μ-loop
 loop-less c = omega arith
 
--- src/groups.rt:94:5
 loop-again : tie.Need-loop-again Inv-loop μ-loop
 loop-again c = grouping.counting-more _ _ _ _ _ _ _ (c .before .before .before .before .before .pre .0) (c .before .loop-test .taken) (c .count-of .ensures .0) (c .count-of .ensures .1) (c .before .before .loop .inv)
 
--- src/groups.rt:88:1
 same-length : tie.Need-same-length Inv-loop μ-loop
 same-length c = c .before .loop .inv .same
 
--- src/groups.rt:88:1
 returns : tie.Need-returns Inv-loop μ-loop
 returns c = let done : c .before .loop .i ≡ c .before .before .before .before .args .n = omega arith in
     grouping.counted-all _ _ _ _ _ (subst (λ (m : ℕ). grouping.Counting (now (c .before .before .before .before .args .file)) (c .before .before .before .before .args .n) (now (c .before .before .before .before .args .work)) (c .before .loop .sum) m (c .before .loop .work)) done (c .before .loop .inv))

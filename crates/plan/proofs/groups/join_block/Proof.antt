@@ -1,67 +1,48 @@
+-- `join_block` makes the edges of a block: none if it is not of page 8, else those of its exits, which begin at the instruction that part 0 has for it.
 use denote.Ref.{now}
 use Rattle.plan.specs.Exits.{exits}
 use Rattle.block_file.specs.Parse.{blockAt}
 use Rattle.block_file.specs.Trailer.{blockStart}
 use Prim.Native.Nat.{ℕ}
-use mathlib.Core.Path.{ap}
+use mathlib.Core.Path.{ap, sym, _∙_}
 use Rattle.plan.proofs.Joining as joining
-use mathlib.Core.Path.{_≡_, sym, _∙_}
-use native.Mathlib.Omega.{arith}
 use borrow.Author.Needs.{needs}
 use Rattle.plan.proofs.groups.join_block.Statement.{statement}
 use Rattle.plan.proofs.groups.join_block.Tie as tie
-use Rattle.plan.proofs.groups.join_block.Reads as reads
-use Rattle.plan.proofs.groups.join_block.Lts as lts
-use Rattle.block_file.proofs.block_at.Reads as block-at-reads
-use Rattle.plan.proofs.exits.exits_at.Reads as exits-at-reads
-use Rattle.plan.proofs.groups.join_exits.Reads as join-exits-reads
-use Rattle.plan.proofs.links.wide.Reads as wide-reads
 
--- src/groups.rt:61:33
 block-at-requires : tie.Need-block-at-requires
 block-at-requires c κs = search needs
 
--- src/groups.rt:61:24
 enum-known-block : tie.Need-enum-known-block
 enum-known-block c = search needs
 
--- src/groups.rt:62:9
 enum-told : tie.Need-enum-told
 enum-told c = search needs
 
--- src/groups.rt:62:9
 returns : tie.Need-returns
 returns c = joining.block-missing _ _ _ _ _ (c .before .before .block-at .ensures) (c .before .before .before .before .before .pre .0 .2) (c .before .before .before .before .before .pre .0 .3) (c .enum-told .given .1)
 
--- src/groups.rt:65:9
 returns-2 : tie.Need-returns-2
 returns-2 c = joining.block-apart _ _ _ _ _ (c .before .before .before .before .before .block-at .ensures) (c .before .before .before .before .before .before .before .before .pre .0 .2) (c .before .before .before .before .before .before .before .before .pre .0 .3) _ (c .before .before .before .block .given .1) (c .if1 .taken)
 
--- src/groups.rt:67:22
 mul-wide : tie.Need-mul-wide
 mul-wide c = search needs
 
--- src/groups.rt:67:22
 slice-read-wide : tie.Need-slice-read-wide
 slice-read-wide c = search needs
 
--- src/groups.rt:67:9
 wide-requires : tie.Need-wide-requires
 wide-requires c κs = search needs
 
--- src/groups.rt:68:9
 exits-at-requires : tie.Need-exits-at-requires
 exits-at-requires c κs = search needs
 
--- src/groups.rt:69:5
 join-exits-requires : tie.Need-join-exits-requires
 join-exits-requires c κs = search needs
 
--- src/groups.rt:55:1
 same-length : tie.Need-same-length
 same-length c = search needs
 
--- src/groups.rt:55:1
 returns-3 : tie.Need-returns-3
 returns-3 c = let args = c .before .before .before .before .before .before .before .before .before .before .before .before .before .before .before .args in
     let pre = c .before .before .before .before .before .before .before .before .before .before .before .before .before .before .before .pre in

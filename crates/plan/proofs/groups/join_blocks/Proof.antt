@@ -1,16 +1,13 @@
+-- `join_blocks` makes all edges. The loop's invariant: the roots are those of the definition after the edges of the blocks before block i, and no way is longer than 2i.
 use Rattle.plan.proofs.Lending as lending
 use Rattle.plan.proofs.Grouping as grouping
 use denote.Ref.{now}
-use Prim.Native.Nat.{ℕ, _-_}
-use mathlib.Core.Path.{_≡_, sym, _∙_, subst}
+use Prim.Native.Nat.{_-_}
+use mathlib.Core.Path.{_∙_}
 use borrow.Author.Needs.{needs}
 use native.Mathlib.Omega.{arith}
 use Rattle.plan.proofs.groups.join_blocks.Statement.{statement}
 use Rattle.plan.proofs.groups.join_blocks.Tie as tie
-use Rattle.plan.proofs.groups.join_blocks.Reads as reads
-use Rattle.plan.proofs.groups.join_blocks.Lts as lts
-use Rattle.plan.proofs.forest.own_roots.Reads as own-roots-reads
-use Rattle.plan.proofs.groups.join_block.Reads as join-block-reads
 
 abbrev Inv-loop : tie.InvT-loop
 Inv-loop file work₀ n end i₀ work i = grouping.Edges file n i work₀ work
@@ -18,37 +15,29 @@ Inv-loop file work₀ n end i₀ work i = grouping.Edges file n i work₀ work
 abbrev μ-loop : tie.MeasureT-loop
 μ-loop file work₀ n end i₀ work i = n - i
 
--- src/groups.rt:78:15
 mul-end : tie.Need-mul-end Inv-loop μ-loop
 mul-end c = search needs
 
--- src/groups.rt:79:15
 mul-own-roots : tie.Need-mul-own-roots Inv-loop μ-loop
 mul-own-roots c = search needs
 
--- src/groups.rt:79:15
 sub-own-roots : tie.Need-sub-own-roots Inv-loop μ-loop
 sub-own-roots c = search needs
 
--- src/groups.rt:79:15
 part-own-roots-start : tie.Need-part-own-roots-start Inv-loop μ-loop
 part-own-roots-start c = search needs
 
--- src/groups.rt:79:15
 part-own-roots-end : tie.Need-part-own-roots-end Inv-loop μ-loop
 part-own-roots-end c = search needs
 
--- src/groups.rt:79:5
 own-roots-requires : tie.Need-own-roots-requires Inv-loop μ-loop
 own-roots-requires c κs = let w = now (c .before .before .before .args .work) in
     let n = c .before .before .before .args .n in
     rw (lending.lent-is n w, lending.part-length n w (c .before .before .before .pre .0 .0)) (omega arith)
 
--- src/groups.rt:81:5
 loop-holds : tie.Need-loop-holds Inv-loop μ-loop
 loop-holds c = grouping.edges-none _ _ _ _ (c .before .before .before .before .before .before .pre .0 .0) (rw lending.lent-is at (c .before .before .own-roots .ensures)) (c .before .before .before .before .before .before .pre .0 .2)
 
--- src/groups.rt:82:9
 join-block-requires : tie.Need-join-block-requires Inv-loop μ-loop
 join-block-requires c κs = let pre = c .before .before .before .before .before .before .before .before .before .pre in
     let own = (rw lending.lent-is at (c .before .before .before .before .before .own-roots .ensures)) in
@@ -56,23 +45,18 @@ join-block-requires c κs = let pre = c .before .before .before .before .before 
     let asks = grouping.edges-asks _ _ _ _ _ (grouping.own-room (now (c .before .before .before .before .before .before .before .before .before .args .file)) _ _ _ (pre .0 .0) own) (λ a. grouping.own-firsts _ _ _ _ (pre .0 .0) own (pre .1 a)) inv in
     ((asks .0, pre .0 .1, c .before .loop-test .taken, pre .0 .2), (inv .forest, asks .1))
 
--- src/groups.rt:83:9
 add-i : tie.Need-add-i Inv-loop μ-loop
 add-i c = omega arith
 
--- src/groups.rt:81:5
 loop-less : tie.Need-loop-less Inv-loop μ-loop
 loop-less c = omega arith
 
--- src/groups.rt:81:5
 loop-again : tie.Need-loop-again Inv-loop μ-loop
 loop-again c = grouping.edges-more _ _ _ _ _ _ (c .before .before .before .before .loop-test .taken) (c .before .before .before .before .before .before .before .before .before .before .before .before .pre .0 .2) (c .before .before .before .before .before .loop .inv) (c .before .before .join-block .ensures)
 
--- src/groups.rt:73:1
 same-length : tie.Need-same-length Inv-loop μ-loop
 same-length c = c .before .loop .inv .same ∙ grouping.own-length (now (c .before .before .before .before .before .before .before .before .args .file)) _ _ _ (c .before .before .before .before .before .before .before .before .pre .0 .0) (rw lending.lent-is at (c .before .before .before .before .own-roots .ensures))
 
--- src/groups.rt:73:1
 returns : tie.Need-returns Inv-loop μ-loop
 returns c = let pre = c .before .before .before .before .before .before .before .before .pre in
     let own = (rw lending.lent-is at (c .before .before .before .before .own-roots .ensures)) in

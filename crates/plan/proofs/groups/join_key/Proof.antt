@@ -1,62 +1,47 @@
+-- `join_key` makes the edge from a block to a key, or none where no block of page 8 has the key. The lent part of the work numbers is the parents.
 use Rattle.plan.proofs.Joining as joining
 use Rattle.plan.proofs.Lending as lending
 use denote.Ref.{now}
 use borrow.Author.Needs.{needs}
 use Rattle.plan.proofs.groups.join_key.Statement.{statement}
 use Rattle.plan.proofs.groups.join_key.Tie as tie
-use Rattle.plan.proofs.groups.join_key.Reads as reads
-use Rattle.plan.proofs.groups.join_key.Lts as lts
-use Rattle.plan.proofs.forest.hang_under.Reads as hang-under-reads
-use Rattle.plan.proofs.search.find_target.Reads as find-target-reads
 
--- src/groups.rt:21:25
 find-target-requires : tie.Need-find-target-requires
 find-target-requires c κs = search needs
 
--- src/groups.rt:21:20
 enum-known-j : tie.Need-enum-known-j
 enum-known-j c = search needs
 
--- src/groups.rt:22:9
 enum-told : tie.Need-enum-told
 enum-told c = search needs
 
--- src/groups.rt:22:9
 returns : tie.Need-returns
 returns c = joining.join-nothing _ _ _ _ _ _ (c .before .before .find-target .ensures .1) (c .enum-told .given .1)
 
--- src/groups.rt:24:15
 mul-end : tie.Need-mul-end
 mul-end c = search needs
 
--- src/groups.rt:25:16
 mul-hang-under : tie.Need-mul-hang-under
 mul-hang-under c = search needs
 
--- src/groups.rt:25:16
 sub-hang-under : tie.Need-sub-hang-under
 sub-hang-under c = search needs
 
--- src/groups.rt:25:16
 part-hang-under-start : tie.Need-part-hang-under-start
 part-hang-under-start c = search needs
 
--- src/groups.rt:25:16
 part-hang-under-end : tie.Need-part-hang-under-end
 part-hang-under-end c = search needs
 
--- src/groups.rt:25:5
 hang-under-requires : tie.Need-hang-under-requires
 hang-under-requires c κs = let w = now (c .before .before .before .before .before .before .before .args .work) in
     let n = c .before .before .before .before .before .before .before .args .n in
     let pre = c .before .before .before .before .before .before .before .pre .0 in
     rw (lending.lent-is n w, lending.part-length n w (pre .0)) (c .before .before .before .before .before .before .before .pre .1, (pre .2, joining.target-inside _ _ _ _ (c .before .before .before .before .find-target .ensures .0) (c .before .before .j .given .1) (pre .3)))
 
--- src/groups.rt:16:1
 same-length : tie.Need-same-length
 same-length c = search needs
 
--- src/groups.rt:16:1
 returns-2 : tie.Need-returns-2
 returns-2 c = joining.join-at _ _ _ _ _ _ (c .before .before .before .before .before .before .before .find-target .ensures .1) _ _ (c .before .before .before .before .before .before .before .before .before .before .pre .0 .0) (c .before .before .before .before .before .j .given .1) (rw lending.lent-is at (c .before .before .hang-under .ensures))
 

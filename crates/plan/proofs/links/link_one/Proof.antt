@@ -1,81 +1,61 @@
+-- `link_one` puts a block in front of its component. Its root is below n, so every place read or written is inside the four parts.
 use lib.ListN.{length-set}
 use native.Mathlib.Omega.{arith}
 use borrow.Author.Needs.{needs}
 use Rattle.plan.proofs.links.link_one.Statement.{statement}
 use Rattle.plan.proofs.links.link_one.Tie as tie
-use Rattle.plan.proofs.links.link_one.Reads as reads
-use Rattle.plan.proofs.links.link_one.Lts as lts
-use Rattle.plan.proofs.links.wide.Reads as wide-reads
 
--- src/links.rt:28:23
 mul-wide : tie.Need-mul-wide
 mul-wide c = search needs
 
--- src/links.rt:28:23
 add-wide : tie.Need-add-wide
 add-wide c = search needs
 
--- src/links.rt:28:18
 mul-wide-2 : tie.Need-mul-wide-2
 mul-wide-2 c = search needs
 
--- src/links.rt:28:18
 slice-read-wide : tie.Need-slice-read-wide
 slice-read-wide c = search needs
 
--- src/links.rt:28:9
 wide-requires : tie.Need-wide-requires
 wide-requires c κs = search needs
 
--- src/links.rt:29:28
 mul-work : tie.Need-mul-work
 mul-work c = search needs
 
--- src/links.rt:29:28
 add-work : tie.Need-add-work
 add-work c = search needs
 
--- src/links.rt:29:23
 mul-work-2 : tie.Need-mul-work-2
 mul-work-2 c = search needs
 
--- src/links.rt:29:23
 slice-read-work : tie.Need-slice-read-work
 slice-read-work c = search needs
 
--- src/links.rt:29:10
 add-work-2 : tie.Need-add-work-2
 add-work-2 c = search needs
 
--- src/links.rt:29:5
 mul-work-3 : tie.Need-mul-work-3
 mul-work-3 c = search needs
 
--- src/links.rt:29:5
 slice-write-work : tie.Need-slice-write-work
 slice-write-work c = search needs
 
--- src/links.rt:30:10
 mul-work-4 : tie.Need-mul-work-4
 mul-work-4 c = search needs
 
--- src/links.rt:30:10
 add-work-3 : tie.Need-add-work-3
 add-work-3 c = search needs
 
--- src/links.rt:30:5
 mul-work-5 : tie.Need-mul-work-5
 mul-work-5 c = search needs
 
--- src/links.rt:30:5
 slice-write-work-2 : tie.Need-slice-write-work-2
 slice-write-work-2 c = simp length-set (omega arith)
 
--- src/links.rt:22:1
 same-length : tie.Need-same-length
 same-length c = search needs
 
--- src/links.rt:22:1
 returns : tie.Need-returns
 returns c = rw (c .before .wide .ensures)
 

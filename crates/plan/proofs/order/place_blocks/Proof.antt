@@ -1,16 +1,11 @@
+-- `place_blocks` makes the emission order. The loop's invariant: the rows placed and what the links have left of the components make the whole order; a turn places a block or begins a component.
 use Rattle.plan.proofs.Ordering as ordering
 use Prim.Native.Nat.{_+_, _-_}
-use mathlib.Core.Path.{_≡_, sym, _∙_, ap}
+use mathlib.Core.Path.{sym, _∙_}
 use borrow.Author.Needs.{needs}
 use native.Mathlib.Omega.{arith}
 use Rattle.plan.proofs.order.place_blocks.Statement.{statement}
 use Rattle.plan.proofs.order.place_blocks.Tie as tie
-use Rattle.plan.proofs.order.place_blocks.Reads as reads
-use Rattle.plan.proofs.order.place_blocks.Lts as lts
-use Rattle.plan.proofs.order.close_part.Reads as close-part-reads
-use Rattle.plan.proofs.order.count_of.Reads as count-of-reads
-use Rattle.plan.proofs.order.put_row.Reads as put-row-reads
-use Rattle.plan.proofs.order.take_block.Reads as take-block-reads
 
 abbrev Inv-loop : tie.InvT-loop
 Inv-loop file work₀ n limit size place₀ group₀ total₀ open₀ r₀ h₀ work place group total «open» r h =
@@ -20,96 +15,73 @@ abbrev μ-loop : tie.MeasureT-loop
 μ-loop file work₀ n limit size place₀ group₀ total₀ open₀ r₀ h₀ work place group total «open» r h =
     (n - place) + (n - r)
 
--- src/order.rt:81:5
 loop-holds : tie.Need-loop-holds Inv-loop μ-loop
 loop-holds c = ordering.placing-none _ _ _ _ (c .before .before .pre .0 .0) (c .before .before .pre .0 .1) (c .before .before .pre .1)
 
--- src/order.rt:83:26
 cast-member : tie.Need-cast-member Inv-loop μ-loop
 cast-member c = omega arith
 
--- src/order.rt:84:17
 count-of-requires : tie.Need-count-of-requires Inv-loop μ-loop
 count-of-requires c κs = search needs
 
--- src/order.rt:85:17
 take-block-requires : tie.Need-take-block-requires Inv-loop μ-loop
 take-block-requires c κs = omega arith
 
--- src/order.rt:89:13
 put-row-requires : tie.Need-put-row-requires Inv-loop μ-loop
 put-row-requires c κs = omega arith
 
--- src/order.rt:90:13
 add-place : tie.Need-add-place Inv-loop μ-loop
 add-place c = omega arith
 
--- src/order.rt:91:22
 add-h : tie.Need-add-h Inv-loop μ-loop
 add-h c = omega arith
 
--- src/order.rt:91:17
 mul-h : tie.Need-mul-h Inv-loop μ-loop
 mul-h c = omega arith
 
--- src/order.rt:91:17
 slice-read-h : tie.Need-slice-read-h Inv-loop μ-loop
 slice-read-h c = omega arith
 
--- src/order.rt:81:5
 loop-less : tie.Need-loop-less Inv-loop μ-loop
 loop-less c = omega arith
 
--- src/order.rt:81:5
 loop-again : tie.Need-loop-again Inv-loop μ-loop
 loop-again c = ordering.placing-next _ _ _ _ _ _ _ _ _ _ _ (c .before .before .before .before .before .before .before .before .before .loop .inv) (c .before .before .before .before .before .before .before .before .loop-test .taken) (c .before .before .before .before .before .before .before .if1 .taken) _ (c .before .before .before .before .before .before .count-of .ensures .0)
     (λ a l counts has. has _ l ∙ sym (c .before .before .before .before .before .before .count-of .ensures .1 a l)) _ (c .before .before .before .before .before .take-block .ensures) _ (c .before .before .before .put-row .ensures)
 
--- src/order.rt:94:17
 same-length : tie.Need-same-length Inv-loop μ-loop
 same-length c = c .before .before .before .loop .inv .same
 
--- src/order.rt:94:17
 returns : tie.Need-returns Inv-loop μ-loop
 returns c = ordering.placing-done _ _ _ _ _ _ _ _ _ _ _ (c .before .before .before .loop .inv) (c .before .if1 .left) (c .if2 .taken)
 
--- src/order.rt:96:13
 close-part-requires : tie.Need-close-part-requires Inv-loop μ-loop
 close-part-requires c κs = omega arith
 
--- src/order.rt:99:22
 mul-h-2 : tie.Need-mul-h-2 Inv-loop μ-loop
 mul-h-2 c = omega arith
 
--- src/order.rt:99:22
 add-h-2 : tie.Need-add-h-2 Inv-loop μ-loop
 add-h-2 c = omega arith
 
--- src/order.rt:99:17
 mul-h-3 : tie.Need-mul-h-3 Inv-loop μ-loop
 mul-h-3 c = omega arith
 
--- src/order.rt:99:17
 slice-read-h-2 : tie.Need-slice-read-h-2 Inv-loop μ-loop
 slice-read-h-2 c = omega arith
 
--- src/order.rt:100:13
 add-r : tie.Need-add-r Inv-loop μ-loop
 add-r c = omega arith
 
--- src/order.rt:81:5
 loop-less-2 : tie.Need-loop-less-2 Inv-loop μ-loop
 loop-less-2 c = omega arith
 
--- src/order.rt:81:5
 loop-again-2 : tie.Need-loop-again-2 Inv-loop μ-loop
 loop-again-2 c = rw (c .before .close-part .ensures) (ordering.placing-component _ _ _ _ _ _ _ _ _ _ _ (c .before .before .before .before .before .loop .inv) (c .before .before .before .if1 .left) (c .before .before .if2 .left))
 
--- src/order.rt:69:1
 same-length-2 : tie.Need-same-length-2 Inv-loop μ-loop
 same-length-2 c = c .before .loop .inv .same
 
--- src/order.rt:69:1
 returns-2 : tie.Need-returns-2 Inv-loop μ-loop
 returns-2 c = ordering.placing-all _ _ _ _ _ _ _ _ _ _ _ (c .before .loop .inv) (c .loop-test .left)
 

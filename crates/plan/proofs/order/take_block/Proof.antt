@@ -1,27 +1,21 @@
+-- `take_block` gives the part that takes a block: a new one exactly if the limit is passed and the part is open.
 use borrow.Author.Tests.{lt-ltb, le-ltb}
 use borrow.Author.Needs.{needs}
 use Rattle.plan.proofs.order.take_block.Statement.{statement}
 use Rattle.plan.proofs.order.take_block.Tie as tie
-use Rattle.plan.proofs.order.take_block.Reads as reads
-use Rattle.plan.proofs.order.take_block.Lts as lts
 
--- src/order.rt:37:17
 add-total : tie.Need-add-total
 add-total c = search needs
 
--- src/order.rt:41:24
 add-t8 : tie.Need-add-t8
 add-t8 c = search needs
 
--- src/order.rt:40:13
 returns : tie.Need-returns
 returns c = rw (lt-ltb _ _ (c .before .before .if1 .taken), c .before .if2 .taken)
 
--- src/order.rt:33:1
 returns-2 : tie.Need-returns-2
 returns-2 c = rw (lt-ltb _ _ (c .before .if1 .taken), c .if2 .left)
 
--- src/order.rt:33:1
 returns-3 : tie.Need-returns-3
 returns-3 c = rw (le-ltb _ _ (c .if1 .left))
 

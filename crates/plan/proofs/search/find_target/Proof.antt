@@ -1,50 +1,37 @@
+-- `find_target` finds the block that an edge to a key leads to: if any block has the key it is the first one not below it, and it must be of page 8.
 use Rattle.plan.proofs.Keys as keys
-use mathlib.Core.Path.{_≡_, sym, _∙_}
+use mathlib.Core.Path.{sym, _∙_}
 use borrow.Author.Needs.{needs}
 use Rattle.plan.proofs.search.find_target.Statement.{statement}
 use Rattle.plan.proofs.search.find_target.Tie as tie
-use Rattle.plan.proofs.search.find_target.Reads as reads
-use Rattle.plan.proofs.search.find_target.Lts as lts
-use Rattle.block_file.proofs.block_at.Reads as block-at-reads
-use Rattle.plan.proofs.search.first_from.Reads as first-from-reads
-use Rattle.plan.proofs.search.record_key.Reads as record-key-reads
 
--- src/search.rt:51:9
 first-from-requires : tie.Need-first-from-requires
 first-from-requires c κs = search needs
 
--- src/search.rt:52:33
 block-at-requires : tie.Need-block-at-requires
 block-at-requires c κs = search needs
 
--- src/search.rt:52:24
 enum-known-block : tie.Need-enum-known-block
 enum-known-block c = search needs
 
--- src/search.rt:53:9
 enum-told : tie.Need-enum-told
 enum-told c = search needs
 
--- src/search.rt:53:9
 returns : tie.Need-returns
 returns c = (tt, λ a. keys.search-missing _ _ _ a (c .before .before .before .first-from .ensures a) (sym (c .before .before .block-at .ensures) ∙ c .enum-told .given .1))
 
--- src/search.rt:55:8
 record-key-requires : tie.Need-record-key-requires
 record-key-requires c κs = search needs
 
--- src/search.rt:56:9
 returns-2 : tie.Need-returns-2
 returns-2 c = (tt, λ a. keys.search-other _ _ _ a (c .before .before .before .before .before .before .first-from .ensures a) _ (sym (c .before .before .before .before .before .block-at .ensures) ∙ c .before .before .before .block .given .1) (λ e. c .if1 .taken (c .before .record-key .ensures ∙ e)))
 
--- src/search.rt:48:1
 returns-3 : tie.Need-returns-3
 returns-3 c = (
   keys.found-inside _ _ _ (sym (c .before .before .before .before .before .before .before .block-at .ensures) ∙ c .before .before .before .before .before .block .given .1),
   λ a. keys.search-there _ _ _ a (c .before .before .before .before .before .before .before .before .first-from .ensures a) _ (sym (c .before .before .before .before .before .before .before .block-at .ensures) ∙ c .before .before .before .before .before .block .given .1) (sym (c .before .before .before .record-key .ensures) ∙ c .before .before .if1 .left) (c .if2 .taken),
 )
 
--- src/search.rt:48:1
 returns-4 : tie.Need-returns-4
 returns-4 c = (tt, λ a. keys.search-apart _ _ _ a (c .before .before .before .before .before .before .before .before .first-from .ensures a) _ (sym (c .before .before .before .before .before .before .before .block-at .ensures) ∙ c .before .before .before .before .before .block .given .1) (c .if2 .left))
 

@@ -1,18 +1,11 @@
-use Prim.Native.Nat.{ℕ, _/_}
-use mathlib.Core.Path.{subst}
+-- `first_from` finds the first key not below the one asked for. The loop's invariant: keys before `low` are below it, those from `high` on are not, as keys rise.
+use Prim.Native.Nat.{ℕ, _/_, _+_, _-_, _≤_, _<_}
+use mathlib.Core.Path.{subst, sym, _∙_}
 use Rattle.plan.proofs.Keys as keys
-use Prim.Native.Nat.{_+_}
-use Prim.Native.Nat.{_-_, _≤_, _<_}
-use mathlib.Core.Path.{_≡_, sym, _∙_}
 use borrow.Author.Needs.{needs}
 use native.Mathlib.Omega.{arith}
 use Rattle.plan.proofs.search.first_from.Statement.{statement}
 use Rattle.plan.proofs.search.first_from.Tie as tie
-use Rattle.plan.proofs.search.first_from.Reads as reads
-use Rattle.plan.proofs.search.first_from.Lts as lts
-use Rattle.block_file.proofs.block_at.Reads as block-at-reads
-use Rattle.block_file.proofs.block_count.Reads as block-count-reads
-use Rattle.plan.proofs.search.record_key.Reads as record-key-reads
 
 abbrev Inv-loop : tie.InvT-loop
 Inv-loop file key low₀ high₀ low high = keys.Between file key low high
@@ -20,68 +13,53 @@ Inv-loop file key low₀ high₀ low high = keys.Between file key low high
 abbrev μ-loop : tie.MeasureT-loop
 μ-loop file key low₀ high₀ low high = high - low
 
--- src/search.rt:32:9
 block-count-requires : tie.Need-block-count-requires Inv-loop μ-loop
 block-count-requires c κs = search needs
 
--- src/search.rt:33:5
 loop-holds : tie.Need-loop-holds Inv-loop μ-loop
 loop-holds c = keys.between-all _ _ _ (c .block-count .ensures .0) (c .block-count .ensures .1)
 
--- src/search.rt:34:26
 sub-mid : tie.Need-sub-mid Inv-loop μ-loop
 sub-mid c = omega arith
 
--- src/search.rt:34:19
 add-mid : tie.Need-add-mid Inv-loop μ-loop
 add-mid c = omega arith
 
--- src/search.rt:35:37
 block-at-requires : tie.Need-block-at-requires Inv-loop μ-loop
 block-at-requires c κs = search needs
 
--- src/search.rt:35:28
 enum-known-block : tie.Need-enum-known-block Inv-loop μ-loop
 enum-known-block c = search needs
 
--- src/search.rt:36:13
 enum-told : tie.Need-enum-told Inv-loop μ-loop
 enum-told c = search needs
 
--- src/search.rt:36:13
 returns : tie.Need-returns Inv-loop μ-loop
 returns c = λ a.
     let at = c .before .before .before .before .loop in
     let missing = sym (c .before .before .block-at .ensures) ∙ c .enum-told .given .1 in
     absurd (keys.not-missing _ a (at .low + (at .high - at .low) / 2) (omega arith) missing)
 
--- src/search.rt:38:12
 record-key-requires : tie.Need-record-key-requires Inv-loop μ-loop
 record-key-requires c κs = search needs
 
--- src/search.rt:39:19
 add-low : tie.Need-add-low Inv-loop μ-loop
 add-low c = omega arith
 
--- src/search.rt:33:5
 loop-less : tie.Need-loop-less Inv-loop μ-loop
 loop-less c = omega arith
 
--- src/search.rt:33:5
 loop-again : tie.Need-loop-again Inv-loop μ-loop
 loop-again c = let at = c .before .before .before .before .before .before .before .loop in
     keys.between-after _ _ _ _ _ (at .inv) (omega arith) (omega arith) (λ a. subst (λ (k : ℕ). k < c .before .before .before .before .before .before .before .before .before .before .args .key) (keys.key-found _ (at .low + (at .high - at .low) / 2) _ _ _ (omega arith) (c .before .before .before .before .before .block-at .ensures) (c .before .before .before .block .given .1) (c .before .record-key .ensures) a) (c .if1 .taken))
 
--- src/search.rt:33:5
 loop-less-2 : tie.Need-loop-less-2 Inv-loop μ-loop
 loop-less-2 c = omega arith
 
--- src/search.rt:33:5
 loop-again-2 : tie.Need-loop-again-2 Inv-loop μ-loop
 loop-again-2 c = let at = c .before .before .before .before .before .before .before .loop in
     keys.between-before _ _ _ _ _ (at .inv) (omega arith) (omega arith) (λ a. subst (λ (k : ℕ). c .before .before .before .before .before .before .before .before .before .before .args .key ≤ k) (keys.key-found _ (at .low + (at .high - at .low) / 2) _ _ _ (omega arith) (c .before .before .before .before .before .block-at .ensures) (c .before .before .before .block .given .1) (c .before .record-key .ensures) a) (c .if1 .left))
 
--- src/search.rt:28:1
 returns-2 : tie.Need-returns-2 Inv-loop μ-loop
 returns-2 c = keys.between-none _ _ _ _ (c .before .loop .inv) (c .loop-test .left)
 
