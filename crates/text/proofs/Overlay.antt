@@ -7,7 +7,7 @@ use native.Mathlib.Decide.{decLe}
 use mathlib.Core.List.{List, [], _∷_, _++_}
 use lib.ListN.{length, take, drop, set, getD, take-append-drop}
 use lib.Seq.{take-suc, length-take-le}
-use Rattle.text.specs.Wrote.{top, overlay}
+use Rattle.text.specs.Wrote.{overlay}
 
 pub overlay-none : (o : List ℕ) (at : ℕ) → overlay o at [] ≡ o
 unfolding overlay

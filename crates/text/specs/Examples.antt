@@ -1,6 +1,6 @@
 -- Texts that a reader knows, computed.
 use mathlib.Core.Path.{_≡_, refl}
-use mathlib.Core.List.{List, [], _∷_}
+use mathlib.Core.List.{[], _∷_}
 use Rattle.text.specs.Digits.{numeral, fixed}
 use Rattle.text.specs.Doc.{text, dec, hex, hex8, hex16, _▸_, decimal, hexadecimal, hexadecimal8, hexadecimal16, print, each}
 

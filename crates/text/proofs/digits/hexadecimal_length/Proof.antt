@@ -1,9 +1,9 @@
 -- `text::digits::hexadecimal_length` meets its contract: the digits counted and those of what is left are the digits of n.
 use mathlib.Core.Path.{_≡_, sym, _∙_}
 use Prim.Native.Nat.{_+_, _-_, _^_, _<_}
-use native.Mathlib.Nat.{zero-add, lt-of-lt-of-le}
+use native.Mathlib.Nat.{zero-add}
 use native.Mathlib.Omega.{arith}
-use lib.Dec.{lit<, lit≤}
+use lib.Dec.{lit<}
 use lib.ListN.{length}
 use Rattle.text.specs.Digits.{numeral}
 use Rattle.text.specs.Doc.{hexadecimal}
