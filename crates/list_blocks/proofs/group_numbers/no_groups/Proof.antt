@@ -1,7 +1,6 @@
 -- `no_groups` clears part 1. The loop's invariant: it is 0 up to i.
 -- Assumes nothing.
 use Prim.Native.Nat.{_*_, _-_, _≤_}
-use borrow.Author.Needs.{needs}
 use lib.ListN.{length}
 use native.Mathlib.Omega.{arith}
 use Rattle.list_blocks.proofs.Groups.{Zeroed, zeroed-none, zeroed-more, groups-none}

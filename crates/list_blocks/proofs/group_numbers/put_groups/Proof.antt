@@ -5,7 +5,7 @@ use borrow.Author.Needs.{needs}
 use denote.Ref.{now}
 use lib.ListN.{length}
 use mathlib.Core.List.{List}
-use mathlib.Core.Path.{_≡_, subst, sym}
+use mathlib.Core.Path.{subst}
 use native.Mathlib.Omega.{arith}
 use Rattle.list_blocks.proofs.group_numbers.put_groups.Statement.{statement}
 use Rattle.list_blocks.proofs.group_numbers.put_groups.Tie as tie

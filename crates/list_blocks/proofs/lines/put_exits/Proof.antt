@@ -4,7 +4,7 @@ use borrow.Author.Needs.{needs}
 use mathlib.Core.Path.{refl}
 use Rattle.list_blocks.proofs.lines.put_exits.Statement.{statement}
 use Rattle.list_blocks.proofs.lines.put_exits.Tie as tie
-use Rattle.text.proofs.Laws.{seq, said, kept}
+use Rattle.text.proofs.Laws.{seq, said}
 
 enum-told : tie.Need-enum-told
 enum-told c = search needs

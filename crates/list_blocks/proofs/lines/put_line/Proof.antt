@@ -4,7 +4,7 @@ use borrow.Author.Needs.{needs}
 use mathlib.Core.Path.{refl}
 use Rattle.list_blocks.proofs.lines.put_line.Statement.{statement}
 use Rattle.list_blocks.proofs.lines.put_line.Tie as tie
-use Rattle.text.proofs.Laws.{seq, said, kept}
+use Rattle.text.proofs.Laws.{seq, said}
 
 put-hex8-requires : tie.Need-put-hex8-requires
 put-hex8-requires c κs = search needs
