@@ -1,0 +1,79 @@
+-- What C's grammar asks of a tree, so that a compiler reads the tree from its text: each operand binds as tightly as its place asks (C99, 6.5), and no
+-- expression has a line end in it. proofs/Clean.antt shows what follows: no expression or plain statement prints `;`, `{`, `}` or a line end.
+use Prim.Native.Nat.{ℕ, suc}
+use mathlib.Core.Bool.{Bool, true, false, _&&_}
+use mathlib.Core.List.{List, [], _∷_}
+use lib.Dec.{leb}
+use Rattle.c_tree.specs.Expr.{Name, operator, Expr, lit, get, par, un, bin, orLine, cast, pick, ror, read}
+use Rattle.c_tree.specs.Stmt.{Plain, registers, local, declare, adds, set, drop, run, write, tick, Test, guard, gate, other, Simple, gap, begin, plain, label, goto, ret, retIf, interp, retInterp, call, switch, Code, end, _⨾_, when, braces}
+
+-- the level of an expression in the grammar: 14 primary and postfix, 13 unary and cast, 12 to 3 binary, 2 conditional
+unfoldable pub level : Expr → ℕ
+level (lit s n) = 14
+level (get p) = 14
+level (par e) = 14
+level (un o e) = 13
+level (bin o d e) = operator o .1
+level (orLine d e) = 5
+level (cast y e) = 13
+level (pick c d e) = 2
+level (ror d e) = 14
+level (read w e) = 14
+
+-- operands bind as tightly as they must: a binary operator takes its own level on the left and a higher one on the right. l: line ends are allowed
+unfoldable pub binds : Bool → Expr → Bool
+unfolding level
+binds l (lit s n) = true
+binds l (get p) = true
+binds l (par e) = binds l e
+binds l (un o e) = leb 13 (level e) && binds l e
+binds l (bin o d e) = leb (operator o .1) (level d) && leb (suc (operator o .1)) (level e) && binds l d && binds l e
+binds l (orLine d e) = l && leb 5 (level d) && leb 6 (level e) && binds l d && binds l e
+binds l (cast y e) = leb 13 (level e) && binds l e
+binds l (pick c d e) = leb 3 (level c) && leb 2 (level e) && binds l c && binds l d && binds l e
+binds l (ror d e) = binds l d && binds l e
+binds l (read w e) = binds l e
+
+unfoldable pub declaratorsBind : Bool → List (Name × Expr) → Bool
+unfolding binds
+declaratorsBind l [] = true
+declaratorsBind l (p ∷ ps) = binds l (p .1) && declaratorsBind l ps
+
+unfoldable pub plainBinds : Bool → Plain → Bool
+unfolding binds declaratorsBind
+plainBinds l registers = true
+plainBinds l (local x) = true
+plainBinds l (declare x e ds) = binds l e && declaratorsBind l ds
+plainBinds l (adds x d e f) = binds l d && binds l e && binds l f
+plainBinds l (set p o e) = binds l e
+plainBinds l (drop x) = true
+plainBinds l (run p e) = binds l e
+plainBinds l (write w d e) = binds l d && binds l e
+plainBinds l (tick n) = true
+
+unfoldable pub testBinds : Bool → Test → Bool
+unfolding binds
+testBinds l (guard a n h) = true
+testBinds l gate = true
+testBinds l (other e) = binds l e
+
+unfoldable pub simpleBinds : Bool → Simple → Bool
+unfolding binds plainBinds testBinds
+simpleBinds l (gap b n) = true
+simpleBinds l (begin k i n) = true
+simpleBinds l (plain o p) = plainBinds l p
+simpleBinds l (label k) = true
+simpleBinds l (goto o k) = true
+simpleBinds l (ret o e) = binds l e
+simpleBinds l (retIf o t e) = testBinds l t && binds l e
+simpleBinds l (interp k i) = true
+simpleBinds l (retInterp k i) = true
+simpleBinds l (call k n) = true
+simpleBinds l (switch ks) = true
+
+unfoldable pub codeBinds : Bool → Code → Bool
+unfolding simpleBinds testBinds
+codeBinds l end = true
+codeBinds l (s ⨾ c) = simpleBinds l s && codeBinds l c
+codeBinds l (when o n t b c) = testBinds l t && codeBinds l b && codeBinds l c
+codeBinds l (braces b c) = codeBinds l b && codeBinds l c

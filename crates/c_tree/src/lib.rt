@@ -1,0 +1,1 @@
+// The C that emit.rs prints, as a tree: definitions only.
