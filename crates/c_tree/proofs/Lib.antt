@@ -1,1 +1,2 @@
 pub mod Preamble
+pub mod Laws

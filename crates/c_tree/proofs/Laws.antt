@@ -1,0 +1,44 @@
+-- The text of code behind code, and of tops behind tops, is the one text and then the other.
+use mathlib.Core.Path.{_≡_, refl, sym, ap, _∙_}
+use Prim.Native.Nat.{ℕ, _+_}
+use mathlib.Core.List.{List, [], _∷_, _++_}
+use lib.ListN.{length, length-append}
+use Rattle.text.specs.Doc.{Doc, text, _▸_, print, flat, each}
+use Rattle.text.proofs.Laws.{same-bytes, each-append}
+use Rattle.c_tree.specs.Stmt.{Code, end, _⨾_, when, braces, _⧺_, Top}
+use Rattle.c_tree.specs.Print.{simple, test, code, unit}
+
+-- code behind code
+pub append-end : (c : Code) → c ⧺ end ≡ c
+append-end end = refl
+append-end (s ⨾ c) = ap (λ (x : Code). s ⨾ x) (append-end c)
+append-end (when o n t b c) = ap (when o n t b) (append-end c)
+append-end (braces b c) = ap (braces b) (append-end c)
+
+pub append-assoc : (c d e : Code) → (c ⧺ d) ⧺ e ≡ c ⧺ (d ⧺ e)
+append-assoc end d e = refl
+append-assoc (s ⨾ c) d e = ap (λ (x : Code). s ⨾ x) (append-assoc c d e)
+append-assoc (when o n t b c) d e = ap (when o n t b) (append-assoc c d e)
+append-assoc (braces b c) d e = ap (braces b) (append-assoc c d e)
+
+-- its text in front of any other, which is what `said` asks
+pub flat-append : (c d : Code) (k : List ℕ) → flat (code (c ⧺ d)) k ≡ flat (code c ▸ code d) k
+flat-append end d k = refl
+flat-append (s ⨾ c) d k = ap (flat (simple s)) (flat-append c d k)
+flat-append (when o n t b c) d k = ap (λ (l : List ℕ). flat (code (when o n t b end)) l) (flat-append c d k)
+flat-append (braces b c) d k = ap (λ (l : List ℕ). flat (code (braces b end)) l) (flat-append c d k)
+
+pub print-append : (c d : Code) → print (code (c ⧺ d)) ≡ print (code c) ++ print (code d)
+unfolding print
+print-append c d = same-bytes (code (c ⧺ d)) (code c ▸ code d) (flat-append c d [])
+
+pub length-code : (c d : Code) → length (print (code (c ⧺ d))) ≡ length (print (code c)) + length (print (code d))
+length-code c d = ap length (print-append c d) ∙ length-append (print (code c)) (print (code d))
+
+-- tops behind tops
+pub print-unit : (ts us : List Top) → print (unit (ts ++ us)) ≡ print (unit ts) ++ print (unit us)
+unfolding print
+print-unit ts us = sym (same-bytes (unit ts ▸ unit us) (unit (ts ++ us)) (each-append _ ts us []))
+
+pub length-unit : (ts us : List Top) → length (print (unit (ts ++ us))) ≡ length (print (unit ts)) + length (print (unit us))
+length-unit ts us = ap length (print-unit ts us) ∙ length-append (print (unit ts)) (print (unit us))
