@@ -1,2 +1,3 @@
 pub mod Preamble
 pub mod Laws
+pub mod Clean

@@ -27,10 +27,10 @@ binds l (lit s n) = true
 binds l (get p) = true
 binds l (par e) = binds l e
 binds l (un o e) = leb 13 (level e) && binds l e
-binds l (bin o d e) = leb (operator o .1) (level d) && leb (suc (operator o .1)) (level e) && binds l d && binds l e
-binds l (orLine d e) = l && leb 5 (level d) && leb 6 (level e) && binds l d && binds l e
+binds l (bin o d e) = (leb (operator o .1) (level d) && binds l d) && (leb (suc (operator o .1)) (level e) && binds l e)
+binds l (orLine d e) = l && (leb 5 (level d) && binds l d) && (leb 6 (level e) && binds l e)
 binds l (cast y e) = leb 13 (level e) && binds l e
-binds l (pick c d e) = leb 3 (level c) && leb 2 (level e) && binds l c && binds l d && binds l e
+binds l (pick c d e) = (leb 3 (level c) && binds l c) && binds l d && (leb 2 (level e) && binds l e)
 binds l (ror d e) = binds l d && binds l e
 binds l (read w e) = binds l e
 
