@@ -17,23 +17,27 @@ use Rattle.c_tree.specs.Stmt.{Set, is, plus, and, or, Proc, f-nz, f-c, f
 use Rattle.c_tree.specs.Print.{tyName, upper, constant, name, typed, place, unText, bits, expr, setText, procName, declarator, plainText, test}
 use Rattle.c_tree.specs.Binds.{level, binds, declaratorsBind, plainBinds, testBinds}
 
--- a byte that is none of the four
+-- `;`, `{` or `}`
+abbrev pub stop : ℕ → Bool
+stop b = eqb b 59 || eqb b 123 || eqb b 125
+
+-- none of the three, and no line end
 abbrev pub cleanByte : ℕ → Bool
-cleanByte b = not (eqb b 59 || eqb b 123 || eqb b 125 || eqb b 10)
+cleanByte b = not (stop b || eqb b 10)
 
 abbrev pub clean : List ℕ → Bool
 clean [] = true
 clean (b ∷ bs) = cleanByte b && clean bs
 
--- a doc without the four
+-- a doc without `;`, `{`, `}` and line end
 pub record Clean (d : Doc) : Type 0 where
   pub bytes : clean (print d) ≡ true
 
-left : (a b : Bool) → (a && b) ≡ true → a ≡ true
+pub left : (a b : Bool) → (a && b) ≡ true → a ≡ true
 left true b h = refl
 left false b h = h
 
-right : (a b : Bool) → (a && b) ≡ true → b ≡ true
+pub right : (a b : Bool) → (a && b) ≡ true → b ≡ true
 right true b h = h
 right false b h = absurd (true≢false (sym h))
 
@@ -46,12 +50,12 @@ clean-append (x ∷ xs) ys h k =
     both (cleanByte x) (clean (xs ++ ys)) (left (cleanByte x) (clean xs) h) (clean-append xs ys (right (cleanByte x) (clean xs) h) k)
 
 infixr 60 _&_
-_&_ : {a b : Doc} → Clean a → Clean b → Clean (a ▸ b)
+pub _&_ : {a b : Doc} → Clean a → Clean b → Clean (a ▸ b)
 unfolding print
 _&_ {a} {b} p q = record { bytes = clean-append (print a) (print b) (p .bytes) (q .bytes) }
 
 -- a text: by computation
-ok : {s : String} → clean (chars s) ≡ true → Clean (text s)
+pub ok : {s : String} → clean (chars s) ≡ true → Clean (text s)
 unfolding print
 ok h = record { bytes = h }
 
@@ -106,7 +110,7 @@ upper-clean (suc k) n =
     (clean-append (upper (fixed 16 k (n / 16))) (upper (glyph (n % 16) ∷ [])) (upper-clean k (n / 16))
     (below (λ d. clean (upper (glyph d ∷ []))) 16 refl (n % 16) (mod-lt n (omega arith))))
 
-dec-clean : (n : ℕ) → Clean (dec n)
+pub dec-clean : (n : ℕ) → Clean (dec n)
 unfolding print decimal
 dec-clean n = record { bytes = numeral-clean 10 (omega arith) (omega arith) 20 n }
 
@@ -114,7 +118,7 @@ hex-clean : (n : ℕ) → Clean (hex n)
 unfolding print hexadecimal
 hex-clean n = record { bytes = numeral-clean 16 (omega arith) (omega arith) 16 n }
 
-hex8-clean : (n : ℕ) → Clean (hex8 n)
+pub hex8-clean : (n : ℕ) → Clean (hex8 n)
 unfolding print hexadecimal8
 hex8-clean n = record { bytes = fixed-clean 8 n }
 

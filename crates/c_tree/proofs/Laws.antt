@@ -1,12 +1,14 @@
--- The text of code behind code, and of tops behind tops, is the one text and then the other.
+-- Code behind code, and tops behind tops: the text is the one and then the other.
 use mathlib.Core.Path.{_≡_, refl, sym, ap, _∙_}
 use Prim.Native.Nat.{ℕ, _+_}
+use mathlib.Core.Bool.{Bool, _&&_, and-assoc}
 use mathlib.Core.List.{List, [], _∷_, _++_}
 use lib.ListN.{length, length-append}
 use Rattle.text.specs.Doc.{Doc, text, _▸_, print, flat, each}
 use Rattle.text.proofs.Laws.{same-bytes, each-append}
 use Rattle.c_tree.specs.Stmt.{Code, end, _⨾_, when, braces, _⧺_, Top}
-use Rattle.c_tree.specs.Print.{simple, test, code, unit}
+use Rattle.c_tree.specs.Print.{simple, code, unit}
+use Rattle.c_tree.specs.Binds.{testBinds, simpleBinds, codeBinds}
 
 -- code behind code
 pub append-end : (c : Code) → c ⧺ end ≡ c
@@ -34,6 +36,18 @@ print-append c d = same-bytes (code (c ⧺ d)) (code c ▸ code d) (flat-append 
 
 pub length-code : (c d : Code) → length (print (code (c ⧺ d))) ≡ length (print (code c)) + length (print (code d))
 length-code c d = ap length (print-append c d) ∙ length-append (print (code c)) (print (code d))
+
+-- code behind code binds if both do
+pub binds-append : (l : Bool) (c d : Code) → codeBinds l (c ⧺ d) ≡ (codeBinds l c && codeBinds l d)
+unfolding codeBinds
+binds-append l end d = refl
+binds-append l (s ⨾ c) d =
+    ap (λ (x : Bool). simpleBinds l s && x) (binds-append l c d) ∙ sym (and-assoc (simpleBinds l s) (codeBinds l c) (codeBinds l d))
+binds-append l (when o n t b c) d =
+    let p : Bool = testBinds l t && codeBinds l b in
+    ap (λ (x : Bool). p && x) (binds-append l c d) ∙ sym (and-assoc p (codeBinds l c) (codeBinds l d))
+binds-append l (braces b c) d =
+    ap (λ (x : Bool). codeBinds l b && x) (binds-append l c d) ∙ sym (and-assoc (codeBinds l b) (codeBinds l c) (codeBinds l d))
 
 -- tops behind tops
 pub print-unit : (ts us : List Top) → print (unit (ts ++ us)) ≡ print (unit ts) ++ print (unit us)

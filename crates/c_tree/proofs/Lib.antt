@@ -1,3 +1,5 @@
 pub mod Preamble
 pub mod Laws
+pub mod Lengths
 pub mod Clean
+pub mod Skeleton
