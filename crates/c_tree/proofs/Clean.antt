@@ -14,7 +14,7 @@ use Rattle.text.specs.Digits.{glyph, numeral, fixed}
 use Rattle.text.specs.Doc.{Doc, nothing, raw, text, dec, hex, hex8, hex16, _▸_, chars, decimal, hexadecimal, hexadecimal8, hexadecimal16, print, each}
 use Rattle.c_tree.specs.Expr.{Ty, s8, s16, s32, u32, s64, u64, Style, word, caps, uhex, udec, int, Name, x-r, x-base, x-ob, x-addr, x-t, x-s, x-cn, x-cz, x-cc, x-cv, x-pc, x-v, x-n, x-a, x-b, x-cin, x-w, Var, Place, reg, var, Un, compl, lnot, Bin, mul, add, sub, shl, shr, eq, ne, band, bxor, bor, land, lor, operator, Width, w8, w16, w32, Expr, lit, get, par, un, bin, orLine, cast, pick, ror, read}
 use Rattle.c_tree.specs.Stmt.{Set, is, plus, and, or, Proc, f-nz, f-c, f-nz64, Plain, registers, local, declare, adds, set, drop, run, write, tick, Test, guard, gate, other}
-use Rattle.c_tree.specs.Print.{tyName, upper, constant, name, typed, place, unText, bits, expr, setText, procName, declarator, plainText, test}
+use Rattle.c_tree.specs.Print.{tyName, upper, constantText, name, typed, placeText, unText, bits, exprText, setText, procName, declarator, plainText, testText}
 use Rattle.c_tree.specs.Binds.{level, binds, declaratorsBind, plainBinds, testBinds}
 
 -- `;`, `{` or `}`
@@ -130,7 +130,7 @@ caps-clean : (n : ℕ) → Clean (raw (upper (hexadecimal8 n)))
 unfolding print hexadecimal8
 caps-clean n = record { bytes = upper-clean 8 n }
 
-constant-clean : (s : Style) (n : ℕ) → Clean (constant s n)
+constant-clean : (s : Style) (n : ℕ) → Clean (constantText s n)
 constant-clean word n = ok refl & hex8-clean n & ok refl
 constant-clean caps n = ok refl & caps-clean n & ok refl
 constant-clean uhex n = ok refl & hex-clean n & ok refl
@@ -202,12 +202,12 @@ proc-clean f-nz64 = ok refl
 typed-clean : (x : Var) → Clean (typed x)
 typed-clean x = ty-clean (x .0) & ok refl & name-clean (x .1)
 
-place-clean : (p : Place) → Clean (place p)
+place-clean : (p : Place) → Clean (placeText p)
 place-clean (reg n) = ok refl & dec-clean n & ok refl
 place-clean (var x) = name-clean (x .1)
 
 -- an expression that binds
-pub expr-clean : (e : Expr) → binds false e ≡ true → Clean (expr e)
+pub expr-clean : (e : Expr) → binds false e ≡ true → Clean (exprText e)
 unfolding binds
 expr-clean (lit s n) h = constant-clean s n
 expr-clean (get p) h = place-clean p
@@ -238,11 +238,12 @@ expr-clean (ror d e) h =
 expr-clean (read w e) h = ok refl & bits-clean w & ok refl & expr-clean e h & ok refl
 
 -- a condition that binds
-pub test-clean : (t : Test) → testBinds false t ≡ true → Clean (test t)
+pub test-clean : (n : Bool) (t : Test) → testBinds false n t ≡ true → Clean (testText t)
 unfolding testBinds
-test-clean (guard a l n) h = ok refl & hex8-clean a & ok refl & dec-clean l & ok refl & hex16-clean n & ok refl
-test-clean gate h = ok refl
-test-clean (other e) h = expr-clean e h
+test-clean n (guard a l k) h = ok refl & hex8-clean a & ok refl & dec-clean l & ok refl & hex16-clean k & ok refl
+test-clean n gate h = ok refl
+test-clean true (other e) h = expr-clean e (right (leb 13 (level e)) (binds false e) h)
+test-clean false (other e) h = expr-clean e h
 
 declarators-clean : (ds : List (Name × Expr)) → declaratorsBind false ds ≡ true → Clean (each declarator ds)
 unfolding declaratorsBind

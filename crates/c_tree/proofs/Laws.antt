@@ -7,7 +7,7 @@ use lib.ListN.{length, length-append}
 use Rattle.text.specs.Doc.{Doc, text, _▸_, print, flat, each}
 use Rattle.text.proofs.Laws.{same-bytes, each-append}
 use Rattle.c_tree.specs.Stmt.{Code, end, _⨾_, when, braces, _⧺_, Top}
-use Rattle.c_tree.specs.Print.{simple, code, unit}
+use Rattle.c_tree.specs.Print.{simpleText, codeText, unitText}
 use Rattle.c_tree.specs.Binds.{testBinds, simpleBinds, codeBinds}
 
 -- code behind code
@@ -24,18 +24,18 @@ append-assoc (when o n t b c) d e = ap (when o n t b) (append-assoc c d e)
 append-assoc (braces b c) d e = ap (braces b) (append-assoc c d e)
 
 -- its text in front of any other, which is what `said` asks
-pub flat-append : (c d : Code) (k : List ℕ) → flat (code (c ⧺ d)) k ≡ flat (code c ▸ code d) k
+pub flat-append : (c d : Code) (k : List ℕ) → flat (codeText (c ⧺ d)) k ≡ flat (codeText c ▸ codeText d) k
 flat-append end d k = refl
-flat-append (s ⨾ c) d k = ap (flat (simple s)) (flat-append c d k)
-flat-append (when o n t b c) d k = ap (λ (l : List ℕ). flat (code (when o n t b end)) l) (flat-append c d k)
-flat-append (braces b c) d k = ap (λ (l : List ℕ). flat (code (braces b end)) l) (flat-append c d k)
+flat-append (s ⨾ c) d k = ap (flat (simpleText s)) (flat-append c d k)
+flat-append (when o n t b c) d k = ap (λ (l : List ℕ). flat (codeText (when o n t b end)) l) (flat-append c d k)
+flat-append (braces b c) d k = ap (λ (l : List ℕ). flat (codeText (braces b end)) l) (flat-append c d k)
 
-pub print-append : (c d : Code) → print (code (c ⧺ d)) ≡ print (code c) ++ print (code d)
+pub print-append : (c d : Code) → print (codeText (c ⧺ d)) ≡ print (codeText c) ++ print (codeText d)
 unfolding print
-print-append c d = same-bytes (code (c ⧺ d)) (code c ▸ code d) (flat-append c d [])
+print-append c d = same-bytes (codeText (c ⧺ d)) (codeText c ▸ codeText d) (flat-append c d [])
 
-pub length-code : (c d : Code) → length (print (code (c ⧺ d))) ≡ length (print (code c)) + length (print (code d))
-length-code c d = ap length (print-append c d) ∙ length-append (print (code c)) (print (code d))
+pub length-code : (c d : Code) → length (print (codeText (c ⧺ d))) ≡ length (print (codeText c)) + length (print (codeText d))
+length-code c d = ap length (print-append c d) ∙ length-append (print (codeText c)) (print (codeText d))
 
 -- code behind code binds if both do
 pub binds-append : (l : Bool) (c d : Code) → codeBinds l (c ⧺ d) ≡ (codeBinds l c && codeBinds l d)
@@ -44,15 +44,15 @@ binds-append l end d = refl
 binds-append l (s ⨾ c) d =
     ap (λ (x : Bool). simpleBinds l s && x) (binds-append l c d) ∙ sym (and-assoc (simpleBinds l s) (codeBinds l c) (codeBinds l d))
 binds-append l (when o n t b c) d =
-    let p : Bool = testBinds l t && codeBinds l b in
+    let p : Bool = testBinds l n t && codeBinds l b in
     ap (λ (x : Bool). p && x) (binds-append l c d) ∙ sym (and-assoc p (codeBinds l c) (codeBinds l d))
 binds-append l (braces b c) d =
     ap (λ (x : Bool). codeBinds l b && x) (binds-append l c d) ∙ sym (and-assoc (codeBinds l b) (codeBinds l c) (codeBinds l d))
 
 -- tops behind tops
-pub print-unit : (ts us : List Top) → print (unit (ts ++ us)) ≡ print (unit ts) ++ print (unit us)
+pub print-unit : (ts us : List Top) → print (unitText (ts ++ us)) ≡ print (unitText ts) ++ print (unitText us)
 unfolding print
-print-unit ts us = sym (same-bytes (unit ts ▸ unit us) (unit (ts ++ us)) (each-append _ ts us []))
+print-unit ts us = sym (same-bytes (unitText ts ▸ unitText us) (unitText (ts ++ us)) (each-append _ ts us []))
 
-pub length-unit : (ts us : List Top) → length (print (unit (ts ++ us))) ≡ length (print (unit ts)) + length (print (unit us))
-length-unit ts us = ap length (print-unit ts us) ∙ length-append (print (unit ts)) (print (unit us))
+pub length-unit : (ts us : List Top) → length (print (unitText (ts ++ us))) ≡ length (print (unitText ts)) + length (print (unitText us))
+length-unit ts us = ap length (print-unit ts us) ∙ length-append (print (unitText ts)) (print (unitText us))

@@ -7,7 +7,7 @@ use lib.ListN.{length}
 use Rattle.text.specs.Digits.{numeral, fixed}
 use Rattle.text.specs.Doc.{Doc, text, _▸_, decimal, hexadecimal8, print, flat}
 use Rattle.c_tree.specs.Opening.{openingText}
-use Rattle.c_tree.specs.Print.{unit}
+use Rattle.c_tree.specs.Print.{unitText}
 use Rattle.c_tree.specs.Binds.{level, binds, declaratorsBind, plainBinds, testBinds, simpleBinds, codeBinds}
 use Rattle.c_tree.specs.Preamble.{rorBody, nzBody, cBody, addsBody, nz64Body, preamble}
 
@@ -38,11 +38,11 @@ helpersText =
     ▸ text "}\n"
 
 -- the bytes in front of any others, which is what `said` asks
-pub preamble-text : (k : List ℕ) → flat (unit preamble) k ≡ flat (openingText ▸ helpersText) k
+pub preamble-text : (k : List ℕ) → flat (unitText preamble) k ≡ flat (openingText ▸ helpersText) k
 unfolding decimal numeral hexadecimal8 fixed
 preamble-text k = refl
 
-pub preamble-length : length (print (unit preamble)) ≡ 2109
+pub preamble-length : length (print (unitText preamble)) ≡ 2109
 unfolding print decimal numeral hexadecimal8 fixed
 preamble-length = refl
 

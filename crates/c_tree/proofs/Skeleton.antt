@@ -8,7 +8,7 @@ use lib.Dec.{eqb}
 use Rattle.armv4t.specs.Bit0.{clearBit0}
 use Rattle.text.specs.Doc.{Doc, nothing, text, dec, hex8, _▸_, chars, print}
 use Rattle.c_tree.specs.Stmt.{Simple, gap, begin, plain, label, goto, ret, retIf, interp, retInterp, call, switch, Code, end, _⨾_, when, braces}
-use Rattle.c_tree.specs.Print.{key, spaces, cases, simple, code, plainText, test, expr}
+use Rattle.c_tree.specs.Print.{keyText, spaces, casesText, simpleText, codeText, plainText, testText, exprText}
 use Rattle.c_tree.specs.Binds.{binds, plainBinds, testBinds, simpleBinds, codeBinds}
 use Rattle.c_tree.proofs.Clean.{stop, cleanByte, clean, Clean, left, right, ok, _&_, dec-clean, hex8-clean, expr-clean, test-clean, plain-clean}
 
@@ -80,7 +80,7 @@ no-stops (x ∷ xs) h =
 free : {d : Doc} → Clean d → Has d []
 free {d} c = record { is = no-stops (print d) (c .bytes) }
 
-key-free : (k : ℕ) → Has (key k) []
+key-free : (k : ℕ) → Has (keyText k) []
 key-free k = free (hex8-clean (clearBit0 k) & go (eqb (k % 2) 1))
   where
     go : (b : Bool) → Clean (text (cond b "_t" "_a"))
@@ -99,11 +99,11 @@ not-free : (n : Bool) → Has (text (cond n "!" "")) []
 not-free true = lit refl
 not-free false = lit refl
 
-cases-stops : (n : ℕ) (ks : List ℕ) → Has (cases n ks) (caseSkeleton ks)
+cases-stops : (n : ℕ) (ks : List ℕ) → Has (casesText n ks) (caseSkeleton ks)
 cases-stops n [] = none
 cases-stops n (k ∷ ks) = lit refl ⊕ free (dec-clean n) ⊕ lit refl ⊕ key-free k ⊕ lit refl ⊕ cases-stops (suc n) ks
 
-simple-stops : (s : Simple) → simpleBinds false s ≡ true → Has (simple s) (simpleSkeleton s)
+simple-stops : (s : Simple) → simpleBinds false s ≡ true → Has (simpleText s) (simpleSkeleton s)
 unfolding simpleBinds
 simple-stops (gap l n) h = line-free l ⊕ spaces-free n
 simple-stops (begin k i n) h = none
@@ -113,29 +113,29 @@ simple-stops (goto o k) h = lit refl ⊕ key-free k ⊕ lit refl
 simple-stops (ret o e) h = lit refl ⊕ free (expr-clean e h) ⊕ lit refl
 simple-stops (retIf o t e) h =
     lit refl
-    ⊕ free (test-clean t (left (testBinds false t) (binds false e) h))
+    ⊕ free (test-clean false t (left (testBinds false false t) (binds false e) h))
     ⊕ lit refl
-    ⊕ free (expr-clean e (right (testBinds false t) (binds false e) h))
+    ⊕ free (expr-clean e (right (testBinds false false t) (binds false e) h))
     ⊕ lit refl
 simple-stops (interp k i) h = lit refl
 simple-stops (retInterp k i) h = lit refl
 simple-stops (call k n) h = lit refl ⊕ free (hex8-clean k) ⊕ lit refl ⊕ free (dec-clean n) ⊕ lit refl
 simple-stops (switch ks) h = lit refl ⊕ cases-stops 0 ks ⊕ lit refl
 
-code-stops : (c : Code) → codeBinds false c ≡ true → Has (code c) (skeleton c)
+code-stops : (c : Code) → codeBinds false c ≡ true → Has (codeText c) (skeleton c)
 unfolding codeBinds
 code-stops end h = none
 code-stops (s ⨾ c) h =
     simple-stops s (left (simpleBinds false s) (codeBinds false c) h) ⊕ code-stops c (right (simpleBinds false s) (codeBinds false c) h)
 code-stops (when o n t b c) h =
-    let p : (testBinds false t && codeBinds false b) ≡ true = left (testBinds false t && codeBinds false b) (codeBinds false c) h in
+    let p : (testBinds false n t && codeBinds false b) ≡ true = left (testBinds false n t && codeBinds false b) (codeBinds false c) h in
     lit refl
     ⊕ not-free n
-    ⊕ free (test-clean t (left (testBinds false t) (codeBinds false b) p))
+    ⊕ free (test-clean n t (left (testBinds false n t) (codeBinds false b) p))
     ⊕ lit refl
-    ⊕ code-stops b (right (testBinds false t) (codeBinds false b) p)
+    ⊕ code-stops b (right (testBinds false n t) (codeBinds false b) p)
     ⊕ lit refl
-    ⊕ code-stops c (right (testBinds false t && codeBinds false b) (codeBinds false c) h)
+    ⊕ code-stops c (right (testBinds false n t && codeBinds false b) (codeBinds false c) h)
 code-stops (braces b c) h =
     lit refl
     ⊕ code-stops b (left (codeBinds false b) (codeBinds false c) h)
@@ -143,5 +143,5 @@ code-stops (braces b c) h =
     ⊕ code-stops c (right (codeBinds false b) (codeBinds false c) h)
 
 -- no statement is hidden, and none is lost
-pub statements : (c : Code) → codeBinds false c ≡ true → stops (print (code c)) ≡ skeleton c
+pub statements : (c : Code) → codeBinds false c ≡ true → stops (print (codeText c)) ≡ skeleton c
 statements c h = code-stops c h .is

@@ -1,5 +1,6 @@
 -- What C's grammar asks of a tree, so that a compiler reads the tree from its text: each operand binds as tightly as its place asks (C99, 6.5), and no
--- expression has a line end in it. proofs/Clean.antt shows what follows: no expression or plain statement prints `;`, `{`, `}` or a line end.
+-- expression has a line end in it. What follows is proved: no expression or plain statement prints `;`, `{`, `}` or a line end (proofs/Clean.antt), and the
+-- `;` and braces of code are those of the tree (proofs/Skeleton.antt).
 use Prim.Native.Nat.{ℕ, suc}
 use mathlib.Core.Bool.{Bool, true, false, _&&_}
 use mathlib.Core.List.{List, [], _∷_}
@@ -34,11 +35,13 @@ binds l (pick c d e) = (leb 3 (level c) && binds l c) && binds l d && (leb 2 (le
 binds l (ror d e) = binds l d && binds l e
 binds l (read w e) = binds l e
 
+-- the same of the declarators behind the first
 unfoldable pub declaratorsBind : Bool → List (Name × Expr) → Bool
 unfolding binds
 declaratorsBind l [] = true
 declaratorsBind l (p ∷ ps) = binds l (p .1) && declaratorsBind l ps
 
+-- of a plain statement
 unfoldable pub plainBinds : Bool → Plain → Bool
 unfolding binds declaratorsBind
 plainBinds l registers = true
@@ -51,12 +54,15 @@ plainBinds l (run p e) = binds l e
 plainBinds l (write w d e) = binds l d && binds l e
 plainBinds l (tick n) = true
 
-unfoldable pub testBinds : Bool → Test → Bool
-unfolding binds
-testBinds l (guard a n h) = true
-testBinds l gate = true
-testBinds l (other e) = binds l e
+-- of what a condition tests, if n behind a `!`
+unfoldable pub testBinds : Bool → Bool → Test → Bool
+unfolding level binds
+testBinds l n (guard a k h) = true
+testBinds l n gate = true
+testBinds l true (other e) = leb 13 (level e) && binds l e
+testBinds l false (other e) = binds l e
 
+-- of a statement without braces
 unfoldable pub simpleBinds : Bool → Simple → Bool
 unfolding binds plainBinds testBinds
 simpleBinds l (gap b n) = true
@@ -65,15 +71,16 @@ simpleBinds l (plain o p) = plainBinds l p
 simpleBinds l (label k) = true
 simpleBinds l (goto o k) = true
 simpleBinds l (ret o e) = binds l e
-simpleBinds l (retIf o t e) = testBinds l t && binds l e
+simpleBinds l (retIf o t e) = testBinds l false t && binds l e
 simpleBinds l (interp k i) = true
 simpleBinds l (retInterp k i) = true
 simpleBinds l (call k n) = true
 simpleBinds l (switch ks) = true
 
+-- of code: what the lowering is to keep, with l false
 unfoldable pub codeBinds : Bool → Code → Bool
 unfolding simpleBinds testBinds
 codeBinds l end = true
 codeBinds l (s ⨾ c) = simpleBinds l s && codeBinds l c
-codeBinds l (when o n t b c) = testBinds l t && codeBinds l b && codeBinds l c
+codeBinds l (when o n t b c) = testBinds l n t && codeBinds l b && codeBinds l c
 codeBinds l (braces b c) = codeBinds l b && codeBinds l c

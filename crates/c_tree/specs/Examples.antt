@@ -7,7 +7,7 @@ use Rattle.text.specs.Digits.{numeral, fixed}
 use Rattle.text.specs.Doc.{text, decimal, hexadecimal8, hexadecimal16, print}
 use Rattle.c_tree.specs.Expr.{u32, word, udec, int, Name, x-r, x-s, x-cn, x-cz, x-cc, x-cv, x-pc, reg, var, lnot, shl, shr, band, ne, land, Expr, lit, get, par, un, bin}
 use Rattle.c_tree.specs.Stmt.{is, f-nz, f-c, Plain, registers, local, declare, set, drop, run, tick, guard, gate, other, native, common, Simple, gap, begin, plain, label, goto, ret, retIf, interp, retInterp, call, switch, Code, end, _⨾_, when, braces, block, group, Top, function, blank, extern, table, count}
-use Rattle.c_tree.specs.Print.{expr, code, unit}
+use Rattle.c_tree.specs.Print.{exprText, codeText, unitText}
 use Rattle.c_tree.specs.Binds.{level, binds, declaratorsBind, plainBinds, testBinds, simpleBinds, codeBinds}
 use Rattle.c_tree.specs.Preamble.{v32}
 
@@ -39,7 +39,7 @@ ands =
     (gap false 1 ⨾ end))
     (gap true 0 ⨾ end)
 
-ands-text : print (code ands)
+ands-text : print (codeText ands)
     ≡ print
     (text
     "    { uint32_t s_ = c[16]; uint32_t cn = s_ >> 31, cz = (s_ >> 30) & 1u, cc = (s_ >> 29) & 1u, cv = (s_ >> 28) & 1u;\n      if (cc && !cz) {\n        uint32_t r = (c[1] & (c[2] << 3u));\n        f_nz(c, r);\n        f_c(c, ((c[2] >> 29u) & 1u));\n        c[0] = r;\n      } }\n")
@@ -57,7 +57,7 @@ masked = bin band (get (reg 1)) (bin shl (get (reg 2)) (lit udec 3))
 abbrev shifted : Expr
 shifted = bin shl (bin band (get (reg 1)) (get (reg 2))) (lit udec 3)
 
-one-text : print (expr masked) ≡ print (expr shifted)
+one-text : print (exprText masked) ≡ print (exprText shifted)
 unfolding print decimal numeral
 one-text = refl
 
@@ -97,7 +97,7 @@ lone =
     ∷ blank
     ∷ []
 
-lone-text : print (unit lone)
+lone-text : print (unitText lone)
     ≡ print
     (text
     "uint32_t b_02000000_a(const RtApi* a, void* m) {\n    uint32_t* c = (uint32_t*)m;\n    uint32_t pc; (void)pc;\n    if (!a->guard(m, 0x02000000u, 4u, 0x00000000000012abull)) { c[15] = 0x02000000u; return a->interp_one(m); }\n    c[15] = 0x02000000u;\n    pc = a->interp_one(m); if (pc != 0x02000004u) return pc;\n    a->tick(m, 3u);\n    return 0x02000004u;\n}\n\n")
@@ -127,7 +127,7 @@ pair =
     ∷ count 2
     ∷ []
 
-pair-text : print (unit pair)
+pair-text : print (unitText pair)
     ≡ print
     (text
     "static uint32_t g_08000100(const RtApi* a, void* m, uint32_t entry) {\n    switch (entry) {\n    case 0u: goto L_08000100_a;\n    case 1u: goto L_08000104_t;\n    default: return 0u;\n    }\nL_08000100_a:;\n    if (a->chain_gate(m)) return 0x08000100u;\n    goto L_08000100_a;\n\n}\n\nuint32_t b_08000104_t(const RtApi* a, void* m) { return g_08000100(a, m, 1u); }\n\nextern uint32_t b_08000104_t(const RtApi* a, void* m);\nRCG_EXPORT const RcgBlock rcg_blocks[] = {\n    { 0x08000100u, b_08000100_a },\n    { 0x08000105u, b_08000104_t },\n};\nRCG_EXPORT const uint64_t rcg_block_count = 2;\n")

@@ -32,6 +32,7 @@ pub data Place : Type 0 where
 pub data Un : Type 0 where
   compl lnot : Un
 
+-- the binary operators
 pub data Bin : Type 0 where
   mul add sub shl shr eq ne band bxor bor land lor : Bin
 
@@ -54,6 +55,7 @@ operator lor = (" || ", 3)
 pub data Width : Type 0 where
   w8 w16 w32 : Width
 
+-- an expression
 pub data Expr : Type 0 where
   lit : Style → ℕ → Expr
   get : Place → Expr  -- c[n], or a local

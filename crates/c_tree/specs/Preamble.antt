@@ -18,24 +18,27 @@ abbrev pub flag : Expr → ℕ → Expr
 flag e n = par (pick e (lit caps n) (lit udec 0))
 
 -- (r == 0u)
-abbrev pub none : Expr → Expr
-none e = par (bin eq e (lit udec 0))
+abbrev pub isZero : Expr → Expr
+isZero e = par (bin eq e (lit udec 0))
 
 -- (c[16] & e)
 abbrev pub kept : Expr → Expr
 kept e = par (bin band (get (reg 16)) e)
 
--- a plain statement or a return in a line of its own, and the line of the closing brace
 infixr 66 _⨟_
+-- a plain statement in a line of its own
 abbrev pub _⨟_ : Plain → Code → Code
 p ⨟ c = gap true 4 ⨾ plain common p ⨾ c
 
+-- a return in a line of its own
 abbrev pub return : Expr → Code → Code
 return e c = gap true 4 ⨾ ret common e ⨾ c
 
+-- the line end before the closing brace
 abbrev pub close : Code
 close = gap true 0 ⨾ end
 
+-- ror32: n &= 31u; return n ? (v >> n) | (v << (32u - n)) : v;
 abbrev pub rorBody : Code
 rorBody =
     set (var (u32, x-n)) and (lit udec 31)
@@ -43,9 +46,11 @@ rorBody =
     (pick (v32 x-n) (bin bor (par (bin shr (v32 x-v) (v32 x-n))) (par (bin shl (v32 x-v) (par (bin sub (lit udec 32) (v32 x-n)))))) (v32 x-v))
     close
 
+-- f_nz: N and Z of a word
 abbrev pub nzBody : Code
-nzBody = set (reg 16) is (bin bor (bin bor (kept (lit caps 0x3FFFFFFF)) (sign (v32 x-r))) (flag (none (v32 x-r)) 0x40000000)) ⨟ close
+nzBody = set (reg 16) is (bin bor (bin bor (kept (lit caps 0x3FFFFFFF)) (sign (v32 x-r))) (flag (isZero (v32 x-r)) 0x40000000)) ⨟ close
 
+-- f_c: C
 abbrev pub cBody : Code
 cBody = set (reg 16) is (bin bor (kept (un compl (lit caps 0x20000000))) (flag (v32 x-v) 0x20000000)) ⨟ close
 
@@ -57,6 +62,7 @@ overflow =
     (par (bin shr (par (bin band (par (un compl (par (bin bxor (v32 x-a) (v32 x-b))))) (par (bin bxor (v32 x-a) (v32 x-r))))) (lit int 31)))
     (lit udec 1))
 
+-- op_adds: the sum of two words and a carry, with N, Z, C and V
 abbrev pub addsBody : Code
 addsBody =
     declare (u64, x-w) (bin add (bin add (cast u64 (v32 x-a)) (cast u64 (v32 x-b))) (cast u64 (v32 x-cin))) []
@@ -64,17 +70,18 @@ addsBody =
     ⨟ set (reg 16) is
     (orLine
     (orLine
-    (bin bor (orLine (kept (lit caps 0x0FFFFFFF)) (sign (v32 x-r))) (flag (none (v32 x-r)) 0x40000000))
+    (bin bor (orLine (kept (lit caps 0x0FFFFFFF)) (sign (v32 x-r))) (flag (isZero (v32 x-r)) 0x40000000))
     (flag (par (bin shr (get (var (u64, x-w))) (lit int 32))) 0x20000000))
     (flag overflow 0x10000000))
     ⨟ return (v32 x-r) close
 
+-- f_nz64: N and Z of a double word
 abbrev pub nz64Body : Code
 nz64Body =
     set (reg 16) is
     (orLine
     (bin bor (kept (lit caps 0x3FFFFFFF)) (sign (cast u32 (par (bin shr (get (var (u64, x-r))) (lit int 32))))))
-    (flag (none (get (var (u64, x-r)))) 0x40000000))
+    (flag (isZero (get (var (u64, x-r)))) 0x40000000))
     ⨟ close
 
 -- PREAMBLE

@@ -25,12 +25,12 @@ upper [] = []
 upper (d ∷ ds) = cond (leb 97 d) (d - 32) d ∷ upper ds
 
 -- a constant
-abbrev pub constant : Style → ℕ → Doc
-constant word n = text "0x" ▸ hex8 n ▸ text "u"
-constant caps n = text "0x" ▸ raw (upper (hexadecimal8 n)) ▸ text "u"
-constant uhex n = text "0x" ▸ hex n ▸ text "u"
-constant udec n = dec n ▸ text "u"
-constant int n = dec n
+abbrev pub constantText : Style → ℕ → Doc
+constantText word n = text "0x" ▸ hex8 n ▸ text "u"
+constantText caps n = text "0x" ▸ raw (upper (hexadecimal8 n)) ▸ text "u"
+constantText uhex n = text "0x" ▸ hex n ▸ text "u"
+constantText udec n = dec n ▸ text "u"
+constantText int n = dec n
 
 -- the names of the locals
 abbrev pub name : Name → String
@@ -56,37 +56,43 @@ name x-w = "w"
 abbrev pub typed : Var → Doc
 typed x = text (tyName (x .0)) ▸ text " " ▸ text (name (x .1))
 
-abbrev pub place : Place → Doc
-place (reg n) = text "c[" ▸ dec n ▸ text "]"
-place (var x) = text (name (x .1))
+-- a register, or the name of a local
+abbrev pub placeText : Place → Doc
+placeText (reg n) = text "c[" ▸ dec n ▸ text "]"
+placeText (var x) = text (name (x .1))
 
+-- the unary operators
 abbrev pub unText : Un → String
 unText compl = "~"
 unText lnot = "!"
 
+-- the number in the name of a read or a write
 abbrev pub bits : Width → String
 bits w8 = "8"
 bits w16 = "16"
 bits w32 = "32"
 
-abbrev pub expr : Expr → Doc
-expr (lit s n) = constant s n
-expr (get p) = place p
-expr (par e) = text "(" ▸ expr e ▸ text ")"
-expr (un o e) = text (unText o) ▸ expr e
-expr (bin o d e) = expr d ▸ text (operator o .0) ▸ expr e
-expr (orLine d e) = expr d ▸ text "\n        | " ▸ expr e
-expr (cast y e) = text "(" ▸ text (tyName y) ▸ text ")" ▸ expr e
-expr (pick c d e) = expr c ▸ text " ? " ▸ expr d ▸ text " : " ▸ expr e
-expr (ror d e) = text "ror32(" ▸ expr d ▸ text ", " ▸ expr e ▸ text ")"
-expr (read w e) = text "a->read" ▸ text (bits w) ▸ text "(m, " ▸ expr e ▸ text ")"
+-- an expression
+abbrev pub exprText : Expr → Doc
+exprText (lit s n) = constantText s n
+exprText (get p) = placeText p
+exprText (par e) = text "(" ▸ exprText e ▸ text ")"
+exprText (un o e) = text (unText o) ▸ exprText e
+exprText (bin o d e) = exprText d ▸ text (operator o .0) ▸ exprText e
+exprText (orLine d e) = exprText d ▸ text "\n        | " ▸ exprText e
+exprText (cast y e) = text "(" ▸ text (tyName y) ▸ text ")" ▸ exprText e
+exprText (pick c d e) = exprText c ▸ text " ? " ▸ exprText d ▸ text " : " ▸ exprText e
+exprText (ror d e) = text "ror32(" ▸ exprText d ▸ text ", " ▸ exprText e ▸ text ")"
+exprText (read w e) = text "a->read" ▸ text (bits w) ▸ text "(m, " ▸ exprText e ▸ text ")"
 
+-- the assignments, with the white space around them
 abbrev pub setText : Set → String
 setText is = " = "
 setText plus = " += "
 setText and = " &= "
 setText or = " |= "
 
+-- the names of the functions that set flags
 abbrev pub procName : Proc → String
 procName f-nz = "f_nz"
 procName f-c = "f_c"
@@ -94,62 +100,67 @@ procName f-nz64 = "f_nz64"
 
 -- a declarator behind the first
 abbrev pub declarator : Name × Expr → Doc
-declarator p = text ", " ▸ text (name (p .0)) ▸ text " = " ▸ expr (p .1)
+declarator p = text ", " ▸ text (name (p .0)) ▸ text " = " ▸ exprText (p .1)
 
 -- a plain statement without its `;`
 abbrev pub plainText : Plain → Doc
 plainText registers = text "uint32_t* c = (uint32_t*)m"
 plainText (local x) = typed x
-plainText (declare x e ds) = typed x ▸ text " = " ▸ expr e ▸ each declarator ds
-plainText (adds x d e f) = typed (u32, x) ▸ text " = op_adds(c, " ▸ expr d ▸ text ", " ▸ expr e ▸ text ", " ▸ expr f ▸ text ")"
-plainText (set p o e) = place p ▸ text (setText o) ▸ expr e
+plainText (declare x e ds) = typed x ▸ text " = " ▸ exprText e ▸ each declarator ds
+plainText (adds x d e f) = typed (u32, x) ▸ text " = op_adds(c, " ▸ exprText d ▸ text ", " ▸ exprText e ▸ text ", " ▸ exprText f ▸ text ")"
+plainText (set p o e) = placeText p ▸ text (setText o) ▸ exprText e
 plainText (drop x) = text "(void)" ▸ text (name (x .1))
-plainText (run p e) = text (procName p) ▸ text "(c, " ▸ expr e ▸ text ")"
-plainText (write w d e) = text "a->write" ▸ text (bits w) ▸ text "(m, " ▸ expr d ▸ text ", " ▸ expr e ▸ text ")"
+plainText (run p e) = text (procName p) ▸ text "(c, " ▸ exprText e ▸ text ")"
+plainText (write w d e) = text "a->write" ▸ text (bits w) ▸ text "(m, " ▸ exprText d ▸ text ", " ▸ exprText e ▸ text ")"
 plainText (tick n) = text "a->tick(m, " ▸ dec n ▸ text "u)"
 
 -- address and instruction set of a key: 08000000_a, or _t for Thumb
-abbrev pub key : ℕ → Doc
-key k = hex8 (clearBit0 k) ▸ text (cond (eqb (k % 2) 1) "_t" "_a")
+abbrev pub keyText : ℕ → Doc
+keyText k = hex8 (clearBit0 k) ▸ text (cond (eqb (k % 2) 1) "_t" "_a")
 
-abbrev pub test : Test → Doc
-test (guard a l h) = text "a->guard(m, 0x" ▸ hex8 a ▸ text "u, " ▸ dec l ▸ text "u, 0x" ▸ hex16 h ▸ text "ull)"
-test gate = text "a->chain_gate(m)"
-test (other e) = expr e
+-- what a condition tests, without a `!` before it
+abbrev pub testText : Test → Doc
+testText (guard a l h) = text "a->guard(m, 0x" ▸ hex8 a ▸ text "u, " ▸ dec l ▸ text "u, 0x" ▸ hex16 h ▸ text "ull)"
+testText gate = text "a->chain_gate(m)"
+testText (other e) = exprText e
 
+-- so many spaces
 abbrev pub spaces : ℕ → Doc
 spaces zero = nothing
 spaces (suc n) = text " " ▸ spaces n
 
 -- the cases of a switch, counted from n
-abbrev pub cases : ℕ → List ℕ → Doc
-cases n [] = nothing
-cases n (k ∷ ks) = text "    case " ▸ dec n ▸ text "u: goto L_" ▸ key k ▸ text ";\n" ▸ cases (suc n) ks
+abbrev pub casesText : ℕ → List ℕ → Doc
+casesText n [] = nothing
+casesText n (k ∷ ks) = text "    case " ▸ dec n ▸ text "u: goto L_" ▸ keyText k ▸ text ";\n" ▸ casesText (suc n) ks
 
-abbrev pub simple : Simple → Doc
-simple (gap l n) = text (cond l "\n" "") ▸ spaces n
-simple (begin k i n) = nothing
-simple (plain o p) = plainText p ▸ text ";"
-simple (label k) = text "L_" ▸ key k ▸ text ":;"
-simple (goto o k) = text "goto L_" ▸ key k ▸ text ";"
-simple (ret o e) = text "return " ▸ expr e ▸ text ";"
-simple (retIf o t e) = text "if (" ▸ test t ▸ text ") return " ▸ expr e ▸ text ";"
-simple (interp k i) = text "pc = a->interp_one(m);"
-simple (retInterp k i) = text "return a->interp_one(m);"
-simple (call k n) = text "return g_" ▸ hex8 k ▸ text "(a, m, " ▸ dec n ▸ text "u);"
-simple (switch ks) = text "switch (entry) {\n" ▸ cases 0 ks ▸ text "    default: return 0u;\n    }"
+-- a statement without braces
+abbrev pub simpleText : Simple → Doc
+simpleText (gap l n) = text (cond l "\n" "") ▸ spaces n
+simpleText (begin k i n) = nothing
+simpleText (plain o p) = plainText p ▸ text ";"
+simpleText (label k) = text "L_" ▸ keyText k ▸ text ":;"
+simpleText (goto o k) = text "goto L_" ▸ keyText k ▸ text ";"
+simpleText (ret o e) = text "return " ▸ exprText e ▸ text ";"
+simpleText (retIf o t e) = text "if (" ▸ testText t ▸ text ") return " ▸ exprText e ▸ text ";"
+simpleText (interp k i) = text "pc = a->interp_one(m);"
+simpleText (retInterp k i) = text "return a->interp_one(m);"
+simpleText (call k n) = text "return g_" ▸ hex8 k ▸ text "(a, m, " ▸ dec n ▸ text "u);"
+simpleText (switch ks) = text "switch (entry) {\n" ▸ casesText 0 ks ▸ text "    default: return 0u;\n    }"
 
-abbrev pub code : Code → Doc
-code end = nothing
-code (s ⨾ c) = simple s ▸ code c
-code (when o n t b c) = text "if (" ▸ text (cond n "!" "") ▸ test t ▸ text ") {" ▸ code b ▸ text "}" ▸ code c
-code (braces b c) = text "{" ▸ code b ▸ text "}" ▸ code c
+-- statements one after the other
+abbrev pub codeText : Code → Doc
+codeText end = nothing
+codeText (s ⨾ c) = simpleText s ▸ codeText c
+codeText (when o n t b c) = text "if (" ▸ text (cond n "!" "") ▸ testText t ▸ text ") {" ▸ codeText b ▸ text "}" ▸ codeText c
+codeText (braces b c) = text "{" ▸ codeText b ▸ text "}" ▸ codeText c
 
 -- parameters
 abbrev pub typedList : List Var → Doc
 typedList [] = nothing
 typedList (x ∷ xs) = typed x ▸ each (λ (y : Var). text ", " ▸ typed y) xs
 
+-- the head of a function of PREAMBLE up to its parameters but c
 abbrev pub helperName : Helper → Doc
 helperName ror32 = text "uint32_t ror32("
 helperName op-adds = text "uint32_t op_adds(uint32_t* c, "
@@ -157,25 +168,27 @@ helperName (proc p) = text "void " ▸ text (procName p) ▸ text "(uint32_t* c,
 
 -- the head of a block's function
 abbrev pub blockHead : ℕ → Doc
-blockHead k = text "uint32_t b_" ▸ key k ▸ text "(const RtApi* a, void* m)"
+blockHead k = text "uint32_t b_" ▸ keyText k ▸ text "(const RtApi* a, void* m)"
 
-abbrev pub head : Head → Doc
-head (helper h) = text "static inline " ▸ helperName h ▸ typedList (params h) ▸ text ")"
-head (block k) = blockHead k
-head (group k) = text "static uint32_t g_" ▸ hex8 k ▸ text "(const RtApi* a, void* m, uint32_t entry)"
+-- the head of a function
+abbrev pub headText : Head → Doc
+headText (helper h) = text "static inline " ▸ helperName h ▸ typedList (params h) ▸ text ")"
+headText (block k) = blockHead k
+headText (group k) = text "static uint32_t g_" ▸ hex8 k ▸ text "(const RtApi* a, void* m, uint32_t entry)"
 
 -- a row of the table
-abbrev pub row : ℕ → Doc
-row k = text "    { 0x" ▸ hex8 k ▸ text "u, b_" ▸ key k ▸ text " },\n"
+abbrev pub rowText : ℕ → Doc
+rowText k = text "    { 0x" ▸ hex8 k ▸ text "u, b_" ▸ keyText k ▸ text " },\n"
 
-abbrev pub top : Top → Doc
-top opening = openingText
-top (function h c) = head h ▸ text " {" ▸ code c ▸ text "}\n"
-top blank = text "\n"
-top (extern k) = text "extern " ▸ blockHead k ▸ text ";\n"
-top (table ks) = text "RCG_EXPORT const RcgBlock rcg_blocks[] = {\n" ▸ each row ks ▸ text "};\n"
-top (count n) = text "RCG_EXPORT const uint64_t rcg_block_count = " ▸ dec n ▸ text ";\n"
+-- a function, an empty line, or a part of the last unit
+abbrev pub topText : Top → Doc
+topText opening = openingText
+topText (function h c) = headText h ▸ text " {" ▸ codeText c ▸ text "}\n"
+topText blank = text "\n"
+topText (extern k) = text "extern " ▸ blockHead k ▸ text ";\n"
+topText (table ks) = text "RCG_EXPORT const RcgBlock rcg_blocks[] = {\n" ▸ each rowText ks ▸ text "};\n"
+topText (count n) = text "RCG_EXPORT const uint64_t rcg_block_count = " ▸ dec n ▸ text ";\n"
 
 -- a unit, or a part of one
-abbrev pub unit : List Top → Doc
-unit ts = each top ts
+abbrev pub unitText : List Top → Doc
+unitText ts = each topText ts

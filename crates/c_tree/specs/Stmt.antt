@@ -13,7 +13,7 @@ pub data Set : Type 0 where
 pub data Proc : Type 0 where
   f-nz f-c f-nz64 : Proc
 
--- statements that only compute: the way goes on behind them. Their `;` is not theirs
+-- statements that only compute, so that a way goes on behind them; without their `;`
 pub data Plain : Type 0 where
   registers : Plain  -- uint32_t* c = (uint32_t*)m: emit_block, emit_group
   local : Var → Plain  -- uint32_t pc: emit_block, emit_group
@@ -31,11 +31,12 @@ pub data Test : Type 0 where
   gate : Test  -- a->chain_gate(m): transfer
   other : Expr → Test  -- cond_expr; t & 1u of Bx; pc != e of emit_shell
 
--- a mark on a statement: printed for a native record of the block with that key, or not for a native record
+-- a mark on a statement: the key of the block for whose native record it is printed, or common where it is printed for none
 pub data Owner : Type 0 where
   native : ℕ → Owner
   common : Owner
 
+-- a statement without braces, white space, or a mark
 pub data Simple : Type 0 where
   gap : Bool → ℕ → Simple  -- white space: a line end if true, then so many spaces
   begin : ℕ → ℕ → ℕ → Simple  -- a mark: here starts the text of native records of a block: key, index of the first record, how many
@@ -54,7 +55,7 @@ infixr 66 _⨾_
 pub data Code : Type 0 where
   end : Code
   _⨾_ : Simple → Code → Code
-  when : Owner → Bool → Test → Code → Code → Code  -- if (test) { code }, and the code behind; if (!test) if true: emit_block
+  when : Owner → Bool → Test → Code → Code → Code  -- if (test) { code }, and the code behind; with a `!` before the test if true: emit_block
   braces : Code → Code → Code  -- { code }, and the code behind: emit_block
 
 infixr 64 _⧺_
