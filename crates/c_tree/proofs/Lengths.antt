@@ -10,6 +10,8 @@ use lib.ListN.{length, length-append}
 use Rattle.text.specs.Digits.{glyph, numeral, fixed}
 use Rattle.text.specs.Doc.{Doc, nothing, raw, text, dec, hex, hex8, hex16, _▸_, chars, decimal, hexadecimal, hexadecimal8, hexadecimal16, print, each}
 use Rattle.text.proofs.Numerals.{length-fixed}
+use Rattle.c_tree.specs.Stmt.{Code, end, _⨾_, when, braces, _⧺_}
+use Rattle.c_tree.specs.Print.{codeText}
 
 -- the most bytes of a doc. Of a tree with its shape at hand it computes to a number
 abbrev pub most : Doc → ℕ
@@ -48,3 +50,10 @@ length-print (a ▸ b) = omega (arith, length-append (print a) (print b), length
 pub most-each : {A : Type 0} (f : A → Doc) (m : ℕ) → ((x : A) → most (f x) ≤ m) → (xs : List A) → most (each f xs) ≤ length xs * m
 most-each f m h [] = omega arith
 most-each f m h (x ∷ xs) = omega (arith, h x, most-each f m h xs, suc-mul (length xs) m)
+
+-- code behind code
+pub most-append : (c d : Code) → most (codeText (c ⧺ d)) ≡ most (codeText c) + most (codeText d)
+most-append end d = omega arith
+most-append (s ⨾ c) d = omega (arith, most-append c d)
+most-append (when o n t b c) d = omega (arith, most-append c d)
+most-append (braces b c) d = omega (arith, most-append c d)

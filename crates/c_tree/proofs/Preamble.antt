@@ -11,6 +11,7 @@ use Rattle.c_tree.specs.Print.{unitText}
 use Rattle.c_tree.specs.Binds.{level, binds, declaratorsBind, plainBinds, testBinds, simpleBinds, codeBinds}
 use Rattle.c_tree.specs.Preamble.{rorBody, nzBody, cBody, addsBody, nz64Body, preamble}
 
+-- the functions as emit.rs has them
 abbrev pub helpersText : Doc
 helpersText =
     text "static inline uint32_t ror32(uint32_t v, uint32_t n) {\n"
@@ -37,15 +38,17 @@ helpersText =
     ▸ text "        | ((r == 0u) ? 0x40000000u : 0u);\n"
     ▸ text "}\n"
 
--- the bytes in front of any others, which is what `said` asks
+-- PREAMBLE is printed, in front of any other text, which is what `said` asks
 pub preamble-text : (k : List ℕ) → flat (unitText preamble) k ≡ flat (openingText ▸ helpersText) k
 unfolding decimal numeral hexadecimal8 fixed
 preamble-text k = refl
 
+-- two long dashes have three bytes each
 pub preamble-length : length (print (unitText preamble)) ≡ 2109
 unfolding print decimal numeral hexadecimal8 fixed
 preamble-length = refl
 
+-- C's grammar reads the functions as their trees
 pub preamble-binds : (codeBinds true rorBody && codeBinds true nzBody && codeBinds true cBody && codeBinds true addsBody && codeBinds true nz64Body) ≡ true
 unfolding level binds declaratorsBind plainBinds testBinds simpleBinds codeBinds
 preamble-binds = refl
