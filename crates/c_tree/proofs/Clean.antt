@@ -1,6 +1,6 @@
 -- No expression, condition or plain statement that binds prints `;`, `{`, `}` or a line end: a `;` in the text ends a statement of the tree, and a brace is
 -- one of the tree's.
-use mathlib.Core.Path.{_≡_, refl, sym, ap, _∙_}
+use mathlib.Core.Path.{_≡_, refl, sym, ap}
 use Prim.Native.Nat.{ℕ, zero, suc, _-_, _/_, _%_, _≤_, _<_}
 use Prim.Native.String.{String}
 use native.Mathlib.Nat.{not-suc-le-zero, mod-lt}

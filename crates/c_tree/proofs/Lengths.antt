@@ -1,13 +1,13 @@
 -- How long a text is at most: numbers are counted with all digits that they can have.
-use mathlib.Core.Path.{_≡_, refl, sym, ap, _∙_}
+use mathlib.Core.Path.{_≡_}
 use Prim.Native.Nat.{ℕ, zero, suc, _+_, _*_, _/_, _%_, _≤_}
 use native.Mathlib.Nat.{suc-mul}
 use native.Mathlib.Omega.{arith}
 use native.Mathlib.Decide.{decLt}
-use mathlib.Core.List.{List, [], _∷_, _++_}
+use mathlib.Core.List.{List, [], _∷_}
 use borrow.Author.Tests.{lt-ltb, le-ltb}
 use lib.ListN.{length, length-append}
-use Rattle.text.specs.Digits.{glyph, numeral, fixed}
+use Rattle.text.specs.Digits.{glyph, numeral}
 use Rattle.text.specs.Doc.{Doc, nothing, raw, text, dec, hex, hex8, hex16, _▸_, chars, decimal, hexadecimal, hexadecimal8, hexadecimal16, print, each}
 use Rattle.text.proofs.Numerals.{length-fixed}
 use Rattle.c_tree.specs.Stmt.{Code, end, _⨾_, when, braces, _⧺_}

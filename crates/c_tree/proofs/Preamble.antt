@@ -2,7 +2,7 @@
 use mathlib.Core.Path.{_≡_, refl}
 use mathlib.Core.Bool.{true, _&&_}
 use Prim.Native.Nat.{ℕ}
-use mathlib.Core.List.{List, [], _∷_}
+use mathlib.Core.List.{List}
 use lib.ListN.{length}
 use Rattle.text.specs.Digits.{numeral, fixed}
 use Rattle.text.specs.Doc.{Doc, text, _▸_, decimal, hexadecimal8, print, flat}

@@ -1,15 +1,15 @@
 -- The statements that a compiler sees are the tree's: in the text of code that binds, the bytes `;`, `{` and `}` are those that the tree says, in its order.
-use mathlib.Core.Path.{_≡_, refl, sym, ap, _∙_}
+use mathlib.Core.Path.{_≡_, refl, sym, ap}
 use Prim.Native.Nat.{ℕ, zero, suc, _%_}
 use Prim.Native.String.{String}
 use mathlib.Core.Bool.{Bool, true, false, not, cond, _&&_, _||_}
 use mathlib.Core.List.{List, [], _∷_, _++_}
 use lib.Dec.{eqb}
 use Rattle.armv4t.specs.Bit0.{clearBit0}
-use Rattle.text.specs.Doc.{Doc, nothing, text, dec, hex8, _▸_, chars, print}
+use Rattle.text.specs.Doc.{Doc, nothing, text, _▸_, chars, print}
 use Rattle.c_tree.specs.Stmt.{Simple, gap, begin, plain, label, goto, ret, retIf, interp, retInterp, call, switch, Code, end, _⨾_, when, braces}
-use Rattle.c_tree.specs.Print.{keyText, spaces, casesText, simpleText, codeText, plainText, testText, exprText}
-use Rattle.c_tree.specs.Binds.{binds, plainBinds, testBinds, simpleBinds, codeBinds}
+use Rattle.c_tree.specs.Print.{keyText, spaces, casesText, simpleText, codeText}
+use Rattle.c_tree.specs.Binds.{binds, testBinds, simpleBinds, codeBinds}
 use Rattle.c_tree.proofs.Clean.{stop, cleanByte, clean, Clean, left, right, ok, _&_, dec-clean, hex8-clean, expr-clean, test-clean, plain-clean}
 
 -- the bytes `;`, `{` and `}` of a text

@@ -1,12 +1,12 @@
 -- Texts of emit.rs, computed, and what C's grammar makes of them.
 use Prim.Native.Nat.{ℕ}
 use mathlib.Core.Path.{_≡_, refl}
-use mathlib.Core.Bool.{Bool, true, false}
+use mathlib.Core.Bool.{true, false}
 use mathlib.Core.List.{List, [], _∷_}
 use Rattle.text.specs.Digits.{numeral, fixed}
-use Rattle.text.specs.Doc.{text, decimal, hexadecimal8, hexadecimal16, print}
-use Rattle.c_tree.specs.Expr.{u32, word, udec, int, Name, x-r, x-s, x-cn, x-cz, x-cc, x-cv, x-pc, reg, var, lnot, shl, shr, band, ne, land, Expr, lit, get, par, un, bin}
-use Rattle.c_tree.specs.Stmt.{is, f-nz, f-c, Plain, registers, local, declare, set, drop, run, tick, guard, gate, other, native, common, Simple, gap, begin, plain, label, goto, ret, retIf, interp, retInterp, call, switch, Code, end, _⨾_, when, braces, block, group, Top, function, blank, extern, table, count}
+use Rattle.text.specs.Doc.{text, dec, _▸_, decimal, hexadecimal8, hexadecimal16, print, flat}
+use Rattle.c_tree.specs.Expr.{u32, word, udec, int, x-r, x-s, x-cn, x-cz, x-cc, x-cv, x-pc, reg, lnot, shl, shr, band, ne, land, Expr, lit, get, par, un, bin}
+use Rattle.c_tree.specs.Stmt.{is, f-nz, f-c, Plain, registers, local, declare, set, drop, run, tick, guard, gate, other, native, common, gap, begin, plain, label, goto, ret, retIf, interp, retInterp, call, switch, Code, end, _⨾_, when, braces, block, group, Top, function, blank, extern, table, count}
 use Rattle.c_tree.specs.Print.{exprText, codeText, unitText}
 use Rattle.c_tree.specs.Binds.{level, binds, declaratorsBind, plainBinds, testBinds, simpleBinds, codeBinds}
 use Rattle.c_tree.specs.Preamble.{v32}
@@ -49,6 +49,10 @@ ands-text = refl
 ands-binds : codeBinds false ands ≡ true
 unfolding level binds declaratorsBind plainBinds testBinds simpleBinds codeBinds
 ands-binds = refl
+
+-- `    a->tick(m, {}u);` for any number, printed in front of any text
+tick-text : (n : ℕ) (k : List ℕ) → flat (codeText (gap false 4 ⨾ plain common (tick n) ⨾ gap true 0 ⨾ end)) k ≡ flat (text "    a->tick(m, " ▸ dec n ▸ text "u);\n") k
+tick-text n k = refl
 
 -- of two trees with one text, C's grammar reads the one that binds: << binds tighter than &
 abbrev masked : Expr

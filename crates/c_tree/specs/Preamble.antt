@@ -3,7 +3,7 @@ use Prim.Native.Nat.{ℕ}
 use mathlib.Core.Bool.{true}
 use mathlib.Core.List.{List, [], _∷_}
 use Rattle.c_tree.specs.Expr.{u32, u64, caps, udec, int, Name, x-r, x-v, x-n, x-a, x-b, x-cin, x-w, reg, var, compl, add, sub, shl, shr, eq, band, bxor, bor, Expr, lit, get, par, un, bin, orLine, cast, pick}
-use Rattle.c_tree.specs.Stmt.{is, and, f-nz, f-c, f-nz64, Plain, declare, set, Owner, common, gap, plain, ret, Code, end, _⨾_, ror32, op-adds, proc, helper, Top, opening, function}
+use Rattle.c_tree.specs.Stmt.{is, and, f-nz, f-c, f-nz64, Plain, declare, set, common, gap, plain, ret, Code, end, _⨾_, ror32, op-adds, proc, helper, Top, opening, function}
 
 -- a uint32_t local
 abbrev pub v32 : Name → Expr
