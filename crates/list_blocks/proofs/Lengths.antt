@@ -17,20 +17,19 @@ use Rattle.list_blocks.specs.Listing.{groupOf, line, blockLine, linesFro
 
 -- a line: 8 digits, a space, at most 20 digits, two exits with 9 bytes each, and the line's end
 line-most : (key group : ℕ) (keys : List ℕ) → length keys ≤ 2 → most (line key group keys) ≤ 48
-unfolding most
 line-most key group [] h = omega arith
 line-most key group (k ∷ []) h = omega arith
 line-most key group (k ∷ l ∷ []) h = omega arith
 line-most key group (k ∷ l ∷ m ∷ keys) h = absurd (omega arith)
 
 lines-most : (rows : List ℕ) (i : ℕ) (bs : List Block) → most (linesFrom rows i bs) ≤ 48 * length bs
-unfolding most linesFrom blockLine
+unfolding linesFrom blockLine
 lines-most rows i [] = zero-le
 lines-most rows i (b ∷ bs) = omega (arith, line-most (blockKey b) (groupOf i rows) (exits b) (exits-few b), lines-most rows (suc i) bs)
 
 -- a listing: its first line has 16 bytes
 pub listing-most : (bs : List Block) → length (print (listing bs)) ≤ 16 + 48 * length bs
-unfolding most listing
+unfolding listing
 listing-most bs = omega (arith, length-most (listing bs), lines-most (plan partLimit bs) 0 bs)
 
 pub listing-short : (bs : List Block) → length bs ≤ 65536 → length (print (listing bs)) < top

@@ -14,7 +14,7 @@ use Rattle.block_file.proofs.Accepted.{length-of, parts-of}
 use Rattle.text.specs.Doc.{print}
 use Rattle.text.specs.Wrote.{Wrote}
 use Rattle.text.proofs.Laws.{whole}
-use Rattle.text.proofs.Lengths.{most, length-most}
+use Rattle.text.proofs.Lengths.{length-most}
 use Rattle.plan.specs.Calls.{cleared, Left, groupedCall, groupingCall}
 use Rattle.list_blocks.specs.Calls.{listingCall}
 use Rattle.list_blocks.specs.Listing.{listing}
@@ -63,7 +63,6 @@ module _ (f : List ℕ) (short : length f ≤ 65536) (work out : List ℕ) (numb
       front (print (listing bs)) (drop (length (print (listing bs))) out) n out′ size (ap (λ (l : Left ℕ). l .result) left)
 
   line-fits : (n i : ℕ) → length (print (refusalLine n i)) ≤ 53
-  unfolding most
   line-fits n i = length-most (refusalLine n i)
 
   pub refusal-shown : (p : Parsed) → parse f ≡ p → (n i : ℕ) (work′ out₁ out₂ : List ℕ) (r : ℕ)

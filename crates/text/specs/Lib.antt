@@ -1,3 +1,4 @@
+-- The definitions that the contracts of the printers name.
 pub mod Digits
 pub mod Doc
 pub mod Wrote
