@@ -1,0 +1,2 @@
+-- What emit_block makes of a block's instructions, as forms of text.
+pub mod Forms
