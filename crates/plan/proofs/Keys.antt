@@ -20,7 +20,7 @@ use Rattle.block_file.specs.Read.{recordAt, foundBlock}
 use Rattle.block_file.proofs.Accepted.{block-of, length-of, key-rises, block-found}
 use Rattle.plan.specs.Accepted.{blocksOf, Accepted}
 use Rattle.plan.specs.Plan.{blockKey, joinable, target}
-use Rattle.plan.specs.Search.{FirstFrom}
+use Rattle.plan.specs.Search.{Between, FirstFrom}
 
 zero-lt : (n : ℕ) → 0 < suc n
 zero-lt n = omega arith
@@ -109,14 +109,6 @@ target-some k (b ∷ bs) i (suc m) d l h e g =
     rw (ne-eqb _ _ (h 0 (zero-lt m)))
     (target-some k bs (suc i) m d (le-of-suc-le-suc l) (λ j b′. h (suc j) (suc-le-suc b′)) e g ∙ ap some (let same : suc i + m ≡ i + suc m = omega arith in same))
 
--- what the search keeps: the keys before low are below the key, those from high on are not
-pub record Between (f : List ℕ) (key low high : ℕ) : Type 0 where
-  pub order : low ≤ high
-  pub inside : high ≤ blockCount f
-  pub few : high < 2 ^ 32
-  pub below : Accepted f → (j : ℕ) → j < low → keyAt f (blockStart f j) < key
-  pub above : Accepted f → (j : ℕ) → high ≤ j → j < blockCount f → key ≤ keyAt f (blockStart f j)
-
 pub between-all : (f : List ℕ) (key n : ℕ) → n ≡ blockCount f → n < 2 ^ 32 → Between f key 0 n
 between-all f key n e h =
     record {
@@ -172,6 +164,15 @@ pub key-found : (f : List ℕ) (i : ℕ) (b : BlockRecord) (found : FoundBlock) 
     → found ≡ FoundBlock.At b → k ≡ b .addr + cond (b .thumb) 1 0 → Accepted f → k ≡ keyAt f (blockStart f i)
 key-found f i b found k h e g s a =
     s ∙ ap (λ (r : BlockRecord). r .addr + cond (r .thumb) 1 0) (record-found f a i b h (sym e ∙ g)) ∙ key-of-record f (blockStart f i)
+
+-- what the code finds of that key holds of the file's
+pub key-below : (f : List ℕ) (key i : ℕ) (b : BlockRecord) (found : FoundBlock) (k : ℕ) → i < blockCount f → found ≡ foundBlock f i
+    → found ≡ FoundBlock.At b → k ≡ b .addr + cond (b .thumb) 1 0 → k < key → Accepted f → keyAt f (blockStart f i) < key
+key-below f key i b found k h e g s l a = subst (λ (m : ℕ). m < key) (key-found f i b found k h e g s a) l
+
+pub key-not-below : (f : List ℕ) (key i : ℕ) (b : BlockRecord) (found : FoundBlock) (k : ℕ) → i < blockCount f → found ≡ foundBlock f i
+    → found ≡ FoundBlock.At b → k ≡ b .addr + cond (b .thumb) 1 0 → key ≤ k → Accepted f → key ≤ keyAt f (blockStart f i)
+key-not-below f key i b found k h e g s l a = subst (λ (m : ℕ). key ≤ m) (key-found f i b found k h e g s a) l
 
 -- a record that the reader found is one of the file's
 pub found-inside : (f : List ℕ) (i : ℕ) (b : BlockRecord) → foundBlock f i ≡ FoundBlock.At b → i < blockCount f

@@ -28,7 +28,7 @@ fn join_key(file: &[u8], work: &mut [u32], n: usize, i: usize, key: u32)
     requires { ⌜ Forest (2 * n) (part1 n (now work)) ⌝ }
     ensures { λ _. ⌜ Joined 1 n (now (work .entry)) (now (work .exit)) (λ q. joinTo i q (target key (blocksOf (now (file .entry))) 0)) (Accepted (now (file .entry))) ⌝ }
 {
-    let Target::At(j) = find_target(file, key) else {
+    let Target::At(j) = find_target(file, key, i) else {
         return;
     };
     let end = 2 * n;

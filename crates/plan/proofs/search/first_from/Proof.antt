@@ -1,23 +1,28 @@
--- `first_from` finds the first key not below the one asked for. The loop's invariant: keys before `low` are below it, those from `high` on are not, as keys rise.
-use Prim.Native.Nat.{ℕ, _/_, _+_, _-_, _≤_, _<_}
-use mathlib.Core.Path.{subst, sym, _∙_}
+-- `plan::search::first_from` meets its contract: what is between low and high halves, and what the search keeps at the end is the answer.
+-- Assumes nothing.
+use Prim.Native.Nat.{ℕ, _/_}
 use Rattle.plan.proofs.Keys as keys
+use Rattle.plan.specs.Search.{Between}
+use Prim.Native.Nat.{_+_}
+use Prim.Native.Nat.{_-_, _≤_, _<_}
+use mathlib.Core.Path.{_≡_, sym, _∙_}
 use borrow.Author.Needs.{needs}
 use native.Mathlib.Omega.{arith}
 use Rattle.plan.proofs.search.first_from.Statement.{statement}
 use Rattle.plan.proofs.search.first_from.Tie as tie
+use Rattle.plan.proofs.search.first_from.Reads as reads
 
 abbrev Inv-loop : tie.InvT-loop
-Inv-loop file key low₀ high₀ low high = keys.Between file key low high
+Inv-loop file key i low₀ high₀ low high = Between file key low high
 
 abbrev μ-loop : tie.MeasureT-loop
-μ-loop file key low₀ high₀ low high = high - low
+μ-loop file key i low₀ high₀ low high = high - low
 
-block-count-requires : tie.Need-block-count-requires Inv-loop μ-loop
-block-count-requires c κs = search needs
+near-requires : tie.Need-near-requires Inv-loop μ-loop
+near-requires c κs = search needs
 
 loop-holds : tie.Need-loop-holds Inv-loop μ-loop
-loop-holds c = keys.between-all _ _ _ (c .block-count .ensures .0) (c .block-count .ensures .1)
+loop-holds c = c .near .ensures
 
 sub-mid : tie.Need-sub-mid Inv-loop μ-loop
 sub-mid c = omega arith
@@ -51,14 +56,14 @@ loop-less c = omega arith
 
 loop-again : tie.Need-loop-again Inv-loop μ-loop
 loop-again c = let at = c .before .before .before .before .before .before .before .loop in
-    keys.between-after _ _ _ _ _ (at .inv) (omega arith) (omega arith) (λ a. subst (λ (k : ℕ). k < c .before .before .before .before .before .before .before .before .before .before .args .key) (keys.key-found _ (at .low + (at .high - at .low) / 2) _ _ _ (omega arith) (c .before .before .before .before .before .block-at .ensures) (c .before .before .before .block .given .1) (c .before .record-key .ensures) a) (c .if1 .taken))
+    keys.between-after _ _ _ _ _ (at .inv) (omega arith) (omega arith) (keys.key-below _ _ (at .low + (at .high - at .low) / 2) _ _ _ (omega arith) (c .before .before .before .before .before .block-at .ensures) (c .before .before .before .block .given .1) (c .before .record-key .ensures) (c .if1 .taken))
 
 loop-less-2 : tie.Need-loop-less-2 Inv-loop μ-loop
 loop-less-2 c = omega arith
 
 loop-again-2 : tie.Need-loop-again-2 Inv-loop μ-loop
 loop-again-2 c = let at = c .before .before .before .before .before .before .before .loop in
-    keys.between-before _ _ _ _ _ (at .inv) (omega arith) (omega arith) (λ a. subst (λ (k : ℕ). c .before .before .before .before .before .before .before .before .before .before .args .key ≤ k) (keys.key-found _ (at .low + (at .high - at .low) / 2) _ _ _ (omega arith) (c .before .before .before .before .before .block-at .ensures) (c .before .before .before .block .given .1) (c .before .record-key .ensures) a) (c .if1 .left))
+    keys.between-before _ _ _ _ _ (at .inv) (omega arith) (omega arith) (keys.key-not-below _ _ (at .low + (at .high - at .low) / 2) _ _ _ (omega arith) (c .before .before .before .before .before .block-at .ensures) (c .before .before .before .block .given .1) (c .before .record-key .ensures) (c .if1 .left))
 
 returns-2 : tie.Need-returns-2 Inv-loop μ-loop
 returns-2 c = keys.between-none _ _ _ _ (c .before .loop .inv) (c .loop-test .left)
@@ -69,7 +74,7 @@ first-from-spec =
     (tie.spec
     Inv-loop
     μ-loop
-    block-count-requires
+    near-requires
     loop-holds
     sub-mid
     add-mid
