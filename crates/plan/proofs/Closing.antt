@@ -9,6 +9,8 @@ use lib.ListN.{length, getD, getElem?}
 use native.Mathlib.Nat.{add-zero, mul-zero, mul-suc, mod-eq-of-lt, le-of-suc-le-suc, not-suc-le-zero}
 use native.Mathlib.Omega.{arith}
 use Rattle.armv4t.specs.Instr.{sizeOf}
+use Rattle.armv4t.specs.declared.Fused.{Fused}
+use Rattle.armv4t.specs.declared.Instr.{Instr}
 use Rattle.armv4t.specs.Fused.{fuse}
 use Rattle.block_file.specs.declared.decode.TimedInstr.{TimedInstr}
 use Rattle.block_file.specs.declared.read.BlockRecord.{BlockRecord}
@@ -105,6 +107,14 @@ module _ {f : List ℕ} {i : ℕ} {b : BlockRecord} {first : ℕ} (is : IsBlock 
       ap₂ (pairExits (b .thumb)) (read-as (b .count - 2) r x (omega arith) e g) (read-as (b .count - 1) q y (omega arith) e′ g′)
       ∙ ends-paired f (b .thumb) (b .count) first (b .addr) two
       ∙ sym exits-are
+
+  -- a block of more whose last instruction makes no pair
+  pub exits-unpaired : (q : FoundInstr) (y : TimedInstr) → (b .count ≡ 1 → ⊥) → ((before : Instr) → fuse before (y .instr) ≡ Fused.Nothing)
+      → q ≡ readInstr f b first (b .count - 1) → q ≡ FoundInstr.At y → lastExits (b .thumb) (y .instr) ≡ exits (blockAt f (blockStart f i) first)
+  exits-unpaired q y more alone e g =
+      let x = instrAt f first (b .addr) (b .thumb) (b .count - 2) in
+      ap (λ (z : Fused). closingExits z (lastExits (b .thumb) (y .instr))) (sym (alone (x .instr)))
+      ∙ exits-paired (readInstr f b first (b .count - 2)) q x y more refl (instr-there (b .count - 2) (omega (arith, some-instr is))) e g
 
 -- past the last block there is nothing
 past : (bs : List Block) (i : ℕ) → length bs ≤ i → none ≡ getElem? (map exits bs) i

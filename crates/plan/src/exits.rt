@@ -12,10 +12,12 @@ use block_file::FoundInstr;
 use block_file::block_at;
 use block_file::instr_at;
 ghost use mathlib.Core.Path.{_≡_};
-ghost use mathlib.Core.Bool.{cond};
+ghost use mathlib.Core.Bool.{false, cond};
 ghost use mathlib.Core.List.{[], _∷_, map};
 ghost use Prim.Native.Nat.{ℕ, _+_, _*_, _%_, _^_};
 ghost use lib.ListN.{getElem?};
+ghost use Rattle.armv4t.specs.declared.Fused.{Fused};
+ghost use Rattle.armv4t.specs.declared.Instr.{Instr};
 ghost use Rattle.armv4t.specs.Fused.{fuse};
 ghost use Rattle.armv4t.specs.Instr.{sizeOf};
 ghost use Rattle.block_file.specs.Trailer.{blockStart};
@@ -106,6 +108,17 @@ pub fn closing_exits(thumb: bool, before: Instr, last: Instr) -> Exits
     }
 }
 
+// Whether an instruction is the second half of a Thumb BL; any other makes no pair with the one before it.
+fn ends_bl(instr: Instr) -> bool
+    ensures { λ r. ⌜ (r ≡ false → (before : Instr) → fuse before instr ≡ Fused.Nothing) ⌝ }
+{
+    let op = instr.op;
+    match op {
+        Op::ThumbBlLow { .. } => true,
+        _ => false,
+    }
+}
+
 // The address of instruction j of a block at an address.
 fn instr_addr(addr: u32, thumb: bool, j: u32) -> u32
     ensures { λ r. ⌜ r ≡ (addr + sizeOf thumb * j) % 2 ^ 32 ⌝ }
@@ -144,6 +157,9 @@ pub fn exits_at(file: &[u8], block: BlockRecord, first: usize) -> Exits
         return Exits::None;
     };
     if count == 1 {
+        return last_exits(block.thumb, last.instr);
+    }
+    if !ends_bl(last.instr) {
         return last_exits(block.thumb, last.instr);
     }
     let FoundInstr::At(previous) = instr_of(file, block, first, count - 2) else {

@@ -3,8 +3,9 @@
 use mathlib.Core.Path.{_∙_}
 use native.Mathlib.Omega.{arith}
 use borrow.Author.Needs.{needs}
+use borrow.Author.Tests.{not-true}
 use Rattle.plan.proofs.Accepted.{some-instr}
-use Rattle.plan.proofs.Closing.{not-missing, exits-alone, exits-paired}
+use Rattle.plan.proofs.Closing.{not-missing, exits-alone, exits-paired, exits-unpaired}
 use Rattle.plan.proofs.exits.exits_at.Statement.{statement}
 use Rattle.plan.proofs.exits.exits_at.Tie as tie
 
@@ -37,6 +38,20 @@ returns-3 c i is =
     c .last-exits .ensures
     ∙ exits-alone is _ _ (c .before .if2 .taken) (known .before .before .instr-of .ensures) (known .last .given .1)
 
+ends-bl-requires : tie.Need-ends-bl-requires
+ends-bl-requires c κs = search needs
+
+last-exits-requires-2 : tie.Need-last-exits-requires-2
+last-exits-requires-2 c κs = search needs
+
+returns-4 : tie.Need-returns-4
+returns-4 c i is =
+    let known = c .before .before .before .before .before in
+    c .last-exits2 .ensures
+    ∙ exits-unpaired is _ _ (c .before .before .before .if2 .left) (c .before .before .ends-bl .ensures (not-true _ (c .before .if3 .taken)))
+    (known .before .before .instr-of .ensures)
+    (known .last .given .1)
+
 sub-instr-of-2 : tie.Need-sub-instr-of-2
 sub-instr-of-2 c = search needs
 
@@ -49,20 +64,20 @@ enum-known-previous c = search needs
 enum-told-2 : tie.Need-enum-told-2
 enum-told-2 c = search needs
 
-returns-4 : tie.Need-returns-4
-returns-4 c i is =
+returns-5 : tie.Need-returns-5
+returns-5 c i is =
     absurd
     (not-missing is _ _ (omega (arith, some-instr is)) (c .before .before .instr-of2 .ensures) (c .enum-told2 .given .1))
 
 closing-exits-requires : tie.Need-closing-exits-requires
 closing-exits-requires c κs = search needs
 
-returns-5 : tie.Need-returns-5
-returns-5 c i is =
+returns-6 : tie.Need-returns-6
+returns-6 c i is =
     let second = c .before .before in
-    let first = second .before .before .before .before .before in
+    let first = second .before .before .before .before .before .before .before in
     c .closing-exits .ensures
-    ∙ exits-paired is _ _ _ _ (second .before .before .before .if2 .left) (second .before .before .instr-of2 .ensures)
+    ∙ exits-paired is _ _ _ _ (second .before .before .before .before .before .if2 .left) (second .before .before .instr-of2 .ensures)
     (second .previous .given .1)
     (first .before .before .instr-of .ensures)
     (first .last .given .1)
@@ -79,10 +94,13 @@ exits-at-spec =
     returns-2
     last-exits-requires
     returns-3
+    ends-bl-requires
+    last-exits-requires-2
+    returns-4
     sub-instr-of-2
     instr-of-requires-2
     enum-known-previous
     enum-told-2
-    returns-4
+    returns-5
     closing-exits-requires
-    returns-5)
+    returns-6)
