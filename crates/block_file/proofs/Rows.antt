@@ -1,19 +1,20 @@
 -- The rules of an instruction record: which row of largest values a kind and a form select, how a row is compared byte by byte, and what must be even.
 -- Assumes nothing.
-use mathlib.Core.Path.{_≡_, refl, ap, sym, _∙_}
+use mathlib.Core.Path.{_≡_, refl, ap, ap₂, sym, _∙_}
 use mathlib.Core.Bool.{Bool, true, false, not, cond, _&&_, _||_, and-true, and-false, and-assoc, and-eq-true-iff, Bool·not-not}
 use mathlib.Core.Logic.{_⊎_, inl, inr}
-use mathlib.Core.List.{List, [], _∷_}
+use mathlib.Core.List.{List, [], _∷_, _++_, append-assoc}
 use Prim.Native.Nat.{ℕ, zero, suc, _+_, _*_, _/_, _%_, _≤_, _<_}
 use native.Mathlib.Nat.{add-zero, le-of-suc-le-suc, not-suc-le-zero}
 use native.Mathlib.Omega.{arith}
 use native.Mathlib.Numerals.{add-one}
-use borrow.Author.Tests.{le-leb, lt-leb, eqb-true}
-use lib.Seq.{take-all}
+use borrow.Author.Tests.{eqb-true}
+use lib.Seq.{take-all, paste, take-paste, length-paste, length-take-le, getD-take, getD-drop}
 use lib.Dec.{leb, eqb}
-use lib.ListN.{length, getD, take, List·getD-eq-default}
+use lib.ListN.{length, getD, take, drop, length-drop, List·getD-eq-default}
 use Rattle.block_file.specs.Bytes.{byteAt}
-use Rattle.block_file.specs.InstrRecord.{byKind, fields, free, largest, within, even, evenFields}
+use Rattle.block_file.specs.InstrRecord.{byKind, any, fields, free, largest, rowsTo, within, even, evenFields}
+use Rattle.block_file.proofs.Match.{below, alike, alike→eq}
 
 -- one number more is ruled out
 pub next : {n k : ℕ} → n ≤ k → (k ≡ n → ⊥) → suc n ≤ k
@@ -31,11 +32,17 @@ no-form kind (suc (suc zero)) h = absurd (not-suc-le-zero (le-of-suc-le-suc (le-
 no-form kind (suc (suc (suc n))) h = refl
 
 -- the digits of a row's number
-pub digits : (kind form : ℕ) → kind < 10 → fields ((10 * form + kind) % 10) ((10 * form + kind) / 10) ≡ fields kind form
+digits : (kind form : ℕ) → kind < 10 → fields ((10 * form + kind) % 10) ((10 * form + kind) / 10) ≡ fields kind form
 digits kind form h =
     let ones : (10 * form + kind) % 10 ≡ kind = omega arith in
     let tens : (10 * form + kind) / 10 ≡ form = omega arith in
     ap (λ (n : ℕ). fields n ((10 * form + kind) / 10)) ones ∙ ap (fields kind) tens
+
+-- the number that the code computes has the row of the kind and the form
+pub numbered : (kind form k m : ℕ) → k < 10 → ((x : ℕ) → fields k x ≡ fields kind x) → ((x : ℕ) → fields x m ≡ fields x form)
+    → largest ((10 * m + k) % 10) ((10 * m + k) / 10) ≡ largest kind form
+unfolding largest
+numbered kind form k m h e g = ap (λ (r : List ℕ). 14 ∷ 15 ∷ any ∷ any ∷ r) (digits k m h ∙ e m ∙ g kind)
 
 -- the last digit of the numbers of one kind
 pub last-digit : (kind : ℕ) {n : ℕ} → (n ≡ kind) ⊎ ((n ≡ 10 + kind) ⊎ (n ≡ 20 + kind)) → n % 10 ≡ kind % 10
@@ -43,8 +50,12 @@ last-digit kind (inl e) = omega arith
 last-digit kind (inr (inl e)) = omega arith
 last-digit kind (inr (inr e)) = omega arith
 
+-- a row among others has 16 values
+pub row-long : (rows : List ℕ) (from : ℕ) → from + 16 ≤ length rows → length (take 16 (drop from rows)) ≡ 16
+row-long rows from l = length-take-le 16 (drop from rows) (rw length-drop (omega arith))
+
 -- one more byte of a row
-pub within-more : (f : List ℕ) (row : List ℕ) (at k : ℕ) → k < length row
+within-more : (f : List ℕ) (row : List ℕ) (at k : ℕ) → k < length row
     → within f at (take (suc k) row) ≡ (within f at (take k row) && leb (byteAt f (at + k)) (getD row k 0))
 unfolding within
 within-more f [] at k h = absurd (not-suc-le-zero h)
@@ -55,38 +66,52 @@ within-more f (m ∷ row) at (suc k) h =
     ∙ sym (and-assoc (leb (byteAt f at) m) (within f (at + 1) (take k row)) (leb (byteAt f (at + 1 + k)) (getD row k 0)))
     ∙ ap (λ (n : ℕ). (leb (byteAt f at) m && within f (at + 1) (take k row)) && leb (byteAt f n) (getD row k 0)) shift
 
-module _ (f row : List ℕ) (at k : ℕ) (inside : k < length row) where
-  -- a byte above its largest value
-  pub within-false : getD row k 0 < byteAt f (at + k) → false ≡ within f at (take (k + 1) row)
-  within-false h = sym (rw (add-one, within-more f row at k inside, lt-leb _ _ h) (and-false (within f at (take k row))))
-
-  -- a byte within its range
-  pub within-same : byteAt f (at + k) ≤ getD row k 0 → within f at (take k row) ≡ within f at (take (k + 1) row)
-  within-same h = sym (rw (add-one, within-more f row at k inside, le-leb _ _ h) (and-true (within f at (take k row))))
+-- one more byte of a row among others
+pub within-next : (f rows : List ℕ) (at from k : ℕ) → k < 16 → from + 16 ≤ length rows
+    → (within f at (take k (take 16 (drop from rows))) && leb (byteAt f (at + k)) (getD rows (from + k) 0))
+    ≡ within f at (take (k + 1) (take 16 (drop from rows)))
+within-next f rows at from k h l =
+    let row = take 16 (drop from rows) in
+    let long : length row ≡ 16 = row-long rows from l in
+    sym (rw (add-one, within-more f row at k (omega (arith, long)), getD-take 16 (drop from rows) k 0 h, getD-drop from rows k 0))
 
 -- the whole row
 pub within-all : (f row : List ℕ) (at k : ℕ) → length row ≤ k → within f at (take k row) ≡ within f at row
 within-all f row at k h = ap (within f at) (take-all k row h)
 
-module _ (f : List ℕ) (at kind form : ℕ) where
-  -- a kind that does not exist
-  pub high-kind : 14 < byteAt f at → within f at (largest kind form) ≡ false
-  unfolding within largest
-  high-kind h = simp (lt-leb _ _ h)
+-- each row stands among all of them where its number says
+stands : ℕ → Bool
+stands n = alike (take 16 (drop (16 * n) (rowsTo 30))) (largest (n % 10) (n / 10))
 
-  -- a condition that does not exist
-  pub high-condition : 15 < byteAt f (at + 1) → within f at (largest kind form) ≡ false
-  unfolding within largest
-  high-condition h = simp (lt-leb _ _ h, and-false)
+row-there : (n : ℕ) → n < 30 → take 16 (drop (16 * n) (rowsTo 30)) ≡ largest (n % 10) (n / 10)
+unfolding stands rowsTo largest
+row-there n h = alike→eq _ _ (below stands 30 tt h)
 
-  -- kind and condition in their ranges, and a cost, which is any two bytes
-  pub past-cost : ((k : ℕ) → byteAt f k ≤ 255) → byteAt f at ≤ 14 → byteAt f (at + 1) ≤ 15 → within f at (largest kind form) ≡ within f (at + 4) (fields kind form)
-  unfolding within largest
-  past-cost bytes a b =
-      let two : at + 1 + 1 ≡ at + 2 = omega arith in
-      let three : at + 2 + 1 ≡ at + 3 = omega arith in
-      let four : at + 3 + 1 ≡ at + 4 = omega arith in
-      rw (two, three, four, le-leb _ _ a, le-leb _ _ b, le-leb _ _ (bytes (at + 2)), le-leb _ _ (bytes (at + 3)))
+-- the row of one number more, put in two parts behind those before it
+pub rows-next : (rows row : List ℕ) (n : ℕ) → length row ≡ 12 → length rows ≡ 480 → n < 30
+    → take (16 * n) rows ≡ rowsTo n → row ≡ fields (n % 10) (n / 10)
+    → take (16 * (n + 1)) (paste (paste rows (16 * n) (14 ∷ 15 ∷ any ∷ any ∷ []) 4) (16 * n + 4) row (length row)) ≡ rowsTo (n + 1)
+unfolding rowsTo largest
+rows-next rows row n r l h e g =
+    let head : List ℕ = 14 ∷ 15 ∷ any ∷ any ∷ [] in
+    let first = paste rows (16 * n) head 4 in
+    let long : length first ≡ 480 = length-paste rows (16 * n) head 4 (omega arith) (omega arith) ∙ l in
+    let more : 16 * (n + 1) ≡ 16 * n + 4 + 12 = omega arith in
+    rw (r, more) (take-paste first (16 * n + 4) row 12 (omega (arith, long)) (omega arith))
+    ∙ ap₂ (λ (xs ys : List ℕ). xs ++ ys)
+    (take-paste rows (16 * n) head 4 (omega arith) (omega arith) ∙ ap (λ (xs : List ℕ). xs ++ head) e)
+    (take-all 12 row (omega arith) ∙ g)
+    ∙ append-assoc (rowsTo n) head (fields (n % 10) (n / 10))
+    ∙ ap rowsTo (sym (add-one n))
+
+pub all-long : length (rowsTo 30) ≡ 480
+unfolding rowsTo largest
+all-long = refl
+
+-- the row of a kind and a form, by a number that has it
+pub row-of : (rows : List ℕ) (n kind form : ℕ) → rows ≡ rowsTo 30 → n < 30 → largest (n % 10) (n / 10) ≡ largest kind form
+    → take 16 (drop (16 * n) rows) ≡ largest kind form
+row-of rows n kind form e h g = ap (λ (r : List ℕ). take 16 (drop (16 * n) r)) e ∙ row-there n h ∙ g
 
 -- two tests that do not both hold, and what is asked where one does
 ask-one : (p q a b : Bool) → (p ≡ true → q ≡ false) → not (p && not a || q && not b) ≡ cond p a (cond q b true)

@@ -1,7 +1,7 @@
 -- An instruction record: 16 bytes at an offset of the file, and the rules that hold of one (refusal 7).
-use Prim.Native.Nat.{ℕ, _+_, _%_}
+use Prim.Native.Nat.{ℕ, zero, suc, _+_, _/_, _%_}
 use mathlib.Core.Bool.{Bool, true, cond, _&&_}
-use mathlib.Core.List.{List, [], _∷_}
+use mathlib.Core.List.{List, [], _∷_, _++_}
 use lib.ListN.{getD}
 use lib.Dec.{leb, eqb}
 use Rattle.block_file.specs.Bytes.{byteAt}
@@ -61,6 +61,11 @@ fields kind form = getD (byKind form) kind free
 -- the largest value of each byte of a record: kind, condition, cost, and the fields of its kind
 unfoldable pub largest : ℕ → ℕ → List ℕ
 largest kind form = 14 ∷ 15 ∷ any ∷ any ∷ fields kind form
+
+-- the rows of the numbers below n one after another; a row's number has the kind as its last digit and the form before it
+unfoldable pub rowsTo : ℕ → List ℕ
+rowsTo zero = []
+rowsTo (suc n) = rowsTo n ++ largest (n % 10) (n / 10)
 
 -- the bytes from an offset on are at most the values of a row, one by one
 unfoldable pub within : List ℕ → ℕ → List ℕ → Bool

@@ -1,8 +1,9 @@
 // Instruction records: the rules that hold of one.
 ghost use mathlib.Core.Path.{_≡_};
 ghost use Prim.Native.Nat.{ℕ, _+_, _/_, _%_, _<_, _≤_};
-ghost use lib.ListN.{length};
-ghost use Rattle.block_file.specs.InstrRecord.{fields, within as row-within, evenFields, instrRight};
+ghost use lib.ListN.{length, take, drop};
+ghost use lib.Seq.{paste};
+ghost use Rattle.block_file.specs.InstrRecord.{fields, largest, rowsTo, within as row-within, evenFields, instrRight};
 
 // The kind whose row a kind has: those from 10 on leave all fields free, as Swap (3) does.
 fn row_kind(kind: u8) -> u8
@@ -19,8 +20,6 @@ fn row_form(form: u8) -> u8
 }
 
 // The largest value of each of bytes 4 to 15, by ten times the form plus the kind.
-// Kinds come in any order, so that the processor guesses wrong at most jumps by kind. This match has constants only, and the compiler makes tables
-// of it, without a jump. For that the numbers of an arm must not stand side by side: it would compare those one range after the other.
 fn row(number: u8) -> [u8; 12]
     requires { ⌜ number < 30 ⌝ }
     ensures { λ r. ⌜ r ≡ fields (number % 10) (number / 10) ⌝ }
@@ -53,24 +52,53 @@ fn row(number: u8) -> [u8; 12]
     }
 }
 
-// The largest value of each of bytes 4 to 15 of a kind and a form.
-fn largest_of(kind: u8, form: u8) -> [u8; 12]
-    ensures { λ r. ⌜ r ≡ fields kind form ⌝ }
+// Writes the values of a part of a row.
+fn put(rows: &mut [u8], from: usize, part: &[u8])
+    requires { ⌜ from + length (now part) ≤ length (now rows) ⌝ }
+    ensures { λ _. ⌜ now (rows .exit) ≡ paste (now (rows .entry)) from (now (part .entry)) (length (now (part .entry))) ⌝ }
 {
-    row(10 * row_form(form) + row_kind(kind))
+    let mut k = 0;
+    while k < part.len() {
+        rows[from + k] = part[k];
+        k += 1;
+    }
 }
 
-// Whether the 12 bytes at an offset are at most the values of a row.
-fn within(file: &[u8], at: usize, row: [u8; 12]) -> bool
-    requires { ⌜ at + 12 ≤ length (now file) ⌝ }
-    ensures { λ r. ⌜ r ≡ row-within (now (file .entry)) at row ⌝ }
+// The rows of all numbers, 16 values each: those of kind, condition and cost, then those of the fields.
+// Kinds come in any order, so that the processor guesses wrong at most jumps by kind. The compiler compares all bytes of a record with a row at
+// once, without a jump, if the row lies in memory. So the rows are written there, once for a file.
+pub(crate) fn all_rows() -> [u8; 480]
+    ensures { λ r. ⌜ r ≡ rowsTo 30 ⌝ }
+{
+    let head = [14, 15, 255, 255];
+    let mut rows = [0; 480];
+    let mut number: u8 = 0;
+    while number < 30 {
+        let from = 16 * number as usize;
+        let fields = row(number);
+        put(&mut rows[..], from, &head[..]);
+        put(&mut rows[..], from + 4, &fields[..]);
+        number += 1;
+    }
+    rows
+}
+
+// The number of the row of a kind and a form.
+fn row_number(kind: u8, form: u8) -> usize
+    ensures { λ r. ⌜ (r < 30) × (largest (r % 10) (r / 10) ≡ largest kind form) ⌝ }
+{
+    (10 * row_form(form) + row_kind(kind)) as usize
+}
+
+// Whether the 16 bytes at an offset are at most the values of the row that begins at another.
+fn within(file: &[u8], at: usize, rows: &[u8], from: usize) -> bool
+    requires { ⌜ (at + 16 ≤ length (now file)) × (from + 16 ≤ length (now rows)) ⌝ }
+    ensures { λ r. ⌜ r ≡ row-within (now (file .entry)) at (take 16 (drop from (now (rows .entry)))) ⌝ }
 {
     let mut ok = true;
     let mut k = 0;
-    while k < 12 {
-        if row[k] < file[at + k] {
-            ok = false;
-        }
+    while k < 16 {
+        ok = ok & (file[at + k] <= rows[from + k]);
         k += 1;
     }
     ok
@@ -88,18 +116,12 @@ fn even_fields(file: &[u8], at: usize) -> bool
 }
 
 // The rules of an instruction record.
-pub(crate) fn instr_right(file: &[u8], at: usize) -> bool
-    requires { ⌜ at + 16 ≤ length (now file) ⌝ }
+pub(crate) fn instr_right(file: &[u8], at: usize, rows: &[u8]) -> bool
+    requires { ⌜ (at + 16 ≤ length (now file)) × (now rows ≡ rowsTo 30) ⌝ }
     ensures { λ r. ⌜ r ≡ instrRight (now (file .entry)) at ⌝ }
 {
-    let kind = file[at];
-    if 14 < kind {
-        return false;
-    }
-    if 15 < file[at + 1] {
-        return false;
-    }
-    if !within(file, at + 4, largest_of(kind, file[at + 8])) {
+    let number = row_number(file[at], file[at + 8]);
+    if !within(file, at, rows, 16 * number) {
         return false;
     }
     even_fields(file, at)

@@ -2,6 +2,7 @@
 use crate::block_record::block_right;
 use crate::block_record::count;
 use crate::block_record::key;
+use crate::instr_record::all_rows;
 use crate::instr_record::instr_right;
 use crate::trailer::part_start;
 use crate::trailer::trailer_right;
@@ -11,6 +12,7 @@ ghost use mathlib.Core.Path.{_≡_};
 ghost use mathlib.Core.Bool.{true};
 ghost use mathlib.Core.List.{_∷_, [], _++_};
 ghost use Rattle.block_file.specs.Trailer.{blockCount, instrCount, trailerRight};
+ghost use Rattle.block_file.specs.InstrRecord.{rowsTo};
 ghost use Rattle.block_file.specs.Refusal.{Row, blockRows, instrRows, firstBroken, found};
 ghost use Rattle.block_file.specs.Answer.{answerOf};
 ghost use Rattle.block_file.specs.Parse.{parse, checkAnswer};
@@ -65,16 +67,16 @@ fn check_blocks(file: &[u8]) -> Found
     }
 }
 
-// Refusal 7.
-fn check_instrs(file: &[u8]) -> Found
-    requires { ⌜ trailerRight (now file) ≡ true ⌝ }
+// Refusal 7, by the rows of all kinds and forms.
+fn check_records(file: &[u8], rows: &[u8]) -> Found
+    requires { ⌜ (trailerRight (now file) ≡ true) × (now rows ≡ rowsTo 30) ⌝ }
     ensures { λ r. ⌜ r ≡ found (firstBroken (now (file .entry)) (instrRows (instrCount (now (file .entry))) 0)) ⌝ }
 {
     let start = part_start(file, 3);
     let instrs = trailer_word(file, 4) as usize;
     let mut i = 0;
     while i < instrs {
-        if !instr_right(file, start + 16 * i) {
+        if !instr_right(file, start + 16 * i, rows) {
             return Found::Row {
                 number: 7,
                 at: i as u64,
@@ -83,6 +85,15 @@ fn check_instrs(file: &[u8]) -> Found
         i += 1;
     }
     Found::Nothing
+}
+
+// Refusal 7.
+fn check_instrs(file: &[u8]) -> Found
+    requires { ⌜ trailerRight (now file) ≡ true ⌝ }
+    ensures { λ r. ⌜ r ≡ found (firstBroken (now (file .entry)) (instrRows (instrCount (now (file .entry))) 0)) ⌝ }
+{
+    let rows = all_rows();
+    check_records(file, &rows[..])
 }
 
 // Whether a file is accepted, or which refusal it gets.

@@ -1,71 +1,66 @@
--- `instr_right` tells whether an instruction record keeps its rules. Kind and condition are tested first; the two bytes of the cost may be anything, so the row starts at byte 4.
-use mathlib.Core.Path.{_∙_}
+-- `block_file::instr_record::instr_right` meets its contract: the row that the code compares with is the one of the kind and the form.
+-- Assumes nothing.
+use mathlib.Core.Path.{sym, ap, _∙_}
 use native.Mathlib.Omega.{arith}
+use denote.Ref.{now}
 use borrow.Author.Needs.{needs}
 use borrow.Author.Tests.{not-true, not-false}
+use Rattle.block_file.specs.InstrRecord.{within as row-within}
 use Rattle.block_file.proofs.Rules as rules
-use Rattle.block_file.proofs.Rows.{high-kind, high-condition, past-cost}
+use Rattle.block_file.proofs.Rows.{all-long, row-of}
 use Rattle.block_file.proofs.instr_record.instr_right.Statement.{statement}
 use Rattle.block_file.proofs.instr_record.instr_right.Tie as tie
 
-shared-slice-read-kind : tie.Need-shared-slice-read-kind
-shared-slice-read-kind c = search needs
+shared-slice-read-row-number : tie.Need-shared-slice-read-row-number
+shared-slice-read-row-number c = search needs
 
-returns : tie.Need-returns
-returns c = rules.out-of-range _ _ (high-kind _ _ _ _ (c .if1 .taken))
+add-row-number : tie.Need-add-row-number
+add-row-number c = search needs
 
-add-if2 : tie.Need-add-if2
-add-if2 c = search needs
+shared-slice-read-row-number-2 : tie.Need-shared-slice-read-row-number-2
+shared-slice-read-row-number-2 c = search needs
 
-shared-slice-read-if2 : tie.Need-shared-slice-read-if2
-shared-slice-read-if2 c = search needs
+row-number-requires : tie.Need-row-number-requires
+row-number-requires c κs = search needs
 
-returns-2 : tie.Need-returns-2
-returns-2 c = rules.out-of-range _ _ (high-condition _ _ _ _ (c .if2 .taken))
-
-add-within : tie.Need-add-within
-add-within c = search needs
-
-add-largest-of : tie.Need-add-largest-of
-add-largest-of c = search needs
-
-shared-slice-read-largest-of : tie.Need-shared-slice-read-largest-of
-shared-slice-read-largest-of c = search needs
-
-largest-of-requires : tie.Need-largest-of-requires
-largest-of-requires c κs = search needs
+mul-within : tie.Need-mul-within
+mul-within c = search needs
 
 within-requires : tie.Need-within-requires
-within-requires c κs = search needs
+within-requires c κs =
+    let pre = c .before .before .before .before .before .pre in
+    (pre .0, rw (pre .1, all-long) (omega (arith, c .row-number .ensures .0)))
 
-returns-3 : tie.Need-returns-3
-returns-3 c = rules.out-of-range _ _
-    (past-cost _ _ _ _ (λ k. omega (arith, c .before .before .before .shared-slice-known4 .given k)) (omega arith) (omega arith)
-    ∙ rw (← c .before .before .largest-of .ensures, ← c .before .within .ensures) (not-true _ (c .if3 .taken)))
+returns : tie.Need-returns
+returns c =
+    let start = c .before .before .before .before .before .before .before in
+    let number = c .before .before .row-number in
+    let row = row-of (now (start .args .rows)) (number .result) _ _ (start .pre .1) (number .ensures .0) (number .ensures .1) in
+    rules.out-of-range _ _
+    (ap (row-within (now (start .args .file)) (start .args .at)) (sym row) ∙ sym (c .before .within .ensures) ∙ not-true _ (c .if1 .taken))
 
 even-fields-requires : tie.Need-even-fields-requires
 even-fields-requires c κs = search needs
 
-returns-4 : tie.Need-returns-4
-returns-4 c = c .even-fields .ensures
+returns-2 : tie.Need-returns-2
+returns-2 c =
+    let start = c .before .before .before .before .before .before .before .before in
+    let number = c .before .before .before .row-number in
+    let row = row-of (now (start .args .rows)) (number .result) _ _ (start .pre .1) (number .ensures .0) (number .ensures .1) in
+    c .even-fields .ensures
     ∙ rules.in-range _ _
-    (past-cost _ _ _ _ (λ k. omega (arith, c .before .before .before .before .shared-slice-known4 .given k)) (omega arith) (omega arith)
-    ∙ rw (← c .before .before .before .largest-of .ensures, ← c .before .before .within .ensures) (not-false _ (c .before .if3 .left)))
+    (ap (row-within (now (start .args .file)) (start .args .at)) (sym row) ∙ sym (c .before .before .within .ensures) ∙ not-false _ (c .before .if1 .left))
 
 pub instr-right-spec : {M : Type 1} → statement M
 instr-right-spec =
     tie.close
     (tie.spec
-    shared-slice-read-kind
-    returns
-    add-if2
-    shared-slice-read-if2
-    returns-2
-    add-within
-    add-largest-of
-    shared-slice-read-largest-of
-    largest-of-requires
+    shared-slice-read-row-number
+    add-row-number
+    shared-slice-read-row-number-2
+    row-number-requires
+    mul-within
     within-requires
-    returns-3
+    returns
     even-fields-requires
-    returns-4)
+    returns-2)

@@ -1,4 +1,5 @@
--- `row` gives the largest values by ten times the form plus the kind. The arms of one kind share the last digit, and what no arm has ends in 3, the kind Swap.
+-- `block_file::instr_record::row` meets its contract: each arm has the row of its numbers, and the last one that of all others below 30.
+-- Assumes nothing.
 use mathlib.Core.Bool.{Bool}
 use mathlib.Core.List.{List, [], _∷_}
 use Prim.Native.Nat.{ℕ, _%_}

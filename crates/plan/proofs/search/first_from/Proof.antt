@@ -10,7 +10,6 @@ use borrow.Author.Needs.{needs}
 use native.Mathlib.Omega.{arith}
 use Rattle.plan.proofs.search.first_from.Statement.{statement}
 use Rattle.plan.proofs.search.first_from.Tie as tie
-use Rattle.plan.proofs.search.first_from.Reads as reads
 
 abbrev Inv-loop : tie.InvT-loop
 Inv-loop file key i low₀ high₀ low high = Between file key low high

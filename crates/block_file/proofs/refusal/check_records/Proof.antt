@@ -1,4 +1,5 @@
--- `check_instrs` finds the first broken row of refusal 7. The loop's invariant: the instructions before i keep their rules, so the first broken row is among the rest.
+-- `block_file::refusal::check_records` meets its contract: the first broken rule is that of the records still to come.
+-- Assumes nothing.
 use Rattle.block_file.specs.Trailer.{instrCount}
 use Rattle.block_file.specs.Refusal.{found, firstBroken, instrRows}
 use Rattle.block_file.proofs.Parts.{parts}
@@ -8,14 +9,15 @@ use borrow.Author.Tests.{not-true, not-false}
 use mathlib.Core.Path.{_≡_, _∙_, ap, sym}
 use borrow.Author.Needs.{needs}
 use native.Mathlib.Omega.{arith}
-use Rattle.block_file.proofs.refusal.check_instrs.Statement.{statement}
-use Rattle.block_file.proofs.refusal.check_instrs.Tie as tie
+use Rattle.block_file.proofs.refusal.check_records.Statement.{statement}
+use Rattle.block_file.proofs.refusal.check_records.Tie as tie
+use Rattle.block_file.proofs.refusal.check_records.Reads as reads
 
 abbrev Inv-loop : tie.InvT-loop
-Inv-loop file start instrs i₀ i = (i ≤ instrs) × (firstBroken file (instrRows (instrCount file) 0) ≡ firstBroken file (instrRows (instrs - i) i))
+Inv-loop file rows start instrs i₀ i = (i ≤ instrs) × (firstBroken file (instrRows (instrCount file) 0) ≡ firstBroken file (instrRows (instrs - i) i))
 
 abbrev μ-loop : tie.MeasureT-loop
-μ-loop file start instrs i₀ i = instrs - i
+μ-loop file rows start instrs i₀ i = instrs - i
 
 part-start-requires : tie.Need-part-start-requires Inv-loop μ-loop
 part-start-requires c κs = search needs
@@ -33,10 +35,12 @@ mul-instr-right : tie.Need-mul-instr-right Inv-loop μ-loop
 mul-instr-right c = search needs
 
 add-instr-right : tie.Need-add-instr-right Inv-loop μ-loop
-add-instr-right c = omega (arith, parts _ (c .before .before .before .before .before .pre))
+add-instr-right c = omega (arith, parts _ (c .before .before .before .before .before .before .pre .0))
 
 instr-right-requires : tie.Need-instr-right-requires Inv-loop μ-loop
-instr-right-requires c κs = omega (arith, parts _ (c .before .before .before .before .before .pre))
+instr-right-requires c κs =
+    let pre = c .before .before .before .before .before .before .pre in
+    (omega (arith, parts _ (pre .0)), pre .1)
 
 returns : tie.Need-returns Inv-loop μ-loop
 returns c = ap found
@@ -62,8 +66,8 @@ loop-again c = (
 returns-2 : tie.Need-returns-2 Inv-loop μ-loop
 returns-2 c = ap found (sym (c .before .loop .inv .1 ∙ passes.instrs-all _ _ (c .before .before .trailer-word .ensures) _ (omega arith)))
 
-pub check-instrs-spec : {M : Type 1} → statement M
-check-instrs-spec =
+pub check-records-spec : {M : Type 1} → statement M
+check-records-spec =
     tie.close
     (tie.spec
     Inv-loop
