@@ -1,17 +1,17 @@
 -- For a file of at most 65,536 bytes the lent buffers suffice: the listing's call refuses only what the file's rules refuse.
 -- Assumes nothing.
-use Prim.Native.Nat.{ℕ, _+_, _*_, _≤_}
+use Prim.Native.Nat.{ℕ, _+_, _*_, _≤_, _<_}
 use mathlib.Core.Path.{_≡_, refl, sym, ap, ap₂, _∙_}
 use mathlib.Core.List.{List, _++_}
 use native.Mathlib.Omega.{arith}
-use borrow.Author.Tests.{le-ltb}
+use borrow.Author.Tests.{lt-ltb, le-ltb}
 use lib.ListN.{length, take, drop, length-append}
 use lib.Seq.{take-at}
 use Rattle.block_file.specs.Answer.{Answer, refusal, value}
 use Rattle.block_file.specs.Parse.{Block, Parsed, parse}
 use Rattle.block_file.specs.Trailer.{blockCount}
 use Rattle.block_file.proofs.Accepted.{length-of, parts-of}
-use Rattle.text.specs.Doc.{print}
+use Rattle.text.specs.Doc.{Doc, text, print}
 use Rattle.text.specs.Wrote.{Wrote}
 use Rattle.text.proofs.Laws.{whole}
 use Rattle.text.proofs.Lengths.{length-most}
@@ -19,7 +19,8 @@ use Rattle.plan.specs.Calls.{cleared, Left, groupedCall, groupingCall}
 use Rattle.list_blocks.specs.Calls.{listingCall}
 use Rattle.list_blocks.specs.Listing.{listing}
 use Rattle.list_blocks.proofs.Lengths.{listing-most}
-use Rattle.listing.specs.Output.{refusalLine, output}
+use Rattle.listing.specs.Output.{longest, refusalLine, answerText, output}
+use Rattle.listing.specs.Room.{room}
 
 -- what the call leaves where the buffers suffice
 abbrev listed : Parsed → List ℕ → List ℕ → Left ℕ
@@ -31,7 +32,17 @@ listed (Parsed.accepted bs) work out =
       result = print (listing bs) ++ drop (length (print (listing bs))) out;
     }
 
-module _ (f : List ℕ) (short : length f ≤ 65536) (work out : List ℕ) (numbers : 16384 ≤ length work) (bytes : 196608 ≤ length out) where
+-- a text in the front of a buffer
+front : (s rest : List ℕ) (n : ℕ) (out′ : List ℕ) → n ≡ length s → out′ ≡ s ++ rest → (n ≤ length out′) × (take n out′ ≡ s)
+front s rest n out′ size is =
+    (omega (arith, ap length is, length-append s rest, size), ap (take n) is ∙ take-at s rest n (sym size))
+
+-- a line in the front of a buffer that has room for it
+pub line-shown : {out₁ out₂ : List ℕ} {r : ℕ} {d : Doc} → Wrote out₁ 0 d out₂ r → length (print d) ≤ length out₁
+    → (r ≤ length out₂) × (take r out₂ ≡ print d)
+line-shown {out₁} {out₂} {r} {d} w h = let put = whole w h in front (print d) (drop (length (print d)) out₁) r out₂ (put .1) (put .0)
+
+module _ (f : List ℕ) (short : length f ≤ longest) (work out : List ℕ) (numbers : 16384 ≤ length work) (bytes : room ≤ length out) where
   few : (bs : List Block) → parse f ≡ Parsed.accepted bs → 16 * length bs ≤ 65504
   few bs is = omega (arith, length-of f bs is, parts-of f bs is .touch, parts-of f bs is .instrs)
 
@@ -44,15 +55,10 @@ module _ (f : List ℕ) (short : length f ≤ 65536) (work out : List ℕ) (numb
         le-ltb (length out) (length (print (listing bs))) (omega (arith, few bs is, listing-most bs)),
       )
 
-  -- a text in the front of the buffer
-  front : (s rest : List ℕ) (n : ℕ) (out′ : List ℕ) → n ≡ length s → out′ ≡ s ++ rest → (n ≤ length out′) × (take n out′ ≡ s)
-  front s rest n out′ size is =
-      (omega (arith, ap length is, length-append s rest, size), ap (take n) is ∙ take-at s rest n (sym size))
-
   pub listing-shown : (p : Parsed) → parse f ≡ p → (n : ℕ) (work′ out′ : List ℕ)
       → record { answer = value n; work = work′; result = out′ } ≡ listingCall p work out
-      → (n ≤ length out′) × (take n out′ ≡ print (output p))
-  unfolding output
+      → (n ≤ length out′) × (take n out′ ≡ print (answerText p))
+  unfolding answerText
   listing-shown (Parsed.refused m j) is n work′ out′ e =
       let same : value n ≡ refusal m j = ap (λ (l : Left ℕ). l .answer) (e ∙ call-is (Parsed.refused m j) is) in
       absurd (let z : _≡_ {A = ℕ} 0 1 = cc in omega arith)
@@ -67,17 +73,28 @@ module _ (f : List ℕ) (short : length f ≤ 65536) (work out : List ℕ) (numb
 
   pub refusal-shown : (p : Parsed) → parse f ≡ p → (n i : ℕ) (work′ out₁ out₂ : List ℕ) (r : ℕ)
       → record { answer = refusal n i; work = work′; result = out₁ } ≡ listingCall p work out → Wrote out₁ 0 (refusalLine n i) out₂ r
-      → (r ≤ length out₂) × (take r out₂ ≡ print (output p))
-  unfolding output
+      → (r ≤ length out₂) × (take r out₂ ≡ print (answerText p))
+  unfolding answerText
   refusal-shown (Parsed.refused m j) is n i work′ out₁ out₂ r e w =
       let left = e ∙ call-is (Parsed.refused m j) is in
       let same : refusal n i ≡ refusal m j = ap (λ (l : Left ℕ). l .answer) left in
       let number : n ≡ m = cc in
       let place : i ≡ j = cc in
       let long : length out₁ ≡ length out = ap (λ (l : Left ℕ). length (l .result)) left in
-      let put = whole w (omega (arith, line-fits n i, long)) in
-      let there = front (print (refusalLine n i)) (drop (length (print (refusalLine n i))) out₁) r out₂ (put .1) (put .0) in
+      let there = line-shown w (omega (arith, line-fits n i, long)) in
       (there .0, there .1 ∙ ap₂ (λ (a b : ℕ). print (refusalLine a b)) number place)
   refusal-shown (Parsed.accepted bs) is n i work′ out₁ out₂ r e w =
       let same : refusal n i ≡ value (length (print (listing bs))) = ap (λ (l : Left ℕ). l .answer) (e ∙ call-is (Parsed.accepted bs) is) in
       absurd (let z : _≡_ {A = ℕ} 0 1 = cc in omega arith)
+
+-- what is printed for a file that is too long
+pub long-shown : (f : List ℕ) {out out₂ : List ℕ} {r : ℕ} → room ≤ length out → longest < length f → Wrote out 0 (text "too long\n") out₂ r
+    → (r ≤ length out₂) × (take r out₂ ≡ print (output f))
+unfolding output
+long-shown f bytes h w = let there = line-shown w (omega (arith, length-most (text "too long\n"))) in rw (lt-ltb longest (length f) h) there
+
+-- and for one that is not
+pub short-shown : (f out₂ : List ℕ) (r : ℕ) → length f ≤ longest → (r ≤ length out₂) × (take r out₂ ≡ print (answerText (parse f)))
+    → (r ≤ length out₂) × (take r out₂ ≡ print (output f))
+unfolding output
+short-shown f out₂ r h there = rw (le-ltb longest (length f) h) there

@@ -1,2 +1,3 @@
 -- The definitions that the program's promises name.
 pub mod Output
+pub mod Room

@@ -1,14 +1,27 @@
--- What the program prints for a file that is not too long.
+-- What the program prints.
 use Prim.Native.Nat.{ℕ}
-use Rattle.block_file.specs.Parse.{Parsed}
+use mathlib.Core.Bool.{cond}
+use mathlib.Core.List.{List}
+use lib.Dec.{ltb}
+use lib.ListN.{length}
+use Rattle.block_file.specs.Parse.{Parsed, parse}
 use Rattle.text.specs.Doc.{Doc, text, dec, _▸_}
+use Rattle.plan.specs.Calls.{partLimit}
 use Rattle.list_blocks.specs.Listing.{listing}
+
+-- the longest file that is listed
+abbrev pub longest : ℕ
+longest = 65536
 
 -- the line of a refusal
 abbrev pub refusalLine : ℕ → ℕ → Doc
 refusalLine n i = text "refused " ▸ dec n ▸ text " at " ▸ dec i ▸ text "\n"
 
 -- the listing, or the line of a refusal and nothing else
-unfoldable pub output : Parsed → Doc
-output (Parsed.refused n i) = refusalLine n i
-output (Parsed.accepted bs) = listing bs
+unfoldable pub answerText : Parsed → Doc
+answerText (Parsed.refused n i) = refusalLine n i
+answerText (Parsed.accepted bs) = listing bs
+
+-- what is printed for a file, of which no more than one byte past the longest need be known
+unfoldable pub output : List ℕ → Doc
+output f = cond (ltb longest (length f)) (text "too long\n") (answerText (parse f))

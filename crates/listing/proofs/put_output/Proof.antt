@@ -1,56 +1,42 @@
--- Either the listing stands in the front of the buffer, or it is as it was and the line of the refusal is put there.
+-- A file that is too long has one line; the answer to any other is put by `put_answer`.
 -- Assumes nothing.
-use Prim.Native.Nat.{ℕ}
-use Rattle.block_file.specs.Answer.{Answer}
-use Rattle.list_blocks.specs.Calls.{listedOf}
-use Rattle.listing.proofs.Room.{listing-shown, refusal-shown}
+use Rattle.listing.proofs.Room.{long-shown, short-shown}
 use Rattle.listing.proofs.put_output.Statement.{statement}
 use Rattle.listing.proofs.put_output.Tie as tie
+use Rattle.text.proofs.Laws.{said}
 use borrow.Author.Needs.{needs}
-use mathlib.Core.Path.{refl, sym, ap, _∙_}
+use mathlib.Core.Path.{refl}
 use native.Mathlib.Omega.{arith}
 
-slice-aggregate-listing-of : tie.Need-slice-aggregate-listing-of
-slice-aggregate-listing-of c = search needs
+slice-aggregate-put : tie.Need-slice-aggregate-put
+slice-aggregate-put c = search needs
 
-listing-of-requires : tie.Need-listing-of-requires
-listing-of-requires c κs = search needs
-
-enum-known-n : tie.Need-enum-known-n
-enum-known-n c = search needs
-
-enum-known-number : tie.Need-enum-known-number
-enum-known-number c = search needs
-
-put-refusal-requires : tie.Need-put-refusal-requires
-put-refusal-requires c κs = search needs
+put-requires : tie.Need-put-requires
+put-requires c κs = search needs
 
 same-length : tie.Need-same-length
 same-length c = search needs
 
 returns : tie.Need-returns
-unfolding listedOf
-returns c = let pre = c .before .before .before .before .before .before .before .before .before .before .before .pre in
-    listing-shown _ (pre .0) _ _ (omega arith) (pre .1) _ refl _ _ _ (ap (λ (a : Answer ℕ). record { answer = a; work = c .before .before .before .before .before .before .listing-of .last .1 .0; result = c .before .before .before .before .before .before .listing-of .last .1 .1 .0 }) (sym (ap listedOf (c .before .n .given .1))) ∙ c .before .before .before .before .before .before .listing-of .ensures)
+returns c = long-shown _ (c .before .before .before .before .before .before .before .before .pre) (omega arith) (said (c .before .before .put .ensures) refl)
+
+put-answer-requires : tie.Need-put-answer-requires
+put-answer-requires c κs = search needs
 
 same-length-2 : tie.Need-same-length-2
 same-length-2 c = search needs
 
 returns-2 : tie.Need-returns-2
-unfolding listedOf
-returns-2 c = let pre = c .before .before .before .before .before .before .before .before .before .before .before .before .before .before .before .pre in
-    refusal-shown _ (pre .0) _ _ (omega arith) (pre .1) _ refl _ _ _ _ _ _ (ap (λ (a : Answer ℕ). record { answer = a; work = c .before .before .before .before .before .before .before .before .before .before .listing-of .last .1 .0; result = c .before .before .before .before .before .before .before .before .before .before .listing-of .last .1 .1 .0 }) (sym (ap listedOf (c .before .before .before .before .before .number .given .1))) ∙ c .before .before .before .before .before .before .before .before .before .before .listing-of .ensures) (c .before .before .put-refusal .ensures)
+returns-2 c = short-shown _ _ _ (omega arith) (c .before .before .put-answer .ensures)
 
 pub put-output-spec : {M : Type 1} → statement M
 put-output-spec =
     tie.close
     (tie.spec
-    slice-aggregate-listing-of
-    listing-of-requires
-    enum-known-n
-    enum-known-number
-    put-refusal-requires
+    slice-aggregate-put
+    put-requires
     same-length
     returns
+    put-answer-requires
     same-length-2
     returns-2)
