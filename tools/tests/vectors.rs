@@ -1,6 +1,7 @@
 //! The stored vectors: enough of each number, in the sizes that their reader has room for.
 
-use recomp_tools::vectors::grouping::{encode_exits, encode_plans, exits, plans};
+use recomp_tools::check::check;
+use recomp_tools::vectors::grouping::{encode_exits, encode_plans, exits, plans, PlanVector};
 use recomp_tools::vectors::{all, encode};
 
 #[test]
@@ -41,6 +42,14 @@ fn plan_numbers_and_sizes() {
             .count();
         assert!(count >= least, "{count} vectors with {number}");
     }
+    // Buffers exactly as long as they must be, with a number too few, and with numbers to spare.
+    let lent = |number: u32, [work, plan]: [i64; 2]| {
+        let is = |v: &&PlanVector| v.expected.number == number && beyond(v) == [work, plan];
+        vectors.iter().filter(is).count()
+    };
+    assert!(lent(0, [0, 0]) >= 100 && lent(0, [1, 3]) >= 15);
+    assert!(lent(8, [-1, 0]) >= 15 && lent(8, [-1, -1]) >= 15);
+    assert!(lent(10, [0, -1]) >= 15 && lent(10, [2, -1]) >= 15);
     // Some groups have several blocks, and some plans are not in file order.
     let several = |v: &&_| plan_of(v).windows(2).any(|w| w[0][0] == w[1][0]);
     let moved = |v: &&_| plan_of(v).windows(2).any(|w| w[0][1] > w[1][1]);
@@ -49,6 +58,15 @@ fn plan_numbers_and_sizes() {
     assert!(encode_plans(&vectors).len() < 150_000);
 }
 
-fn plan_of(v: &recomp_tools::vectors::grouping::PlanVector) -> &[[u32; 2]] {
+fn plan_of(v: &PlanVector) -> &[[u32; 2]] {
     &v.plan
+}
+
+/// How many numbers are lent beyond those that the file's blocks need.
+fn beyond(v: &PlanVector) -> [i64; 2] {
+    let blocks = check(&v.file).expect("an accepted file").blocks as i64;
+    [
+        v.work_len as i64 - 4 * blocks,
+        v.plan_len as i64 - 2 * blocks,
+    ]
 }

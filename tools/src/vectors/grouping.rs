@@ -27,10 +27,12 @@ pub struct ExitVector {
     pub file: Vec<u8>,
 }
 
-/// A file and how many numbers are lent, with the answer and the plan's front, empty on refusal.
+/// A file and how many numbers are lent, with how many work numbers become 0, the answer, and the
+/// plan's front, empty on refusal.
 pub struct PlanVector {
     pub work_len: usize,
     pub plan_len: usize,
+    pub cleared: usize,
     pub expected: PlanNumbers,
     pub plan: Vec<[u32; 2]>,
     pub file: Vec<u8>,
@@ -131,6 +133,14 @@ pub fn exits() -> Vec<ExitVector> {
     out
 }
 
+/// How many work numbers become 0: four for each block, where the answer is a plan or refusal 10.
+fn cleared(file: &[u8], number: u32) -> usize {
+    match number {
+        0 | 10 => 4 * model::plan(file).len(),
+        _ => 0,
+    }
+}
+
 pub fn plans() -> Vec<PlanVector> {
     let mut out = vec![];
     let mut ask = |file: &[u8], work_len: usize, plan_len: usize| {
@@ -142,6 +152,7 @@ pub fn plans() -> Vec<PlanVector> {
         out.push(PlanVector {
             work_len,
             plan_len,
+            cleared: cleared(file, expected.number),
             expected,
             plan,
             file: file.to_vec(),
@@ -156,7 +167,10 @@ pub fn plans() -> Vec<PlanVector> {
             1 => ask(&file.bytes, work, plan - 1),
             2 => ask(&file.bytes, work - 1, plan - 1),
             3 => ask(&file.bytes, work + 1, plan + 3),
-            _ => {}
+            4 => ask(&file.bytes, work + 2, plan - 1),
+            5 => ask(&file.bytes, work - 1, plan + 1),
+            6 => ask(&file.bytes, 0, plan),
+            _ => ask(&file.bytes, work + 3, 0),
         }
     }
     for copy in damaged_files().chain(cut_files()) {
@@ -180,15 +194,16 @@ pub fn encode_exits(vectors: &[ExitVector]) -> Vec<u8> {
     out
 }
 
-/// A count, then for each vector the numbers lent as work and for the plan, the three numbers of
-/// the answer, the length of the file, its bytes, and the plan: two numbers for each block that the
-/// answer counts.
+/// A count, then for each vector how many numbers are lent as work and for the plan and how many
+/// become 0, the three numbers of the answer, the length of the file, its bytes, and the plan: two
+/// numbers for each block that the answer counts.
 pub fn encode_plans(vectors: &[PlanVector]) -> Vec<u8> {
     let mut out = vec![];
     push_numbers(&mut out, &[vectors.len() as u64]);
     for v in vectors {
         let e = &v.expected;
-        push_numbers(&mut out, &[v.work_len as u64, v.plan_len as u64]);
+        let lent = [v.work_len, v.plan_len, v.cleared];
+        push_numbers(&mut out, &lent.map(|n| n as u64));
         push_numbers(&mut out, &[e.number.into(), e.at, e.blocks]);
         push_file(&mut out, &v.file);
         for pair in &v.plan {
