@@ -1,2 +1,3 @@
 -- The laws that proofs cite.
+pub mod Gathered
 pub mod Same

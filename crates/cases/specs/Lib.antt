@@ -2,4 +2,5 @@
 pub mod CheckCases
 pub mod ExitsCases
 pub mod Input
+pub mod PlanCases
 pub mod Same

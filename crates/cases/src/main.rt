@@ -3,6 +3,7 @@ mod check_cases;
 mod compare;
 mod exits_cases;
 mod input;
+mod plan_cases;
 mod report;
 mod sections;
 
@@ -15,6 +16,9 @@ fn main() {
         return;
     }
     if !sections::replay(Section::Exits) {
+        return;
+    }
+    if !sections::replay(Section::Plan) {
         return;
     }
     if !input::at_end() {

@@ -18,6 +18,9 @@ fn name(section: Section) {
         Section::Exits => {
             text(b"exits");
         }
+        Section::Plan => {
+            text(b"plan");
+        }
     }
 }
 

@@ -3,11 +3,13 @@ use crate::check_cases;
 use crate::exits_cases;
 use crate::input;
 use crate::input::Read;
+use crate::plan_cases;
 use crate::report;
 
 pub(crate) enum Section {
     Check,
     Exits,
+    Plan,
 }
 
 // What became of a vector.
@@ -22,6 +24,7 @@ fn replay_one(section: Section, k: u64) -> Outcome {
     match section {
         Section::Check => check_cases::replay_one(k),
         Section::Exits => exits_cases::replay_one(k),
+        Section::Plan => plan_cases::replay_one(k),
     }
 }
 
