@@ -10,8 +10,8 @@ use borrow.Author.Tests.{eq-eqb, ne-eqb}
 use lib.ListN.{length, getD, set, take, drop, length-set, length-take, length-drop, drop-of-length-le}
 use lib.Seq.{length-take-le, drop-cons, getD-take, getD-drop, getD-set-same, getD-set-other}
 use Rattle.plan.specs.Accepted.{blocksOf, Accepted}
-use Rattle.plan.specs.Groups.{Grouped}
-use Rattle.plan.specs.Plan.{interleave, plan}
+use Rattle.plan.specs.Groups.{Grouped, interleave}
+use Rattle.plan.specs.Plan.{plan}
 use Rattle.list_blocks.specs.Listing.{groupOf}
 use Rattle.list_blocks.specs.Numbers.{rowsAt, GroupsFrom}
 

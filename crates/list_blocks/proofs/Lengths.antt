@@ -9,7 +9,6 @@ use Rattle.block_file.specs.Parse.{Block}
 use Rattle.text.specs.Doc.{text, print}
 use Rattle.text.specs.Wrote.{top}
 use Rattle.text.proofs.Lengths.{most, length-most}
-use Rattle.plan.specs.Calls.{partLimit}
 use Rattle.plan.specs.Exits.{exits}
 use Rattle.plan.specs.Plan.{blockKey, plan}
 use Rattle.plan.proofs.Edges.{exits-few}
@@ -28,9 +27,9 @@ lines-most rows i [] = zero-le
 lines-most rows i (b ∷ bs) = omega (arith, line-most (blockKey b) (groupOf i rows) (exits b) (exits-few b), lines-most rows (suc i) bs)
 
 -- a listing: its first line has 16 bytes
-pub listing-most : (bs : List Block) → length (print (listing bs)) ≤ 16 + 48 * length bs
+pub listing-most : (limit : ℕ) (bs : List Block) → length (print (listing limit bs)) ≤ 16 + 48 * length bs
 unfolding listing
-listing-most bs = omega (arith, length-most (listing bs), lines-most (plan partLimit bs) 0 bs)
+listing-most limit bs = omega (arith, length-most (listing limit bs), lines-most (plan limit bs) 0 bs)
 
-pub listing-short : (bs : List Block) → length bs ≤ 65536 → length (print (listing bs)) < top
-listing-short bs h = omega (arith, listing-most bs)
+pub listing-short : (limit : ℕ) (bs : List Block) → length bs ≤ 65536 → length (print (listing limit bs)) < top
+listing-short limit bs h = omega (arith, listing-most limit bs)

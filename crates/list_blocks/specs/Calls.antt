@@ -6,7 +6,7 @@ use lib.ListN.{length}
 use Rattle.block_file.specs.Answer.{Answer, refusal, value}
 use Rattle.block_file.specs.Parse.{Block, Parsed}
 use Rattle.text.specs.Doc.{print}
-use Rattle.plan.specs.Calls.{Made, Left, groupingCall}
+use Rattle.plan.specs.Calls.{partLimit, Made, Outcome, callOnFile}
 use Rattle.list_blocks.specs.declared.calls.Listed.{Listed}
 use Rattle.list_blocks.specs.Listing.{listing}
 
@@ -16,9 +16,9 @@ listedOf (Listed.Length n) = value n
 listedOf (Listed.Refused n i) = refusal n i
 
 -- what the call for the listing makes: the length of the text, and the text
-abbrev pub madeListing : List Block → Option (Made ℕ)
-madeListing bs = some (record { values = length (print (listing bs)); content = print (listing bs) })
+abbrev pub madeListing : ℕ → List Block → Option (Made ℕ)
+madeListing limit bs = some (record { values = length (print (listing limit bs)); content = print (listing limit bs) })
 
 -- the call for the listing of a file
-abbrev pub listingCall : Parsed → List ℕ → List ℕ → Left ℕ
-listingCall = groupingCall madeListing
+abbrev pub listingCall : Parsed → List ℕ → List ℕ → Outcome ℕ
+listingCall = callOnFile (madeListing partLimit)

@@ -5,7 +5,6 @@ use mathlib.Core.List.{List, [], _∷_}
 use lib.Dec.{eqb}
 use Rattle.block_file.specs.Parse.{Block}
 use Rattle.text.specs.Doc.{Doc, nothing, text, dec, hex8, _▸_, each}
-use Rattle.plan.specs.Calls.{partLimit}
 use Rattle.plan.specs.Exits.{exits}
 use Rattle.plan.specs.Plan.{blockKey, plan}
 
@@ -15,7 +14,7 @@ groupOf i [] = 0
 groupOf i (g ∷ []) = 0
 groupOf i (g ∷ j ∷ rows) = cond (eqb j i) g (groupOf i rows)
 
--- the exits of a line: one space before each key, or `-` if there is none
+-- the exits of a line: each key with a space before it, or a space and `-` if there is none
 abbrev pub exitsText : List ℕ → Doc
 exitsText [] = text " -"
 exitsText (k ∷ ks) = each (λ (l : ℕ). text " " ▸ hex8 l) (k ∷ ks)
@@ -33,6 +32,6 @@ unfoldable pub linesFrom : List ℕ → ℕ → List Block → Doc
 linesFrom rows i [] = nothing
 linesFrom rows i (b ∷ bs) = blockLine (groupOf i rows) b ▸ linesFrom rows (suc i) bs
 
--- the listing of some blocks
-unfoldable pub listing : List Block → Doc
-listing bs = text "key group exits\n" ▸ linesFrom (plan partLimit bs) 0 bs
+-- the listing of some blocks, grouped by a limit
+unfoldable pub listing : ℕ → List Block → Doc
+listing limit bs = text "key group exits\n" ▸ linesFrom (plan limit bs) 0 bs

@@ -3,7 +3,7 @@ use Prim.Native.Nat.{ℕ, _+_, _*_, _≤_, _<_}
 use mathlib.Core.Path.{_≡_}
 use mathlib.Core.List.{List}
 use lib.ListN.{length, getD, take, drop}
-use Rattle.plan.specs.Plan.{interleave}
+use Rattle.plan.specs.Groups.{interleave}
 use Rattle.list_blocks.specs.Listing.{groupOf}
 
 -- the rows from row p on, in parts 2 and 0

@@ -30,7 +30,7 @@ pub enum Listed {
 fn listing_length(file: &[u8], work: &[u32], n: usize) -> usize
     requires { ⌜ (4 * n ≤ length (now work)) × (n ≤ 65536) × (n ≡ blockCount (now file)) ⌝ }
     requires { ⌜ Accepted (now file) × ((i : ℕ) → i < n → getD (now work) (n + i) 0 ≡ groupOf i (plan partLimit (blocksOf (now file)))) ⌝ }
-    ensures { λ r. ⌜ r ≡ length (print (listing (blocksOf (now (file .entry))))) ⌝ }
+    ensures { λ r. ⌜ r ≡ length (print (listing partLimit (blocksOf (now (file .entry))))) ⌝ }
 {
     let mut nothing = [0u8; 0];
     put_listing(file, work, n, &mut nothing)

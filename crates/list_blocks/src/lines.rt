@@ -17,6 +17,7 @@ ghost use Rattle.plan.specs.Plan.{plan};
 ghost use Rattle.plan.specs.Exits.{keysOf};
 ghost use Rattle.list_blocks.specs.Listing.{groupOf, exitsText, line, blockLine, listing};
 
+// The exits of a line.
 fn put_exits(out: &mut [u8], at: usize, exits: Exits) -> usize
     ensures { λ r. ⌜ Wrote (now (out .entry)) at (exitsText (keysOf exits)) (now (out .exit)) r ⌝ }
 {
@@ -30,6 +31,7 @@ fn put_exits(out: &mut [u8], at: usize, exits: Exits) -> usize
     }
 }
 
+// A line: key, group, exits.
 fn put_line(out: &mut [u8], at: usize, key: u32, group: u32, exits: Exits) -> usize
     ensures { λ r. ⌜ Wrote (now (out .entry)) at (line key group (keysOf exits)) (now (out .exit)) r ⌝ }
 {
@@ -58,7 +60,7 @@ fn put_block(
 pub(crate) fn put_listing(file: &[u8], work: &[u32], n: usize, out: &mut [u8]) -> usize
     requires { ⌜ (4 * n ≤ length (now work)) × (n ≤ 65536) × (n ≡ blockCount (now file)) ⌝ }
     requires { ⌜ Accepted (now file) × ((i : ℕ) → i < n → getD (now work) (n + i) 0 ≡ groupOf i (plan partLimit (blocksOf (now file)))) ⌝ }
-    ensures { λ r. ⌜ Wrote (now (out .entry)) 0 (listing (blocksOf (now (file .entry)))) (now (out .exit)) r ⌝ }
+    ensures { λ r. ⌜ Wrote (now (out .entry)) 0 (listing partLimit (blocksOf (now (file .entry)))) (now (out .exit)) r ⌝ }
 {
     let mut at = text::put(out, 0, b"key group exits\n");
     let mut first: usize = 0;

@@ -20,7 +20,7 @@ refusalLine n i = text "refused " ▸ dec n ▸ text " at " ▸ dec i ▸ text "
 -- the listing, or the line of a refusal and nothing else
 unfoldable pub answerText : Parsed → Doc
 answerText (Parsed.refused n i) = refusalLine n i
-answerText (Parsed.accepted bs) = listing bs
+answerText (Parsed.accepted bs) = listing partLimit bs
 
 -- what is printed for a file, of which no more than one byte past the longest need be known
 unfoldable pub output : List ℕ → Doc

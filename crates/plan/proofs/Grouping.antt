@@ -19,8 +19,8 @@ use Rattle.block_file.proofs.Accepted.{few-instrs, instrs-inside, length-of, re
 use Rattle.block_file.specs.Read.{recordAt}
 use Rattle.plan.specs.Accepted.{blocksOf, Accepted}
 use Rattle.plan.specs.Forest.{Forest, SameRoots, range, root}
-use Rattle.plan.specs.Plan.{blockKey, joinBlocks, parents, interleave, plan}
-use Rattle.plan.specs.Groups.{part1, Joined, HasFirsts, Firsts, joinBlock, AllJoined, AllRooted, Grouped}
+use Rattle.plan.specs.Plan.{blockKey, joinBlocks, parents, plan}
+use Rattle.plan.specs.Groups.{interleave, part1, Joined, HasFirsts, Firsts, joinBlock, AllJoined, AllRooted, Grouped}
 use Rattle.plan.specs.Links.{HasRoots, Linked, Outside}
 use Rattle.plan.specs.Order.{HasCounts, Placed}
 use Rattle.plan.proofs.Keys.{block-key, keys-rise}

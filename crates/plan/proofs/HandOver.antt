@@ -13,7 +13,7 @@ use Rattle.block_file.specs.Trailer.{blockCount}
 use Rattle.block_file.specs.Parse.{Block, Parsed}
 use Rattle.block_file.proofs.Accepted.{length-of}
 use Rattle.plan.specs.Accepted.{blocksOf, Accepted}
-use Rattle.plan.specs.Calls.{cleared, Made, Left, handOver, groupedCall, groupingCall}
+use Rattle.plan.specs.Calls.{cleared, Made, Outcome, handOver, callOnBlocks, callOnFile}
 
 -- numbers past m, where none of them changed
 past : (m : ℕ) (work work′ : List ℕ) → length work′ ≡ length work → ((k : ℕ) → m ≤ k → getD work′ k 0 ≡ getD work k 0) → drop m work′ ≡ drop m work
@@ -30,21 +30,21 @@ module _ {A : Type 0} (make : List Block → Option (Made A)) (f : List ℕ) (ok
   size : length (blocksOf f) ≡ n
   size = length-of f (blocksOf f) ok ∙ sym all
 
-  pub refused-8 : length work < 4 * n → record { answer = refusal 8 0; work = work; result = result } ≡ groupingCall make (Parsed.accepted (blocksOf f)) work result
-  unfolding groupingCall groupedCall
+  pub refused-8 : length work < 4 * n → record { answer = refusal 8 0; work = work; result = result } ≡ callOnFile make (Parsed.accepted (blocksOf f)) work result
+  unfolding callOnFile callOnBlocks
   refused-8 h = rw (size, lt-ltb _ _ h)
 
-  cleared-call : 4 * n ≤ length work → handOver (make (blocksOf f)) (cleared (4 * n) work) result ≡ groupingCall make (Parsed.accepted (blocksOf f)) work result
-  unfolding groupingCall groupedCall
+  cleared-call : 4 * n ≤ length work → handOver (make (blocksOf f)) (cleared (4 * n) work) result ≡ callOnFile make (Parsed.accepted (blocksOf f)) work result
+  unfolding callOnFile callOnBlocks
   cleared-call room = rw (size, le-ltb _ _ room)
 
   module _ (m : Made A) (made : make (blocksOf f) ≡ some m) (room : 4 * n ≤ length work) (work′ : List ℕ) (empty : work′ ≡ cleared (4 * n) work) where
-    handed : handOver (some m) work′ result ≡ groupingCall make (Parsed.accepted (blocksOf f)) work result
+    handed : handOver (some m) work′ result ≡ callOnFile make (Parsed.accepted (blocksOf f)) work result
     handed = ap₂ (λ (o : Option (Made A)) (w : List ℕ). handOver o w result) (sym made) empty ∙ cleared-call room
 
-    pub refused-10 : length result < length (m .content) → record { answer = refusal 10 0; work = work′; result = result } ≡ groupingCall make (Parsed.accepted (blocksOf f)) work result
+    pub refused-10 : length result < length (m .content) → record { answer = refusal 10 0; work = work′; result = result } ≡ callOnFile make (Parsed.accepted (blocksOf f)) work result
     refused-10 h = sym (rw (lt-ltb _ _ h) refl) ∙ handed
 
     pub handed-over : (v : A) (result′ : List ℕ) → v ≡ m .values → length (m .content) ≤ length result → result′ ≡ m .content ++ drop (length (m .content)) result
-        → record { answer = value v; work = work′; result = result′ } ≡ groupingCall make (Parsed.accepted (blocksOf f)) work result
+        → record { answer = value v; work = work′; result = result′ } ≡ callOnFile make (Parsed.accepted (blocksOf f)) work result
     handed-over v result′ is h e = ap₂ (λ (u : A) (l : List ℕ). record { answer = value u; work = work′; result = l }) is e ∙ sym (rw (le-ltb _ _ h) refl) ∙ handed

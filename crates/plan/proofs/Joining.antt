@@ -20,7 +20,8 @@ use Rattle.plan.specs.Accepted.{blocksOf, Accepted}
 use Rattle.plan.specs.Forest.{Forest, SameRoots, Hung}
 use Rattle.plan.specs.declared.exits.Exits.{Exits}
 use Rattle.plan.specs.Exits.{keysOf, exits}
-use Rattle.plan.specs.Plan.{target, targetOf, TargetInside, joinTo, joinExits, joinable}
+use Rattle.plan.specs.Plan.{target, joinTo, joinExits, joinable}
+use Rattle.plan.specs.Search.{targetOf, TargetInside}
 use Rattle.plan.specs.Groups.{part1, Joined, joinBlock}
 use Rattle.plan.proofs.Accepted.{found-record}
 use Rattle.plan.proofs.Keys.{not-missing}

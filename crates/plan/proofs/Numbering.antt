@@ -16,7 +16,8 @@ use lib.Dec.{eqb}
 use Rattle.block_file.specs.Parse.{Block}
 use Rattle.plan.specs.Forest.{root}
 use Rattle.plan.specs.Order.{chain, orderFrom, closes, numbersOf, nextGroup, numbersFrom}
-use Rattle.plan.specs.Plan.{members, insert, sortByKey, isEmpty, parts, groupsFrom, groups, groupRows, rowsFrom, plan, parents, blockKey, interleave}
+use Rattle.plan.specs.Plan.{members, insert, sortByKey, isEmpty, parts, groupsFrom, groups, groupRows, rowsFrom, plan, parents, blockKey}
+use Rattle.plan.specs.Groups.{interleave}
 
 -- the members of a component, by a list of roots
 pub members-chain : (p roots : List ℕ) (r left k : ℕ) → ((j : ℕ) → k ≤ j → j < k + left → getD roots j 0 ≡ root p j) → members p r left k ≡ chain roots r left k

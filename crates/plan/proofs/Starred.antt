@@ -70,5 +70,5 @@ each g h (List·Memᴰ·tail m) e = each g h m (cc)
 
 -- each starred case holds
 pub starred : (c : Case) → List·Memᴰ c cases → defined c ≡ stated c
-unfolding exits instrExits fuse cases one pair timed defined stated parts range
+unfolding exits instrExits fuse cases one pair timed defined stated parts
 starred c m = each defined stated m refl

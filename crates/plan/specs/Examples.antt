@@ -10,7 +10,7 @@ use Rattle.armv4t.specs.declared.Op.{Op}
 use Rattle.armv4t.specs.declared.Op.the-variants.{Bx, Branch}
 use Rattle.block_file.specs.Answer.{refusal, value}
 use Rattle.block_file.specs.Parse.{Block, Parsed}
-use Rattle.plan.specs.Calls.{Left, groupedCall, groupingCall, planCall, exitsCall}
+use Rattle.plan.specs.Calls.{Outcome, callOnBlocks, callOnFile, planCall, exitsCall}
 use Rattle.plan.specs.Exits.{exits, instrExits}
 use Rattle.plan.specs.Forest.{follow}
 use Rattle.plan.specs.Plan.{target, joinExits, joinBlocks, parents, members, insert, sortByKey, parts, groupsFrom, groups, rowsFrom, plan}
@@ -35,17 +35,17 @@ exits-missing = refl
 
 -- eleven work numbers are too few
 plan-8 : planCall (Parsed.accepted threeBlocks) (replicate 11 5) (replicate 6 7) ≡ record { answer = refusal 8 0; work = replicate 11 5; result = replicate 6 7 }
-unfolding groupingCall groupedCall threeBlocks
+unfolding callOnFile callOnBlocks threeBlocks
 plan-8 = refl
 
 -- five numbers are too few for the result, and of thirteen work numbers twelve are cleared
 plan-10 : planCall (Parsed.accepted threeBlocks) (replicate 13 5) (replicate 5 7)
     ≡ record { answer = refusal 10 0; work = 0 ∷ 0 ∷ 0 ∷ 0 ∷ 0 ∷ 0 ∷ 0 ∷ 0 ∷ 0 ∷ 0 ∷ 0 ∷ 0 ∷ 5 ∷ []; result = replicate 5 7 }
-unfolding groupingCall groupedCall threeBlocks armBlock plan rowsFrom groups groupsFrom parts sortByKey insert members parents joinBlocks joinExits target follow exits instrExits
+unfolding callOnFile callOnBlocks threeBlocks armBlock plan rowsFrom groups groupsFrom parts sortByKey insert members parents joinBlocks joinExits target follow exits instrExits
 plan-10 = refl
 
 -- the plan in the front of seven numbers: block 1 alone, then blocks 0 and 2
 plan-made : planCall (Parsed.accepted threeBlocks) (replicate 12 5) (replicate 7 7)
     ≡ record { answer = value 3; work = replicate 12 0; result = 0 ∷ 1 ∷ 1 ∷ 0 ∷ 1 ∷ 2 ∷ 7 ∷ [] }
-unfolding groupingCall groupedCall threeBlocks armBlock plan rowsFrom groups groupsFrom parts sortByKey insert members parents joinBlocks joinExits target follow exits instrExits
+unfolding callOnFile callOnBlocks threeBlocks armBlock plan rowsFrom groups groupsFrom parts sortByKey insert members parents joinBlocks joinExits target follow exits instrExits
 plan-made = refl

@@ -1,4 +1,4 @@
--- The exit list of a block: the keys that its text can statically go to.
+-- The exit list of a block (document 01), by its last instruction, or by its last two where they fuse.
 use Prim.Native.Nat.{ℕ, _+_, _/_, _%_, _^_}
 use mathlib.Core.Bool.{Bool, true, false, cond, _&&_}
 use mathlib.Core.List.{List, [], _∷_}
@@ -32,30 +32,31 @@ fallThrough thumb i = keyOf ((i .addr + sizeOf (i .thumb)) % 2 ^ 32) thumb
 abbrev pub listsPc : ℕ → Bool
 listsPc rlist = eqb (rlist / 2 ^ 15 % 2) 1
 
--- whether a condition always holds
-abbrev pub isAlways : Cond → Bool
-isAlways Eq = false
-isAlways Ne = false
-isAlways Cs = false
-isAlways Cc = false
-isAlways Mi = false
-isAlways Pl = false
-isAlways Vs = false
-isAlways Vc = false
-isAlways Hi = false
-isAlways Ls = false
-isAlways Ge = false
-isAlways Lt = false
-isAlways Gt = false
-isAlways Le = false
-isAlways Al = true
-isAlways Nv = false
+-- whether a condition is Al
+abbrev pub isAl : Cond → Bool
+isAl Eq = false
+isAl Ne = false
+isAl Cs = false
+isAl Cc = false
+isAl Mi = false
+isAl Pl = false
+isAl Vs = false
+isAl Vc = false
+isAl Hi = false
+isAl Ls = false
+isAl Ge = false
+isAl Lt = false
+isAl Gt = false
+isAl Le = false
+isAl Al = true
+isAl Nv = false
 
 -- the exits of a branch to a key: a condition other than Al adds the fall-through
 abbrev pub branchExits : Cond → ℕ → ℕ → List ℕ
-branchExits c target fall = target ∷ cond (isAlways c) [] (fall ∷ [])
+branchExits c target fall = target ∷ cond (isAl c) [] (fall ∷ [])
 
--- the exits by a block's last operation, given its condition, the block's Thumb bit and the fall-through: none where control leaves for an address that the text does not fix
+-- the exits by a block's last operation, given its condition, the block's Thumb bit and the fall-through: none for Bx, Swi, Undefined, ThumbBlLow, Alu with rd 15, a
+-- Mem load with rd 15 and a BlockMem load with PC listed; those of a branch for Branch; the fall-through for the others
 abbrev pub opExits : Op → Cond → Bool → ℕ → List ℕ
 opExits (Alu op s rd rn op2) c thumb fall = cond (eqb rd 15) [] (fall ∷ [])
 opExits (Mul acc s rd rn rs rm) c thumb fall = fall ∷ []

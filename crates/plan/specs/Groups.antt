@@ -1,7 +1,7 @@
 -- What the steps of grouping make of the work numbers.
 use Prim.Native.Nat.{ℕ, _+_, _*_, _≤_, _<_}
 use mathlib.Core.Path.{_≡_}
-use mathlib.Core.List.{List}
+use mathlib.Core.List.{List, [], _∷_}
 use lib.ListN.{length, getD, take, drop}
 use mathlib.Core.Bool.{cond}
 use Rattle.block_file.specs.Trailer.{blockCount, blockStart}
@@ -9,14 +9,20 @@ use Rattle.block_file.specs.BlockRecord.{countSum}
 use Rattle.block_file.specs.Parse.{blockAt}
 use Rattle.plan.specs.Accepted.{blocksOf, Accepted}
 use Rattle.plan.specs.Exits.{exits}
-use Rattle.plan.specs.Plan.{joinable, joinExits, parents, interleave, plan}
+use Rattle.plan.specs.Plan.{joinable, joinExits, parents, plan}
 use Rattle.plan.specs.Forest.{Flatter, Forest, SameRoots, root}
+
+-- two lists as one, number by number in turn, up to the end of the shorter
+unfoldable pub interleave : List ℕ → List ℕ → List ℕ
+interleave [] ys = []
+interleave (x ∷ xs) [] = []
+interleave (x ∷ xs) (y ∷ ys) = x ∷ y ∷ interleave xs ys
 
 -- part 1 of the work numbers: the parents
 abbrev pub part1 : ℕ → List ℕ → List ℕ
 part1 n work = take n (drop n work)
 
--- part 2 has the root of block i; of the other numbers only parents may have changed, to no other roots
+-- part 2 has the root of block i, its other numbers and those behind it are as they were, and no root changed; part 0 is not spoken of
 pub record Rooted (n i : ℕ) (work work′ : List ℕ) : Type 0 where
   pub same : length work′ ≡ length work
   pub flatter : Flatter (part1 n work) (part1 n work′)
@@ -32,7 +38,8 @@ pub record AllRooted (n m : ℕ) (work work′ : List ℕ) : Type 0 where
   pub small : (j : ℕ) → j < m → getD work′ (2 * n + j) 0 < n
   pub after : (k : ℕ) → 3 * n ≤ k → getD work′ k 0 ≡ getD work k 0
 
--- what an edge, or several, from block i makes of the work numbers of n blocks: only parents may change, each edge makes a way at most one step longer, and the roots are those of the definition
+-- what some edges make of the work numbers of n blocks: only parents may change, each edge makes the path to a root at most one step longer, and the roots are those of the
+-- definition
 pub record Joined (edges n : ℕ) (work work′ : List ℕ) (joins : List ℕ → List ℕ) (accepted : Type 0) : Type 0 where
   pub same : length work′ ≡ length work
   pub before : (k : ℕ) → k < n → getD work′ k 0 ≡ getD work k 0

@@ -1,4 +1,4 @@
--- The definitions that the crate's promises name, in the order of document 01.
+-- The definitions that the crate's promises name: Exits, Forest, Plan and Calls say what document 01 says, the others what the steps of the code do.
 pub mod Accepted
 pub mod Calls
 pub mod Examples

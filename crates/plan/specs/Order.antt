@@ -18,7 +18,7 @@ chain roots r (suc left) k = cond (eqb (getD roots k 0) r) (k ∷ chain roots r 
 unfoldable pub rest : List ℕ → ℕ → ℕ → ℕ → List ℕ
 rest roots r n h = cond (ltb h n) (h ∷ chain roots r (n - suc h) (suc h)) []
 
--- the blocks of `left` components from component r on, where there are n blocks
+-- the blocks of the components with the `left` roots from r on, where there are n blocks
 unfoldable pub orderFrom : List ℕ → ℕ → ℕ → ℕ → List ℕ
 orderFrom roots n zero r = []
 orderFrom roots n (suc left) r = chain roots r n 0 ++ orderFrom roots n left (suc r)

@@ -1,13 +1,11 @@
 -- The plan: which blocks share a group, and the order in which groups and blocks are emitted.
-use Prim.Native.Nat.{ℕ, zero, suc, _+_, _/_, _^_, _<_}
+use Prim.Native.Nat.{ℕ, zero, suc, _+_, _/_, _^_}
 use mathlib.Core.Bool.{Bool, true, false, not, cond, _&&_}
 use mathlib.Core.List.{List, [], _∷_, _++_, map}
 use mathlib.Core.Option.{Option, none, some}
 use lib.ListN.{length, getD}
 use lib.Dec.{leb, ltb, eqb}
-use Rattle.block_file.specs.Trailer.{blockCount}
 use Rattle.block_file.specs.Parse.{Block}
-use Rattle.plan.specs.declared.search.Target.{Target}
 use Rattle.plan.specs.Exits.{exits}
 use Rattle.plan.specs.Forest.{range, root, hang}
 
@@ -28,17 +26,7 @@ unfoldable pub target : ℕ → List Block → ℕ → Option ℕ
 target k [] i = none
 target k (b ∷ bs) i = cond (eqb (blockKey b) k && joinable b) (some i) (target k bs (suc i))
 
--- the number of a block that was found, or none
-abbrev pub targetOf : Target → Option ℕ
-targetOf (Target.At i) = some i
-targetOf Target.Nothing = none
-
--- a block that was found is one of the file's
-abbrev pub TargetInside : List ℕ → Target → Type 0
-TargetInside f (Target.At i) = i < blockCount f
-TargetInside f Target.Nothing = Unit {0}
-
--- the edge from block i to a key, if there is a block to join
+-- the edge from block i to the block that was found for a key, if there is one
 abbrev pub joinTo : ℕ → List ℕ → Option ℕ → List ℕ
 joinTo i p none = p
 joinTo i p (some j) = hang p i j
@@ -72,11 +60,12 @@ unfoldable pub sortByKey : List ℕ → List ℕ → List ℕ
 sortByKey keys [] = []
 sortByKey keys (i ∷ is) = insert keys i (sortByKey keys is)
 
--- a part that is not empty
+-- a part as a list of one, or no part where it is empty
 abbrev pub close : List ℕ → List (List ℕ)
 close [] = []
 close (i ∷ is) = (i ∷ is) ∷ []
 
+-- whether a part is empty
 abbrev pub isEmpty : List ℕ → Bool
 isEmpty [] = true
 isEmpty (i ∷ is) = false
@@ -88,7 +77,7 @@ parts limit counts part total (i ∷ is) =
     cond (ltb limit (total + getD counts i 0) && not (isEmpty part)) (part ∷ parts limit counts (i ∷ []) (getD counts i 0) is)
     (parts limit counts (part ++ (i ∷ [])) (total + getD counts i 0) is)
 
--- the groups of n components from root r on
+-- the groups of the components with the n roots from r on; a number that is no root has no members
 unfoldable pub groupsFrom : ℕ → List Block → List ℕ → ℕ → ℕ → List (List ℕ)
 groupsFrom limit bs p zero r = []
 groupsFrom limit bs p (suc n) r =
@@ -112,9 +101,3 @@ rowsFrom g (is ∷ gs) = groupRows g is ++ rowsFrom (suc g) gs
 -- the plan (document 01): in emission order two numbers for each block, group from 0 and block index
 unfoldable pub plan : ℕ → List Block → List ℕ
 plan limit bs = rowsFrom 0 (groups limit bs)
-
--- two lists as one, number by number in turn
-unfoldable pub interleave : List ℕ → List ℕ → List ℕ
-interleave [] ys = []
-interleave (x ∷ xs) [] = []
-interleave (x ∷ xs) (y ∷ ys) = x ∷ y ∷ interleave xs ys

@@ -1,8 +1,10 @@
--- Where a key stands among the rising keys of an accepted file.
+-- Where a key stands among the rising keys of an accepted file, and what the search for a block answers.
 use Prim.Native.Nat.{ℕ, _≤_, _<_, _^_}
 use mathlib.Core.List.{List}
+use mathlib.Core.Option.{Option, none, some}
 use Rattle.block_file.specs.Trailer.{blockCount, blockStart}
 use Rattle.block_file.specs.BlockRecord.{keyAt}
+use Rattle.plan.specs.declared.search.Target.{Target}
 use Rattle.plan.specs.Accepted.{Accepted}
 
 -- r is the number of the first block whose key is not below a key, or the number of blocks
@@ -18,3 +20,13 @@ pub record Between (f : List ℕ) (key low high : ℕ) : Type 0 where
   pub few : high < 2 ^ 32
   pub below : Accepted f → (j : ℕ) → j < low → keyAt f (blockStart f j) < key
   pub above : Accepted f → (j : ℕ) → high ≤ j → j < blockCount f → key ≤ keyAt f (blockStart f j)
+
+-- the number of a block that was found, or none
+abbrev pub targetOf : Target → Option ℕ
+targetOf (Target.At i) = some i
+targetOf Target.Nothing = none
+
+-- a block that was found is one of the file's
+abbrev pub TargetInside : List ℕ → Target → Type 0
+TargetInside f (Target.At i) = i < blockCount f
+TargetInside f Target.Nothing = Unit {0}

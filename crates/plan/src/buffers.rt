@@ -2,13 +2,14 @@
 ghost use mathlib.Core.Path.{_≡_};
 ghost use mathlib.Core.List.{_++_};
 ghost use Prim.Native.Nat.{_*_, _≤_};
-ghost use lib.ListN.{length, take, drop, replicate};
-ghost use Rattle.plan.specs.Plan.{interleave};
+ghost use lib.ListN.{length, take, drop};
+ghost use Rattle.plan.specs.Calls.{cleared};
+ghost use Rattle.plan.specs.Groups.{interleave};
 
 // The first m numbers become 0.
 pub fn clear(work: &mut [u32], m: usize)
     requires { ⌜ m ≤ length (now work) ⌝ }
-    ensures { λ _. ⌜ now (work .exit) ≡ replicate m 0 ++ drop m (now (work .entry)) ⌝ }
+    ensures { λ _. ⌜ now (work .exit) ≡ cleared m (now (work .entry)) ⌝ }
 {
     let mut i = 0;
     while i < m {

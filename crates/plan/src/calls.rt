@@ -74,7 +74,7 @@ fn found_or_9(file: &[u8], block: usize) -> Exiting
     }
 }
 
-// The exits of a block by its number.
+// The exits of a block by its number, or refusal 9 where there is no such block.
 pub fn exits_of(file: &[u8], block: u64) -> Exiting
     ensures { λ r. ⌜ exitingOf r ≡ exitsCall (parse (now (file .entry))) block ⌝ }
 {

@@ -1,4 +1,4 @@
-// The exit list of a block: the keys that its text can statically go to, by its last two instructions.
+// The exit list of a block, by its last instruction, or by its last two where they fuse.
 use armv4t::Cond;
 use armv4t::Fused;
 use armv4t::Instr;
@@ -33,8 +33,8 @@ pub enum Exits {
     Two(u32, u32),
 }
 
-// The exits of a block by its number.
-pub enum FoundExits {
+// The exits of a block by its number, or that there is no such block.
+pub(crate) enum FoundExits {
     Exits(Exits),
     Nothing,
 }
@@ -60,7 +60,7 @@ fn lists_pc(rlist: u16) -> bool
     rlist / 32768 % 2 == 1
 }
 
-// The fall-through, unless control leaves for an address that the text does not fix.
+// The fall-through, or no exit where the last operation is one that leaves the block by a value it reads.
 fn falls_unless(leaves: bool, fall: u32) -> Exits
     ensures { λ r. ⌜ keysOf r ≡ cond leaves [] (fall ∷ []) ⌝ }
 {
@@ -82,7 +82,7 @@ fn branch_exits(condition: Cond, target: u32, fall: u32) -> Exits
 }
 
 // The exits by the last instruction alone.
-pub fn last_exits(thumb: bool, last: Instr) -> Exits
+pub(crate) fn last_exits(thumb: bool, last: Instr) -> Exits
     ensures { λ r. ⌜ keysOf r ≡ lastExits thumb last ⌝ }
 {
     let fall = fall_through(thumb, last);
@@ -99,7 +99,7 @@ pub fn last_exits(thumb: bool, last: Instr) -> Exits
 }
 
 // The exits by the last two instructions: a fused pair goes to its target in Thumb, otherwise the last one decides.
-pub fn closing_exits(thumb: bool, before: Instr, last: Instr) -> Exits
+pub(crate) fn closing_exits(thumb: bool, before: Instr, last: Instr) -> Exits
     ensures { λ r. ⌜ keysOf r ≡ closingExits (fuse before last) (lastExits thumb last) ⌝ }
 {
     match fuse_thumb_bl(before, last) {
@@ -168,8 +168,8 @@ pub fn exits_at(file: &[u8], block: BlockRecord, first: usize) -> Exits
     closing_exits(block.thumb, previous.instr, last.instr)
 }
 
-// The exits of block i. `first` sums the counts of the blocks before block k; in an accepted file it does not wrap.
-pub fn block_exits(file: &[u8], i: usize) -> FoundExits
+// The exits of block i, or Nothing. `first` sums the counts of the blocks before block k; in an accepted file it does not wrap.
+pub(crate) fn block_exits(file: &[u8], i: usize) -> FoundExits
     ensures { λ r. ⌜ (Accepted (now (file .entry)) → foundKeys r ≡ getElem? (map exits (blocksOf (now (file .entry)))) i) ⌝ }
 {
     let mut first: usize = 0;

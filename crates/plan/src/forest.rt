@@ -14,7 +14,7 @@ pub(crate) fn own_roots(p: &mut [u32])
     }
 }
 
-// The root of i. Each number on the way is hung under its parent's parent, so that later searches are shorter.
+// The root of i. A number that the search comes to is hung under its parent's parent, where the search goes on, so that later searches are shorter.
 pub(crate) fn find(p: &mut [u32], i: usize) -> usize
     requires { ⌜ Forest (2 * length (now p)) (now p) ⌝ }
     requires { ⌜ i < length (now p) ⌝ }

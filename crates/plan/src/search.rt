@@ -8,8 +8,8 @@ ghost use mathlib.Core.Bool.{cond};
 ghost use Prim.Native.Nat.{_+_, _<_};
 ghost use Rattle.block_file.specs.Trailer.{blockCount};
 ghost use Rattle.plan.specs.Accepted.{Accepted, blocksOf};
-ghost use Rattle.plan.specs.Plan.{target, targetOf, TargetInside};
-ghost use Rattle.plan.specs.Search.{Between, FirstFrom};
+ghost use Rattle.plan.specs.Plan.{target};
+ghost use Rattle.plan.specs.Search.{targetOf, TargetInside, Between, FirstFrom};
 
 // The number of a block, if there is one.
 pub(crate) enum Target {

@@ -3,7 +3,7 @@ use Prim.Native.Nat.{ℕ}
 use mathlib.Core.List.{List}
 use lib.ListN.{length, getD}
 use Rattle.block_file.specs.Answer.{Answer, refusal, value, Counts}
-use Rattle.plan.specs.Calls.{Left}
+use Rattle.plan.specs.Calls.{Outcome}
 
 -- what the check hands over
 pub record CheckNumbers : Type 0 where
@@ -28,17 +28,17 @@ abbrev pub exitsNumbers : Answer (List ℕ) → ExitsNumbers
 exitsNumbers (refusal n i) = record { number = n; at = i; count = 0; first = 0; second = 0 }
 exitsNumbers (value ks) = record { number = 0; at = 0; count = length ks; first = getD ks 0 0; second = getD ks 1 0 }
 
--- what a call that groups hands over, and the lent buffers; `value` is how many blocks a plan has, or how many bytes a text has
-pub record LeftNumbers : Type 0 where
+-- what a call that groups hands over, and the lent buffers; `count` is how many blocks a plan has, or how many bytes a text has
+pub record OutcomeNumbers : Type 0 where
   pub number : ℕ
   pub at : ℕ
-  pub value : ℕ
+  pub count : ℕ
   pub work : List ℕ
   pub result : List ℕ
 
-abbrev pub answerNumbers : Answer ℕ → List ℕ → List ℕ → LeftNumbers
-answerNumbers (refusal n i) work result = record { number = n; at = i; value = 0; work = work; result = result }
-answerNumbers (value v) work result = record { number = 0; at = 0; value = v; work = work; result = result }
+abbrev pub withAnswer : Answer ℕ → List ℕ → List ℕ → OutcomeNumbers
+withAnswer (refusal n i) work result = record { number = n; at = i; count = 0; work = work; result = result }
+withAnswer (value v) work result = record { number = 0; at = 0; count = v; work = work; result = result }
 
-abbrev pub leftNumbers : Left ℕ → LeftNumbers
-leftNumbers l = answerNumbers (l .answer) (l .work) (l .result)
+abbrev pub outcomeNumbers : Outcome ℕ → OutcomeNumbers
+outcomeNumbers l = withAnswer (l .answer) (l .work) (l .result)

@@ -32,7 +32,7 @@ fn put_exits(exits: Exits, count: &mut u64, first: &mut u64, second: &mut u64)
     }
 }
 
-// The numbers of the exits of a block.
+// The numbers of the exits of a block. The answer is 0, or the number of the refusal.
 #[no_mangle]
 pub extern "C" fn recomp_exits(
     file: &[u8],

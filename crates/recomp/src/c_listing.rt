@@ -4,9 +4,9 @@ use crate::listing_of;
 ghost use mathlib.Core.Path.{_≡_};
 ghost use Rattle.block_file.specs.Parse.{parse};
 ghost use Rattle.list_blocks.specs.Calls.{listingCall};
-ghost use Rattle.recomp.specs.Answer.{leftNumbers};
+ghost use Rattle.recomp.specs.Answer.{outcomeNumbers};
 
-// The bytes of the listing.
+// The bytes of the listing. The answer is 0, or the number of the refusal.
 #[no_mangle]
 pub extern "C" fn recomp_listing(
     file: &[u8],
@@ -15,7 +15,7 @@ pub extern "C" fn recomp_listing(
     at: &mut u64,
     length: &mut u64,
 ) -> u32
-    ensures { λ r. ⌜ record { number = r; at = now (at .exit); value = now (length .exit); work = now (work .exit); result = now (text .exit) } ≡ leftNumbers (listingCall (parse (now (file .entry))) (now (work .entry)) (now (text .entry))) ⌝ }
+    ensures { λ r. ⌜ record { number = r; at = now (at .exit); count = now (length .exit); work = now (work .exit); result = now (text .exit) } ≡ outcomeNumbers (listingCall (parse (now (file .entry))) (now (work .entry)) (now (text .entry))) ⌝ }
 {
     match listing_of(file, work, text) {
         Listed::Length(n) => {

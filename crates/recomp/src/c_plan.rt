@@ -4,9 +4,9 @@ use crate::plan_of;
 ghost use mathlib.Core.Path.{_≡_};
 ghost use Rattle.block_file.specs.Parse.{parse};
 ghost use Rattle.plan.specs.Calls.{planCall};
-ghost use Rattle.recomp.specs.Answer.{leftNumbers};
+ghost use Rattle.recomp.specs.Answer.{outcomeNumbers};
 
-// The numbers of the plan.
+// The numbers of the plan. The answer is 0, or the number of the refusal.
 #[no_mangle]
 pub extern "C" fn recomp_plan(
     file: &[u8],
@@ -15,7 +15,7 @@ pub extern "C" fn recomp_plan(
     at: &mut u64,
     blocks: &mut u64,
 ) -> u32
-    ensures { λ r. ⌜ record { number = r; at = now (at .exit); value = now (blocks .exit); work = now (work .exit); result = now (plan .exit) } ≡ leftNumbers (planCall (parse (now (file .entry))) (now (work .entry)) (now (plan .entry))) ⌝ }
+    ensures { λ r. ⌜ record { number = r; at = now (at .exit); count = now (blocks .exit); work = now (work .exit); result = now (plan .exit) } ≡ outcomeNumbers (planCall (parse (now (file .entry))) (now (work .entry)) (now (plan .entry))) ⌝ }
 {
     match plan_of(file, work, plan) {
         Planned::Blocks(b) => {

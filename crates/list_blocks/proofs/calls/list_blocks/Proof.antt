@@ -1,6 +1,7 @@
 -- One law for each of the three answers; the work numbers that grouping and the groups of the blocks changed are all cleared.
 -- Assumes nothing.
 use Prim.Native.Nat.{_≤_}
+use Rattle.plan.specs.Calls.{partLimit}
 use Rattle.block_file.proofs.Accepted.{few-blocks}
 use Rattle.list_blocks.proofs.Groups.{groups-planned, groups-room, groups-past}
 use Rattle.list_blocks.proofs.calls.list_blocks.Statement.{statement}
@@ -21,7 +22,7 @@ mul-if1 c = search needs
 
 returns : tie.Need-returns
 unfolding listedOf
-returns c = refused-8 madeListing _ (c .before .before .before .before .pre .0) _ (c .before .before .before .before .pre .1) _ _ (omega arith)
+returns c = refused-8 (madeListing partLimit) _ (c .before .before .before .before .pre .0) _ (c .before .before .before .before .pre .1) _ _ (omega arith)
 
 group-blocks-requires : tie.Need-group-blocks-requires
 group-blocks-requires c κs = (omega arith, omega (arith, few-blocks _ _ (c .before .before .before .before .before .pre .0), c .before .before .before .before .before .pre .1), c .before .before .before .before .before .pre .1)
@@ -47,7 +48,7 @@ returns-2 : tie.Need-returns-2
 unfolding listedOf
 returns-2 c = let grouped = c .before .before .before .before .before .before .before .before .before .before .before .before .before .group-blocks .ensures in
     let put = c .before .before .before .before .before .before .before .before .before .put-groups .ensures in
-    refused-10 madeListing _ (c .before .before .before .before .before .before .before .before .before .before .before .before .before .before .before .before .before .before .before .pre .0) _ (c .before .before .before .before .before .before .before .before .before .before .before .before .before .before .before .before .before .before .before .pre .1) _ _ _ refl (omega arith) _ (c .before .before .clear .ensures ∙ cleared-same _ _ _ (groups-room grouped put) (groups-past grouped put)) (omega (arith, c .before .before .before .before .before .listing-length .ensures))
+    refused-10 (madeListing partLimit) _ (c .before .before .before .before .before .before .before .before .before .before .before .before .before .before .before .before .before .before .before .pre .0) _ (c .before .before .before .before .before .before .before .before .before .before .before .before .before .before .before .before .before .before .before .pre .1) _ _ _ refl (omega arith) _ (c .before .before .clear .ensures ∙ cleared-same _ _ _ (groups-room grouped put) (groups-past grouped put)) (omega (arith, c .before .before .before .before .before .listing-length .ensures))
 
 put-listing-requires : tie.Need-put-listing-requires
 put-listing-requires c κs = let grouped = c .before .before .before .before .before .before .before .before .before .before .before .group-blocks .ensures in
@@ -71,8 +72,8 @@ unfolding listedOf
 returns-3 c = let grouped = c .before .before .before .before .before .before .before .before .before .before .before .before .before .before .before .before .before .before .group-blocks .ensures in
     let put = c .before .before .before .before .before .before .before .before .before .before .before .before .before .before .put-groups .ensures in
     let long = c .before .before .before .before .before .before .before .before .before .before .listing-length .ensures in
-    let fits : length (print (listing (blocksOf (c .before .before .before .before .before .before .before .before .before .before .before .before .before .before .before .before .before .before .before .before .before .before .before .before .args .file .now)))) ≤ length (c .before .before .before .before .before .before .before .before .before .before .before .before .before .before .before .before .before .before .before .before .before .before .before .before .args .out .now) = omega (arith, long) in
-    handed-over madeListing _ (c .before .before .before .before .before .before .before .before .before .before .before .before .before .before .before .before .before .before .before .before .before .before .before .before .pre .0) _ (c .before .before .before .before .before .before .before .before .before .before .before .before .before .before .before .before .before .before .before .before .before .before .before .before .pre .1) _ _ _ refl (omega arith) _ (c .before .before .clear2 .ensures ∙ cleared-same _ _ _ (groups-room grouped put) (groups-past grouped put)) _ _ long fits (whole (c .before .before .before .before .before .before .put-listing .ensures) fits .0)
+    let fits : length (print (listing partLimit (blocksOf (c .before .before .before .before .before .before .before .before .before .before .before .before .before .before .before .before .before .before .before .before .before .before .before .before .args .file .now)))) ≤ length (c .before .before .before .before .before .before .before .before .before .before .before .before .before .before .before .before .before .before .before .before .before .before .before .before .args .out .now) = omega (arith, long) in
+    handed-over (madeListing partLimit) _ (c .before .before .before .before .before .before .before .before .before .before .before .before .before .before .before .before .before .before .before .before .before .before .before .before .pre .0) _ (c .before .before .before .before .before .before .before .before .before .before .before .before .before .before .before .before .before .before .before .before .before .before .before .before .pre .1) _ _ _ refl (omega arith) _ (c .before .before .clear2 .ensures ∙ cleared-same _ _ _ (groups-room grouped put) (groups-past grouped put)) _ _ long fits (whole (c .before .before .before .before .before .before .put-listing .ensures) fits .0)
 
 pub list-blocks-spec : {M : Type 1} → statement M
 list-blocks-spec =

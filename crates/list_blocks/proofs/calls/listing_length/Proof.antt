@@ -5,6 +5,7 @@ use Rattle.block_file.proofs.Accepted.{length-of}
 use Rattle.list_blocks.proofs.Lengths.{listing-short}
 use Rattle.list_blocks.proofs.calls.listing_length.Statement.{statement}
 use Rattle.list_blocks.proofs.calls.listing_length.Tie as tie
+use Rattle.plan.specs.Calls.{partLimit}
 use Rattle.plan.specs.Accepted.{blocksOf}
 use Rattle.text.proofs.Laws.{exact, counted}
 use Rattle.text.specs.Wrote.{top}
@@ -19,7 +20,7 @@ put-listing-requires : tie.Need-put-listing-requires
 put-listing-requires c κs = search needs
 
 returns : tie.Need-returns
-returns c = exact (c .before .put-listing .ensures) (subst (λ (k : ℕ). k < top) (sym (counted (c .before .put-listing .ensures))) (omega (arith, listing-short (blocksOf (c .before .before .before .before .before .args .file .now)) (subst (λ (k : ℕ). k ≤ 65536) (c .before .before .before .before .before .pre .0 .2 ∙ sym (length-of _ _ (c .before .before .before .before .before .pre .1 .0))) (c .before .before .before .before .before .pre .0 .1)))))
+returns c = exact (c .before .put-listing .ensures) (subst (λ (k : ℕ). k < top) (sym (counted (c .before .put-listing .ensures))) (omega (arith, listing-short partLimit (blocksOf (c .before .before .before .before .before .args .file .now)) (subst (λ (k : ℕ). k ≤ 65536) (c .before .before .before .before .before .pre .0 .2 ∙ sym (length-of _ _ (c .before .before .before .before .before .pre .1 .0))) (c .before .before .before .before .before .pre .0 .1)))))
 
 pub listing-length-spec : {M : Type 1} → statement M
 listing-length-spec = tie.close (tie.spec slice-aggregate-put-listing put-listing-requires returns)

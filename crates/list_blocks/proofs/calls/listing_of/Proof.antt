@@ -5,7 +5,7 @@ use Rattle.list_blocks.proofs.calls.listing_of.Statement.{statement}
 use Rattle.list_blocks.proofs.calls.listing_of.Tie as tie
 use Rattle.list_blocks.specs.Calls.{listedOf, listingCall}
 use Rattle.plan.proofs.Answers.{refused-file, accepted-file, accepted-blocks}
-use Rattle.plan.specs.Calls.{groupingCall}
+use Rattle.plan.specs.Calls.{callOnFile}
 use borrow.Author.Needs.{needs}
 use denote.Ref.{now}
 use mathlib.Core.Path.{sym, ap, _∙_}
@@ -39,7 +39,7 @@ returns : tie.Need-returns
 returns c = c .before .before .before .before .list-blocks .ensures ∙ ap (λ p. listingCall p (now (c .before .before .before .before .before .before .before .before .before .before .before .before .before .before .args .work)) (now (c .before .before .before .before .before .before .before .before .before .before .before .before .before .before .args .out))) (sym (accepted-file _ _ (c .before .before .before .before .before .before .before .before .before .before .check .ensures) _ _ (c .before .before .before .before .before .before .before .before .blocks2 .given .1)))
 
 returns-2 : tie.Need-returns-2
-unfolding listedOf groupingCall
+unfolding listedOf callOnFile
 returns-2 c = rw (refused-file _ _ (c .before .before .before .check .ensures) _ _ (c .before .number .given .1))
 
 pub listing-of-spec : {M : Type 1} → statement M

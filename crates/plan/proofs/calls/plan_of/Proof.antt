@@ -8,7 +8,7 @@ use Rattle.block_file.proofs.Accepted.{few-blocks}
 use Rattle.plan.proofs.Answers.{refused-file, accepted-file, accepted-blocks}
 use Rattle.plan.proofs.calls.plan_of.Statement.{statement}
 use Rattle.plan.proofs.calls.plan_of.Tie as tie
-use Rattle.plan.specs.Calls.{plannedOf, groupingCall, planCall}
+use Rattle.plan.specs.Calls.{plannedOf, callOnFile, planCall}
 
 check-requires : tie.Need-check-requires
 check-requires c κs = search needs
@@ -38,7 +38,7 @@ returns : tie.Need-returns
 returns c = c .before .before .before .before .plan-blocks .ensures ∙ ap (λ p. planCall p (now (c .before .before .before .before .before .before .before .before .before .before .before .before .before .before .args .work)) (now (c .before .before .before .before .before .before .before .before .before .before .before .before .before .before .args .result))) (sym (accepted-file _ _ (c .before .before .before .before .before .before .before .before .before .before .check .ensures) _ _ (c .before .before .before .before .before .before .before .before .blocks2 .given .1)))
 
 returns-2 : tie.Need-returns-2
-unfolding plannedOf groupingCall
+unfolding plannedOf callOnFile
 returns-2 c = rw (refused-file _ _ (c .before .before .before .check .ensures) _ _ (c .before .number .given .1))
 
 pub plan-of-spec : {M : Type 1} → statement M

@@ -9,13 +9,13 @@ use borrow.Author.Needs.{needs}
 use Rattle.armv4t.proofs.Arms.{arm, others}
 use Rattle.armv4t.specs.declared.Cond.{Cond}
 use Rattle.armv4t.proofs.Cond.{enum, the-type}
-use Rattle.plan.specs.Exits.{isAlways}
+use Rattle.plan.specs.Exits.{isAl}
 use Rattle.plan.proofs.exits.branch_exits.Statement.{statement}
 use Rattle.plan.proofs.exits.branch_exits.Tie as tie
 
 -- the search does not reach through all fifteen, so three stand here
-other : (k : Cond) → OneOf (others 16 (14 ∷ [])) (tagOf the-type k) → isAlways k ≡ false
-other k o = arm enum (λ k′. isAlways k′ ≡ false) (others 16 (14 ∷ [])) k o (λ _. refl, (λ _. refl, (λ _. refl, search depth 16)))
+other : (k : Cond) → OneOf (others 16 (14 ∷ [])) (tagOf the-type k) → isAl k ≡ false
+other k o = arm enum (λ k′. isAl k′ ≡ false) (others 16 (14 ∷ [])) k o (λ _. refl, (λ _. refl, (λ _. refl, search depth 16)))
 
 enum-told : tie.Need-enum-told
 enum-told c = search needs
