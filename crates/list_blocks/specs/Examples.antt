@@ -1,15 +1,36 @@
--- The listing of document 01's three blocks, as an example that computes.
+-- The listing of document 01's three blocks and the call for it, as examples that compute.
 use mathlib.Core.Path.{_≡_, refl}
-use Rattle.plan.specs.Calls.{partLimit}
-use Rattle.text.specs.Doc.{text, print}
+use mathlib.Core.List.{[], _∷_, _++_}
+use lib.ListN.{replicate}
+use Rattle.block_file.specs.Answer.{refusal, value}
+use Rattle.block_file.specs.Parse.{Parsed}
+use Rattle.plan.specs.Calls.{partLimit, callOnBlocks, callOnFile}
 use Rattle.text.specs.Digits.{numeral, fixed}
-use Rattle.text.specs.Doc.{decimal, hexadecimal8}
+use Rattle.text.specs.Doc.{text, decimal, hexadecimal8, print}
 use Rattle.plan.specs.Examples.{armBlock, threeBlocks}
 use Rattle.plan.specs.Exits.{exits, instrExits}
 use Rattle.plan.specs.Forest.{follow}
 use Rattle.plan.specs.Plan.{target, joinExits, joinBlocks, parents, members, insert, sortByKey, parts, groupsFrom, groups, rowsFrom, plan}
+use Rattle.list_blocks.specs.Calls.{listingCall}
 use Rattle.list_blocks.specs.Listing.{groupOf, blockLine, linesFrom, listing}
 
 three-blocks : print (listing partLimit threeBlocks) ≡ print (text "key group exits\n08000000 1 08000008\n08000004 0 -\n08000008 1 -\n")
 unfolding print decimal hexadecimal8 numeral fixed listing linesFrom blockLine groupOf threeBlocks armBlock plan rowsFrom groups groupsFrom parts sortByKey insert members parents joinBlocks joinExits target follow exits instrExits
 three-blocks = refl
+
+-- eleven work numbers are too few
+listing-8 : listingCall (Parsed.accepted threeBlocks) (replicate 11 5) [] ≡ record { answer = refusal 8 0; work = replicate 11 5; result = [] }
+unfolding callOnFile callOnBlocks threeBlocks
+listing-8 = refl
+
+-- the text has 62 bytes: 61 are too few, and of thirteen work numbers twelve are cleared
+listing-10 : listingCall (Parsed.accepted threeBlocks) (replicate 13 5) (replicate 61 7)
+    ≡ record { answer = refusal 10 0; work = replicate 12 0 ++ (5 ∷ []); result = replicate 61 7 }
+unfolding callOnFile callOnBlocks print decimal hexadecimal8 numeral fixed listing linesFrom blockLine groupOf threeBlocks armBlock plan rowsFrom groups groupsFrom parts sortByKey insert members parents joinBlocks joinExits target follow exits instrExits
+listing-10 = refl
+
+-- in 63 bytes the last one is left
+listing-made : listingCall (Parsed.accepted threeBlocks) (replicate 12 5) (replicate 63 7)
+    ≡ record { answer = value 62; work = replicate 12 0; result = print (text "key group exits\n08000000 1 08000008\n08000004 0 -\n08000008 1 -\n") ++ (7 ∷ []) }
+unfolding callOnFile callOnBlocks print decimal hexadecimal8 numeral fixed listing linesFrom blockLine groupOf threeBlocks armBlock plan rowsFrom groups groupsFrom parts sortByKey insert members parents joinBlocks joinExits target follow exits instrExits
+listing-made = refl

@@ -1,11 +1,11 @@
 -- The starred cases of document 01 for exits and parts.
 -- Assumes nothing.
-use Prim.Native.Nat.{ℕ}
+use Prim.Native.Nat.{ℕ, _-_}
 use mathlib.Core.Path.{_≡_, refl}
 use mathlib.Core.Bool.{Bool, true, false}
-use mathlib.Core.List.{List, [], _∷_, map, List·Memᴰ, List·Memᴰ·head, List·Memᴰ·tail}
+use mathlib.Core.List.{List, [], _∷_, _++_, map, List·Memᴰ, List·Memᴰ·head, List·Memᴰ·tail}
 use mathlib.Core.Option.{none}
-use lib.ListN.{length}
+use lib.ListN.{replicate}
 use Rattle.armv4t.specs.declared.Cond.{Cond}
 use Rattle.armv4t.specs.declared.Cond.the-variants.{Eq, Al}
 use Rattle.armv4t.specs.declared.Op.{Op}
@@ -15,8 +15,8 @@ use Rattle.block_file.specs.declared.decode.TimedInstr.{TimedInstr}
 use Rattle.block_file.specs.Parse.{Block}
 use Rattle.plan.specs.Calls.{partLimit}
 use Rattle.plan.specs.Exits.{instrExits, exits}
-use Rattle.plan.specs.Forest.{range}
-use Rattle.plan.specs.Plan.{parts}
+use Rattle.plan.specs.Forest.{follow}
+use Rattle.plan.specs.Plan.{target, joinExits, joinBlocks, parents, members, insert, sortByKey, parts, groupsFrom, groups, rowsFrom, plan}
 
 -- an instruction of one cycle
 timed : ℕ → Bool → Cond → Op → TimedInstr
@@ -36,11 +36,24 @@ pair lr off =
       instrs = timed 0x0800_0100 true Al (ThumbBlHigh lr) ∷ timed 0x0800_0102 true Al (ThumbBlLow off) ∷ [];
     }
 
+-- an ARM block of n Swi and a branch
+long : ℕ → ℕ → ℕ → Block
+long addr n target =
+    record { addr = addr; thumb = false; code = none; instrs = replicate n (timed addr false Al (Swi 0)) ++ (timed addr false Al (Branch false target) ∷ []) }
+
+-- an ARM block of one instruction
+short : Block
+short = record { addr = 0x0801_0000; thumb = false; code = none; instrs = timed 0x0801_0000 false Al (Bx 14) ∷ [] }
+
+-- a block of n instructions, and the short one that it branches to
+two : ℕ → List Block
+two n = long 0x0800_0000 (n - 1) 0x0801_0000 ∷ short ∷ []
+
 pub data Case : Type 0 where
   -- a block and its exits
   exit : Block → List ℕ → Case
-  -- the instruction counts of a component's blocks, and the parts that it is cut into
-  part : List ℕ → List (List ℕ) → Case
+  -- two blocks of one component, the second of one instruction, by the number of instructions of the first; the rows of their plan
+  part : ℕ → List ℕ → Case
 
 pub cases : List Case
 cases =
@@ -49,19 +62,19 @@ cases =
     ∷ exit (one Eq (Bx 14)) []
     ∷ exit (one Al (Swi 0)) []
     ∷ exit (pair 0x0800_0104 3) (0x0800_010b ∷ [])
-    ∷ part (8191 ∷ 1 ∷ []) ((0 ∷ 1 ∷ []) ∷ [])
-    ∷ part (8192 ∷ 1 ∷ []) ((0 ∷ []) ∷ (1 ∷ []) ∷ [])
+    ∷ part 8191 (0 ∷ 0 ∷ 0 ∷ 1 ∷ [])
+    ∷ part 8192 (0 ∷ 0 ∷ 1 ∷ 1 ∷ [])
     ∷ []
 
 -- what the definitions give for a case
-pub defined : Case → List (List ℕ)
-defined (exit b keys) = exits b ∷ []
-defined (part counts cut) = parts partLimit counts [] 0 (range (length counts) 0)
+pub defined : Case → List ℕ
+defined (exit b keys) = exits b
+defined (part n rows) = plan partLimit (two n)
 
 -- what document 01 says of a case
-pub stated : Case → List (List ℕ)
-stated (exit b keys) = keys ∷ []
-stated (part counts cut) = cut
+pub stated : Case → List ℕ
+stated (exit b keys) = keys
+stated (part n rows) = rows
 
 -- what two functions agree on along a list they agree on at each of its members
 each : {A B : Type 0} (g h : A → B) {x : A} {xs : List A} → List·Memᴰ x xs → map g xs ≡ map h xs → g x ≡ h x
@@ -70,5 +83,5 @@ each g h (List·Memᴰ·tail m) e = each g h m (cc)
 
 -- each starred case holds
 pub starred : (c : Case) → List·Memᴰ c cases → defined c ≡ stated c
-unfolding exits instrExits fuse cases one pair timed defined stated parts
+unfolding exits instrExits fuse cases one pair long short two timed defined stated plan rowsFrom groups groupsFrom parts sortByKey insert members parents joinBlocks joinExits target follow
 starred c m = each defined stated m refl

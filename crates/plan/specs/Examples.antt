@@ -33,8 +33,17 @@ exits-missing : exitsCall (Parsed.accepted threeBlocks) 3 ≡ refusal 9 0
 unfolding exitsCall threeBlocks
 exits-missing = refl
 
--- eleven work numbers are too few
-plan-8 : planCall (Parsed.accepted threeBlocks) (replicate 11 5) (replicate 6 7) ≡ record { answer = refusal 8 0; work = replicate 11 5; result = replicate 6 7 }
+-- a refused file
+exits-refused : exitsCall (Parsed.refused 4 2) 0 ≡ refusal 4 2
+unfolding exitsCall
+exits-refused = refl
+
+plan-refused : planCall (Parsed.refused 4 2) (replicate 12 5) (replicate 6 7) ≡ record { answer = refusal 4 2; work = replicate 12 5; result = replicate 6 7 }
+unfolding callOnFile
+plan-refused = refl
+
+-- eleven work numbers are too few, which is found before the result that is too short
+plan-8 : planCall (Parsed.accepted threeBlocks) (replicate 11 5) (replicate 5 7) ≡ record { answer = refusal 8 0; work = replicate 11 5; result = replicate 5 7 }
 unfolding callOnFile callOnBlocks threeBlocks
 plan-8 = refl
 
