@@ -1,2 +1,6 @@
 -- What emit_block makes of a block's instructions, as forms of text.
 pub mod Forms
+pub mod Operands
+pub mod InlineBody
+pub mod Fnv
+pub mod Block

@@ -1,0 +1,146 @@
+-- A block's instructions as forms of text: emit_block's loop, with the cycles pending.
+use Prim.Native.Nat.{ℕ, zero, suc, _+_, _*_, _/_, _%_, _^_}
+use mathlib.Core.Bool.{Bool, true, false, not, cond, _&&_}
+use mathlib.Core.List.{List, [], _∷_, _++_}
+use mathlib.Core.Option.{Option, none, some}
+use lib.Dec.{eqb}
+use lib.ListN.{length}
+use Rattle.armv4t.specs.declared.Op.{Op}
+use Rattle.armv4t.specs.declared.Op.the-variants.{Alu, Mul, MulLong, Swap, Bx, Branch, ThumbBlHigh, ThumbBlLow, Mem, BlockMem, Mrs, MsrReg, MsrImm, Swi, Undefined}
+use Rattle.armv4t.specs.declared.Instr.{Instr}
+use Rattle.armv4t.specs.declared.Fused.{Fused}
+use Rattle.armv4t.specs.declared.Fused.the-variants.{Pair, Nothing}
+use Rattle.armv4t.specs.Bit0.{clearBit0, setBit0}
+use Rattle.armv4t.specs.Instr.{sizeOf}
+use Rattle.armv4t.specs.Fused.{fuse}
+use Rattle.block_file.specs.declared.decode.TimedInstr.{TimedInstr}
+use Rattle.block_file.specs.Parse.{Block}
+use Rattle.plan.specs.Exits.{keyOf, fallThrough, isAlways}
+use Rattle.c_tree.specs.Expr.{word, udec, x-addr, reg, compl, add, band, bor, w32, Expr, lit, get, un, bin, read}
+use Rattle.c_tree.specs.Stmt.{Plain, tick}
+use Rattle.forms.specs.Forms.{Lines, Native, straight, holds, branch, jump, pair, bx, pop, Form, native, shell, Body}
+use Rattle.forms.specs.Operands.{condExpr, regExpr}
+use Rattle.forms.specs.InlineBody.{only, apart, let32, setReg, aligned, names, listed, loads, inlineBody}
+use Rattle.forms.specs.Fnv.{fnv64}
+
+-- the region of an address
+abbrev pub regionOf : ℕ → ℕ
+regionOf addr = addr / 2 ^ 24 % 16
+
+-- flush_ticks: a line for the cycles pending, if there are any
+abbrev pub flushTicks : ℕ → Lines
+flushTicks zero = []
+flushTicks (suc n) = (tick (suc n) ∷ []) ∷ []
+
+-- c[r] = 0x{:08x}u;
+abbrev pub setWord : ℕ → ℕ → Plain
+setWord r n = setReg r (lit word n)
+
+-- emit_shell: high if it is for an unfused ThumbBlHigh
+abbrev pub emitShell : Bool → Bool → ℕ → Instr → Form
+emitShell thumb high cycles i = shell high (flushTicks cycles ++ apart (setWord 15 (i .addr) ∷ [])) (fallThrough thumb i)
+
+-- a fused pair to a target; the cycles are those pending with its own
+abbrev pub emitPair : ℕ → ℕ → ℕ → Native
+emitPair cycles target ret = pair (flushTicks cycles ++ apart (setWord 14 ret ∷ setWord 15 (clearBit0 target) ∷ [])) (setBit0 target)
+
+-- Branch
+abbrev pub emitBranch : Bool → ℕ → Instr → Bool → ℕ → Native
+emitBranch thumb cycles i link target =
+    let regs : List Plain = only link (setWord 14 ((i .addr + 4) % 2 ^ 32)) ++ (setWord 15 target ∷ []) in
+    cond (isAlways (i .cond)) (jump (flushTicks cycles ++ apart regs) (keyOf target thumb))
+    (branch (flushTicks cycles) (condExpr (i .cond)) regs (keyOf target thumb))
+
+-- whether a BlockMem is a pop of PC; a block in region 0 leaves that, and Bx, to the interpreter
+abbrev pub isPop : ℕ → Instr → Bool → ℕ → ℕ → Bool → Bool → Bool → Bool → Bool
+isPop region i load rn rlist pre up s-bit writeback =
+    load && not pre && up && not s-bit && writeback && isAlways (i .cond) && names rlist 15 && not (eqb rn 15) && not (eqb region 0)
+
+-- a pop of PC
+abbrev pub emitPop : Bool → ℕ → ℕ → List ℕ → Native
+emitPop thumb cycles rn regs =
+    pop (flushTicks cycles) (let32 x-addr (get (reg rn)))
+    (loads regs ++ apart (setReg rn (bin add (get (reg rn)) (lit udec ((length regs + 1) * 4))) ∷ []))
+    (setReg 15 (bin band (read w32 (aligned 3)) (un compl (lit udec (cond thumb 1 3)))))
+    (bin bor (get (reg 15)) (lit udec (cond thumb 1 0)))
+
+-- an instruction with the lines that it is lowered to, or none, and the cycles pending behind it; bus: it touches memory, so what is pending is flushed
+-- before its own cost is added
+abbrev pub emitLines : Bool → Bool → ℕ → TimedInstr → Option Lines → Form × ℕ
+emitLines thumb bus cycles x none = (emitShell thumb false cycles (x .instr), 0)
+emitLines thumb bus cycles x (some body) =
+    let ticks : Lines = cond bus (flushTicks cycles) [] in
+    (native (cond (isAlways (x .instr .cond)) (straight ticks body) (holds ticks (condExpr (x .instr .cond)) body)), cond bus 0 cycles + x .cost)
+
+-- a straight-line instruction: inlined, or for the interpreter
+abbrev pub emitStraight : Bool → Bool → ℕ → TimedInstr → Form × ℕ
+emitStraight thumb bus cycles x = emitLines thumb bus cycles x (inlineBody thumb (x .instr))
+
+-- an instruction that is not fused, by its operation, and the cycles pending behind it
+abbrev pub emitOp : Bool → ℕ → ℕ → TimedInstr → Op → Form × ℕ
+emitOp thumb region cycles x (Alu op s rd rn op2) = emitStraight thumb false cycles x
+emitOp thumb region cycles x (Mul acc s rd rn rs rm) = emitStraight thumb false cycles x
+emitOp thumb region cycles x (MulLong signed acc s hi lo rs rm) = emitStraight thumb false cycles x
+emitOp thumb region cycles x (Swap byte rd rm rn) = emitStraight thumb false cycles x
+emitOp thumb region cycles x (Bx rm) =
+    cond (isAlways (x .instr .cond) && not (eqb region 0)) (native (bx (flushTicks (cycles + x .cost)) (regExpr (x .instr) rm)), 0)
+    (emitStraight thumb false cycles x)
+emitOp thumb region cycles x (Branch link target) = (native (emitBranch thumb (cycles + x .cost) (x .instr) link target), 0)
+emitOp thumb region cycles x (ThumbBlHigh lr) = (emitShell thumb true cycles (x .instr), 0)
+emitOp thumb region cycles x (ThumbBlLow off) = emitStraight thumb false cycles x
+emitOp thumb region cycles x (Mem load width signed rd rn offset pre up writeback) = emitStraight thumb true cycles x
+emitOp thumb region cycles x (BlockMem load rn rlist pre up s-bit writeback) =
+    cond (isPop region (x .instr) load rn rlist pre up s-bit writeback) (native (emitPop thumb (cycles + x .cost) rn (listed rlist 15)), 0)
+    (emitStraight thumb true cycles x)
+emitOp thumb region cycles x (Mrs spsr rd) = emitStraight thumb false cycles x
+emitOp thumb region cycles x (MsrReg spsr fields rm) = emitStraight thumb false cycles x
+emitOp thumb region cycles x (MsrImm spsr fields value) = emitStraight thumb false cycles x
+emitOp thumb region cycles x (Swi imm) = emitStraight thumb false cycles x
+emitOp thumb region cycles x (Undefined raw) = emitStraight thumb false cycles x
+
+-- an instruction that is not fused
+unfoldable pub emitInstr : Bool → ℕ → ℕ → TimedInstr → Form × ℕ
+emitInstr thumb region cycles x = emitOp thumb region cycles x (x .instr .op)
+
+-- one thing for two instructions that are no pair, another for a pair
+abbrev pub fusedOr : {A : Type 0} → Fused → A → (ℕ → ℕ → A) → A
+fusedOr Nothing two f = two
+fusedOr (Pair target ret) two f = f target ret
+
+-- a form before others
+abbrev pub before : Form → List Form × ℕ → List Form × ℕ
+before r rs = (r ∷ rs .0, rs .1)
+
+-- the loop: the forms of instructions, with cycles pending before them, and the cycles pending behind them
+unfoldable pub emitInstrs : Bool → ℕ → ℕ → List TimedInstr → List Form × ℕ
+emitInstrs thumb region cycles [] = ([], cycles)
+emitInstrs thumb region cycles (x ∷ []) = let s : Form × ℕ = emitInstr thumb region cycles x in before (s .0) ([], s .1)
+emitInstrs thumb region cycles (x ∷ y ∷ rest) =
+    let s : Form × ℕ = emitInstr thumb region cycles x in
+    let two : List Form × ℕ = before (s .0) (emitInstrs thumb region (s .1) (y ∷ rest)) in
+    fusedOr (fuse (x .instr) (y .instr)) two
+    (λ target ret. before (native (emitPair (cycles + (x .cost + y .cost)) target ret)) (emitInstrs thumb region 0 rest))
+
+-- the lines before the closing transfer, by the last instruction
+abbrev pub closing : ℕ → List TimedInstr → Lines
+closing cycles [] = []
+closing cycles (x ∷ []) = flushTicks cycles ++ apart (setWord 15 ((x .instr .addr + sizeOf (x .instr .thumb)) % 2 ^ 32) ∷ [])
+closing cycles (x ∷ y ∷ rest) = closing cycles (y ∷ rest)
+
+-- the hash of a block's code bytes, or their absence
+abbrev pub hashOf : ℕ → Option (List ℕ) → Option ℕ
+hashOf multiplier none = none
+hashOf multiplier (some bytes) = some (fnv64 multiplier bytes)
+
+-- a block as it is printed
+unfoldable pub bodyOf : ℕ → Block → Body
+bodyOf multiplier b =
+    let forms : List Form × ℕ = emitInstrs (b .thumb) (regionOf (b .addr)) 0 (b .instrs) in
+    record {
+      addr = b .addr;
+      thumb = b .thumb;
+      count = length (b .instrs);
+      hash = hashOf multiplier (b .code);
+      forms = forms .0;
+      last = closing (forms .1) (b .instrs);
+    }

@@ -1,0 +1,14 @@
+-- fnv64: the hash of a block's code bytes that its guard names.
+use Prim.Native.Nat.{ℕ, _*_, _%_, _^_}
+use mathlib.Core.Path.{_≡_, refl}
+use mathlib.Core.List.{List, [], _∷_}
+use lib.Bits.{bitXor}
+
+-- the hash h, with bytes hashed in: each is xored in, then the outcome is multiplied modulo 2^64
+abbrev pub fnvFrom : ℕ → ℕ → List ℕ → ℕ
+fnvFrom multiplier h [] = h
+fnvFrom multiplier h (b ∷ bs) = fnvFrom multiplier (bitXor h b * multiplier % 2 ^ 64) bs
+
+-- the hash of some bytes
+unfoldable pub fnv64 : ℕ → List ℕ → ℕ
+fnv64 multiplier bytes = fnvFrom multiplier 0xcbf2_9ce4_8422_2325 bytes
