@@ -16,7 +16,7 @@ use Rattle.armv4t.specs.Fused.{fuse}
 use Rattle.block_file.specs.declared.decode.TimedInstr.{TimedInstr}
 use Rattle.block_file.specs.Parse.{Block}
 use Rattle.plan.specs.Exits.{keyOf, fallThrough, isAlways}
-use Rattle.c_tree.specs.Expr.{word, udec, x-addr, reg, compl, add, band, bor, w32, Expr, lit, get, un, bin, read}
+use Rattle.c_tree.specs.Expr.{word, udec, x-addr, reg, compl, add, band, bor, w32, lit, get, un, bin, read}
 use Rattle.c_tree.specs.Stmt.{Plain, tick}
 use Rattle.forms.specs.Forms.{Lines, Native, straight, holds, branch, jump, pair, bx, pop, Form, native, shell, Body}
 use Rattle.forms.specs.Operands.{condExpr, regExpr}

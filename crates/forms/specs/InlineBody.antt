@@ -217,9 +217,12 @@ transfers true i rn writeback inList moved regs = apart (only (writeback && not 
 transfers false i rn writeback inList moved regs =
     stores (storedReg i rn (getD regs 0 16) moved) regs ++ apart (only writeback (setReg rn moved))
 
--- BlockMem: up, pre, its base register, its registers, and the rest given the base after
-abbrev pub blockMemBody : Bool → Bool → ℕ → ℕ → (Expr → Lines) → Lines
-blockMemBody up pre rn total rest = apart (let32 x-base (get (reg rn)) ∷ let32 x-addr (start up pre total) ∷ []) ++ rest (movedBase up total)
+-- BlockMem: inList if its base register is listed
+abbrev pub blockMemBody : Instr → Bool → ℕ → Bool → Bool → Bool → Bool → List ℕ → Lines
+blockMemBody i load rn inList pre up writeback regs =
+    let total : ℕ = length regs * 4 in
+    apart (let32 x-base (get (reg rn)) ∷ let32 x-addr (start up pre total) ∷ [])
+    ++ transfers load i rn writeback inList (movedBase up total) regs
 
 -- inline_body by the operation, in a block that is Thumb or not; none where the interpreter is to carry it out
 abbrev pub opBody : Bool → Instr → Op → Option Lines
@@ -236,9 +239,7 @@ opBody thumb i (Mem load width signed rd rn offset pre up writeback) =
     (memBody (baseExpr thumb i rn) up pre (access load width signed rd rn (not pre || writeback)) (offsetExpr i offset))
 opBody thumb i (BlockMem load rn rlist pre up s-bit writeback) =
     cond (s-bit || eqb rlist 0 || eqb rn 15 || (load && names rlist 15)) none
-    (some
-    (blockMemBody up pre rn (length (listed rlist 16) * 4)
-    (λ moved. transfers load i rn writeback (names rlist rn) moved (listed rlist 16))))
+    (some (blockMemBody i load rn (names rlist rn) pre up writeback (listed rlist 16)))
 opBody thumb i (Mrs spsr rd) = none
 opBody thumb i (MsrReg spsr fields rm) = none
 opBody thumb i (MsrImm spsr fields value) = none
