@@ -12,3 +12,8 @@ fnvFrom multiplier h (b ∷ bs) = fnvFrom multiplier (bitXor h b * multiplier % 
 -- the hash of some bytes
 unfoldable pub fnv64 : ℕ → List ℕ → ℕ
 fnv64 multiplier bytes = fnvFrom multiplier 0xcbf2_9ce4_8422_2325 bytes
+
+-- the hash of the bytes of abc
+abc : fnv64 4_294_967_731 (97 ∷ 98 ∷ 99 ∷ []) ≡ 0x36cd_6d70_0541_574b
+unfolding fnv64
+abc = refl

@@ -4,3 +4,4 @@ pub mod Operands
 pub mod InlineBody
 pub mod Fnv
 pub mod Block
+pub mod Examples
