@@ -89,11 +89,14 @@ ldrsh : print (bodyText (inlineBody false (always false (Mem true Half true 0 1 
 unfolding inlineBody print decimal numeral
 ldrsh = refl
 
--- ldr r0, [pc, #16] in Thumb
-ldr : print (bodyText (inlineBody true (always true (Mem true Word false 0 15 (MemOffset.Imm 16) true true false))))
+-- ldr r0, [pc, #16] in Thumb, at an address that is no multiple of 4
+abbrev ldrPc : Instr
+ldrPc = record { addr = 0x0800_0702; cond = Al; op = Mem true Word false 0 15 (MemOffset.Imm 16) true true false; thumb = true }
+
+ldr : print (bodyText (inlineBody true ldrPc))
     ≡ print
     (text
-    "        uint32_t base = (0x08000004u);\n        uint32_t ob = base + 0x10u;\n        uint32_t addr = ob;\n        c[0] = ror32(a->read32(m, addr & ~3u), (addr & 3u) * 8u);\n")
+    "        uint32_t base = (0x08000704u);\n        uint32_t ob = base + 0x10u;\n        uint32_t addr = ob;\n        c[0] = ror32(a->read32(m, addr & ~3u), (addr & 3u) * 8u);\n")
 unfolding inlineBody print decimal numeral hexadecimal hexadecimal8 fixed
 ldr = refl
 
