@@ -1,0 +1,146 @@
+-- The tree of a block's text: transfer, emit_shell and emit_block. Code is made with what stands behind it as its last argument.
+use Prim.Native.Nat.{ℕ, _+_, _*_, _/_, _%_, _^_}
+use mathlib.Core.Bool.{Bool, true, false, not, cond, _||_}
+use mathlib.Core.List.{List, [], _∷_}
+use mathlib.Core.Option.{Option, none, some}
+use lib.Dec.{leb, eqb}
+use Rattle.armv4t.specs.Bit0.{clearBit0}
+use Rattle.armv4t.specs.Instr.{sizeOf}
+use Rattle.c_tree.specs.Expr.{u32, word, uhex, udec, int, x-t, x-s, x-cn, x-cz, x-cc, x-cv, x-pc, reg, compl, shr, ne, band, bor, Expr, lit, get, par, un, bin}
+use Rattle.c_tree.specs.Stmt.{is, and, or, Plain, declare, set, guard, gate, other, Owner, common, Simple, gap, begin, plain, goto, ret, retIf, interp, retInterp, Code, end, _⨾_, when, braces}
+use Rattle.c_tree.specs.Preamble.{v32}
+use Rattle.forms.specs.Forms.{Lines, Native, straight, holds, branch, jump, pair, bx, pop, Form, shell, records, Body}
+
+-- the key of a block: its address plus the Thumb bit
+abbrev pub bodyKey : Body → ℕ
+bodyKey b = b .addr + cond (b .thumb) 1 0
+
+-- its length in bytes
+abbrev pub bodyLength : Body → ℕ
+bodyLength b = b .count * sizeOf (b .thumb)
+
+-- the address behind it, wrapping at 2^32
+abbrev pub bodyEnd : Body → ℕ
+bodyEnd b = (b .addr + bodyLength b) % 2 ^ 32
+
+-- its region: the page modulo 16
+abbrev pub region : Body → ℕ
+region b = b .addr / 2 ^ 24 % 16
+
+-- outside regions 0 and 8
+unfoldable pub guarded : Body → Bool
+guarded b = not (eqb (region b) 8 || eqb (region b) 0)
+
+-- a line end, and spaces
+abbrev pub nl : Simple
+nl = gap true 0
+
+abbrev pub sp : ℕ → Simple
+sp n = gap false n
+
+-- the plain statements of a line, with a space between
+abbrev pub line : Owner → List Plain → Code → Code
+line o [] c = c
+line o (p ∷ []) c = plain o p ⨾ c
+line o (p ∷ q ∷ ps) c = plain o p ⨾ sp 1 ⨾ line o (q ∷ ps) c
+
+-- lines at an indent
+abbrev pub lines : Owner → ℕ → Lines → Code → Code
+lines o n [] c = c
+lines o n (l ∷ ls) c = sp n ⨾ line o l (nl ⨾ lines o n ls c)
+
+-- whether a key is among some
+abbrev pub has : ℕ → List ℕ → Bool
+has k [] = false
+has k (j ∷ js) = eqb k j || has k js
+
+-- a goto, with the chain gate before it or not
+unfoldable pub chain : Bool → Owner → ℕ → ℕ → Code → Code
+chain true o n k c = sp n ⨾ retIf o gate (lit word k) ⨾ nl ⨾ sp n ⨾ goto o k ⨾ nl ⨾ c
+chain false o n k c = sp n ⨾ goto o k ⨾ nl ⨾ c
+
+-- transfer: from the block at address a, to key k, at indent n. A goto if k is among the group's keys, which a lone block has none of; gated if the
+-- target's address is not above the block's
+unfoldable pub transfer : List ℕ → ℕ → Owner → ℕ → ℕ → Code → Code
+transfer ks a o n k c = cond (has k ks) (chain (leb (clearBit0 k) a) o n k c) (sp n ⨾ ret o (lit word k) ⨾ nl ⨾ c)
+
+-- the lines before the closing transfer, and that transfer to the key behind the block
+unfoldable pub closing : List ℕ → Body → Code
+closing ks b = lines common 4 (b .last) (transfer ks (b .addr) common 4 (bodyEnd b + cond (b .thumb) 1 0) end)
+
+-- (s_ >> n) & 1u
+abbrev pub flagBit : ℕ → Expr
+flagBit n = bin band (par (bin shr (v32 x-s) (lit int n))) (lit udec 1)
+
+-- the flags, as cond_expr reads them
+abbrev pub flags : List Plain
+flags =
+    declare (u32, x-s) (get (reg 16)) []
+    ∷ declare (u32, x-cn) (bin shr (v32 x-s) (lit int 31)) ((x-cz, flagBit 30) ∷ (x-cc, flagBit 29) ∷ (x-cv, flagBit 28) ∷ [])
+    ∷ []
+
+-- t & ~1u, and t & ~3u
+abbrev pub masked : ℕ → Expr
+masked n = bin band (v32 x-t) (un compl (lit udec n))
+
+-- what Bx does with a Thumb target, and with an ARM one
+abbrev pub toThumb : List Plain
+toThumb = set (reg 16) or (lit uhex 0x20) ∷ set (reg 15) is (masked 1) ∷ []
+
+abbrev pub toArm : List Plain
+toArm = set (reg 16) and (un compl (lit uhex 0x20)) ∷ set (reg 15) is (masked 3) ∷ []
+
+-- a return at the end of a block of braces
+abbrev pub leave : Owner → Expr → Code
+leave o e = sp 1 ⨾ ret o e ⨾ sp 1 ⨾ end
+
+-- the text of a native record, every statement with its owner; an unconditional exit drops what would stand behind it
+unfoldable pub nativeText : List ℕ → ℕ → Owner → Native → Code → Code
+nativeText ks a o (straight t l) c = lines o 4 t (sp 4 ⨾ braces (nl ⨾ lines o 8 l (sp 4 ⨾ end)) (nl ⨾ c))
+nativeText ks a o (holds t e l) c =
+    lines o 4 t
+    (sp 4 ⨾ braces (sp 1 ⨾ line o flags (gap true 6 ⨾ when o false (other e) (nl ⨾ lines o 8 l (sp 6 ⨾ end)) (sp 1 ⨾ end))) (nl ⨾ c))
+nativeText ks a o (branch t e l k) c =
+    lines o 4 t
+    (sp 4
+    ⨾ braces
+    (sp 1 ⨾ line o flags (gap true 6 ⨾ when o false (other e) (sp 1 ⨾ line o l (nl ⨾ transfer ks a o 8 k (sp 6 ⨾ end))) (sp 1 ⨾ end)))
+    (nl ⨾ c))
+nativeText ks a o (jump t k) c = lines o 4 t (transfer ks a o 4 k end)
+nativeText ks a o (pair t k) c = lines o 4 t (transfer ks a o 4 k end)
+nativeText ks a o (bx t e) c =
+    lines o 4 t
+    (sp 4
+    ⨾ braces
+    (sp 1
+    ⨾ line o (declare (u32, x-t) e [] ∷ [])
+    (gap true 6
+    ⨾ when o false (other (bin band (v32 x-t) (lit udec 1))) (sp 1 ⨾ line o toThumb (leave o (bin bor (par (masked 1)) (lit udec 1))))
+    (gap true 6 ⨾ line o toArm (leave o (masked 3)))))
+    (nl ⨾ end))
+nativeText ks a o (pop t p l q e) c =
+    lines o 4 t (sp 4 ⨾ braces (sp 1 ⨾ line o (p ∷ []) (nl ⨾ lines o 6 l (sp 6 ⨾ line o (q ∷ []) (leave o e)))) (nl ⨾ end))
+
+-- emit_shell behind its lines, for the record with index i that has others behind it: the interpreter, and the way out where it comes to another key
+abbrev pub emitShell : Body → ℕ → ℕ → Code → Code
+emitShell b i k c = sp 4 ⨾ interp (bodyKey b) i ⨾ sp 1 ⨾ retIf common (other (bin ne (v32 x-pc) (lit word k))) (v32 x-pc) ⨾ nl ⨾ c
+
+-- the text of a block from the record with index i on. The last shell returns; behind an unfused half that is last stands the closing transfer
+unfoldable pub rest : List ℕ → Body → ℕ → List Form → Code
+rest ks b i [] = closing ks b
+rest ks b i (Form.native r ∷ rs) = begin (bodyKey b) i (records r) ⨾ nativeText ks (b .addr) (Owner.native (bodyKey b)) r (rest ks b (i + records r) rs)
+rest ks b i (shell h t k ∷ []) = lines common 4 t (sp 4 ⨾ retInterp (bodyKey b) i ⨾ nl ⨾ cond h (closing ks b) end)
+rest ks b i (shell h t k ∷ r ∷ rs) = lines common 4 t (emitShell b i k (rest ks b (i + 1) (r ∷ rs)))
+
+-- the interpreter in the block's place
+abbrev pub defer : Body → Code → Code
+defer b c = plain common (set (reg 15) is (lit word (b .addr))) ⨾ sp 1 ⨾ retInterp (bodyKey b) 0 ⨾ c
+
+-- a block outside regions 0 and 8: behind the guard, or without code bytes the interpreter alone
+unfoldable pub underGuard : List ℕ → Body → Option ℕ → Code
+underGuard ks b none = sp 4 ⨾ defer b (nl ⨾ end)
+underGuard ks b (some h) = sp 4 ⨾ when common true (guard (b .addr) (bodyLength b) h) (sp 1 ⨾ defer b (sp 1 ⨾ end)) (nl ⨾ rest ks b 0 (b .forms))
+
+-- emit_block between its head, or label, and its close; ks are the keys of its group, none for a lone block
+unfoldable pub blockCode : List ℕ → Body → Code
+blockCode ks b = cond (guarded b) (underGuard ks b (b .hash)) (rest ks b 0 (b .forms))

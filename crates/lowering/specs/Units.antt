@@ -1,0 +1,95 @@
+-- The tree of groups and units: emit_block's function, emit_group and emit_c_chunked.
+use Prim.Native.Nat.{ℕ, zero, suc, _+_}
+use mathlib.Core.Bool.{Bool, true, false, cond}
+use mathlib.Core.List.{List, [], _∷_, _++_, map}
+use mathlib.Core.Option.{Option, none, some}
+use lib.Dec.{leb}
+use lib.ListN.{length, getD}
+use Rattle.text.specs.Doc.{print}
+use Rattle.c_tree.specs.Expr.{u32, x-pc}
+use Rattle.c_tree.specs.Stmt.{registers, local, drop, common, gap, plain, label, call, switch, Code, end, _⨾_, _⧺_, block, group, Top, function, blank, extern, table, count}
+use Rattle.c_tree.specs.Print.{unitText}
+use Rattle.c_tree.specs.Preamble.{preamble}
+use Rattle.forms.specs.Forms.{Body}
+use Rattle.lowering.specs.Block.{bodyKey, nl, sp, blockCode}
+
+-- c and pc, at the head of a function
+unfoldable pub declared : Code → Code
+declared c =
+    gap true 4
+    ⨾ plain common registers
+    ⨾ gap true 4
+    ⨾ plain common (local (u32, x-pc))
+    ⨾ sp 1
+    ⨾ plain common (drop (u32, x-pc))
+    ⨾ nl
+    ⨾ c
+
+-- emit_block of a lone block: its function
+unfoldable pub emitBlock : Body → List Top
+emitBlock b = function (block (bodyKey b)) (declared (blockCode [] b)) ∷ blank ∷ []
+
+-- the labelled bodies of a group with the keys ks
+unfoldable pub labelled : List ℕ → List Body → Code
+labelled ks [] = end
+labelled ks (b ∷ bs) = label (bodyKey b) ⨾ nl ⨾ (blockCode ks b ⧺ (nl ⨾ labelled ks bs))
+
+-- the body of a group's function
+unfoldable pub groupCode : List Body → Code
+groupCode bs = declared (sp 4 ⨾ switch (map bodyKey bs) ⨾ nl ⨾ labelled (map bodyKey bs) bs)
+
+-- the functions that enter the group of the key k, counted from n
+unfoldable pub forwarders : ℕ → ℕ → List Body → List Top
+forwarders k n [] = blank ∷ []
+forwarders k n (b ∷ bs) = function (block (bodyKey b)) (sp 1 ⨾ call k n ⨾ sp 1 ⨾ end) ∷ forwarders k (suc n) bs
+
+-- emit_group, or emit_block where the group has one member
+unfoldable pub emitGroup : List Body → List Top
+emitGroup [] = []
+emitGroup (b ∷ []) = emitBlock b
+emitGroup (b ∷ c ∷ bs) = function (group (bodyKey b)) (groupCode (b ∷ c ∷ bs)) ∷ blank ∷ forwarders (bodyKey b) 0 (b ∷ c ∷ bs)
+
+-- PREAMBLE and a newline, at the head of each unit
+abbrev pub opened : List Top
+opened = preamble ++ (blank ∷ [])
+
+-- the end of the last unit: externs, table and count of all blocks
+unfoldable pub tail : List Body → List Top
+tail bs = map (λ (b : Body). extern (bodyKey b)) bs ++ (table (map bodyKey bs) ∷ count (length bs) ∷ [])
+
+-- a unit: its tree, the blocks done with it, and whether it is the last
+pub record TranslationUnit : Type 0 where
+  pub tree : List Top
+  pub done : ℕ
+  pub last : Bool
+
+-- the text of a tree
+unfoldable pub textOf : List Top → List ℕ
+textOf ts = print (unitText ts)
+
+-- the units of the groups to come, where the tree of the one reached is ts and n blocks are done: it is handed on once its length reaches max after a
+-- group; the last is always made, and ends with the tree of `closed`
+unfoldable pub cut : ℕ → List Top → List Top → ℕ → List (List Body) → List TranslationUnit
+cut max closed ts n [] = record { tree = ts ++ closed; done = n; last = true } ∷ []
+cut max closed ts n (g ∷ gs) =
+    cond (leb max (length (textOf (ts ++ emitGroup g))))
+    (record { tree = ts ++ emitGroup g; done = n + length g; last = false } ∷ cut max closed opened (n + length g) gs)
+    (cut max closed (ts ++ emitGroup g) (n + length g) gs)
+
+-- what a number past the last block would name; no group has one
+abbrev pub nobody : Body
+nobody = record { addr = 0; thumb = false; count = 0; hash = none; forms = []; last = [] }
+
+-- the members of a group, by their numbers
+unfoldable pub membersOf : List Body → List ℕ → List Body
+membersOf bs is = map (λ (i : ℕ). getD bs i nobody) is
+
+-- emit_c_chunked: the units of some blocks at a wished size, the groups being lists of block numbers
+unfoldable pub unitsOf : ℕ → List Body → List (List ℕ) → List TranslationUnit
+unitsOf max bs gs = cut max (tail bs) opened 0 (map (membersOf bs) gs)
+
+-- the unit with a number, if there is one
+unfoldable pub unit : ℕ → List TranslationUnit → Option TranslationUnit
+unit k [] = none
+unit zero (u ∷ us) = some u
+unit (suc k) (u ∷ us) = unit k us
