@@ -1,10 +1,10 @@
 -- The tree of groups and units: emit_block's function, emit_group and emit_c_chunked.
-use Prim.Native.Nat.{ℕ, zero, suc, _+_}
+use Prim.Native.Nat.{ℕ, suc, _+_}
 use mathlib.Core.Bool.{Bool, true, false, cond}
 use mathlib.Core.List.{List, [], _∷_, _++_, map}
-use mathlib.Core.Option.{Option, none, some}
+use mathlib.Core.Option.{Option, none}
 use lib.Dec.{leb}
-use lib.ListN.{length, getD}
+use lib.ListN.{length, getD, getElem?}
 use Rattle.text.specs.Doc.{print}
 use Rattle.c_tree.specs.Expr.{u32, x-pc}
 use Rattle.c_tree.specs.Stmt.{registers, local, drop, common, gap, plain, label, call, switch, Code, end, _⨾_, _⧺_, block, group, Top, function, blank, extern, table, count}
@@ -89,7 +89,5 @@ unfoldable pub unitsOf : ℕ → List Body → List (List ℕ) → List Translat
 unitsOf max bs gs = cut max (tail bs) opened 0 (map (membersOf bs) gs)
 
 -- the unit with a number, if there is one
-unfoldable pub unit : ℕ → List TranslationUnit → Option TranslationUnit
-unit k [] = none
-unit zero (u ∷ us) = some u
-unit (suc k) (u ∷ us) = unit k us
+abbrev pub unit : ℕ → List TranslationUnit → Option TranslationUnit
+unit k us = getElem? us k

@@ -1,0 +1,2 @@
+-- The proof of the claim on ways.
+pub mod Logic

@@ -1,0 +1,101 @@
+-- The claim on ways (demand 3): one statement about every way through the units of every accepted file.
+use Prim.Native.Nat.{ℕ, _+_, _*_, _%_, _≤_}
+use mathlib.Core.Path.{_≡_}
+use mathlib.Core.Bool.{Bool, true, not, cond, _&&_, _||_}
+use mathlib.Core.List.{List, [], _∷_, _++_, map, flatten, List·Memᴰ}
+use mathlib.Core.Option.{Option, some}
+use lib.Dec.{T, leb, ltb, eqb}
+use lib.ListN.{length, getElem?}
+use Rattle.armv4t.specs.Instr.{sizeOf}
+use Rattle.block_file.specs.Parse.{Block, Parsed, parse}
+use Rattle.plan.specs.Plan.{blockKey, page, groups}
+use Rattle.c_tree.specs.Stmt.{Test, guard, gate, other, Owner, native, common, Code, block, Top, function}
+use Rattle.forms.specs.Forms.{weights, Body}
+use Rattle.lowering.specs.Units.{TranslationUnit, unitsOf}
+use Rattle.ways.specs.Ways.{Event, reach, said, natively, shelled, Way}
+
+-- how many instructions some events carry out
+abbrev pub carried : List Event → ℕ
+carried [] = 0
+carried (reach o ∷ es) = carried es
+carried (said t x ∷ es) = carried es
+carried (natively k i n ∷ es) = n + carried es
+carried (shelled k i ∷ es) = 1 + carried es
+
+-- a test that is not the chain gate
+abbrev pub NotGate : Test → Type 0
+NotGate (guard a l h) = Unit {0}
+NotGate gate = ⊥
+NotGate (other e) = Unit {0}
+
+-- events without a consultation of the chain gate
+abbrev pub Gateless : List Event → Type 0
+Gateless [] = Unit {0}
+Gateless (reach o ∷ es) = Gateless es
+Gateless (said t x ∷ es) = NotGate t × Gateless es
+Gateless (natively k i n ∷ es) = Gateless es
+Gateless (shelled k i ∷ es) = Gateless es
+
+-- how often they carry out the instruction with index j of the block with the key h
+abbrev pub times : ℕ → ℕ → List Event → ℕ
+times h j [] = 0
+times h j (reach o ∷ es) = times h j es
+times h j (said t x ∷ es) = times h j es
+times h j (natively k i n ∷ es) = cond (eqb h k && leb i j && ltb j (i + n)) 1 0 + times h j es
+times h j (shelled k i ∷ es) = cond (eqb h k && eqb i j) 1 0 + times h j es
+
+-- an event at the native statements of the block with the key h
+abbrev pub AtNative : ℕ → Event → Type 0
+AtNative h (reach (native k)) = k ≡ h
+AtNative h (reach common) = ⊥
+AtNative h (said t x) = ⊥
+AtNative h (natively k i n) = k ≡ h
+AtNative h (shelled k i) = ⊥
+
+-- outside regions 0 and 8, that is outside BIOS and ROM
+abbrev pub outside : Block → Bool
+outside b = not (eqb (page (b .addr) % 16) 8 || eqb (page (b .addr) % 16) 0)
+
+-- a block that shares its group with another, and one that shares it with none
+abbrev pub Several : ℕ → List Block → ℕ → Type 0
+Several limit bs i = (g : List ℕ) × List·Memᴰ g (groups limit bs) × List·Memᴰ i g × (2 ≤ length g)
+
+abbrev pub Lone : ℕ → List Block → ℕ → Type 0
+Lone limit bs i = List·Memᴰ (i ∷ []) (groups limit bs)
+
+-- what the claim needs of the forms of a block: that they are the block's, and stand for each of its instructions
+pub record Faithful (bodyOf : Block → Body) : Type 0 where
+  pub addr : (b : Block) → bodyOf b .addr ≡ b .addr
+  pub thumb : (b : Block) → bodyOf b .thumb ≡ b .thumb
+  pub count : (b : Block) → bodyOf b .count ≡ length (b .instrs)
+  pub whole : (b : Block) → weights (bodyOf b .forms) ≡ bodyOf b .count
+
+module _ (bodyOf : Block → Body) where
+  -- the units of some blocks at a wished size
+  unfoldable pub fileUnits : ℕ → ℕ → List Block → List TranslationUnit
+  fileUnits limit max bs = unitsOf max (map bodyOf bs) (groups limit bs)
+
+  -- all that stands in them
+  unfoldable pub fileTree : ℕ → ℕ → List Block → List Top
+  fileTree limit max bs = flatten (map (λ (u : TranslationUnit). u .tree) (fileUnits limit max bs))
+
+  -- the guard said yes to a block: to its address, length and hash
+  abbrev pub Passed : Block → List Event → Type 0
+  Passed b es =
+      (h : ℕ) × (bodyOf b .hash ≡ some h) × List·Memᴰ (said (guard (b .addr) (length (b .instrs) * sizeOf (b .thumb)) h) true) es
+
+  -- what holds of the events of a way from the function of block i
+  pub record Kept (limit : ℕ) (bs : List Block) (i : ℕ) (es : List Event) : Type 0 where
+    -- in a group of several no gateless run carries out more instructions than the limit
+    pub bounded : Several limit bs i → (us ps vs : List Event) → es ≡ us ++ (ps ++ vs) → Gateless ps → carried ps ≤ limit
+    -- a lone block carries out no instruction twice
+    pub once : Lone limit bs i → (h j : ℕ) → times h j es ≤ 1
+    -- native statements of a block outside ROM and BIOS are reached only behind the guard's yes to that block
+    pub behind : (us vs : List Event) (e : Event) → es ≡ us ++ (e ∷ vs) → (b : Block) → List·Memᴰ b bs → AtNative (blockKey b) e → T (outside b) → Passed b us
+
+  -- every accepted file, limit and wished size; every block and its function in the units; every list of answers and every way
+  unfoldable pub Claim : Type 0
+  Claim =
+      (f : List ℕ) (bs : List Block) → parse f ≡ Parsed.accepted bs → (limit max i : ℕ) (b : Block) → getElem? bs i ≡ some b
+      → (c : Code) → List·Memᴰ (function (block (blockKey b)) c) (fileTree limit max bs)
+      → (xs : List Bool) (es : List Event) → Way (fileTree limit max bs) c c xs es → Kept limit bs i es

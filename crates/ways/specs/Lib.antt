@@ -1,0 +1,3 @@
+-- The ways through the units of a file, and the claim on them (demand 3).
+pub mod Ways
+pub mod Claim
