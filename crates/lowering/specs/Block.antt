@@ -83,43 +83,38 @@ flags =
 abbrev pub masked : ℕ → Expr
 masked n = bin band (v32 x-t) (un compl (lit udec n))
 
--- what Bx does with a Thumb target, and with an ARM one
-abbrev pub toThumb : List Plain
-toThumb = set (reg 16) or (lit uhex 0x20) ∷ set (reg 15) is (masked 1) ∷ []
-
-abbrev pub toArm : List Plain
-toArm = set (reg 16) and (un compl (lit uhex 0x20)) ∷ set (reg 15) is (masked 3) ∷ []
-
 -- a return at the end of a block of braces
 abbrev pub leave : Owner → Expr → Code
 leave o e = sp 1 ⨾ ret o e ⨾ sp 1 ⨾ end
 
+-- what Bx does with a Thumb target, and with an ARM one
+abbrev pub toThumb : Owner → Code
+toThumb o =
+    sp 1
+    ⨾ line o (set (reg 16) or (lit uhex 0x20) ∷ set (reg 15) is (masked 1) ∷ []) (leave o (bin bor (par (masked 1)) (lit udec 1)))
+
+abbrev pub toArm : Owner → Code
+toArm o = gap true 6 ⨾ line o (set (reg 16) and (un compl (lit uhex 0x20)) ∷ set (reg 15) is (masked 3) ∷ []) (leave o (masked 3))
+
+-- { flags; if (e) { b } }, and c behind it
+abbrev pub conditional : Owner → Expr → Code → Code → Code
+conditional o e b c = sp 4 ⨾ braces (sp 1 ⨾ line o flags (gap true 6 ⨾ when o false (other e) b (sp 1 ⨾ end))) (nl ⨾ c)
+
 -- the text of a native record, every statement with its owner; an unconditional exit drops what would stand behind it
 unfoldable pub nativeText : List ℕ → ℕ → Owner → Native → Code → Code
 nativeText ks a o (straight t l) c = lines o 4 t (sp 4 ⨾ braces (nl ⨾ lines o 8 l (sp 4 ⨾ end)) (nl ⨾ c))
-nativeText ks a o (holds t e l) c =
-    lines o 4 t
-    (sp 4 ⨾ braces (sp 1 ⨾ line o flags (gap true 6 ⨾ when o false (other e) (nl ⨾ lines o 8 l (sp 6 ⨾ end)) (sp 1 ⨾ end))) (nl ⨾ c))
-nativeText ks a o (branch t e l k) c =
-    lines o 4 t
-    (sp 4
-    ⨾ braces
-    (sp 1 ⨾ line o flags (gap true 6 ⨾ when o false (other e) (sp 1 ⨾ line o l (nl ⨾ transfer ks a o 8 k (sp 6 ⨾ end))) (sp 1 ⨾ end)))
-    (nl ⨾ c))
+nativeText ks a o (holds t e l) c = lines o 4 t (conditional o e (nl ⨾ lines o 8 l (sp 6 ⨾ end)) c)
+nativeText ks a o (branch t e l k) c = lines o 4 t (conditional o e (sp 1 ⨾ line o l (nl ⨾ transfer ks a o 8 k (sp 6 ⨾ end))) c)
 nativeText ks a o (jump t k) c = lines o 4 t (transfer ks a o 4 k end)
 nativeText ks a o (pair t k) c = lines o 4 t (transfer ks a o 4 k end)
 nativeText ks a o (bx t e) c =
     lines o 4 t
     (sp 4
     ⨾ braces
-    (sp 1
-    ⨾ line o (declare (u32, x-t) e [] ∷ [])
-    (gap true 6
-    ⨾ when o false (other (bin band (v32 x-t) (lit udec 1))) (sp 1 ⨾ line o toThumb (leave o (bin bor (par (masked 1)) (lit udec 1))))
-    (gap true 6 ⨾ line o toArm (leave o (masked 3)))))
+    (sp 1 ⨾ plain o (declare (u32, x-t) e []) ⨾ gap true 6 ⨾ when o false (other (bin band (v32 x-t) (lit udec 1))) (toThumb o) (toArm o))
     (nl ⨾ end))
 nativeText ks a o (pop t p l q e) c =
-    lines o 4 t (sp 4 ⨾ braces (sp 1 ⨾ line o (p ∷ []) (nl ⨾ lines o 6 l (sp 6 ⨾ line o (q ∷ []) (leave o e)))) (nl ⨾ end))
+    lines o 4 t (sp 4 ⨾ braces (sp 1 ⨾ plain o p ⨾ nl ⨾ lines o 6 l (sp 6 ⨾ plain o q ⨾ leave o e)) (nl ⨾ end))
 
 -- emit_shell behind its lines, for the record with index i that has others behind it: the interpreter, and the way out where it comes to another key
 abbrev pub emitShell : Body → ℕ → ℕ → Code → Code

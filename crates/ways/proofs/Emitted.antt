@@ -1,0 +1,362 @@
+-- A block's text is checked by each logic that has an invariant for the block.
+use Prim.Native.Nat.{ℕ, _+_, _<_}
+use mathlib.Core.Path.{_≡_, refl}
+use mathlib.Core.Logic.{_⊎_, inl, inr}
+use mathlib.Core.Bool.{Bool, true, false, not, cond, _||_}
+use mathlib.Core.List.{List, [], _∷_, map, List·Memᴰ, List·Memᴰ·head, List·Memᴰ·tail}
+use mathlib.Core.Option.{Option, none, some}
+use lib.Dec.{T, leb, eqb, eqb→eq, nleb→lt}
+use Rattle.armv4t.specs.Bit0.{clearBit0}
+use Rattle.c_tree.specs.Expr.{u32, word, udec, x-t, x-pc, ne, band, Expr, lit, bin}
+use Rattle.c_tree.specs.Stmt.{Plain, declare, Test, guard, gate, other, Owner, common, Simple, gap, begin, plain, label, goto, ret, retIf, interp, retInterp, call, switch, Code, end, _⨾_, when, braces, _⧺_, Top}
+use Rattle.c_tree.specs.Preamble.{v32}
+use Rattle.forms.specs.Forms.{Lines, Native, straight, holds, branch, jump, pair, bx, pop, Form, shell, records, weights, Body}
+use Rattle.lowering.specs.Block.{bodyKey, bodyLength, guarded, nl, sp, line, lines, has, chain, transfer, closing, flags, leave, toThumb, toArm, conditional, nativeText, rest, defer, underGuard, blockCode}
+use Rattle.lowering.specs.Units.{declared, labelled, groupCode}
+use Rattle.ways.specs.Ways.{Event, reach, said, natively, shelled, Way}
+use Rattle.ways.proofs.Logic.{Logic, Pick, Ok, At, Labels, append, Follow, Done, sound}
+
+-- an event of the block that carries out nothing and asks no guard
+pub data Quiet (b : Body) : Event → Type 0 where
+  q-native : Quiet b (reach (Owner.native (bodyKey b)))
+  q-none : Quiet b (reach common)
+  q-other : {t : Expr} {x : Bool} → Quiet b (said (other t) x)
+  q-gate : {x : Bool} → Quiet b (said gate x)
+
+-- Inv p w: at place p, with w instructions of the block left, the guard passed where there is one; Pre: at the block's label
+pub record Rules (L : Logic) (b : Body) (ks : List ℕ) : Type 1 where
+  pub Inv : ℕ → ℕ → L .S → Type 0
+  pub Pre : L .S → Type 0
+  pub quiet : (p w : ℕ) (s : L .S) (e : Event) → Inv p w s → Quiet b e → L .allow s e × Inv p w (L .step s e)
+  pub carry : (p n w : ℕ) (s : L .S) → Inv p (n + w) s → L .allow s (natively (bodyKey b) p n) × Inv (p + n) w (L .step s (natively (bodyKey b) p n))
+  pub shells : (p w : ℕ) (s : L .S) → Inv p (1 + w) s → L .allow s (shelled (bodyKey b) p) × Inv (p + 1) w (L .step s (shelled (bodyKey b) p))
+  pub up : (p w : ℕ) (s : L .S) (k : ℕ) → Inv p w s → List·Memᴰ k ks → b .addr < clearBit0 k → L .owed k s
+  pub back : (p w : ℕ) (s : L .S) (k : ℕ) (o : Owner) (x : Bool) → Inv p w s → List·Memᴰ k ks → L .owed k (L .step (L .step s (said gate x)) (reach o))
+  pub free : (s : L .S) → T (not (guarded b)) → Pre s → Inv 0 (weights (b .forms)) s
+  pub asks : (s : L .S) (h : ℕ) (x : Bool) → Pre s
+      → L .allow s (reach common)
+      × L .allow (L .step s (reach common)) (said (guard (b .addr) (bodyLength b) h) x)
+      × Pre (L .step (L .step s (reach common)) (said (guard (b .addr) (bodyLength b) h) x))
+  pub yes-of : (s : L .S) (h : ℕ) → b .hash ≡ some h → Pre s
+      → Inv 0 (weights (b .forms)) (L .step (L .step s (reach common)) (said (guard (b .addr) (bodyLength b) h) true))
+  pub lands : (s : L .S) → L .owed (bodyKey b) s → Pre s
+  pub defers : (s : L .S) → Pre s → L .allow s (reach common) × L .allow (L .step s (reach common)) (shelled (bodyKey b) 0)
+
+or-cases : (x y : Bool) → T (x || y) → T x ⊎ T y
+or-cases true y t = inl tt
+or-cases false y t = inr t
+
+has→mem : (k : ℕ) (ks : List ℕ) → T (has k ks) → List·Memᴰ k ks
+has→mem k [] t = absurd t
+has→mem k (j ∷ js) t = go (or-cases (eqb k j) (has k js) t) (has→mem k js)
+  where
+    go : T (eqb k j) ⊎ T (has k js) → (T (has k js) → List·Memᴰ k js) → List·Memᴰ k (j ∷ js)
+    go (inl h) f = List·Memᴰ·head (eqb→eq k j h)
+    go (inr h) f = List·Memᴰ·tail (f h)
+
+module _ (L : Logic) (b : Body) (ks : List ℕ) (R : Rules L b ks) where
+  open Logic L using (S, step, allow, owed)
+  open Rules R using (Inv, Pre, quiet, carry, shells, up, back, free, asks, yes-of, defers)
+
+  -- the invariant leads to the text's check
+  abbrev Fits : ℕ → ℕ → Code → (S → Type 0) → Type 0
+  Fits p w c K = (s : S) → Inv p w s → Ok L c s K
+
+  module _ (p w : ℕ) (o : Owner) (u : Quiet b (reach o)) where
+    ok-ret : (t : Expr) (c : Code) (K : S → Type 0) → Fits p w (sp 1 ⨾ ret o t ⨾ c) K
+    ok-ret t c K s i = quiet p w s (reach o) i u .0
+
+    ok-retIf : (t : Test) → ((x : Bool) → Quiet b (said t x)) → (e : Expr) (c : Code) (K : S → Type 0)
+        → ((s : S) → Inv p w s → Ok L c (step (step s (reach o)) (said t false)) K) → Fits p w (retIf o t e ⨾ c) K
+    ok-retIf t v e c K f s i =
+        let a = quiet p w s (reach o) i u in
+        (a .0, λ x. (quiet p w _ (said t x) (a .1) (v x) .0, go x (quiet p w _ (said t x) (a .1) (v x) .1)))
+      where
+        s₁ : S
+        s₁ = step s (reach o)
+
+        go : (x : Bool) → Inv p w (step s₁ (said t x)) → Pick x (allow (step s₁ (said t x)) (reach o)) (Ok L c (step s₁ (said t x)) K)
+        go true j = quiet p w _ (reach o) j u .0
+        go false j = f s i
+
+    ok-line : (ts : List Plain) (c : Code) (K : S → Type 0) → Fits p w c K → Fits p w (line o ts c) K
+    ok-line [] c K f s i = f s i
+    ok-line (t ∷ []) c K f s i = let a = quiet p w s (reach o) i u in (a .0, f (step s (reach o)) (a .1))
+    ok-line (t ∷ v ∷ ts) c K f s i = let a = quiet p w s (reach o) i u in (a .0, ok-line (v ∷ ts) c K f (step s (reach o)) (a .1))
+
+    ok-lines : (n : ℕ) (ls : Lines) (c : Code) (K : S → Type 0) → Fits p w c K → Fits p w (lines o n ls c) K
+    ok-lines n [] c K f = f
+    ok-lines n (l ∷ ls) c K f = ok-line l (nl ⨾ lines o n ls c) K (ok-lines n ls c K f)
+
+    -- if (cond) { body } rest
+    ok-when : (t : Expr) (c d : Code) (K : S → Type 0) → Fits p w c (λ s. Ok L d s K) → Fits p w d K → Fits p w (when o false (other t) c d) K
+    ok-when t c d K f g s i =
+        let a = quiet p w s (reach o) i u in
+        (a .0, λ x. let e = quiet p w (step s (reach o)) (said (other t) x) (a .1) q-other in (e .0, go x (e .1)))
+      where
+        s₁ : S
+        s₁ = step s (reach o)
+
+        go : (x : Bool) → Inv p w (step s₁ (said (other t) x))
+            → Pick x (Ok L c (step s₁ (said (other t) x)) (λ s′. Ok L d s′ K)) (Ok L d (step s₁ (said (other t) x)) K)
+        go true j = f _ j
+        go false j = g _ j
+
+    ok-chain : (n k : ℕ) → List·Memᴰ k ks → (y : Bool) → (T (not y) → b .addr < clearBit0 k) → (c : Code) (K : S → Type 0) → Fits p w (chain y o n k c) K
+    unfolding chain
+    ok-chain n k m true h c K =
+        ok-retIf gate (λ x. q-gate) (lit word k) (nl ⨾ sp n ⨾ goto o k ⨾ nl ⨾ c) K
+        (λ s i.
+        let a = quiet p w s (reach o) i u in
+        let d = quiet p w _ (said gate false) (a .1) q-gate in
+        (quiet p w _ (reach o) (d .1) u .0, back p w _ k o false (a .1) m))
+    ok-chain n k m false h c K = λ s i. let a = quiet p w s (reach o) i u in (a .0, up p w (step s (reach o)) k (a .1) m (h tt))
+
+    ok-transfer : (n k : ℕ) (c : Code) (K : S → Type 0) → Fits p w (transfer ks (b .addr) o n k c) K
+    unfolding transfer
+    ok-transfer n k c K = go (has k ks) (has→mem k ks)
+      where
+        go : (x : Bool) → (T x → List·Memᴰ k ks) → Fits p w (cond x (chain (leb (clearBit0 k) (b .addr)) o n k c) (sp n ⨾ ret o (lit word k) ⨾ nl ⨾ c)) K
+        go true m = ok-chain n k (m tt) (leb (clearBit0 k) (b .addr)) (nleb→lt (clearBit0 k) (b .addr)) c K
+        go false m = λ s i. quiet p w s (reach o) i u .0
+
+    -- { flags; if (e) { d } }, and c behind it
+    ok-conditional : (e : Expr) (d c : Code) (K : S → Type 0) → Fits p w d (λ s. Ok L c s K) → Fits p w c K → Fits p w (conditional o e d c) K
+    ok-conditional e d c K f g =
+        ok-line flags (gap true 6 ⨾ when o false (other e) d (sp 1 ⨾ end)) (λ s. Ok L c s K) (ok-when e d (sp 1 ⨾ end) (λ s. Ok L c s K) f g)
+
+    -- one statement
+    ok-plain : (q : Plain) (c : Code) (K : S → Type 0) → Fits p w c K → Fits p w (plain o q ⨾ c) K
+    ok-plain q c K f = ok-line (q ∷ []) c K f
+
+    ok-toThumb : (K : S → Type 0) → Fits p w (toThumb o) K
+    ok-toThumb K s i = let a = quiet p w s (reach o) i u in let d = quiet p w _ (reach o) (a .1) u in (a .0, (d .0, quiet p w _ (reach o) (d .1) u .0))
+
+    ok-toArm : (K : S → Type 0) → Fits p w (toArm o) K
+    ok-toArm K s i = let a = quiet p w s (reach o) i u in let d = quiet p w _ (reach o) (a .1) u in (a .0, (d .0, quiet p w _ (reach o) (d .1) u .0))
+
+    -- the text of one native record
+    ok-native : (r : Native) (c : Code) (K : S → Type 0) → Fits p w c K → Fits p w (nativeText ks (b .addr) o r c) K
+    unfolding nativeText
+    ok-native (straight t l) c K f = ok-lines 4 t _ K (ok-lines 8 l (sp 4 ⨾ end) (λ s. Ok L c s K) f)
+    ok-native (holds t e l) c K f =
+        let d : Code = nl ⨾ lines o 8 l (sp 6 ⨾ end) in
+        ok-lines 4 t (conditional o e d c) K (ok-conditional e d c K (ok-lines 8 l (sp 6 ⨾ end) (λ s. Ok L c s K) f) f)
+    ok-native (branch t e l k) c K f =
+        let d : Code = nl ⨾ transfer ks (b .addr) o 8 k (sp 6 ⨾ end) in
+        ok-lines 4 t (conditional o e (sp 1 ⨾ line o l d) c) K
+        (ok-conditional e (sp 1 ⨾ line o l d) c K (ok-line l d (λ s. Ok L c s K) (ok-transfer 8 k (sp 6 ⨾ end) (λ s. Ok L c s K))) f)
+    ok-native (jump t k) c K f = ok-lines 4 t _ K (ok-transfer 4 k end K)
+    ok-native (pair t k) c K f = ok-lines 4 t _ K (ok-transfer 4 k end K)
+    ok-native (bx t e) c K f =
+        let d : Code = when o false (other (bin band (v32 x-t) (lit udec 1))) (toThumb o) (toArm o) in
+        ok-lines 4 t _ K
+        (ok-plain (declare (u32, x-t) e []) (gap true 6 ⨾ d) K
+        (ok-when (bin band (v32 x-t) (lit udec 1)) (toThumb o) (toArm o) K (ok-toThumb (λ s. Ok L (toArm o) s K)) (ok-toArm K)))
+    ok-native (pop t q l m v) c K f =
+        ok-lines 4 t _ K
+        (ok-plain q (nl ⨾ lines o 6 l (sp 6 ⨾ plain o m ⨾ leave o v)) K
+        (ok-lines 6 l (sp 6 ⨾ plain o m ⨾ leave o v) K (ok-plain m (leave o v) K (ok-ret v (sp 1 ⨾ end) K))))
+
+  ok-closing : (p w : ℕ) (K : S → Type 0) → Fits p w (closing ks b) K
+  unfolding closing
+  ok-closing p w K = ok-lines p w common q-none 4 (b .last) _ K (ok-transfer p w common q-none 4 _ end K)
+
+  ok-rest : (rs : List Form) (p : ℕ) (K : S → Type 0) → Fits p (weights rs) (rest ks b p rs) K
+  unfolding rest
+  ok-rest [] p K s i = ok-closing p 0 K s i
+  ok-rest (Form.native r ∷ rs) p K s i =
+      let d = carry p (records r) (weights rs) s i in
+      (d .0, ok-native (p + records r) (weights rs) (Owner.native (bodyKey b)) q-native r _ K (ok-rest rs (p + records r) K) _ (d .1))
+  ok-rest (shell h t e ∷ []) p K s i = ok-lines _ _ _ q-none 4 t (sp 4 ⨾ retInterp (bodyKey b) p ⨾ nl ⨾ cond h (closing ks b) end) K (λ s′ j. shells p 0 s′ j .0) s i
+  ok-rest (shell h t e ∷ r ∷ rs) p K s i =
+      ok-lines _ _ _ q-none 4 t _ K
+      (λ s′ j.
+      let d = shells p (weights (r ∷ rs)) s′ j in (
+        d .0,
+        ok-retIf _ _ common q-none (other (bin ne (v32 x-pc) (lit word e))) (λ x. q-other) (v32 x-pc) (nl ⨾ rest ks b (p + 1) (r ∷ rs)) K
+            (λ s″ j′.
+            let a = quiet _ _ s″ (reach common) j′ q-none in
+            ok-rest (r ∷ rs) (p + 1) K _ (quiet _ _ _ (said (other (bin ne (v32 x-pc) (lit word e))) false) (a .1) q-other .1))
+            _ (d .1),
+      ))
+      s i
+
+  pub ok-block : (K : S → Type 0) (s : S) → Pre s → Ok L (blockCode ks b) s K
+  unfolding blockCode underGuard
+  ok-block K s i = go (guarded b) (λ t. free s t i)
+    where
+      ask : (h : ℕ) → b .hash ≡ some h → Ok L (underGuard ks b (some h)) s K
+      ask h e = (asks s h true i .0, λ x. (asks s h x i .1, pass x))
+        where
+          pass : (x : Bool)
+              → Pick (not x) (Ok L (defer b (sp 1 ⨾ end)) (step (step s (reach common)) (said (guard (b .addr) (bodyLength b) h) x)) (λ s′. Ok L (rest ks b 0 (b .forms)) s′ K))
+              (Ok L (rest ks b 0 (b .forms)) (step (step s (reach common)) (said (guard (b .addr) (bodyLength b) h) x)) K)
+          pass true = ok-rest (b .forms) 0 K _ (yes-of s h e i)
+          pass false = defers _ (asks s h false i .2)
+
+      under : (y : Option ℕ) → b .hash ≡ y → Ok L (underGuard ks b y) s K
+      under none e = defers s i
+      under (some h) e = ask h e
+
+      go : (x : Bool) → (T (not x) → Inv 0 (weights (b .forms)) s) → Ok L (cond x (underGuard ks b (b .hash)) (rest ks b 0 (b .forms))) s K
+      go true f = under (b .hash) refl
+      go false f = ok-rest (b .forms) 0 K s (f tt)
+
+-- a text without labels
+abbrev NoLabel : Simple → Type 0
+NoLabel (gap l n) = Unit {0}
+NoLabel (begin b p n) = Unit {0}
+NoLabel (plain o t) = Unit {0}
+NoLabel (label k) = ⊥
+NoLabel (goto o k) = Unit {0}
+NoLabel (ret o t) = Unit {0}
+NoLabel (retIf o t e) = Unit {0}
+NoLabel (call k n) = Unit {0}
+NoLabel (interp b p) = Unit {0}
+NoLabel (retInterp b p) = Unit {0}
+NoLabel (switch ks) = Unit {0}
+
+abbrev Bare : Code → Type 0
+Bare end = Unit {0}
+Bare (x ⨾ c) = NoLabel x × Bare c
+Bare (when o n t b c) = Bare b × Bare c
+Bare (braces b c) = Bare b × Bare c
+
+bare-line : (o : Owner) (ts : List Plain) (c : Code) → Bare c → Bare (line o ts c)
+bare-line o [] c h = h
+bare-line o (t ∷ []) c h = (tt, h)
+bare-line o (t ∷ u ∷ ts) c h = (tt, (tt, bare-line o (u ∷ ts) c h))
+
+bare-lines : (o : Owner) (n : ℕ) (ls : Lines) (c : Code) → Bare c → Bare (lines o n ls c)
+bare-lines o n [] c h = h
+bare-lines o n (l ∷ ls) c h = (tt, bare-line o l (nl ⨾ lines o n ls c) (tt, bare-lines o n ls c h))
+
+bare-cond : (x : Bool) (c d : Code) → Bare c → Bare d → Bare (cond x c d)
+bare-cond true c d h k = h
+bare-cond false c d h k = k
+
+bare-chain : (x : Bool) (o : Owner) (n k : ℕ) (c : Code) → Bare c → Bare (chain x o n k c)
+unfolding chain
+bare-chain true o n k c h = (tt, (tt, (tt, (tt, (tt, (tt, h))))))
+bare-chain false o n k c h = (tt, (tt, (tt, h)))
+
+module _ (ks : List ℕ) (b : Body) where
+  bare-transfer : (o : Owner) (n k : ℕ) (c : Code) → Bare c → Bare (transfer ks (b .addr) o n k c)
+  unfolding transfer
+  bare-transfer o n k c h = bare-cond (has k ks) _ (sp n ⨾ ret o (lit word k) ⨾ nl ⨾ c) (bare-chain (leb (clearBit0 k) (b .addr)) o n k c h) (tt, (tt, (tt, h)))
+
+  bare-closing : Bare (closing ks b)
+  unfolding closing
+  bare-closing = bare-lines common 4 (b .last) _ (bare-transfer common 4 _ end tt)
+
+  bare-conditional : (o : Owner) (e : Expr) (d c : Code) → Bare d → Bare c → Bare (conditional o e d c)
+  bare-conditional o e d c g h = (tt, ((tt, (tt, (tt, (tt, (tt, (g, (tt, tt))))))), (tt, h)))
+
+  bare-native : (o : Owner) (r : Native) (c : Code) → Bare c → Bare (nativeText ks (b .addr) o r c)
+  unfolding nativeText
+  bare-native o (straight t l) c h = bare-lines o 4 t _ (tt, ((tt, bare-lines o 8 l (sp 4 ⨾ end) (tt, tt)), (tt, h)))
+  bare-native o (holds t e l) c h =
+      let d : Code = nl ⨾ lines o 8 l (sp 6 ⨾ end) in
+      bare-lines o 4 t (conditional o e d c) (bare-conditional o e d c (tt, bare-lines o 8 l (sp 6 ⨾ end) (tt, tt)) h)
+  bare-native o (branch t e l k) c h =
+      let d : Code = nl ⨾ transfer ks (b .addr) o 8 k (sp 6 ⨾ end) in
+      bare-lines o 4 t (conditional o e (sp 1 ⨾ line o l d) c)
+      (bare-conditional o e (sp 1 ⨾ line o l d) c (tt, bare-line o l d (tt, bare-transfer o 8 k (sp 6 ⨾ end) (tt, tt))) h)
+  bare-native o (jump t k) c h = bare-lines o 4 t _ (bare-transfer o 4 k end tt)
+  bare-native o (pair t k) c h = bare-lines o 4 t _ (bare-transfer o 4 k end tt)
+  bare-native o (bx t e) c h =
+      let thumb : Bare (toThumb o) = (tt, (tt, (tt, (tt, (tt, (tt, (tt, tt))))))) in
+      let arm : Bare (toArm o) = (tt, (tt, (tt, (tt, (tt, (tt, (tt, tt))))))) in
+      bare-lines o 4 t _ (tt, ((tt, (tt, (tt, (thumb, arm)))), (tt, tt)))
+  bare-native o (pop t p l q e) c h =
+      let close : Bare (sp 6 ⨾ plain o q ⨾ leave o e) = (tt, (tt, (tt, (tt, (tt, tt))))) in
+      bare-lines o 4 t _ (tt, ((tt, (tt, (tt, bare-lines o 6 l (sp 6 ⨾ plain o q ⨾ leave o e) close))), (tt, tt)))
+
+  bare-rest : (rs : List Form) (p : ℕ) → Bare (rest ks b p rs)
+  unfolding rest
+  bare-rest [] p = bare-closing
+  bare-rest (Form.native r ∷ rs) p = (tt, bare-native _ r _ (bare-rest rs (p + records r)))
+  bare-rest (shell h t e ∷ []) p = bare-lines _ 4 t _ (tt, (tt, (tt, bare-cond h (closing ks b) end bare-closing tt)))
+  bare-rest (shell h t e ∷ r ∷ rs) p = bare-lines _ 4 t _ (tt, (tt, (tt, (tt, (tt, bare-rest (r ∷ rs) (p + 1))))))
+
+  bare-guard : (y : Option ℕ) → Bare (underGuard ks b y)
+  unfolding underGuard
+  bare-guard none = (tt, (tt, (tt, (tt, (tt, tt)))))
+  bare-guard (some h) = (tt, ((tt, (tt, (tt, (tt, (tt, tt))))), (tt, bare-rest (b .forms) 0)))
+
+  bare-block : Bare (blockCode ks b)
+  unfolding blockCode
+  bare-block = bare-cond (guarded b) _ _ (bare-guard (b .hash)) (bare-rest (b .forms) 0)
+
+module _ (L : Logic) where
+  open Logic L using (S, step, allow, owed)
+
+  at-plain : (x : Simple) → NoLabel x → (c : Code) (K : S → Type 0) → At L x c K
+  at-plain (gap l n) h c K = tt
+  at-plain (begin b p n) h c K = tt
+  at-plain (plain o t) h c K = tt
+  at-plain (label k) h c K = absurd h
+  at-plain (goto o k) h c K = tt
+  at-plain (ret o t) h c K = tt
+  at-plain (retIf o t e) h c K = tt
+  at-plain (call k n) h c K = tt
+  at-plain (interp b p) h c K = tt
+  at-plain (retInterp b p) h c K = tt
+  at-plain (switch ks) h c K = tt
+
+  bare-labels : (c : Code) → Bare c → (K : S → Type 0) → Labels L c K
+  bare-labels end h K = tt
+  bare-labels (x ⨾ c) h K = (at-plain x (h .0) c K, bare-labels c (h .1) K)
+  bare-labels (when o n t b c) h K = (bare-labels b (h .0) _, bare-labels c (h .1) K)
+  bare-labels (braces b c) h K = (bare-labels b (h .0) _, bare-labels c (h .1) K)
+
+  bare-append : (c d : Code) → Bare c → (K : S → Type 0) → Labels L d K → Labels L (c ⧺ d) K
+  bare-append end d h K l = l
+  bare-append (x ⨾ c) d h K l = (at-plain x (h .0) (c ⧺ d) K, bare-append c d (h .1) K l)
+  bare-append (when o n t b c) d h K l = (bare-labels b (h .0) _, bare-append c d (h .1) K l)
+  bare-append (braces b c) d h K l = (bare-labels b (h .0) _, bare-append c d (h .1) K l)
+
+  abbrev from : List ℕ → Body → List Body → Code
+  from ks b bs = blockCode ks b ⧺ (nl ⨾ labelled ks bs)
+
+  ok-labelled : (ks : List ℕ) (b : Body) (bs : List Body) (R : Rules L b ks) (s : S) → R .Pre s → Ok L (from ks b bs) s (Done L)
+  ok-labelled ks b bs R s i = append L (blockCode ks b) (nl ⨾ labelled ks bs) s (Done L) (ok-block L b ks R _ s i)
+
+  labels-labelled : (ks : List ℕ) (bs : List Body) → ((b : Body) → List·Memᴰ b bs → Rules L b ks) → Labels L (labelled ks bs) (Done L)
+  unfolding labelled
+  labels-labelled ks [] R = tt
+  labels-labelled ks (b ∷ bs) R =
+      let r : Rules L b ks = R b (List·Memᴰ·head refl) in (
+        λ s o. ok-labelled ks b bs r s (r .lands s o),
+        (tt, bare-append (blockCode ks b) (nl ⨾ labelled ks bs) (bare-block ks b) (Done L) (tt, labels-labelled ks bs (λ c m. R c (List·Memᴰ·tail m)))),
+      )
+
+  -- past the declarations
+  abbrev pub opened : S → S
+  opened s = step (step (step s (reach common)) (reach common)) (reach common)
+
+  pub record Opens (s : S) : Type 0 where
+    pub first : allow s (reach common)
+    pub second : allow (step s (reach common)) (reach common)
+    pub third : allow (step (step s (reach common)) (reach common)) (reach common)
+    pub fourth : allow (opened s) (reach common)
+
+  declared-follows : (c : Code) (s : S) → Opens s → Ok L c (opened s) (Done L) → Labels L c (Done L) → {ts : List Top} {xs : List Bool} {es : List Event}
+      → Way ts (declared c) (declared c) xs es → Follow L es s
+  unfolding declared
+  declared-follows c s o h l way = sound L (tt, (tt, (tt, (tt, (tt, (tt, (tt, l))))))) way s (o .first, (o .second, (o .third, h)))
+
+  pub group-follows : (b : Body) (g : List Body) → ((c : Body) → List·Memᴰ c (b ∷ g) → Rules L c (map bodyKey (b ∷ g))) → (s : S) → Opens s
+      → ((k : ℕ) → List·Memᴰ k (map bodyKey (b ∷ g)) → owed k (opened s)) → {ts : List Top} {xs : List Bool} {es : List Event}
+      → Way ts (groupCode (b ∷ g)) (groupCode (b ∷ g)) xs es → Follow L es s
+  unfolding groupCode labelled
+  group-follows b g R s o w way =
+      let r : Rules L b (map bodyKey (b ∷ g)) = R b (List·Memᴰ·head refl) in
+      declared-follows (sp 4 ⨾ switch (map bodyKey (b ∷ g)) ⨾ nl ⨾ labelled (map bodyKey (b ∷ g)) (b ∷ g)) s o
+      (w, o .fourth, ok-labelled (map bodyKey (b ∷ g)) b g r (opened s) (r .lands (opened s) (w (bodyKey b) (List·Memᴰ·head refl))))
+      (tt, (tt, (tt, labels-labelled (map bodyKey (b ∷ g)) (b ∷ g) R))) way
+
+  pub lone-follows : (b : Body) (R : Rules L b []) (s : S) → Opens s → R .Pre (opened s) → {ts : List Top} {xs : List Bool} {es : List Event}
+      → Way ts (declared (blockCode [] b)) (declared (blockCode [] b)) xs es → Follow L es s
+  lone-follows b R s o i way = declared-follows (blockCode [] b) s o (ok-block L b [] R (Done L) (opened s) i) (bare-labels (blockCode [] b) (bare-block [] b) (Done L)) way
