@@ -1,3 +1,6 @@
 -- The proof of the claim on ways.
 pub mod Logic
 pub mod Emitted
+pub mod Bounded
+pub mod Once
+pub mod Behind
