@@ -4,3 +4,5 @@ pub mod Emitted
 pub mod Bounded
 pub mod Once
 pub mod Behind
+pub mod File
+pub mod Functions
