@@ -51,11 +51,11 @@ abbrev pub trees : List TranslationUnit → List Top
 trees us = flatten (map (λ (u : TranslationUnit). u .tree) us)
 
 -- a function of the units stands in a group
-abbrev InGroup : Top → List (List Body) → Type 0
+abbrev pub InGroup : Top → List (List Body) → Type 0
 InGroup t gs = (g : List Body) × List·Memᴰ g gs × List·Memᴰ t (emitGroup g)
 
 module _ (max : ℕ) (closed : List Top) (apart : Foreign closed) (t : Top) (own : Own t) where
-  from-cut : (gs : List (List Body)) (ts : List Top) (n : ℕ) → List·Memᴰ t (trees (cut max closed ts n gs)) → List·Memᴰ t ts ⊎ InGroup t gs
+  pub from-cut : (gs : List (List Body)) (ts : List Top) (n : ℕ) → List·Memᴰ t (trees (cut max closed ts n gs)) → List·Memᴰ t ts ⊎ InGroup t gs
   unfolding cut flatten
   from-cut [] ts n m = go (List·Memᴰ·append-cases (ts ++ closed) m)
     where
@@ -97,14 +97,15 @@ module _ (max : ℕ) (closed : List Top) (apart : Foreign closed) (t : Top) (own
       pick us vs true f h k = handed us f (List·Memᴰ·append-cases (ts ++ emitGroup g) k)
       pick us vs false f h k = next (h k)
 
+-- a group with more than one member
+abbrev pub Many : List Body → Type 0
+Many [] = ⊥
+Many (b ∷ []) = ⊥
+Many (b ∷ c ∷ g) = Unit {0}
+
 -- the body of a forwarder
 abbrev pub forwarder : ℕ → ℕ → Code
 forwarder k n = sp 1 ⨾ call k n ⨾ sp 1 ⨾ end
-
--- where a block's function stands in a group, and what it is
-pub data Stands (k : ℕ) (c : Code) : List Body → Type 0 where
-  alone : (b : Body) → bodyKey b ≡ k → c ≡ declared (blockCode [] b) → Stands k c (b ∷ [])
-  among : (a d : Body) (g : List Body) (b : Body) → List·Memᴰ b (a ∷ d ∷ g) → bodyKey b ≡ k → (n : ℕ) → c ≡ forwarder (bodyKey a) n → Stands k c (a ∷ d ∷ g)
 
 -- the body of a function, and its key
 abbrev codeOf : Top → Code
@@ -147,16 +148,24 @@ forwards a k c [] n (List·Memᴰ·tail m) = absurd (List·Memᴰ·not-nil m)
 forwards a k c (b ∷ bs) n (List·Memᴰ·head e) = (b, List·Memᴰ·head refl, (λ i. keyOf (sym e i)), (n, (λ i. codeOf (e i))))
 forwards a k c (b ∷ bs) n (List·Memᴰ·tail m) = let r = forwards a k c bs (suc n) m in (r .0, List·Memᴰ·tail (r .1), r .2, r .3)
 
-pub block-stands : (k : ℕ) (c : Code) (g : List Body) → List·Memᴰ (function (block k) c) (emitGroup g) → Stands k c g
+-- the function of a lone block
+abbrev pub Alone : ℕ → Code → List Body → Type 0
+Alone k c g = (b : Body) × (g ≡ b ∷ []) × (bodyKey b ≡ k) × (c ≡ declared (blockCode [] b))
+
+-- the function of a block of a group of several
+abbrev pub Among : ℕ → Code → List Body → Type 0
+Among k c g = Many g × ((b : Body) × List·Memᴰ b g × (bodyKey b ≡ k)) × ((a n : ℕ) × (c ≡ forwarder a n))
+
+pub block-stands : (k : ℕ) (c : Code) (g : List Body) → List·Memᴰ (function (block k) c) (emitGroup g) → Alone k c g ⊎ Among k c g
 unfolding emitGroup emitBlock
 block-stands k c [] m = absurd (List·Memᴰ·not-nil m)
-block-stands k c (b ∷ []) (List·Memᴰ·head e) = alone b (λ i. keyOf (sym e i)) (λ i. codeOf (e i))
+block-stands k c (b ∷ []) (List·Memᴰ·head e) = inl (b, refl, (λ i. keyOf (sym e i)), (λ i. codeOf (e i)))
 block-stands k c (b ∷ []) (List·Memᴰ·tail (List·Memᴰ·head e)) = absurd (subst Own e tt)
 block-stands k c (b ∷ []) (List·Memᴰ·tail (List·Memᴰ·tail m)) = absurd (List·Memᴰ·not-nil m)
 block-stands k c (a ∷ d ∷ g) (List·Memᴰ·head e) = absurd (subst OfGroup (sym e) tt)
 block-stands k c (a ∷ d ∷ g) (List·Memᴰ·tail (List·Memᴰ·head e)) = absurd (subst Own e tt)
 block-stands k c (a ∷ d ∷ g) (List·Memᴰ·tail (List·Memᴰ·tail m)) =
-    let r = forwards (bodyKey a) k c (a ∷ d ∷ g) 0 m in among a d g (r .0) (r .1) (r .2) (r .3 .0) (r .3 .1)
+    let r = forwards (bodyKey a) k c (a ∷ d ∷ g) 0 m in inr (tt, (r .0, r .1, r .2), (bodyKey a, r .3 .0, r .3 .1))
 
 no-group : (a n : ℕ) (bs : List Body) (t : Top) → OfGroup t → List·Memᴰ t (forwarders a n bs) → ⊥
 unfolding forwarders
@@ -164,12 +173,6 @@ no-group a n [] t h (List·Memᴰ·head e) = subst OfGroup e h
 no-group a n [] t h (List·Memᴰ·tail m) = List·Memᴰ·not-nil m
 no-group a n (b ∷ bs) t h (List·Memᴰ·head e) = subst OfGroup e h
 no-group a n (b ∷ bs) t h (List·Memᴰ·tail m) = no-group a (suc n) bs t h m
-
--- a group with more than one member
-abbrev pub Many : List Body → Type 0
-Many [] = ⊥
-Many (b ∷ []) = ⊥
-Many (b ∷ c ∷ g) = Unit {0}
 
 pub group-stands : (k : ℕ) (c : Code) (g : List Body) → List·Memᴰ (function (group k) c) (emitGroup g) → Many g × (c ≡ groupCode g)
 unfolding emitGroup emitBlock

@@ -4,5 +4,7 @@ pub mod Emitted
 pub mod Bounded
 pub mod Once
 pub mod Behind
+pub mod Places
 pub mod File
 pub mod Functions
+pub mod Theorem
