@@ -7,4 +7,5 @@ pub mod Behind
 pub mod Places
 pub mod File
 pub mod Functions
+pub mod Members
 pub mod Theorem

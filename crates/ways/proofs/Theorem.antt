@@ -1,39 +1,31 @@
 -- The claim on ways, proved.
-use Prim.Native.Nat.{ℕ, zero, suc, _+_, _*_, _/_, _%_, _^_, _≤_, _<_}
+use Prim.Native.Nat.{ℕ, _*_, _/_, _%_, _^_, _≤_, _<_}
 use mathlib.Core.Path.{_≡_, refl, sym, ap, ap₂, _∙_, subst}
 use mathlib.Core.Logic.{_⊎_, inl, inr}
-use mathlib.Core.Bool.{Bool, true, false, not, cond, _||_}
-use mathlib.Core.List.{List, [], _∷_, _++_, map, List·Memᴰ, List·Memᴰ·head, List·Memᴰ·tail, Memᴰ·cast, Memᴰ·map, Memᴰ·of-map}
-use mathlib.Core.Option.{Option, none, some}
+use mathlib.Core.Bool.{Bool, true, not, _||_}
+use mathlib.Core.List.{List, [], _∷_, _++_, map, List·Memᴰ, List·Memᴰ·head, Memᴰ·cast, Memᴰ·map, Memᴰ·of-map}
 use native.Mathlib.Omega.{arith}
 use lib.Dec.{T, eqb}
-use lib.ListN.{length, getD, getElem?}
+use lib.ListN.{length, getD}
 use Rattle.armv4t.specs.Bit0.{clearBit0}
 use Rattle.armv4t.specs.Instr.{sizeOf}
 use Rattle.block_file.specs.Parse.{Block, Parsed, parse}
 use Rattle.plan.specs.Plan.{blockKey, groups}
-use Rattle.plan.proofs.Components.{countsOf}
-use Rattle.plan.proofs.Cutting.{instructions}
-use Rattle.plan.proofs.GroupLaws.{group-limit, group-inside, group-same}
-use Rattle.plan.proofs.Listing.{map-at}
-use Rattle.c_tree.specs.Stmt.{guard, call, Code, end, _⨾_, block, group, Top, function}
+use Rattle.plan.proofs.GroupLaws.{group-same}
+use Rattle.c_tree.specs.Stmt.{guard, Code, block, group, Top, function}
 use Rattle.forms.specs.Forms.{Body}
-use Rattle.lowering.specs.Block.{bodyKey, guarded, sp, blockCode}
-use Rattle.lowering.specs.Units.{declared, groupCode, emitGroup, opened, tail, nobody, membersOf, unitsOf}
-use Rattle.ways.specs.Ways.{Event, reach, said, Way, stop, w-gap, w-call}
-use Rattle.ways.specs.Claim.{AtNative, outside, Several, Lone, Faithful, fileUnits, fileTree, Passed, Kept, Claim}
-use Rattle.ways.proofs.Logic.{Logic, Follow}
+use Rattle.lowering.specs.Block.{bodyKey, guarded, blockCode}
+use Rattle.lowering.specs.Units.{declared, groupCode, emitGroup, opened, tail, membersOf, unitsOf}
+use Rattle.ways.specs.Ways.{Event, said, Way, stop, w-gap, w-call}
+use Rattle.ways.specs.Claim.{AtNative, outside, Faithful, fileUnits, fileTree, Passed, Kept, Claim}
+use Rattle.ways.proofs.Logic.{Follow}
 use Rattle.ways.proofs.Emitted.{Opens, group-follows}
-use Rattle.ways.proofs.Bounded.{Member, total, Spent, at-most-total, spent-rules, parts}
+use Rattle.ways.proofs.Bounded.{total, Spent, at-most-total, spent-rules, parts}
 use Rattle.ways.proofs.Once.{lone-rises, once-of}
 use Rattle.ways.proofs.Behind.{Allowed, Apart, History, history-rules, lone-seen, behind-of}
-use Rattle.ways.proofs.Places.{at-member, place-of, found-at}
-use Rattle.ways.proofs.File.{block-even, block-filled, one-key}
+use Rattle.ways.proofs.Places.{found-at}
 use Rattle.ways.proofs.Functions.{Own, opened-foreign, tail-foreign, InGroup, from-cut, Many, forwarder, Alone, Among, block-stands, group-stands}
-
--- a block to read past the end of a list
-nowhere : Block
-nowhere = record { addr = 0; thumb = false; code = none; instrs = [] }
+use Rattle.ways.proofs.Members.{nowhere, Good, File, bodies, key-of, member-of, several, one, good, same-place, apart}
 
 -- a way from a forwarder is none, or one through a group's function
 called : {ts : List Top} {f : Code} {k n : ℕ} {xs : List Bool} {es : List Event} → Way ts f (forwarder k n) xs es
@@ -41,12 +33,6 @@ called : {ts : List Top} {f : Code} {k n : ℕ} {xs : List Bool} {es : List Even
 called stop = inl refl
 called (w-gap stop) = inl refl
 called (w-gap (w-call m w)) = inr (_, m, w)
-
--- what the groups of an accepted file have
-record Good (limit : ℕ) (bodies g : List Body) : Type 0 where
-  members : (b : Body) → List·Memᴰ b g → Member b
-  inside : (b : Body) → List·Memᴰ b g → List·Memᴰ b bodies
-  small : Many g → total g ≤ limit
 
 module _ (limit : ℕ) (bodies : List Body) (apart : Apart bodies) where
   -- what the two logics of groups say of some events
@@ -64,113 +50,38 @@ module _ (limit : ℕ) (bodies : List Body) (apart : Apart bodies) where
             (record { first = λ d n a. absurd a; second = λ d n a. absurd a; third = λ d n a. absurd a; fourth = λ d n a. absurd a }) (λ k m. tt) w,
       )
 
-module _ (bodyOf : Block → Body) (faithful : Faithful bodyOf) (f : List ℕ) (bs : List Block) (accepted : parse f ≡ Parsed.accepted bs) (limit max : ℕ) where
-  bodies : List Body
-  bodies = map bodyOf bs
-
-  key-of : (b : Block) → bodyKey (bodyOf b) ≡ blockKey b
-  key-of b = ap₂ (λ (a : ℕ) (t : Bool). a + cond t 1 0) (faithful .addr b) (faithful .thumb b)
-
-  -- the members of a group are blocks of the file
-  member-of : (g : List ℕ) → List·Memᴰ g (groups limit bs) → (b : Body) → List·Memᴰ b (membersOf bodies g)
-      → (i : ℕ) × List·Memᴰ i g × (i < length bs) × (bodyOf (getD bs i nowhere) ≡ b)
-  unfolding membersOf bodies
-  member-of g m b n =
-      let r = Memᴰ·of-map (λ (i : ℕ). getD bodies i nobody) g n in
-      let inside : r .0 < length bs = group-inside limit bs g m (r .0) (r .1) in
-      (r .0, r .1, inside, sym (map-at bodyOf bs (r .0) nowhere nobody inside) ∙ r .2)
-
-  is-member : (i : ℕ) → i < length bs → Member (bodyOf (getD bs i nowhere))
-  is-member i h =
-      record {
-        even = ap (λ (a : ℕ). a % 2) (faithful .addr (getD bs i nowhere)) ∙ block-even f bs accepted i nowhere h;
-        filled = omega (arith, faithful .count (getD bs i nowhere), block-filled f bs accepted i nowhere h);
-        whole = faithful .whole (getD bs i nowhere);
-      }
-
-  in-bodies : (i : ℕ) → i < length bs → List·Memᴰ (bodyOf (getD bs i nowhere)) bodies
-  unfolding bodies
-  in-bodies i h = Memᴰ·map bodyOf (at-member bs i nowhere h)
-
-  -- the counts of the plan are those of the bodies
-  count-at : (cs : List Block) (i : ℕ) → getD (map bodyOf cs) i nobody .count ≡ getD (countsOf cs) i 0
-  count-at [] i = refl
-  count-at (c ∷ cs) zero = faithful .count c
-  count-at (c ∷ cs) (suc i) = count-at cs i
-
-  total-of : (g : List ℕ) → total (membersOf bodies g) ≡ instructions (countsOf bs) g
-  unfolding membersOf bodies instructions
-  total-of [] = refl
-  total-of (i ∷ g) = omega (arith, count-at bs i, total-of g)
-
-  several : (g : List ℕ) → Many (membersOf bodies g) → 2 ≤ length g
-  unfolding membersOf
-  several [] v = absurd v
-  several (i ∷ []) v = absurd v
-  several (i ∷ j ∷ g) v = omega arith
-
-  one : (g : List ℕ) (b : Body) → membersOf bodies g ≡ b ∷ [] → length g ≡ 1
-  unfolding membersOf
-  one [] b e = absurd (let z : _≡_ {A = ℕ} 0 1 = ap length e in omega arith)
-  one (i ∷ []) b e = refl
-  one (i ∷ j ∷ g) b e = absurd (let z : suc (suc (length (membersOf bodies g))) ≡ 1 = ap length e in omega arith)
-
-  good : (g : List ℕ) → List·Memᴰ g (groups limit bs) → Good limit bodies (membersOf bodies g)
-  good g m =
-      record {
-        members = λ b n. let r = member-of g m b n in subst Member (r .3) (is-member (r .0) (r .2));
-        inside = λ b n. let r = member-of g m b n in subst (λ c. List·Memᴰ c bodies) (r .3) (in-bodies (r .0) (r .2));
-        small = λ v. omega (arith, total-of g, group-limit limit bs g m (several g v));
-      }
-
-  -- a block of the file by its place
-  body-at : (b : Body) → List·Memᴰ b bodies → (i : ℕ) × (i < length bs) × (bodyOf (getD bs i nowhere) ≡ b)
-  unfolding bodies
-  body-at b m =
-      let r = Memᴰ·of-map bodyOf bs m in
-      let p = place-of bs nowhere (r .0) (r .1) in
-      (p .0, p .1, ap bodyOf (p .2) ∙ r .2)
-
-  -- one key, one place
-  same-place : (i j : ℕ) → i < length bs → j < length bs → bodyKey (bodyOf (getD bs i nowhere)) ≡ bodyKey (bodyOf (getD bs j nowhere)) → i ≡ j
-  same-place i j h l e = one-key f bs accepted nowhere i j h l (sym (key-of _) ∙ e ∙ key-of _)
-
-  apart : Apart bodies
-  apart b c m n e =
-      let r = body-at b m in
-      let s = body-at c n in
-      let same : r .0 ≡ s .0 = same-place (r .0) (s .0) (r .1) (s .1) (ap bodyKey (r .2) ∙ e ∙ sym (ap bodyKey (s .2))) in
-      sym (r .2) ∙ ap (λ (i : ℕ). bodyOf (getD bs i nowhere)) same ∙ s .2
+module _ (F : File) (max : ℕ) where
+  open File F using (bodyOf, faithful, bs, limit)
 
   -- a function of the units stands in a group of the plan
-  in-group : (t : Top) → Own t → List·Memᴰ t (fileTree bodyOf limit max bs) → (g : List ℕ) × List·Memᴰ g (groups limit bs) × List·Memᴰ t (emitGroup (membersOf bodies g))
-  unfolding fileTree fileUnits unitsOf bodies
-  in-group t o m = go (from-cut max (tail bodies) (tail-foreign bodies) t o (map (membersOf bodies) (groups limit bs)) opened 0 m)
+  in-group : (t : Top) → Own t → List·Memᴰ t (fileTree bodyOf limit max bs) → (g : List ℕ) × List·Memᴰ g (groups limit bs) × List·Memᴰ t (emitGroup (membersOf (bodies F) g))
+  unfolding fileTree fileUnits unitsOf
+  in-group t o m = go (from-cut max (tail (bodies F)) (tail-foreign (bodies F)) t o (map (membersOf (bodies F)) (groups limit bs)) opened 0 m)
     where
-      go : List·Memᴰ t opened ⊎ InGroup t (map (membersOf bodies) (groups limit bs))
-          → (g : List ℕ) × List·Memᴰ g (groups limit bs) × List·Memᴰ t (emitGroup (membersOf bodies g))
+      go : List·Memᴰ t opened ⊎ InGroup t (map (membersOf (bodies F)) (groups limit bs))
+          → (g : List ℕ) × List·Memᴰ g (groups limit bs) × List·Memᴰ t (emitGroup (membersOf (bodies F) g))
       go (inl k) = absurd (opened-foreign t o k)
       go (inr h) =
-          let r = Memᴰ·of-map (membersOf bodies) (groups limit bs) (h .1) in
+          let r = Memᴰ·of-map (membersOf (bodies F)) (groups limit bs) (h .1) in
           (r .0, r .1, subst (λ g. List·Memᴰ t (emitGroup g)) (sym (r .2)) (h .2))
 
   -- a way from a forwarder
   forwarded : (k n : ℕ) {xs : List Bool} {es : List Event} → Way (fileTree bodyOf limit max bs) (forwarder k n) (forwarder k n) xs es
-      → (g : List Body) × Both limit bodies apart g es
+      → (g : List Body) × Both limit (bodies F) (apart F) g es
   forwarded k n {xs} {es} w = go (called w)
     where
       go : (es ≡ []) ⊎ ((c : Code) × List·Memᴰ (function (group k) c) (fileTree bodyOf limit max bs) × Way (fileTree bodyOf limit max bs) c c xs es)
-          → (g : List Body) × Both limit bodies apart g es
-      go (inl e) = ([], subst (Both limit bodies apart []) (sym e) (tt, tt))
+          → (g : List Body) × Both limit (bodies F) (apart F) g es
+      go (inl e) = ([], subst (Both limit (bodies F) (apart F) []) (sym e) (tt, tt))
       go (inr r) =
           let q = in-group (function (group k) (r .0)) tt (r .1) in
-          let p = group-stands k (r .0) (membersOf bodies (q .0)) (q .2) in (
-            membersOf bodies (q .0),
-            group-both limit bodies apart (membersOf bodies (q .0)) (p .0) (good (q .0) (q .1))
+          let p = group-stands k (r .0) (membersOf (bodies F) (q .0)) (q .2) in (
+            membersOf (bodies F) (q .0),
+            group-both limit (bodies F) (apart F) (membersOf (bodies F) (q .0)) (p .0) (good F (q .0) (q .1))
                 (subst (λ c. Way (fileTree bodyOf limit max bs) c c xs es) (p .1) (r .2)),
           )
 
-  -- from the bodies' words to the blocks'
+  -- from the (bodies F)' words to the blocks'
   passed : (b : Block) (es : List Event) → Allowed (bodyOf b) es → Passed bodyOf b es
   passed b es p = (
     p .0,
@@ -185,50 +96,49 @@ module _ (bodyOf : Block → Body) (faithful : Faithful bodyOf) (f : List ℕ) (
   unfolding guarded
   is-guarded b t = subst (λ (a : ℕ). T (not (eqb (a / 2 ^ 24 % 16) 8 || eqb (a / 2 ^ 24 % 16) 0))) (sym (faithful .addr b)) t
 
-  seen : (es us vs : List Event) (e : Event) → es ≡ us ++ (e ∷ vs) → Follow (History bodies) es [] → (b : Block) → List·Memᴰ b bs → AtNative (blockKey b) e → T (outside b)
+  seen : (es us vs : List Event) (e : Event) → es ≡ us ++ (e ∷ vs) → Follow (History (bodies F)) es [] → (b : Block) → List·Memᴰ b bs → AtNative (blockKey b) e → T (outside b)
       → Passed bodyOf b us
-  unfolding bodies
   seen es us vs e p h b m n t =
       passed b us
-      (behind-of bodies us vs e (subst (λ es′. Follow (History bodies) es′ []) p h) (bodyOf b) (Memᴰ·map bodyOf m)
-      (subst (λ k. AtNative k e) (sym (key-of b)) n) (is-guarded b t))
+      (behind-of (bodies F) us vs e (subst (λ es′. Follow (History (bodies F)) es′ []) p h) (bodyOf b) (Memᴰ·map bodyOf m)
+      (subst (λ k. AtNative k e) (sym (key-of F b)) n) (is-guarded b t))
 
-  -- the group in which block i stands is the one of its function
-  here : (i : ℕ) → i < length bs → (g : List ℕ) → List·Memᴰ g (groups limit bs) → (b : Body) → List·Memᴰ b (membersOf bodies g)
+  -- the group in which block i stands is the one F of its function
+  here : (i : ℕ) → i < length bs → (g : List ℕ) → List·Memᴰ g (groups limit bs) → (b : Body) → List·Memᴰ b (membersOf (bodies F) g)
       → bodyKey b ≡ blockKey (getD bs i nowhere) → List·Memᴰ i g
   here i h g m b n e =
-      let r = member-of g m b n in
-      let same : r .0 ≡ i = same-place (r .0) i (r .2) h (ap bodyKey (r .3) ∙ e ∙ sym (key-of _)) in
+      let r = member-of F g m b n in
+      let same : r .0 ≡ i = same-place F (r .0) i (r .2) h (ap bodyKey (r .3) ∙ e ∙ sym (key-of F _)) in
       Memᴰ·cast (sym same) (r .1)
 
   module _ (i : ℕ) (h : i < length bs) (g : List ℕ) (m : List·Memᴰ g (groups limit bs)) (es : List Event) where
-    kept-lone : (b : Body) → membersOf bodies g ≡ b ∷ [] → bodyKey b ≡ blockKey (getD bs i nowhere)
+    kept-lone : (b : Body) → membersOf (bodies F) g ≡ b ∷ [] → bodyKey b ≡ blockKey (getD bs i nowhere)
         → {xs : List Bool} → Way (fileTree bodyOf limit max bs) (declared (blockCode [] b)) (declared (blockCode [] b)) xs es → Kept bodyOf limit bs i es
     kept-lone b e k w =
-        let there : List·Memᴰ b (membersOf bodies g) = subst (λ l. List·Memᴰ b l) (sym e) (List·Memᴰ·head refl) in
-        let single : length g ≡ 1 = one g b e in
+        let there : List·Memᴰ b (membersOf (bodies F) g) = subst (λ l. List·Memᴰ b l) (sym e) (List·Memᴰ·head refl) in
+        let single : length g ≡ 1 = one F g b e in
         let mine : List·Memᴰ i g = here i h g m b there k in
         record {
           bounded = λ v us ps vs p q.
               let same : v .0 ≡ g = group-same limit bs (v .0) g (v .1) m i (v .2) mine in
               absurd (let z : length (v .0) ≡ length g = ap length same in omega (arith, v .3));
           once = λ v k j. once-of k j es (lone-rises b w);
-          behind = λ us vs e′ p. seen es us vs e′ p (lone-seen bodies apart b (good g m .inside b there) w);
+          behind = λ us vs e′ p. seen es us vs e′ p (lone-seen (bodies F) (apart F) b (good F g m .inside b there) w);
         }
 
-    kept-several : Many (membersOf bodies g) → (b : Body) → List·Memᴰ b (membersOf bodies g) → bodyKey b ≡ blockKey (getD bs i nowhere)
-        → (g′ : List Body) → Both limit bodies apart g′ es → Kept bodyOf limit bs i es
+    kept-several : Many (membersOf (bodies F) g) → (b : Body) → List·Memᴰ b (membersOf (bodies F) g) → bodyKey b ≡ blockKey (getD bs i nowhere)
+        → (g′ : List Body) → Both limit (bodies F) (apart F) g′ es → Kept bodyOf limit bs i es
     kept-several v b n k g′ q =
         let mine : List·Memᴰ i g = here i h g m b n k in
         record {
           bounded = λ s us ps vs p z. parts limit g′ us ps vs (subst (λ es′. Follow (Spent limit g′) es′ 0) p (q .0)) z;
           once = λ s k j.
               let same : (i ∷ []) ≡ g = group-same limit bs (i ∷ []) g s m i (List·Memᴰ·head refl) mine in
-              absurd (let z : 1 ≡ length g = ap length same in omega (arith, several g v));
+              absurd (let z : 1 ≡ length g = ap length same in omega (arith, several F g v));
           behind = λ us vs e p. seen es us vs e p (q .1);
         }
 
-    kept : (c : Code) → Alone (blockKey (getD bs i nowhere)) c (membersOf bodies g) ⊎ Among (blockKey (getD bs i nowhere)) c (membersOf bodies g)
+    kept : (c : Code) → Alone (blockKey (getD bs i nowhere)) c (membersOf (bodies F) g) ⊎ Among (blockKey (getD bs i nowhere)) c (membersOf (bodies F) g)
         → (xs : List Bool) → Way (fileTree bodyOf limit max bs) c c xs es → Kept bodyOf limit bs i es
     kept c (inl a) xs w = kept-lone (a .0) (a .1) (a .2) (subst (λ d. Way (fileTree bodyOf limit max bs) d d xs es) (a .3) w)
     kept c (inr a) xs w =
@@ -237,9 +147,10 @@ module _ (bodyOf : Block → Body) (faithful : Faithful bodyOf) (f : List ℕ) (
 
 -- demand 3
 pub theorem : (bodyOf : Block → Body) → Faithful bodyOf → Claim bodyOf
-unfolding Claim bodies
+unfolding Claim
 theorem bodyOf faithful f bs accepted limit max i b e c m xs es w =
+    let F : File = record { bodyOf = bodyOf; faithful = faithful; bytes = f; bs = bs; accepted = accepted; limit = limit } in
     let at = found-at bs i nowhere b e in
-    let m′ : List·Memᴰ (function (block (blockKey (getD bs i nowhere))) c) (fileTree bodyOf limit max bs) = subst (λ d. List·Memᴰ (function (block (blockKey d)) c) (fileTree bodyOf limit max bs)) (sym (at .1)) m in
-    let g = in-group bodyOf faithful f bs accepted limit max (function (block (blockKey (getD bs i nowhere))) c) tt m′ in
-    kept bodyOf faithful f bs accepted limit max i (at .0) (g .0) (g .1) es c (block-stands (blockKey (getD bs i nowhere)) c (membersOf (map bodyOf bs) (g .0)) (g .2)) xs w
+    let k : ℕ = blockKey (getD bs i nowhere) in
+    let g = in-group F max (function (block k) c) tt (subst (λ d. List·Memᴰ (function (block (blockKey d)) c) (fileTree bodyOf limit max bs)) (sym (at .1)) m) in
+    kept F max i (at .0) (g .0) (g .1) es c (block-stands k c (membersOf (bodies F) (g .0)) (g .2)) xs w
