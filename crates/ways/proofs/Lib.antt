@@ -9,3 +9,4 @@ pub mod File
 pub mod Functions
 pub mod Members
 pub mod Theorem
+pub mod Entered

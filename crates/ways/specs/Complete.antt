@@ -1,0 +1,58 @@
+-- That the claim is about something: each block has one function, in the unit where its group is, and a way from it to its first instruction.
+use Prim.Native.Nat.{ℕ, _+_, _≤_}
+use mathlib.Core.Path.{_≡_}
+use mathlib.Core.Bool.{Bool, cond}
+use mathlib.Core.List.{List, [], _∷_, _++_, map, List·Memᴰ}
+use mathlib.Core.Option.{some}
+use lib.Dec.{eqb}
+use lib.ListN.{getElem?}
+use Rattle.block_file.specs.Parse.{Block, Parsed, parse}
+use Rattle.plan.specs.Plan.{blockKey, groups}
+use Rattle.c_tree.specs.Stmt.{Code, helper, block, group, Top, opening, function, blank, extern, table, count}
+use Rattle.forms.specs.Forms.{Body}
+use Rattle.lowering.specs.Units.{TranslationUnit, emitGroup, membersOf}
+use Rattle.ways.specs.Ways.{Event, Way}
+use Rattle.ways.specs.Claim.{times, fileUnits, fileTree}
+
+-- 1 for the function of the block with the key k, else 0
+abbrev pub isFunction : ℕ → Top → ℕ
+isFunction k opening = 0
+isFunction k (function (helper h) c) = 0
+isFunction k (function (block j) c) = cond (eqb k j) 1 0
+isFunction k (function (group j) c) = 0
+isFunction k blank = 0
+isFunction k (extern j) = 0
+isFunction k (table js) = 0
+isFunction k (count n) = 0
+
+-- how often a tree has that function
+abbrev pub functions : ℕ → List Top → ℕ
+functions k [] = 0
+functions k (t ∷ ts) = isFunction k t + functions k ts
+
+module _ (bodyOf : Block → Body) where
+  -- what there is of block i, which is b
+  pub record Found (limit max : ℕ) (bs : List Block) (i : ℕ) (b : Block) : Type 0 where
+    -- over all units it has one function
+    pub single : functions (blockKey b) (fileTree bodyOf limit max bs) ≡ 1
+    -- its group stands in one piece in a unit, and the function in that piece
+    pub members : List ℕ
+    pub grouped : List·Memᴰ members (groups limit bs)
+    pub among : List·Memᴰ i members
+    pub unit : TranslationUnit
+    pub made : List·Memᴰ unit (fileUnits bodyOf limit max bs)
+    pub before : List Top
+    pub after : List Top
+    pub piece : unit .tree ≡ before ++ (emitGroup (membersOf (map bodyOf bs) members) ++ after)
+    pub code : Code
+    pub stands : List·Memᴰ (function (block (blockKey b)) code) (emitGroup (membersOf (map bodyOf bs) members))
+    -- a way from it carries out the block's first instruction
+    pub answers : List Bool
+    pub events : List Event
+    pub way : Way (fileTree bodyOf limit max bs) code code answers events
+    pub first : 1 ≤ times (blockKey b) 0 events
+
+  -- each block of each accepted file, at each limit and wished size
+  unfoldable pub Complete : Type 0
+  Complete =
+      (f : List ℕ) (bs : List Block) → parse f ≡ Parsed.accepted bs → (limit max i : ℕ) (b : Block) → getElem? bs i ≡ some b → Found limit max bs i b
