@@ -10,3 +10,4 @@ pub mod Functions
 pub mod Members
 pub mod Theorem
 pub mod Entered
+pub mod Pieces
