@@ -11,3 +11,4 @@ pub mod Members
 pub mod Theorem
 pub mod Entered
 pub mod Pieces
+pub mod Complete
