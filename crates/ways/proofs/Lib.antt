@@ -12,3 +12,4 @@ pub mod Theorem
 pub mod Entered
 pub mod Pieces
 pub mod Complete
+pub mod Examples

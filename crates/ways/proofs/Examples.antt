@@ -1,0 +1,99 @@
+-- A way that goes round a loop twice, and ends where the chain gate says so; at any wished size.
+use Prim.Native.Nat.{ℕ, _≤_}
+use mathlib.Core.Path.{_≡_, refl}
+use mathlib.Core.Bool.{Bool, true, false}
+use mathlib.Core.List.{List, [], _∷_, _++_, map, List·Memᴰ, List·Memᴰ·head}
+use mathlib.Core.Option.{none}
+use Rattle.c_tree.specs.Expr.{word, x-cz, reg, lit}
+use Rattle.c_tree.specs.Stmt.{is, Plain, set, tick, gate, other, Owner, Code, end, _⨾_, _⧺_, call, block, group, Top, function}
+use Rattle.c_tree.specs.Preamble.{v32}
+use Rattle.forms.specs.Forms.{branch, Form, shell, Body}
+use Rattle.lowering.specs.Block.{bodyKey, guarded, nl, chain, transfer, nativeText, rest, blockCode}
+use Rattle.lowering.specs.Units.{declared, labelled, groupCode, emitGroup, opened, tail, membersOf, unitsOf}
+use Rattle.ways.specs.Ways.{Place, here, later, Event, reach, said, natively, Way, w-gap, w-begin, w-plain, w-goto, w-leave, w-stay, w-call, w-entry, w-when, w-braces}
+use Rattle.ways.specs.Claim.{carried, times}
+use Rattle.ways.proofs.Functions.{trees, forwarder}
+use Rattle.ways.proofs.Pieces.{group-part, in-part}
+
+-- a branch to itself if EQ
+abbrev loop : Body
+loop =
+    record {
+      addr = 0x08000100;
+      thumb = false;
+      count = 1;
+      hash = none;
+      forms = Form.native (branch ((tick 3 ∷ []) ∷ []) (v32 x-cz) (set (reg 15) is (lit word 0x08000100) ∷ []) 0x08000100) ∷ [];
+      last = (set (reg 15) is (lit word 0x08000104) ∷ []) ∷ [];
+    }
+
+-- swi
+abbrev swi : Body
+swi =
+    record {
+      addr = 0x08000104;
+      thumb = false;
+      count = 1;
+      hash = none;
+      forms = shell false ((set (reg 15) is (lit word 0x08000104) ∷ []) ∷ []) 0x08000108 ∷ [];
+      last = (set (reg 15) is (lit word 0x08000108) ∷ []) ∷ [];
+    }
+
+abbrev both : List Body
+both = loop ∷ swi ∷ []
+
+-- their units at a wished size, in one group
+abbrev units : ℕ → List Top
+units max = trees (unitsOf max both ((0 ∷ 1 ∷ []) ∷ []))
+
+-- the group's function stands in them
+there : (max : ℕ) → List·Memᴰ (function (group 0x08000100) (groupCode both)) (units max)
+unfolding unitsOf emitGroup membersOf
+there max =
+    in-part (function (group 0x08000100) (groupCode both)) (emitGroup both) (unitsOf max both ((0 ∷ 1 ∷ []) ∷ []))
+    (group-part max (tail both) both (both ∷ []) opened 0 (List·Memᴰ·head refl)) (List·Memᴰ·head refl)
+
+-- the code from the loop's label on
+abbrev at-loop : Code
+at-loop = nl ⨾ (blockCode (map bodyKey both) loop ⧺ (nl ⨾ labelled (map bodyKey both) (swi ∷ [])))
+
+to-loop : Place 0x08000100 (groupCode both) at-loop
+unfolding groupCode declared labelled
+to-loop = later (later (later (later (later (later (later (later (later (later here)))))))))
+
+-- what happens from there to the gate
+abbrev owner : Event
+owner = reach (Owner.native 0x08000100)
+
+abbrev round : List Event
+round = natively 0x08000100 0 1 ∷ owner ∷ owner ∷ owner ∷ owner ∷ said (other (v32 x-cz)) true ∷ owner ∷ owner ∷ []
+
+-- the gate says yes: the way leaves
+leaves : (ts : List Top) → Way ts (groupCode both) at-loop (true ∷ true ∷ []) (round ++ (said gate true ∷ owner ∷ []))
+unfolding blockCode guarded rest nativeText transfer chain
+leaves ts = w-gap (w-begin (w-gap (w-plain (w-gap (w-gap (w-braces (w-gap (w-plain (w-gap (w-plain (w-gap (w-when (w-gap (w-plain (w-gap (w-gap w-leave))))))))))))))))
+
+-- it says no: the way goes round
+goes-on : (ts : List Top) {xs : List Bool} {es : List Event} → Way ts (groupCode both) at-loop xs es
+    → Way ts (groupCode both) at-loop (true ∷ false ∷ xs) (round ++ (said gate false ∷ owner ∷ es))
+unfolding blockCode guarded rest nativeText transfer chain
+goes-on ts w =
+    w-gap
+    (w-begin
+    (w-gap (w-plain (w-gap (w-gap (w-braces (w-gap (w-plain (w-gap (w-plain (w-gap (w-when (w-gap (w-plain (w-gap (w-gap (w-stay (w-gap (w-gap (w-goto to-loop w))))))))))))))))))))
+
+-- from the loop's function: round, and round again up to the gate
+abbrev events : List Event
+events = reach Owner.common ∷ reach Owner.common ∷ reach Owner.common ∷ (round ++ (said gate false ∷ owner ∷ (round ++ (said gate true ∷ owner ∷ []))))
+
+pub twice : (max : ℕ) → Way (units max) (forwarder 0x08000100 0) (forwarder 0x08000100 0) (true ∷ false ∷ true ∷ true ∷ []) events
+unfolding groupCode declared
+twice max =
+    w-gap
+    (w-call (there max)
+    (w-gap
+    (w-plain (w-gap (w-plain (w-gap (w-plain (w-gap (w-gap (w-entry (List·Memᴰ·head refl) to-loop (goes-on (units max) (leaves (units max)))))))))))))
+
+-- it carries out two instructions, and the one of the loop twice: in a group of several only gates bound that
+pub two : (carried events ≡ 2) × (times 0x08000100 0 events ≡ 2)
+two = (refl, refl)
