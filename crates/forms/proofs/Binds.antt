@@ -25,7 +25,7 @@ use Rattle.armv4t.specs.Bit0.{clearBit0}
 use Rattle.armv4t.specs.Fused.{fuse}
 use Rattle.block_file.specs.declared.decode.TimedInstr.{TimedInstr}
 use Rattle.block_file.specs.Parse.{Block}
-use Rattle.plan.specs.Exits.{isAlways}
+use Rattle.plan.specs.Exits.{isAl}
 use Rattle.c_tree.specs.Expr.{Name, x-r, x-base, x-ob, x-addr, Place, reg, udec, Bin, operator, add, band, bxor, bor, Expr, lit, get, bin, un, compl}
 use Rattle.c_tree.specs.Stmt.{Plain}
 use Rattle.c_tree.specs.Preamble.{v32}
@@ -406,7 +406,7 @@ lines-fits thumb bus cycles x (some body) h =
     let t : Bound (cond bus (flushTicks cycles) []) = either Bound bus (ticks-bound cycles) (record { lines = refl }) in
     record {
       fits =
-          either (λ r. nativeBinds r ≡ true) (isAlways (x .instr .cond)) (both _ _ (t .lines) (h .lines))
+          either (λ r. nativeBinds r ≡ true) (isAl (x .instr .cond)) (both _ _ (t .lines) (h .lines))
           (both _ _ (both _ _ (t .lines) (cond-binds (x .instr .cond))) (h .lines));
     }
 
@@ -418,7 +418,7 @@ branch-fits : (thumb : Bool) (cycles : ℕ) (i : Instr) (link : Bool) (target : 
 branch-fits thumb cycles i link target =
     let regs : Plains (only link (setWord 14 ((i .addr + 4) % 2 ^ 32)) ++ (setWord 15 target ∷ [])) =
     plains-append (only-plains link _ (word-binds 14 _)) (one (word-binds 15 target)) in
-    either (λ r. nativeBinds r ≡ true) (isAlways (i .cond)) (lines-append (ticks-bound cycles) (apart-bound regs) .lines)
+    either (λ r. nativeBinds r ≡ true) (isAl (i .cond)) (lines-append (ticks-bound cycles) (apart-bound regs) .lines)
     (both _ _ (both _ _ (ticks-bound cycles .lines) (cond-binds (i .cond))) (regs .plains))
 
 pop-fits : (thumb : Bool) (cycles rn : ℕ) (regs : List ℕ) → nativeBinds (emitPop thumb cycles rn regs) ≡ true
@@ -434,7 +434,7 @@ op-fits thumb region cycles x (Mul acc s rd rn rs rm) = straight-fits thumb fals
 op-fits thumb region cycles x (MulLong signed acc s hi lo rs rm) = straight-fits thumb false cycles x
 op-fits thumb region cycles x (Swap byte rd rm rn) = straight-fits thumb false cycles x
 op-fits thumb region cycles x (Bx rm) =
-    either Fits (isAlways (x .instr .cond) && not (eqb region 0))
+    either Fits (isAl (x .instr .cond) && not (eqb region 0))
     (record { fits = both _ _ (ticks-bound (cycles + x .cost) .lines) (reg-operand (x .instr) rm .whole) })
     (straight-fits thumb false cycles x)
 op-fits thumb region cycles x (Branch link target) = record { fits = branch-fits thumb (cycles + x .cost) (x .instr) link target }

@@ -14,7 +14,7 @@ use Rattle.armv4t.specs.declared.Fused.the-variants.{Pair, Nothing}
 use Rattle.armv4t.specs.Fused.{fuse}
 use Rattle.block_file.specs.declared.decode.TimedInstr.{TimedInstr}
 use Rattle.block_file.specs.Parse.{Block}
-use Rattle.plan.specs.Exits.{isAlways}
+use Rattle.plan.specs.Exits.{isAl}
 use Rattle.forms.specs.Forms.{Lines, records, Form, weight, weights}
 use Rattle.forms.specs.InlineBody.{inlineBody}
 use Rattle.forms.specs.Block.{regionOf, isPop, emitLines, emitStraight, emitOp, emitInstr, fusedOr, emitInstrs, bodyOf}
@@ -30,7 +30,7 @@ record One (s : Form × ℕ) : Type 0 where
 
 lines-one : (thumb bus : Bool) (cycles : ℕ) (x : TimedInstr) (body : Option Lines) → One (emitLines thumb bus cycles x body)
 lines-one thumb bus cycles x none = record { weighs = refl }
-lines-one thumb bus cycles x (some body) = record { weighs = either (λ r. records r ≡ 1) (isAlways (x .instr .cond)) refl refl }
+lines-one thumb bus cycles x (some body) = record { weighs = either (λ r. records r ≡ 1) (isAl (x .instr .cond)) refl refl }
 
 straight-one : (thumb bus : Bool) (cycles : ℕ) (x : TimedInstr) → One (emitStraight thumb bus cycles x)
 straight-one thumb bus cycles x = lines-one thumb bus cycles x (inlineBody thumb (x .instr))
@@ -40,8 +40,8 @@ op-one thumb region cycles x (Alu op s rd rn op2) = straight-one thumb false cyc
 op-one thumb region cycles x (Mul acc s rd rn rs rm) = straight-one thumb false cycles x
 op-one thumb region cycles x (MulLong signed acc s hi lo rs rm) = straight-one thumb false cycles x
 op-one thumb region cycles x (Swap byte rd rm rn) = straight-one thumb false cycles x
-op-one thumb region cycles x (Bx rm) = either One (isAlways (x .instr .cond) && not (eqb region 0)) (record { weighs = refl }) (straight-one thumb false cycles x)
-op-one thumb region cycles x (Branch link target) = record { weighs = either (λ r. records r ≡ 1) (isAlways (x .instr .cond)) refl refl }
+op-one thumb region cycles x (Bx rm) = either One (isAl (x .instr .cond) && not (eqb region 0)) (record { weighs = refl }) (straight-one thumb false cycles x)
+op-one thumb region cycles x (Branch link target) = record { weighs = either (λ r. records r ≡ 1) (isAl (x .instr .cond)) refl refl }
 op-one thumb region cycles x (ThumbBlHigh lr) = record { weighs = refl }
 op-one thumb region cycles x (ThumbBlLow off) = straight-one thumb false cycles x
 op-one thumb region cycles x (Mem load width signed rd rn offset pre up writeback) = straight-one thumb true cycles x

@@ -15,13 +15,13 @@ use Rattle.armv4t.specs.Instr.{sizeOf}
 use Rattle.armv4t.specs.Fused.{fuse}
 use Rattle.block_file.specs.declared.decode.TimedInstr.{TimedInstr}
 use Rattle.block_file.specs.Parse.{Block}
-use Rattle.plan.specs.Exits.{keyOf, fallThrough, isAlways}
+use Rattle.plan.specs.Exits.{keyOf, fallThrough, isAl}
 use Rattle.c_tree.specs.Expr.{word, udec, x-addr, reg, compl, add, band, bor, w32, lit, get, un, bin, read}
 use Rattle.c_tree.specs.Stmt.{Plain, tick}
 use Rattle.forms.specs.Forms.{Lines, Native, straight, holds, branch, jump, pair, bx, pop, Form, native, shell, Body}
 use Rattle.forms.specs.Operands.{condExpr, regExpr}
 use Rattle.forms.specs.InlineBody.{only, apart, let32, setReg, aligned, names, listed, loads, inlineBody}
-use Rattle.forms.specs.Fnv.{fnv64}
+use Rattle.fnv.specs.Fnv.{fnv64}
 
 -- the region of an address
 abbrev pub regionOf : ℕ → ℕ
@@ -48,13 +48,13 @@ emitPair cycles target ret = pair (flushTicks cycles ++ apart (setWord 14 ret �
 abbrev pub emitBranch : Bool → ℕ → Instr → Bool → ℕ → Native
 emitBranch thumb cycles i link target =
     let regs : List Plain = only link (setWord 14 ((i .addr + 4) % 2 ^ 32)) ++ (setWord 15 target ∷ []) in
-    cond (isAlways (i .cond)) (jump (flushTicks cycles ++ apart regs) (keyOf target thumb))
+    cond (isAl (i .cond)) (jump (flushTicks cycles ++ apart regs) (keyOf target thumb))
     (branch (flushTicks cycles) (condExpr (i .cond)) regs (keyOf target thumb))
 
 -- whether a BlockMem is a pop of PC; a block in region 0 leaves that, and Bx, to the interpreter
 abbrev pub isPop : ℕ → Instr → Bool → ℕ → ℕ → Bool → Bool → Bool → Bool → Bool
 isPop region i load rn rlist pre up s-bit writeback =
-    load && not pre && up && not s-bit && writeback && isAlways (i .cond) && names rlist 15 && not (eqb rn 15) && not (eqb region 0)
+    load && not pre && up && not s-bit && writeback && isAl (i .cond) && names rlist 15 && not (eqb rn 15) && not (eqb region 0)
 
 -- a pop of PC
 abbrev pub emitPop : Bool → ℕ → ℕ → List ℕ → Native
@@ -70,7 +70,7 @@ abbrev pub emitLines : Bool → Bool → ℕ → TimedInstr → Option Lines →
 emitLines thumb bus cycles x none = (emitShell thumb false cycles (x .instr), 0)
 emitLines thumb bus cycles x (some body) =
     let ticks : Lines = cond bus (flushTicks cycles) [] in
-    (native (cond (isAlways (x .instr .cond)) (straight ticks body) (holds ticks (condExpr (x .instr .cond)) body)), cond bus 0 cycles + x .cost)
+    (native (cond (isAl (x .instr .cond)) (straight ticks body) (holds ticks (condExpr (x .instr .cond)) body)), cond bus 0 cycles + x .cost)
 
 -- a straight-line instruction: inlined, or for the interpreter
 abbrev pub emitStraight : Bool → Bool → ℕ → TimedInstr → Form × ℕ
@@ -83,7 +83,7 @@ emitOp thumb region cycles x (Mul acc s rd rn rs rm) = emitStraight thumb false 
 emitOp thumb region cycles x (MulLong signed acc s hi lo rs rm) = emitStraight thumb false cycles x
 emitOp thumb region cycles x (Swap byte rd rm rn) = emitStraight thumb false cycles x
 emitOp thumb region cycles x (Bx rm) =
-    cond (isAlways (x .instr .cond) && not (eqb region 0)) (native (bx (flushTicks (cycles + x .cost)) (regExpr (x .instr) rm)), 0)
+    cond (isAl (x .instr .cond) && not (eqb region 0)) (native (bx (flushTicks (cycles + x .cost)) (regExpr (x .instr) rm)), 0)
     (emitStraight thumb false cycles x)
 emitOp thumb region cycles x (Branch link target) = (native (emitBranch thumb (cycles + x .cost) (x .instr) link target), 0)
 emitOp thumb region cycles x (ThumbBlHigh lr) = (emitShell thumb true cycles (x .instr), 0)

@@ -2,6 +2,5 @@
 pub mod Forms
 pub mod Operands
 pub mod InlineBody
-pub mod Fnv
 pub mod Block
 pub mod Examples
