@@ -13,3 +13,4 @@ pub mod Entered
 pub mod Pieces
 pub mod Complete
 pub mod Examples
+pub mod Demand3

@@ -2,3 +2,4 @@
 pub mod Ways
 pub mod Claim
 pub mod Complete
+pub mod Demand3

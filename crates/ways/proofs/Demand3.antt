@@ -1,0 +1,21 @@
+-- Demand 3 holds: the forms of a block are the block's, and stand for each of its instructions.
+use Prim.Native.Nat.{ℕ}
+use mathlib.Core.Path.{refl}
+use Rattle.forms.specs.Block.{bodyOf}
+use Rattle.forms.proofs.Weights.{body-weight}
+use Rattle.ways.specs.Claim.{Faithful}
+use Rattle.ways.specs.Demand3.{Demand3, Demand3Applies}
+use Rattle.ways.proofs.Theorem.{theorem}
+use Rattle.ways.proofs.Complete.{complete}
+
+faithful : (multiplier : ℕ) → Faithful (bodyOf multiplier)
+unfolding bodyOf
+faithful multiplier = record { addr = λ b. refl; thumb = λ b. refl; count = λ b. refl; whole = λ b. body-weight multiplier b }
+
+pub demand-3 : Demand3
+unfolding Demand3
+demand-3 multiplier = theorem (bodyOf multiplier) (faithful multiplier)
+
+pub demand-3-applies : Demand3Applies
+unfolding Demand3Applies
+demand-3-applies multiplier = complete (bodyOf multiplier) (faithful multiplier)
