@@ -18,5 +18,4 @@ mod Ordering
 pub mod PlanLength
 pub mod Roots
 mod Rows
-pub mod Starred
 pub mod Ways

@@ -1,11 +1,12 @@
--- The starred cases of document 01 for exits and parts.
+-- The starred cases of document 01, as one list under one theorem.
 -- Assumes nothing.
 use Prim.Native.Nat.{ℕ, _-_}
+use Prim.Native.String.{String}
 use mathlib.Core.Path.{_≡_, refl}
 use mathlib.Core.Bool.{Bool, true, false}
 use mathlib.Core.List.{List, [], _∷_, _++_, map, List·Memᴰ, List·Memᴰ·head, List·Memᴰ·tail}
 use mathlib.Core.Option.{none}
-use lib.ListN.{replicate}
+use lib.ListN.{length, replicate}
 use Rattle.armv4t.specs.declared.Cond.{Cond}
 use Rattle.armv4t.specs.declared.Cond.the-variants.{Eq, Al}
 use Rattle.armv4t.specs.declared.Op.{Op}
@@ -13,10 +14,17 @@ use Rattle.armv4t.specs.declared.Op.the-variants.{Bx, Branch, ThumbBlHigh, Thum
 use Rattle.armv4t.specs.Fused.{fuse}
 use Rattle.block_file.specs.declared.decode.TimedInstr.{TimedInstr}
 use Rattle.block_file.specs.Parse.{Block}
 use Rattle.plan.specs.Calls.{partLimit}
 use Rattle.plan.specs.Exits.{instrExits, exits}
 use Rattle.plan.specs.Forest.{follow}
+use Rattle.text.specs.Digits.{numeral, fixed}
+use Rattle.text.specs.Doc.{text, decimal, hexadecimal, hexadecimal8, hexadecimal16, print}
+use Rattle.c_tree.specs.Print.{codeText}
+use Rattle.forms.specs.Block.{emitInstr, emitInstrs, bodyOf}
+use Rattle.forms.specs.InlineBody.{inlineBody}
+use Rattle.lowering.specs.Block.{guarded, chain, transfer, closing, nativeText, rest, underGuard, blockCode}
+use Rattle.lowering.specs.Units.{declared, emitBlock, emitGroup, tail, textOf, cut, membersOf, unitsOf}
 use Rattle.plan.specs.Plan.{target, joinExits, joinBlocks, parents, members, insert, sortByKey, parts, groupsFrom, groups, rowsFrom, plan}
 
 -- an instruction of one cycle
 timed : ℕ → Bool → Cond → Op → TimedInstr
@@ -49,11 +57,28 @@ short = record { addr = 0x0801_0000; thumb = false; code = none; instrs = timed 
 two : ℕ → List Block
 two n = long 0x0800_0000 (n - 1) 0x0801_0000 ∷ short ∷ []
 
+-- a Swi, which becomes a shell
+swi : ℕ → TimedInstr
+swi addr = timed addr false Al (Swi 0)
+
+-- a block at 0x08000100 with a branch to an address in its last instruction
+from : List TimedInstr → ℕ → ℕ → Block
+from before addr target =
+    record { addr = 0x0800_0100; thumb = false; code = none; instrs = before ++ (timed addr false Al (Branch false target) ∷ []) }
+
+-- a block that shares its group with none
+lone : ℕ → Block
+lone addr = record { addr = addr; thumb = false; code = none; instrs = timed addr false Al (Bx 14) ∷ [] }
+
 pub data Case : Type 0 where
   -- a block and its exits
   exit : Block → List ℕ → Case
   -- two blocks of one component, the second of one instruction, by the number of instructions of the first; the rows of their plan
   part : ℕ → List ℕ → Case
+  -- the text of a block at 0x08000100 in a group with one at 0x08000104
+  goto : Block → String → Case
+  -- how many units some blocks have at the wished size 0
+  units : List Block → ℕ → Case
 
 pub cases : List Case
 cases =
@@ -62,19 +87,33 @@ cases =
     ∷ exit (one Eq (Bx 14)) []
     ∷ exit (one Al (Swi 0)) []
     ∷ exit (pair 0x0800_0104 3) (0x0800_010b ∷ [])
+    ∷ goto (from [] 0x0800_0100 0x0800_0100)
+    "    a->tick(m, 1u);\n    c[15] = 0x08000100u;\n    if (a->chain_gate(m)) return 0x08000100u;\n    goto L_08000100_a;\n"
+    ∷ goto (from (swi 0x0800_0100 ∷ swi 0x0800_0104 ∷ []) 0x0800_0108 0x0800_0104)
+    "    c[15] = 0x08000100u;\n    pc = a->interp_one(m); if (pc != 0x08000104u) return pc;\n    c[15] = 0x08000104u;\n    pc = a->interp_one(m); if (pc != 0x08000108u) return pc;\n    a->tick(m, 1u);\n    c[15] = 0x08000104u;\n    goto L_08000104_a;\n"
     ∷ part 8191 (0 ∷ 0 ∷ 0 ∷ 1 ∷ [])
     ∷ part 8192 (0 ∷ 0 ∷ 1 ∷ 1 ∷ [])
+    ∷ units [] 1
+    ∷ units (lone 0x0800_0000 ∷ lone 0x0800_0004 ∷ []) 3
     ∷ []
+
+-- that of document 01
+abbrev multiplier : ℕ
+multiplier = 4_294_967_731
 
 -- what the definitions give for a case
 pub defined : Case → List ℕ
 defined (exit b keys) = exits b
 defined (part n rows) = plan partLimit (two n)
+defined (goto b s) = print (codeText (blockCode (0x0800_0100 ∷ 0x0800_0104 ∷ []) (bodyOf multiplier b)))
+defined (units bs n) = length (unitsOf 0 (map (bodyOf multiplier) bs) (groups partLimit bs)) ∷ []
 
 -- what document 01 says of a case
 pub stated : Case → List ℕ
 stated (exit b keys) = keys
 stated (part n rows) = rows
+stated (goto b s) = print (text s)
+stated (units bs n) = n ∷ []
 
 -- what two functions agree on along a list they agree on at each of its members
 each : {A B : Type 0} (g h : A → B) {x : A} {xs : List A} → List·Memᴰ x xs → map g xs ≡ map h xs → g x ≡ h x
@@ -83,5 +122,5 @@ each g h (List·Memᴰ·tail m) e = each g h m (cc)
 
 -- each starred case holds
 pub starred : (c : Case) → List·Memᴰ c cases → defined c ≡ stated c
-unfolding exits instrExits fuse cases one pair long short two timed defined stated plan rowsFrom groups groupsFrom parts sortByKey insert members parents joinBlocks joinExits target follow
+unfolding exits instrExits fuse cases one pair long short two timed swi from lone defined stated bodyOf emitInstrs emitInstr inlineBody blockCode guarded underGuard rest nativeText transfer chain closing unitsOf cut membersOf tail textOf emitGroup emitBlock declared print decimal numeral hexadecimal hexadecimal8 hexadecimal16 fixed plan rowsFrom groups groupsFrom parts sortByKey insert members parents joinBlocks joinExits target follow
 starred c m = each defined stated m refl

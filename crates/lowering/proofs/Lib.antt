@@ -1,0 +1,2 @@
+-- What is proved of the tree of blocks, groups and units.
+pub mod Starred
