@@ -22,7 +22,6 @@ use Rattle.armv4t.specs.declared.Op.the-variants.{Alu, Mul, MulLong, Swap, Bx, 
 use Rattle.armv4t.specs.declared.Instr.{Instr}
 use Rattle.armv4t.specs.AluOp.{isCompare}
 use Rattle.armv4t.specs.Bit0.{clearBit0}
-use Rattle.armv4t.specs.Fused.{fuse}
 use Rattle.block_file.specs.declared.decode.TimedInstr.{TimedInstr}
 use Rattle.block_file.specs.Parse.{Block}
 use Rattle.plan.specs.Exits.{isAl}
@@ -34,8 +33,8 @@ use Rattle.c_tree.specs.Binds.{level, binds, declaratorsBind, plainBinds}
 use Rattle.forms.specs.Forms.{Lines, Native, straight, holds, branch, jump, pair, bx, pop, Form, native, shell}
 use Rattle.forms.specs.Operands.{condExpr, regExpr, carryIn, shiftExprs, op2Exprs}
 use Rattle.forms.specs.InlineBody.{only, apart, let32, setReg, result, logicalC, logical, sum, alu, aluBody, mulBody, mulLongBody, baseExpr, shiftedOffset, offsetExpr, step, loaded, stored, access, memBody, listed, names, loads, movedBase, start, storedReg, stores, transfers, blockMemBody, opBody, inlineBody}
-use Rattle.forms.specs.Block.{regionOf, flushTicks, setWord, emitShell, emitPair, isPop, emitPop, emitBranch, emitLines, emitStraight, emitOp, emitInstr, emitInstrs, closing, bodyOf}
-use Rattle.forms.proofs.Weights.{either, fused-or}
+use Rattle.forms.specs.Block.{regionOf, flushTicks, setWord, emitShell, emitPair, emitPop, emitBranch, emitLines, emitStraight, emitInstrs, closing, bodyOf}
+use Rattle.forms.proofs.Every.{either, Each, every-form}
 
 -- statements of one line
 abbrev pub plainsBind : List Plain → Bool
@@ -61,11 +60,6 @@ nativeBinds (pop t s l u e) = linesBind t && plainBinds false s && linesBind l &
 abbrev pub formBinds : Form → Bool
 formBinds (native r) = nativeBinds r
 formBinds (shell h t k) = linesBind t
-
--- all that some forms hold
-abbrev pub formsBind : List Form → Bool
-formsBind [] = true
-formsBind (r ∷ rs) = formBinds r && formsBind rs
 
 both : (a b : Bool) → a ≡ true → b ≡ true → (a && b) ≡ true
 both a b h k = rw (h, k)
@@ -393,24 +387,17 @@ word-binds : (r n : ℕ) → plainBinds false (setWord r n) ≡ true
 unfolding binds plainBinds
 word-binds r n = refl
 
--- a form, and cycles pending
-record Fits (s : Form × ℕ) : Type 0 where
-  fits : formBinds (s .0) ≡ true
-
 shell-fits : (thumb high : Bool) (cycles : ℕ) (i : Instr) → formBinds (emitShell thumb high cycles i) ≡ true
 shell-fits thumb high cycles i = lines-append (ticks-bound cycles) (apart-bound (one (word-binds 15 (i .addr)))) .lines
 
-lines-fits : (thumb bus : Bool) (cycles : ℕ) (x : TimedInstr) (body : Option Lines) → MaybeBound body → Fits (emitLines thumb bus cycles x body)
-lines-fits thumb bus cycles x none h = record { fits = shell-fits thumb false cycles (x .instr) }
+lines-fits : (thumb bus : Bool) (cycles : ℕ) (x : TimedInstr) (body : Option Lines) → MaybeBound body → formBinds (emitLines thumb bus cycles x body .0) ≡ true
+lines-fits thumb bus cycles x none h = shell-fits thumb false cycles (x .instr)
 lines-fits thumb bus cycles x (some body) h =
     let t : Bound (cond bus (flushTicks cycles) []) = either Bound bus (ticks-bound cycles) (record { lines = refl }) in
-    record {
-      fits =
-          either (λ r. nativeBinds r ≡ true) (isAl (x .instr .cond)) (both _ _ (t .lines) (h .lines))
-          (both _ _ (both _ _ (t .lines) (cond-binds (x .instr .cond))) (h .lines));
-    }
+    either (λ r. nativeBinds r ≡ true) (isAl (x .instr .cond)) (both _ _ (t .lines) (h .lines))
+    (both _ _ (both _ _ (t .lines) (cond-binds (x .instr .cond))) (h .lines))
 
-straight-fits : (thumb bus : Bool) (cycles : ℕ) (x : TimedInstr) → Fits (emitStraight thumb bus cycles x)
+straight-fits : (thumb bus : Bool) (cycles : ℕ) (x : TimedInstr) → formBinds (emitStraight thumb bus cycles x .0) ≡ true
 unfolding inlineBody
 straight-fits thumb bus cycles x = lines-fits thumb bus cycles x (inlineBody thumb (x .instr)) (op-bound thumb (x .instr) (x .instr .op))
 
@@ -428,49 +415,9 @@ pop-fits thumb cycles rn regs =
     lines-append (loads-bound regs) (record { lines = refl }) in
     both _ _ (both _ _ (both _ _ (both _ _ (ticks-bound cycles .lines) refl) (l .lines)) refl) refl
 
-op-fits : (thumb : Bool) (region cycles : ℕ) (x : TimedInstr) (o : Op) → Fits (emitOp thumb region cycles x o)
-op-fits thumb region cycles x (Alu op s rd rn op2) = straight-fits thumb false cycles x
-op-fits thumb region cycles x (Mul acc s rd rn rs rm) = straight-fits thumb false cycles x
-op-fits thumb region cycles x (MulLong signed acc s hi lo rs rm) = straight-fits thumb false cycles x
-op-fits thumb region cycles x (Swap byte rd rm rn) = straight-fits thumb false cycles x
-op-fits thumb region cycles x (Bx rm) =
-    either Fits (isAl (x .instr .cond) && not (eqb region 0))
-    (record { fits = both _ _ (ticks-bound (cycles + x .cost) .lines) (reg-operand (x .instr) rm .whole) })
-    (straight-fits thumb false cycles x)
-op-fits thumb region cycles x (Branch link target) = record { fits = branch-fits thumb (cycles + x .cost) (x .instr) link target }
-op-fits thumb region cycles x (ThumbBlHigh lr) = record { fits = shell-fits thumb true cycles (x .instr) }
-op-fits thumb region cycles x (ThumbBlLow off) = straight-fits thumb false cycles x
-op-fits thumb region cycles x (Mem load width signed rd rn offset pre up writeback) = straight-fits thumb true cycles x
-op-fits thumb region cycles x (BlockMem load rn rlist pre up s-bit writeback) =
-    either Fits (isPop region (x .instr) load rn rlist pre up s-bit writeback)
-    (record { fits = pop-fits thumb (cycles + x .cost) rn (listed rlist 15) })
-    (straight-fits thumb true cycles x)
-op-fits thumb region cycles x (Mrs spsr rd) = straight-fits thumb false cycles x
-op-fits thumb region cycles x (MsrReg spsr fields rm) = straight-fits thumb false cycles x
-op-fits thumb region cycles x (MsrImm spsr fields value) = straight-fits thumb false cycles x
-op-fits thumb region cycles x (Swi imm) = straight-fits thumb false cycles x
-op-fits thumb region cycles x (Undefined raw) = straight-fits thumb false cycles x
-
-instr-fits : (thumb : Bool) (region cycles : ℕ) (x : TimedInstr) → formBinds (emitInstr thumb region cycles x .0) ≡ true
-unfolding emitInstr
-instr-fits thumb region cycles x = op-fits thumb region cycles x (x .instr .op) .fits
-
 pair-fits : (cycles target ret : ℕ) → nativeBinds (emitPair cycles target ret) ≡ true
 pair-fits cycles target ret =
     lines-append (ticks-bound cycles) (apart-bound (word-binds 14 ret ◂ one (word-binds 15 (clearBit0 target)))) .lines
-
--- forms, and cycles pending
-record AllFit (rs : List Form × ℕ) : Type 0 where
-  fit : formsBind (rs .0) ≡ true
-
-instrs-fit : (thumb : Bool) (region cycles : ℕ) (xs : List TimedInstr) → AllFit (emitInstrs thumb region cycles xs)
-unfolding emitInstrs
-instrs-fit thumb region cycles [] = record { fit = refl }
-instrs-fit thumb region cycles (x ∷ []) = record { fit = both _ _ (instr-fits thumb region cycles x) refl }
-instrs-fit thumb region cycles (x ∷ y ∷ rest) =
-    fused-or AllFit (fuse (x .instr) (y .instr))
-    (record { fit = both _ _ (instr-fits thumb region cycles x) (instrs-fit thumb region (emitInstr thumb region cycles x .1) (y ∷ rest) .fit) })
-    (λ t r. record { fit = both _ _ (pair-fits (cycles + (x .cost + y .cost)) t r) (instrs-fit thumb region 0 rest .fit) })
 
 closing-bound : (cycles : ℕ) (xs : List TimedInstr) → Bound (closing cycles xs)
 closing-bound cycles [] = record { lines = refl }
@@ -478,9 +425,12 @@ closing-bound cycles (x ∷ []) = lines-append (ticks-bound cycles) (apart-bound
 closing-bound cycles (x ∷ y ∷ rest) = closing-bound cycles (y ∷ rest)
 
 -- all forms of a block bind
-pub forms-bind : (multiplier : ℕ) (b : Block) → formsBind (bodyOf multiplier b .forms) ≡ true
-unfolding bodyOf
-forms-bind multiplier b = instrs-fit (b .thumb) (regionOf (b .addr)) 0 (b .instrs) .fit
+pub forms-bind : (multiplier : ℕ) (b : Block) → Each (λ r. formBinds r ≡ true) (bodyOf multiplier b .forms)
+forms-bind =
+    every-form (λ r. formBinds r ≡ true) shell-fits straight-fits branch-fits
+    (λ cycles i rm. both _ _ (ticks-bound cycles .lines) (reg-operand i rm .whole))
+    (λ thumb cycles rn rlist. pop-fits thumb cycles rn (listed rlist 15))
+    pair-fits
 
 -- and so do the lines before its closing transfer
 pub last-binds : (multiplier : ℕ) (b : Block) → linesBind (bodyOf multiplier b .last) ≡ true

@@ -1,2 +1,4 @@
+pub mod Every
 pub mod Weights
 pub mod Binds
+pub mod Lengths
