@@ -3,10 +3,9 @@
 use mathlib.Core.Path.{_≡_, refl, ap}
 use Prim.Native.Nat.{ℕ, zero, suc, _+_, _%_, _^_}
 use package.native.Mathlib.Omega.{arith}
-use mathlib.Core.Bool.{Bool, true, false, not, _&&_}
+use mathlib.Core.Bool.{Bool, true, false}
 use mathlib.Core.List.{List, [], _∷_, _++_}
 use mathlib.Core.Option.{Option, none, some}
-use lib.Dec.{eqb}
 use lib.ListN.{take, drop}
 use Rattle.armv4t.specs.declared.Op.{Op}
 use Rattle.armv4t.specs.declared.Op.the-variants.{Alu, Mul, MulLong, Swap, Bx, Branch, ThumbBlHigh, ThumbBlLow, Mem, BlockMem, Mrs, MsrReg, MsrImm, Swi, Undefined}
@@ -16,11 +15,11 @@ use Rattle.armv4t.specs.Instr.{sizeOf}
 use Rattle.armv4t.specs.Fused.{fuse}
 use Rattle.block_file.specs.declared.decode.TimedInstr.{TimedInstr}
 use Rattle.block_file.specs.Parse.{Block}
-use Rattle.plan.specs.Exits.{isAlways}
+use Rattle.plan.specs.Exits.{isAl}
 use Rattle.c_tree.specs.Stmt.{Plain, registers, local, declare, adds, set, drop as discard, run, write, tick}
 use Rattle.forms.specs.Forms.{Lines, straight, holds, branch, jump, pair, bx, pop, Form, native, shell, weight}
 use Rattle.forms.specs.InlineBody.{apart, inlineBody}
-use Rattle.forms.specs.Block.{regionOf, flushTicks, setWord, emitPair, emitBranch, isPop, emitLines, emitStraight, emitOp, emitInstr, emitInstrs, closing, bodyOf}
+use Rattle.forms.specs.Block.{regionOf, flushTicks, setWord, emitPair, emitBranch, isBx, isPop, emitLines, emitStraight, emitOp, emitInstr, emitInstrs, closing, bodyOf}
 use Rattle.forms.proofs.Every.{either, fused-or}
 use Rattle.forms.proofs.Weights.{instr-weight}
 
@@ -94,21 +93,21 @@ lines-kept thumb bus cycles x none = record { kept = omega (arith, ticks-all cyc
 lines-kept thumb true cycles x (some body) =
     record {
       kept =
-          either (λ r. formTicks (native r) + (0 + x .cost) ≡ cycles + x .cost) (isAlways (x .instr .cond)) (omega (arith, ticks-alone cycles))
+          either (λ r. formTicks (native r) + (0 + x .cost) ≡ cycles + x .cost) (isAl (x .instr .cond)) (omega (arith, ticks-alone cycles))
           (omega (arith, ticks-alone cycles));
     }
 lines-kept thumb false cycles x (some body) =
-    record { kept = either (λ r. formTicks (native r) + (cycles + x .cost) ≡ cycles + x .cost) (isAlways (x .instr .cond)) (omega arith) (omega arith) }
+    record { kept = either (λ r. formTicks (native r) + (cycles + x .cost) ≡ cycles + x .cost) (isAl (x .instr .cond)) (omega arith) (omega arith) }
 
 straight-kept : (thumb bus : Bool) (cycles : ℕ) (x : TimedInstr) → Kept cycles (x .cost) (emitStraight thumb bus cycles x)
 straight-kept thumb bus cycles x = lines-kept thumb bus cycles x (inlineBody thumb (x .instr))
 
 branch-ticks : (thumb : Bool) (cycles : ℕ) (i : Instr) (link : Bool) (target : ℕ) → formTicks (native (emitBranch thumb cycles i link target)) ≡ cycles
 branch-ticks thumb cycles i true target =
-    either (λ r. formTicks (native r) ≡ cycles) (isAlways (i .cond))
+    either (λ r. formTicks (native r) ≡ cycles) (isAl (i .cond))
     (omega (arith, ticks-all cycles (apart (setWord 14 ((i .addr + 4) % 2 ^ 32) ∷ setWord 15 target ∷ [])))) (ticks-alone cycles)
 branch-ticks thumb cycles i false target =
-    either (λ r. formTicks (native r) ≡ cycles) (isAlways (i .cond)) (omega (arith, ticks-all cycles (apart (setWord 15 target ∷ [])))) (ticks-alone cycles)
+    either (λ r. formTicks (native r) ≡ cycles) (isAl (i .cond)) (omega (arith, ticks-all cycles (apart (setWord 15 target ∷ [])))) (ticks-alone cycles)
 
 op-kept : (thumb : Bool) (region cycles : ℕ) (x : TimedInstr) (o : Op) → Kept cycles (x .cost) (emitOp thumb region cycles x o)
 op-kept thumb region cycles x (Alu op s rd rn op2) = straight-kept thumb false cycles x
@@ -116,7 +115,7 @@ op-kept thumb region cycles x (Mul acc s rd rn rs rm) = straight-kept thumb fals
 op-kept thumb region cycles x (MulLong signed acc s hi lo rs rm) = straight-kept thumb false cycles x
 op-kept thumb region cycles x (Swap byte rd rm rn) = straight-kept thumb false cycles x
 op-kept thumb region cycles x (Bx rm) =
-    either (Kept cycles (x .cost)) (isAlways (x .instr .cond) && not (eqb region 0)) (record { kept = omega (arith, ticks-alone (cycles + x .cost)) })
+    either (Kept cycles (x .cost)) (isBx region (x .instr)) (record { kept = omega (arith, ticks-alone (cycles + x .cost)) })
     (straight-kept thumb false cycles x)
 op-kept thumb region cycles x (Branch link target) = record { kept = omega (arith, branch-ticks thumb (cycles + x .cost) (x .instr) link target) }
 op-kept thumb region cycles x (ThumbBlHigh lr) = record { kept = omega (arith, ticks-all cycles (apart (setWord 15 (x .instr .addr) ∷ []))) }

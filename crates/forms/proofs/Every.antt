@@ -1,8 +1,7 @@
 -- What holds of each kind of form that emit_block makes holds of all forms of a block.
 use Prim.Native.Nat.{ℕ, _+_}
-use mathlib.Core.Bool.{Bool, true, false, not, cond, _&&_}
+use mathlib.Core.Bool.{Bool, true, false, cond}
 use mathlib.Core.List.{List, [], _∷_}
-use lib.Dec.{eqb}
 use Rattle.armv4t.specs.declared.Op.{Op}
 use Rattle.armv4t.specs.declared.Op.the-variants.{Alu, Mul, MulLong, Swap, Bx, Branch, ThumbBlHigh, ThumbBlLow, Mem, BlockMem, Mrs, MsrReg, MsrImm, Swi, Undefined}
 use Rattle.armv4t.specs.declared.Instr.{Instr}
@@ -11,11 +10,10 @@ use Rattle.armv4t.specs.declared.Fused.the-variants.{Pair, Nothing}
 use Rattle.armv4t.specs.Fused.{fuse}
 use Rattle.block_file.specs.declared.decode.TimedInstr.{TimedInstr}
 use Rattle.block_file.specs.Parse.{Block}
-use Rattle.plan.specs.Exits.{isAlways}
 use Rattle.forms.specs.Forms.{bx, Form, native}
 use Rattle.forms.specs.Operands.{regExpr}
 use Rattle.forms.specs.InlineBody.{listed}
-use Rattle.forms.specs.Block.{regionOf, flushTicks, emitShell, emitPair, emitBranch, isPop, emitPop, emitStraight, emitOp, emitInstr, fusedOr, emitInstrs, bodyOf}
+use Rattle.forms.specs.Block.{regionOf, flushTicks, emitShell, emitPair, emitBranch, isBx, isPop, emitPop, emitStraight, emitOp, emitInstr, fusedOr, emitInstrs, bodyOf}
 
 -- what holds of both is held by either
 pub either : {A : Type 0} (P : A → Type 0) (b : Bool) {x y : A} → P x → P y → P (cond b x y)
@@ -54,7 +52,7 @@ module _ (P : Form → Type 0)
   op-one thumb region cycles x (MulLong signed acc s hi lo rs rm) = straight-one thumb false cycles x
   op-one thumb region cycles x (Swap byte rd rm rn) = straight-one thumb false cycles x
   op-one thumb region cycles x (Bx rm) =
-      either (One P) (isAlways (x .instr .cond) && not (eqb region 0)) (record { form = bxs (cycles + x .cost) (x .instr) rm })
+      either (One P) (isBx region (x .instr)) (record { form = bxs (cycles + x .cost) (x .instr) rm })
       (straight-one thumb false cycles x)
   op-one thumb region cycles x (Branch link target) = record { form = branches thumb (cycles + x .cost) (x .instr) link target }
   op-one thumb region cycles x (ThumbBlHigh lr) = record { form = shells thumb true cycles (x .instr) }

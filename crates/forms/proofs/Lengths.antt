@@ -27,7 +27,7 @@ use Rattle.armv4t.specs.Bit0.{clearBit0}
 use Rattle.armv4t.specs.Instr.{sizeOf}
 use Rattle.block_file.specs.declared.decode.TimedInstr.{TimedInstr}
 use Rattle.block_file.specs.Parse.{Block}
-use Rattle.plan.specs.Exits.{isAlways}
+use Rattle.plan.specs.Exits.{isAl}
 use Rattle.c_tree.specs.Expr.{x-ob, reg, udec, add, Expr, lit, get, bin}
 use Rattle.c_tree.specs.Stmt.{Plain}
 use Rattle.c_tree.specs.Preamble.{v32}
@@ -327,7 +327,7 @@ lines-fits thumb bus cycles x none h = shell-fits thumb false cycles (x .instr)
 lines-fits thumb bus cycles x (some body) h =
     let t : Within 44 (cond bus (flushTicks cycles) []) =
     either (Within 44) bus (record { within = ticks-within cycles }) (record { within = omega arith }) in
-    either (λ r. nativeMost r ≤ 2200) (isAlways (x .instr .cond)) (omega (arith, t .within, h .within))
+    either (λ r. nativeMost r ≤ 2200) (isAl (x .instr .cond)) (omega (arith, t .within, h .within))
     (omega (arith, t .within, cond-short (x .instr .cond) .short, h .within))
 
 straight-fits : (thumb bus : Bool) (cycles : ℕ) (x : TimedInstr) → formMost (emitStraight thumb bus cycles x .0) ≤ 2200
@@ -336,11 +336,11 @@ straight-fits thumb bus cycles x = lines-fits thumb bus cycles x (inlineBody thu
 
 branch-fits : (thumb : Bool) (cycles : ℕ) (i : Instr) (link : Bool) (target : ℕ) → nativeMost (emitBranch thumb cycles i link target) ≤ 2200
 branch-fits thumb cycles i true target =
-    either (λ r. nativeMost r ≤ 2200) (isAlways (i .cond))
+    either (λ r. nativeMost r ≤ 2200) (isAl (i .cond))
     (omega (arith, lines-append (flushTicks cycles) (apart (setWord 14 ((i .addr + 4) % 2 ^ 32) ∷ setWord 15 target ∷ [])), ticks-within cycles))
     (omega (arith, ticks-within cycles, cond-short (i .cond) .short))
 branch-fits thumb cycles i false target =
-    either (λ r. nativeMost r ≤ 2200) (isAlways (i .cond))
+    either (λ r. nativeMost r ≤ 2200) (isAl (i .cond))
     (omega (arith, lines-append (flushTicks cycles) (apart (setWord 15 target ∷ [])), ticks-within cycles))
     (omega (arith, ticks-within cycles, cond-short (i .cond) .short))
 

@@ -51,10 +51,14 @@ emitBranch thumb cycles i link target =
     cond (isAl (i .cond)) (jump (flushTicks cycles ++ apart regs) (keyOf target thumb))
     (branch (flushTicks cycles) (condExpr (i .cond)) regs (keyOf target thumb))
 
--- whether a BlockMem is a pop of PC; a block in region 0 leaves that, and Bx, to the interpreter
+-- whether Bx is native: a block in region 0 leaves it to the interpreter, and a pop of PC too
+abbrev pub isBx : ℕ → Instr → Bool
+isBx region i = isAl (i .cond) && not (eqb region 0)
+
+-- whether a BlockMem is a native pop of PC
 abbrev pub isPop : ℕ → Instr → Bool → ℕ → ℕ → Bool → Bool → Bool → Bool → Bool
 isPop region i load rn rlist pre up s-bit writeback =
-    load && not pre && up && not s-bit && writeback && isAl (i .cond) && names rlist 15 && not (eqb rn 15) && not (eqb region 0)
+    load && not pre && up && not s-bit && writeback && names rlist 15 && not (eqb rn 15) && isBx region i
 
 -- a pop of PC
 abbrev pub emitPop : Bool → ℕ → ℕ → List ℕ → Native
@@ -83,7 +87,7 @@ emitOp thumb region cycles x (Mul acc s rd rn rs rm) = emitStraight thumb false 
 emitOp thumb region cycles x (MulLong signed acc s hi lo rs rm) = emitStraight thumb false cycles x
 emitOp thumb region cycles x (Swap byte rd rm rn) = emitStraight thumb false cycles x
 emitOp thumb region cycles x (Bx rm) =
-    cond (isAl (x .instr .cond) && not (eqb region 0)) (native (bx (flushTicks (cycles + x .cost)) (regExpr (x .instr) rm)), 0)
+    cond (isBx region (x .instr)) (native (bx (flushTicks (cycles + x .cost)) (regExpr (x .instr) rm)), 0)
     (emitStraight thumb false cycles x)
 emitOp thumb region cycles x (Branch link target) = (native (emitBranch thumb (cycles + x .cost) (x .instr) link target), 0)
 emitOp thumb region cycles x (ThumbBlHigh lr) = (emitShell thumb true cycles (x .instr), 0)

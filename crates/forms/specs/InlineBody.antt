@@ -18,7 +18,7 @@ use Rattle.armv4t.specs.declared.Op.the-variants.{Alu, Mul, MulLong, Swap, Bx, 
 use Rattle.armv4t.specs.declared.Instr.{Instr}
 use Rattle.armv4t.specs.AluOp.{isCompare}
 use Rattle.armv4t.specs.Instr.{pcValue}
-use Rattle.c_tree.specs.Expr.{s8, s16, s32, u32, s64, u64, word, uhex, udec, int, Name, x-r, x-base, x-ob, x-addr, reg, var, compl, Bin, mul, add, sub, shl, shr, band, bxor, bor, w8, w16, w32, Expr, lit, get, par, un, bin, cast, pick, ror, read}
+use Rattle.c_tree.specs.Expr.{Ty, s8, s16, s32, u32, s64, u64, word, uhex, udec, int, Name, x-r, x-base, x-ob, x-addr, reg, var, compl, Bin, mul, add, sub, shl, shr, band, bxor, bor, Width, w8, w16, w32, Expr, lit, get, par, un, bin, cast, pick, ror, read}
 use Rattle.c_tree.specs.Stmt.{is, plus, f-nz, f-c, f-nz64, Plain, declare, adds, set, drop, run, write}
 use Rattle.c_tree.specs.Preamble.{v32}
 use Rattle.forms.specs.Forms.{Lines}
@@ -137,20 +137,16 @@ aligned n = bin band (v32 x-addr) (un compl (lit udec n))
 abbrev pub turn : ℕ → Expr
 turn n = bin mul (par (bin band (v32 x-addr) (lit udec n))) (lit udec 8)
 
--- (uint32_t)(int32_t)(int8_t)a->read8(m, addr)
-abbrev pub signedByte : Expr
-signedByte = cast u32 (cast s32 (cast s8 (read w8 (v32 x-addr))))
-
--- (uint32_t)(int32_t)(int16_t)a->read16(m, addr)
-abbrev pub signedHalf : Expr
-signedHalf = cast u32 (cast s32 (cast s16 (read w16 (v32 x-addr))))
+-- (uint32_t)(int32_t)(int8_t)a->read8(m, addr), or likewise with 16 bits
+abbrev pub signedRead : Ty → Width → Expr
+signedRead y w = cast u32 (cast s32 (cast y (read w (v32 x-addr))))
 
 -- what a Mem loads: by width, and whether it is signed
 abbrev pub loaded : MemWidth → Bool → Expr
 loaded Byte false = read w8 (v32 x-addr)
-loaded Byte true = signedByte
+loaded Byte true = signedRead s8 w8
 loaded Half false = ror (read w16 (aligned 1)) (turn 1)
-loaded Half true = par (pick (par (bin band (v32 x-addr) (lit udec 1))) signedByte signedHalf)
+loaded Half true = par (pick (par (bin band (v32 x-addr) (lit udec 1))) (signedRead s8 w8) (signedRead s16 w16))
 loaded Word signed = ror (read w32 (aligned 3)) (turn 3)
 
 -- how a Mem stores
