@@ -2,16 +2,16 @@
 use Prim.Native.Nat.{ℕ, zero-le}
 use mathlib.Core.Path.{_≡_, refl}
 use mathlib.Core.Bool.{Bool, true, false}
-use mathlib.Core.List.{List, [], _∷_, map}
+use mathlib.Core.List.{List, [], _∷_, _++_, map}
 use mathlib.Core.Option.{none, some}
 use lib.Dec.{leb}
 use borrow.Author.Tests.{le-leb}
 use Rattle.text.specs.Digits.{numeral, fixed}
 use Rattle.text.specs.Doc.{text, decimal, hexadecimal, hexadecimal8, hexadecimal16, print}
 use Rattle.c_tree.specs.Expr.{u32, word, udec, x-r, x-addr, x-cz, reg, var, lnot, compl, add, band, bor, w32, lit, get, un, bin, read}
-use Rattle.c_tree.specs.Stmt.{is, plus, Plain, declare, set, tick}
+use Rattle.c_tree.specs.Stmt.{is, plus, declare, set, tick, Simple, gap, begin, plain, label, goto, ret, retIf, interp, retInterp, call, switch, Code, end, _⨾_, when, braces}
 use Rattle.c_tree.specs.Preamble.{v32}
-use Rattle.forms.specs.Forms.{Lines, straight, holds, branch, jump, pair, bx, pop, Form, native, shell, Body}
+use Rattle.forms.specs.Forms.{Lines, straight, holds, branch, jump, pair, bx, pop, native, shell, Body}
 use Rattle.lowering.specs.Block.{guarded, chain, transfer, closing, nativeText, rest, underGuard, blockCode}
 use Rattle.lowering.specs.Units.{TranslationUnit, declared, emitBlock, labelled, groupCode, forwarders, emitGroup, tail, textOf, cut, membersOf, unitsOf}
 
@@ -148,6 +148,42 @@ loop-text : textOf (emitGroup (loop ∷ swi ∷ []))
 unfolding textOf emitGroup emitBlock declared blockCode guarded underGuard rest nativeText transfer closing print decimal numeral hexadecimal hexadecimal8 hexadecimal16 fixed labelled groupCode forwarders chain
 loop-text = refl
 
+-- The marks of a block's text: key, index of the first record, how many
+abbrev mark : Simple → List (ℕ × ℕ × ℕ)
+mark (gap l n) = []
+mark (begin k i n) = (k, i, n) ∷ []
+mark (plain o p) = []
+mark (label k) = []
+mark (goto o k) = []
+mark (ret o e) = []
+mark (retIf o t e) = []
+mark (interp k i) = (k, i, 1) ∷ []
+mark (retInterp k i) = (k, i, 1) ∷ []
+mark (call k n) = []
+mark (switch ks) = []
+
+abbrev marks : Code → List (ℕ × ℕ × ℕ)
+marks end = []
+marks (s ⨾ c) = mark s ++ marks c
+marks (when o n t b c) = marks b ++ marks c
+marks (braces b c) = marks b ++ marks c
+
+-- behind the guard's no the first record, then the records in their order
+ram-marks : marks (blockCode [] ram)
+    ≡ (0x02000000, 0, 1) ∷ (0x02000000, 0, 1) ∷ (0x02000000, 1, 1) ∷ (0x02000000, 2, 1) ∷ (0x02000000, 3, 1) ∷ []
+unfolding blockCode guarded underGuard rest nativeText transfer closing
+ram-marks = refl
+
+-- a fused pair is two records
+fused-marks : marks (blockCode [] fused) ≡ (0x08000221, 0, 2) ∷ []
+unfolding blockCode guarded rest nativeText transfer
+fused-marks = refl
+
+-- a block of page 0x18 is of region 8
+mirror : guarded (record { addr = 0x18000000; thumb = false; count = 0; hash = none; forms = []; last = [] }) ≡ false
+unfolding guarded
+mirror = refl
+
 -- Document 01: of no blocks one unit is made, of two lone blocks at the wished size 0 three
 abbrev ends : TranslationUnit → ℕ × Bool
 ends u = (u .done, u .last)
@@ -162,3 +198,8 @@ zero-leb n = le-leb 0 n zero-le
 two-lone : (a b : Body) → map ends (unitsOf 0 (a ∷ b ∷ []) ((0 ∷ []) ∷ (1 ∷ []) ∷ [])) ≡ (1, false) ∷ (2, false) ∷ (2, true) ∷ []
 unfolding unitsOf cut membersOf
 two-lone a b = rw (zero-leb, zero-leb)
+
+-- a group of two is done at once
+one-pair : (a b : Body) → map ends (unitsOf 0 (a ∷ b ∷ []) ((0 ∷ 1 ∷ []) ∷ [])) ≡ (2, false) ∷ (2, true) ∷ []
+unfolding unitsOf cut membersOf
+one-pair a b = rw zero-leb

@@ -10,7 +10,7 @@ use Rattle.c_tree.specs.Preamble.{v32}
 use Rattle.forms.specs.Forms.{branch, Form, shell, Body}
 use Rattle.lowering.specs.Block.{bodyKey, guarded, nl, chain, transfer, nativeText, rest, blockCode}
 use Rattle.lowering.specs.Units.{declared, labelled, groupCode, emitGroup, opened, tail, membersOf, unitsOf}
-use Rattle.ways.specs.Ways.{Place, here, later, Event, reach, said, natively, Way, w-gap, w-begin, w-plain, w-goto, w-leave, w-stay, w-call, w-entry, w-when, w-braces}
+use Rattle.ways.specs.Ways.{Place, here, later, Event, reach, said, natively, shelled, Way, w-gap, w-begin, w-plain, w-goto, w-leave, w-stay, w-call, w-retInterp, w-entry, w-when, w-braces}
 use Rattle.ways.specs.Claim.{carried, times}
 use Rattle.ways.proofs.Functions.{trees, forwarder}
 use Rattle.ways.proofs.Pieces.{group-part, in-part}
@@ -97,3 +97,14 @@ twice max =
 -- it carries out two instructions, and the one of the loop twice: in a group of several only gates bound that
 pub two : (carried events ≡ 2) × (times 0x08000100 0 events ≡ 2)
 two = (refl, refl)
+
+-- swi by itself: the interpreter carries out one instruction
+abbrev shelling : List Event
+shelling = reach Owner.common ∷ reach Owner.common ∷ reach Owner.common ∷ reach Owner.common ∷ shelled 0x08000104 0 ∷ []
+
+pub lone : (ts : List Top) → Way ts (declared (blockCode [] swi)) (declared (blockCode [] swi)) [] shelling
+unfolding declared blockCode guarded rest
+lone ts = w-gap (w-plain (w-gap (w-plain (w-gap (w-plain (w-gap (w-gap (w-plain (w-gap (w-gap w-retInterp))))))))))
+
+pub one : carried shelling ≡ 1
+one = refl
