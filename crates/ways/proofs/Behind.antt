@@ -1,19 +1,20 @@
 -- Native statements of a guarded block are reached only behind the guard's yes. The state is what happened, the last first.
 use Prim.Native.Nat.{ℕ}
-use mathlib.Core.Path.{_≡_, refl, sym, subst}
+use mathlib.Core.Path.{_≡_, refl, subst}
 use mathlib.Core.Logic.{_⊎_, inl, inr}
 use mathlib.Core.Bool.{Bool, true}
 use mathlib.Core.List.{List, [], _∷_, _++_, List·Memᴰ, List·Memᴰ·head, List·Memᴰ·tail}
 use mathlib.Core.Option.{some}
 use lib.Dec.{T, T-not}
-use Rattle.c_tree.specs.Stmt.{guard, native, common, Top}
+use Rattle.c_tree.specs.Stmt.{guard, Top}
 use Rattle.forms.specs.Forms.{Body}
 use Rattle.lowering.specs.Block.{bodyKey, bodyLength, guarded, blockCode}
 use Rattle.lowering.specs.Units.{declared}
-use Rattle.ways.specs.Ways.{Event, reach, said, natively, shelled, Way}
+use Rattle.ways.specs.Ways.{Event, said, Way}
 use Rattle.ways.specs.Claim.{AtNative}
 use Rattle.ways.proofs.Logic.{Logic, Follow}
-use Rattle.ways.proofs.Emitted.{Quiet, q-native, q-none, q-other, q-gate, Rules, Opens, lone-follows}
+use Rattle.ways.proofs.Emitted.{Quiet, q-native, q-none, q-other, q-gate, Rules}
+use Rattle.ways.proofs.Followed.{lone-follows}
 
 -- the guard said yes to the block's address, length and hash
 abbrev pub Allowed : Body → List Event → Type 0

@@ -6,7 +6,7 @@ use mathlib.Core.List.{List, [], _∷_, _++_, map, List·Memᴰ, List·Memᴰ·h
 use native.Mathlib.Omega.{arith}
 use lib.Dec.{T, leb, leb→le, nleb→lt}
 use Rattle.armv4t.specs.Bit0.{clearBit0}
-use Rattle.c_tree.specs.Stmt.{Test, guard, gate, other, common}
+use Rattle.c_tree.specs.Stmt.{Test, guard, gate, other}
 use Rattle.forms.specs.Forms.{weights, Body}
 use Rattle.lowering.specs.Block.{bodyKey}
 use Rattle.ways.specs.Ways.{Event, reach, said, natively, shelled}

@@ -2,6 +2,7 @@
 use Prim.Native.Nat.{ℕ, _+_, _≤_, _<_}
 use mathlib.Core.Path.{_≡_, refl, sym, ap, ap₂, _∙_, subst}
 use mathlib.Core.List.{List, [], _∷_, map, flatten, List·Memᴰ, List·Memᴰ·head, List·Memᴰ·tail, Memᴰ·cast, Memᴰ·map}
+use mathlib.Core.Option.{Option}
 use native.Mathlib.Omega.{arith}
 use native.Mathlib.Decide.{ℕ-discrete}
 use lib.ListN.{length, getD}
@@ -114,9 +115,9 @@ module _ (F : File) (i : ℕ) (h : i < length (F .bs)) where
           first = subst (λ n. 1 ≤ times n 0 (w .2 .1)) k (w .2 .3);
         }
 
-pub complete : (bodyOf : Block → Body) → Faithful bodyOf → Complete bodyOf
+pub complete : (hashOf : Block → Option ℕ) (bodyOf : Block → Body) → Faithful hashOf bodyOf → Complete bodyOf
 unfolding Complete
-complete bodyOf faithful f bs accepted limit max i b e =
-    let F : File = record { bodyOf = bodyOf; faithful = faithful; bytes = f; bs = bs; accepted = accepted; limit = limit } in
+complete hashOf bodyOf faithful f bs accepted limit max i b e =
+    let F : File = record { hashOf = hashOf; bodyOf = bodyOf; faithful = faithful; bytes = f; bs = bs; accepted = accepted; limit = limit } in
     let at = found-at bs i nowhere b e in
     found F i (at .0) max b (at .1)

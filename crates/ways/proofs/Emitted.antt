@@ -1,20 +1,19 @@
--- A block's text is checked by each logic that has an invariant for the block.
+-- A block's text is checked by each logic that has rules for the block.
 use Prim.Native.Nat.{ℕ, _+_, _<_}
 use mathlib.Core.Path.{_≡_, refl}
 use mathlib.Core.Logic.{_⊎_, inl, inr}
 use mathlib.Core.Bool.{Bool, true, false, not, cond, _||_}
-use mathlib.Core.List.{List, [], _∷_, map, List·Memᴰ, List·Memᴰ·head, List·Memᴰ·tail}
+use mathlib.Core.List.{List, [], _∷_, List·Memᴰ, List·Memᴰ·head, List·Memᴰ·tail}
 use mathlib.Core.Option.{Option, none, some}
 use lib.Dec.{T, leb, eqb, eqb→eq, nleb→lt}
 use Rattle.armv4t.specs.Bit0.{clearBit0}
 use Rattle.c_tree.specs.Expr.{u32, word, udec, x-t, x-pc, ne, band, Expr, lit, bin}
-use Rattle.c_tree.specs.Stmt.{Plain, declare, Test, guard, gate, other, Owner, common, Simple, gap, begin, plain, label, goto, ret, retIf, interp, retInterp, call, switch, Code, end, _⨾_, when, braces, _⧺_, Top}
+use Rattle.c_tree.specs.Stmt.{Plain, declare, Test, guard, gate, other, Owner, common, gap, plain, label, goto, ret, retIf, retInterp, Code, end, _⨾_, when}
 use Rattle.c_tree.specs.Preamble.{v32}
 use Rattle.forms.specs.Forms.{Lines, Native, straight, holds, branch, jump, pair, bx, pop, Form, shell, records, weights, Body}
 use Rattle.lowering.specs.Block.{bodyKey, bodyLength, guarded, nl, sp, line, lines, has, chain, transfer, closing, flags, leave, toThumb, toArm, conditional, nativeText, rest, defer, underGuard, blockCode}
-use Rattle.lowering.specs.Units.{declared, labelled, groupCode}
-use Rattle.ways.specs.Ways.{Event, reach, said, natively, shelled, Way}
-use Rattle.ways.proofs.Logic.{Logic, Pick, Ok, At, Labels, append, Follow, Done, sound}
+use Rattle.ways.specs.Ways.{Event, reach, said, natively, shelled}
+use Rattle.ways.proofs.Logic.{Logic, Pick, Ok}
 
 -- an event of the block that carries out nothing and asks no guard
 pub data Quiet (b : Body) : Event → Type 0 where
@@ -202,161 +201,3 @@ module _ (L : Logic) (b : Body) (ks : List ℕ) (R : Rules L b ks) where
       go : (x : Bool) → (T (not x) → Inv 0 (weights (b .forms)) s) → Ok L (cond x (underGuard ks b (b .hash)) (rest ks b 0 (b .forms))) s K
       go true f = under (b .hash) refl
       go false f = ok-rest (b .forms) 0 K s (f tt)
-
--- a text without labels
-abbrev NoLabel : Simple → Type 0
-NoLabel (gap l n) = Unit {0}
-NoLabel (begin b p n) = Unit {0}
-NoLabel (plain o t) = Unit {0}
-NoLabel (label k) = ⊥
-NoLabel (goto o k) = Unit {0}
-NoLabel (ret o t) = Unit {0}
-NoLabel (retIf o t e) = Unit {0}
-NoLabel (call k n) = Unit {0}
-NoLabel (interp b p) = Unit {0}
-NoLabel (retInterp b p) = Unit {0}
-NoLabel (switch ks) = Unit {0}
-
-abbrev Bare : Code → Type 0
-Bare end = Unit {0}
-Bare (x ⨾ c) = NoLabel x × Bare c
-Bare (when o n t b c) = Bare b × Bare c
-Bare (braces b c) = Bare b × Bare c
-
-bare-line : (o : Owner) (ts : List Plain) (c : Code) → Bare c → Bare (line o ts c)
-bare-line o [] c h = h
-bare-line o (t ∷ []) c h = (tt, h)
-bare-line o (t ∷ u ∷ ts) c h = (tt, (tt, bare-line o (u ∷ ts) c h))
-
-bare-lines : (o : Owner) (n : ℕ) (ls : Lines) (c : Code) → Bare c → Bare (lines o n ls c)
-bare-lines o n [] c h = h
-bare-lines o n (l ∷ ls) c h = (tt, bare-line o l (nl ⨾ lines o n ls c) (tt, bare-lines o n ls c h))
-
-bare-cond : (x : Bool) (c d : Code) → Bare c → Bare d → Bare (cond x c d)
-bare-cond true c d h k = h
-bare-cond false c d h k = k
-
-bare-chain : (x : Bool) (o : Owner) (n k : ℕ) (c : Code) → Bare c → Bare (chain x o n k c)
-unfolding chain
-bare-chain true o n k c h = (tt, (tt, (tt, (tt, (tt, (tt, h))))))
-bare-chain false o n k c h = (tt, (tt, (tt, h)))
-
-module _ (ks : List ℕ) (b : Body) where
-  bare-transfer : (o : Owner) (n k : ℕ) (c : Code) → Bare c → Bare (transfer ks (b .addr) o n k c)
-  unfolding transfer
-  bare-transfer o n k c h = bare-cond (has k ks) _ (sp n ⨾ ret o (lit word k) ⨾ nl ⨾ c) (bare-chain (leb (clearBit0 k) (b .addr)) o n k c h) (tt, (tt, (tt, h)))
-
-  bare-closing : Bare (closing ks b)
-  unfolding closing
-  bare-closing = bare-lines common 4 (b .last) _ (bare-transfer common 4 _ end tt)
-
-  bare-conditional : (o : Owner) (e : Expr) (d c : Code) → Bare d → Bare c → Bare (conditional o e d c)
-  bare-conditional o e d c g h = (tt, ((tt, (tt, (tt, (tt, (tt, (g, (tt, tt))))))), (tt, h)))
-
-  bare-native : (o : Owner) (r : Native) (c : Code) → Bare c → Bare (nativeText ks (b .addr) o r c)
-  unfolding nativeText
-  bare-native o (straight t l) c h = bare-lines o 4 t _ (tt, ((tt, bare-lines o 8 l (sp 4 ⨾ end) (tt, tt)), (tt, h)))
-  bare-native o (holds t e l) c h =
-      let d : Code = nl ⨾ lines o 8 l (sp 6 ⨾ end) in
-      bare-lines o 4 t (conditional o e d c) (bare-conditional o e d c (tt, bare-lines o 8 l (sp 6 ⨾ end) (tt, tt)) h)
-  bare-native o (branch t e l k) c h =
-      let d : Code = nl ⨾ transfer ks (b .addr) o 8 k (sp 6 ⨾ end) in
-      bare-lines o 4 t (conditional o e (sp 1 ⨾ line o l d) c)
-      (bare-conditional o e (sp 1 ⨾ line o l d) c (tt, bare-line o l d (tt, bare-transfer o 8 k (sp 6 ⨾ end) (tt, tt))) h)
-  bare-native o (jump t k) c h = bare-lines o 4 t _ (bare-transfer o 4 k end tt)
-  bare-native o (pair t k) c h = bare-lines o 4 t _ (bare-transfer o 4 k end tt)
-  bare-native o (bx t e) c h =
-      let thumb : Bare (toThumb o) = (tt, (tt, (tt, (tt, (tt, (tt, (tt, tt))))))) in
-      let arm : Bare (toArm o) = (tt, (tt, (tt, (tt, (tt, (tt, (tt, tt))))))) in
-      bare-lines o 4 t _ (tt, ((tt, (tt, (tt, (thumb, arm)))), (tt, tt)))
-  bare-native o (pop t p l q e) c h =
-      let close : Bare (sp 6 ⨾ plain o q ⨾ leave o e) = (tt, (tt, (tt, (tt, (tt, tt))))) in
-      bare-lines o 4 t _ (tt, ((tt, (tt, (tt, bare-lines o 6 l (sp 6 ⨾ plain o q ⨾ leave o e) close))), (tt, tt)))
-
-  bare-rest : (rs : List Form) (p : ℕ) → Bare (rest ks b p rs)
-  unfolding rest
-  bare-rest [] p = bare-closing
-  bare-rest (Form.native r ∷ rs) p = (tt, bare-native _ r _ (bare-rest rs (p + records r)))
-  bare-rest (shell h t e ∷ []) p = bare-lines _ 4 t _ (tt, (tt, (tt, bare-cond h (closing ks b) end bare-closing tt)))
-  bare-rest (shell h t e ∷ r ∷ rs) p = bare-lines _ 4 t _ (tt, (tt, (tt, (tt, (tt, bare-rest (r ∷ rs) (p + 1))))))
-
-  bare-guard : (y : Option ℕ) → Bare (underGuard ks b y)
-  unfolding underGuard
-  bare-guard none = (tt, (tt, (tt, (tt, (tt, tt)))))
-  bare-guard (some h) = (tt, ((tt, (tt, (tt, (tt, (tt, tt))))), (tt, bare-rest (b .forms) 0)))
-
-  bare-block : Bare (blockCode ks b)
-  unfolding blockCode
-  bare-block = bare-cond (guarded b) _ _ (bare-guard (b .hash)) (bare-rest (b .forms) 0)
-
-module _ (L : Logic) where
-  open Logic L using (S, step, allow, owed)
-
-  at-plain : (x : Simple) → NoLabel x → (c : Code) (K : S → Type 0) → At L x c K
-  at-plain (gap l n) h c K = tt
-  at-plain (begin b p n) h c K = tt
-  at-plain (plain o t) h c K = tt
-  at-plain (label k) h c K = absurd h
-  at-plain (goto o k) h c K = tt
-  at-plain (ret o t) h c K = tt
-  at-plain (retIf o t e) h c K = tt
-  at-plain (call k n) h c K = tt
-  at-plain (interp b p) h c K = tt
-  at-plain (retInterp b p) h c K = tt
-  at-plain (switch ks) h c K = tt
-
-  bare-labels : (c : Code) → Bare c → (K : S → Type 0) → Labels L c K
-  bare-labels end h K = tt
-  bare-labels (x ⨾ c) h K = (at-plain x (h .0) c K, bare-labels c (h .1) K)
-  bare-labels (when o n t b c) h K = (bare-labels b (h .0) _, bare-labels c (h .1) K)
-  bare-labels (braces b c) h K = (bare-labels b (h .0) _, bare-labels c (h .1) K)
-
-  bare-append : (c d : Code) → Bare c → (K : S → Type 0) → Labels L d K → Labels L (c ⧺ d) K
-  bare-append end d h K l = l
-  bare-append (x ⨾ c) d h K l = (at-plain x (h .0) (c ⧺ d) K, bare-append c d (h .1) K l)
-  bare-append (when o n t b c) d h K l = (bare-labels b (h .0) _, bare-append c d (h .1) K l)
-  bare-append (braces b c) d h K l = (bare-labels b (h .0) _, bare-append c d (h .1) K l)
-
-  abbrev from : List ℕ → Body → List Body → Code
-  from ks b bs = blockCode ks b ⧺ (nl ⨾ labelled ks bs)
-
-  ok-labelled : (ks : List ℕ) (b : Body) (bs : List Body) (R : Rules L b ks) (s : S) → R .Pre s → Ok L (from ks b bs) s (Done L)
-  ok-labelled ks b bs R s i = append L (blockCode ks b) (nl ⨾ labelled ks bs) s (Done L) (ok-block L b ks R _ s i)
-
-  labels-labelled : (ks : List ℕ) (bs : List Body) → ((b : Body) → List·Memᴰ b bs → Rules L b ks) → Labels L (labelled ks bs) (Done L)
-  unfolding labelled
-  labels-labelled ks [] R = tt
-  labels-labelled ks (b ∷ bs) R =
-      let r : Rules L b ks = R b (List·Memᴰ·head refl) in (
-        λ s o. ok-labelled ks b bs r s (r .lands s o),
-        (tt, bare-append (blockCode ks b) (nl ⨾ labelled ks bs) (bare-block ks b) (Done L) (tt, labels-labelled ks bs (λ c m. R c (List·Memᴰ·tail m)))),
-      )
-
-  -- past the declarations
-  abbrev pub opened : S → S
-  opened s = step (step (step s (reach common)) (reach common)) (reach common)
-
-  pub record Opens (s : S) : Type 0 where
-    pub first : allow s (reach common)
-    pub second : allow (step s (reach common)) (reach common)
-    pub third : allow (step (step s (reach common)) (reach common)) (reach common)
-    pub fourth : allow (opened s) (reach common)
-
-  declared-follows : (c : Code) (s : S) → Opens s → Ok L c (opened s) (Done L) → Labels L c (Done L) → {ts : List Top} {xs : List Bool} {es : List Event}
-      → Way ts (declared c) (declared c) xs es → Follow L es s
-  unfolding declared
-  declared-follows c s o h l way = sound L (tt, (tt, (tt, (tt, (tt, (tt, (tt, l))))))) way s (o .first, (o .second, (o .third, h)))
-
-  pub group-follows : (b : Body) (g : List Body) → ((c : Body) → List·Memᴰ c (b ∷ g) → Rules L c (map bodyKey (b ∷ g))) → (s : S) → Opens s
-      → ((k : ℕ) → List·Memᴰ k (map bodyKey (b ∷ g)) → owed k (opened s)) → {ts : List Top} {xs : List Bool} {es : List Event}
-      → Way ts (groupCode (b ∷ g)) (groupCode (b ∷ g)) xs es → Follow L es s
-  unfolding groupCode labelled
-  group-follows b g R s o w way =
-      let r : Rules L b (map bodyKey (b ∷ g)) = R b (List·Memᴰ·head refl) in
-      declared-follows (sp 4 ⨾ switch (map bodyKey (b ∷ g)) ⨾ nl ⨾ labelled (map bodyKey (b ∷ g)) (b ∷ g)) s o
-      (w, o .fourth, ok-labelled (map bodyKey (b ∷ g)) b g r (opened s) (r .lands (opened s) (w (bodyKey b) (List·Memᴰ·head refl))))
-      (tt, (tt, (tt, labels-labelled (map bodyKey (b ∷ g)) (b ∷ g) R))) way
-
-  pub lone-follows : (b : Body) (R : Rules L b []) (s : S) → Opens s → R .Pre (opened s) → {ts : List Top} {xs : List Bool} {es : List Event}
-      → Way ts (declared (blockCode [] b)) (declared (blockCode [] b)) xs es → Follow L es s
-  lone-follows b R s o i way = declared-follows (blockCode [] b) s o (ok-block L b [] R (Done L) (opened s) i) (bare-labels (blockCode [] b) (bare-block [] b) (Done L)) way

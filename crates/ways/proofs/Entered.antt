@@ -1,17 +1,16 @@
 -- From each block's function a way carries out the block's first instruction.
-use Prim.Native.Nat.{ℕ, suc, _+_, _≤_}
+use Prim.Native.Nat.{ℕ, suc, _≤_}
 use mathlib.Core.Path.{_≡_, refl, sym, ap, subst}
-use mathlib.Core.Bool.{Bool, true, false, not, cond, _||_}
+use mathlib.Core.Bool.{Bool, true, false, cond}
 use mathlib.Core.List.{List, [], _∷_, map, List·Memᴰ, List·Memᴰ·head, List·Memᴰ·tail, List·Memᴰ·not-nil, Memᴰ·map}
 use mathlib.Core.Option.{Option, none, some}
 use native.Mathlib.Omega.{arith}
 use borrow.Author.Tests.{eq-eqb}
-use lib.Dec.{eqb}
-use Rattle.c_tree.specs.Stmt.{Plain, Owner, common, Simple, gap, plain, label, switch, Code, end, _⨾_, when, braces, _⧺_, block, group, Top, function}
+use Rattle.c_tree.specs.Stmt.{Plain, Owner, common, gap, plain, label, switch, Code, end, _⨾_, when, braces, _⧺_, block, group, Top, function}
 use Rattle.forms.specs.Forms.{Lines, Native, straight, holds, branch, jump, pair, bx, pop, Form, shell, records, weights, Body}
-use Rattle.lowering.specs.Block.{bodyKey, guarded, nl, sp, line, lines, rest, underGuard, blockCode}
+use Rattle.lowering.specs.Block.{bodyKey, guarded, nl, line, lines, rest, underGuard, blockCode}
 use Rattle.lowering.specs.Units.{declared, emitBlock, labelled, groupCode, forwarders, emitGroup}
-use Rattle.ways.specs.Ways.{Place, here, later, past-when, past-braces, Event, reach, said, natively, shelled, turn, taken, Way, stop, w-gap, w-begin, w-plain, w-label, w-goto, w-lost, w-ret, w-leave, w-stay, w-unsaid, w-call, w-interp, w-retInterp, w-entry, w-default, w-past, w-when, w-unanswered, w-braces}
+use Rattle.ways.specs.Ways.{Place, here, later, past-when, past-braces, Event, natively, shelled, turn, taken, Way, stop, w-gap, w-begin, w-plain, w-label, w-goto, w-lost, w-ret, w-leave, w-stay, w-unsaid, w-call, w-interp, w-retInterp, w-entry, w-default, w-past, w-when, w-unanswered, w-braces}
 use Rattle.ways.specs.Claim.{times}
 use Rattle.ways.proofs.Functions.{forwarder}
 

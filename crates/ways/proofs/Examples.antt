@@ -1,11 +1,11 @@
 -- A way that goes round a loop twice, and ends where the chain gate says so; at any wished size.
-use Prim.Native.Nat.{ℕ, _≤_}
+use Prim.Native.Nat.{ℕ}
 use mathlib.Core.Path.{_≡_, refl}
 use mathlib.Core.Bool.{Bool, true, false}
 use mathlib.Core.List.{List, [], _∷_, _++_, map, List·Memᴰ, List·Memᴰ·head}
 use mathlib.Core.Option.{none}
 use Rattle.c_tree.specs.Expr.{word, x-cz, reg, lit}
-use Rattle.c_tree.specs.Stmt.{is, Plain, set, tick, gate, other, Owner, Code, end, _⨾_, _⧺_, call, block, group, Top, function}
+use Rattle.c_tree.specs.Stmt.{is, set, tick, gate, other, Owner, Code, _⨾_, _⧺_, group, Top, function}
 use Rattle.c_tree.specs.Preamble.{v32}
 use Rattle.forms.specs.Forms.{branch, Form, shell, Body}
 use Rattle.lowering.specs.Block.{bodyKey, guarded, nl, chain, transfer, nativeText, rest, blockCode}

@@ -1,6 +1,8 @@
 -- The proof of the claim on ways.
 pub mod Logic
 pub mod Emitted
+pub mod Bare
+pub mod Followed
 pub mod Bounded
 pub mod Once
 pub mod Behind

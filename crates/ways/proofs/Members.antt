@@ -3,7 +3,7 @@ use Prim.Native.Nat.{ℕ, zero, suc, _+_, _%_, _≤_, _<_}
 use mathlib.Core.Path.{_≡_, refl, sym, ap, ap₂, _∙_, subst}
 use mathlib.Core.Bool.{Bool, false, cond}
 use mathlib.Core.List.{List, [], _∷_, map, List·Memᴰ, Memᴰ·map, Memᴰ·of-map}
-use mathlib.Core.Option.{none}
+use mathlib.Core.Option.{Option, none}
 use native.Mathlib.Omega.{arith}
 use lib.ListN.{length, getD}
 use Rattle.block_file.specs.Parse.{Block, Parsed, parse}
@@ -34,15 +34,16 @@ pub record Good (limit : ℕ) (bodies g : List Body) : Type 0 where
 
 -- a file that is accepted, the forms of its blocks, and the limit of the groups
 pub record File : Type 0 where
+  pub hashOf : Block → Option ℕ
   pub bodyOf : Block → Body
-  pub faithful : Faithful bodyOf
+  pub faithful : Faithful hashOf bodyOf
   pub bytes : List ℕ
   pub bs : List Block
   pub accepted : parse bytes ≡ Parsed.accepted bs
   pub limit : ℕ
 
 module _ (F : File) where
-  open File F using (bodyOf, faithful, bytes, bs, accepted, limit)
+  open File F using (hashOf, bodyOf, faithful, bytes, bs, accepted, limit)
 
   -- the bodies of the file's blocks
   abbrev pub bodies : List Body

@@ -12,7 +12,8 @@ use Rattle.lowering.specs.Units.{declared}
 use Rattle.ways.specs.Ways.{Event, reach, said, natively, shelled, Way}
 use Rattle.ways.specs.Claim.{times}
 use Rattle.ways.proofs.Logic.{Logic, Follow}
-use Rattle.ways.proofs.Emitted.{Quiet, q-native, q-none, q-other, q-gate, Rules, Opens, lone-follows}
+use Rattle.ways.proofs.Emitted.{Quiet, q-native, q-none, q-other, q-gate, Rules}
+use Rattle.ways.proofs.Followed.{lone-follows}
 
 abbrev ahead : ℕ → Event → ℕ
 ahead s (reach o) = s

@@ -6,12 +6,12 @@ use mathlib.Core.List.{List, [], _∷_, _++_, map, flatten, append-assoc, List·
 use native.Mathlib.Omega.{arith}
 use lib.Dec.{leb}
 use lib.ListN.{length}
-use Rattle.c_tree.specs.Stmt.{extern, table, count, Top}
+use Rattle.c_tree.specs.Stmt.{extern, Top}
 use Rattle.forms.specs.Forms.{Body}
 use Rattle.lowering.specs.Block.{bodyKey}
 use Rattle.lowering.specs.Units.{TranslationUnit, emitBlock, forwarders, emitGroup, opened, tail, textOf, cut}
 use Rattle.plan.proofs.Listing.{count as countOf}
-use Rattle.ways.specs.Complete.{isFunction, functions}
+use Rattle.ways.specs.Complete.{functions}
 use Rattle.ways.proofs.Functions.{trees}
 
 -- a tree stands in one piece in some unit

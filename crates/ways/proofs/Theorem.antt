@@ -4,12 +4,13 @@ use mathlib.Core.Path.{_≡_, refl, sym, ap, ap₂, _∙_, subst}
 use mathlib.Core.Logic.{_⊎_, inl, inr}
 use mathlib.Core.Bool.{Bool, true, not, _||_}
 use mathlib.Core.List.{List, [], _∷_, _++_, map, List·Memᴰ, List·Memᴰ·head, Memᴰ·cast, Memᴰ·map, Memᴰ·of-map}
+use mathlib.Core.Option.{Option}
 use native.Mathlib.Omega.{arith}
 use lib.Dec.{T, eqb}
 use lib.ListN.{length, getD}
 use Rattle.armv4t.specs.Bit0.{clearBit0}
 use Rattle.armv4t.specs.Instr.{sizeOf}
-use Rattle.block_file.specs.Parse.{Block, Parsed, parse}
+use Rattle.block_file.specs.Parse.{Block}
 use Rattle.plan.specs.Plan.{blockKey, groups}
 use Rattle.plan.proofs.GroupLaws.{group-same}
 use Rattle.c_tree.specs.Stmt.{guard, Code, block, group, Top, function}
@@ -19,7 +20,7 @@ use Rattle.lowering.specs.Units.{declared, groupCode, emitGroup, opened, tail, 
 use Rattle.ways.specs.Ways.{Event, said, Way, stop, w-gap, w-call}
 use Rattle.ways.specs.Claim.{AtNative, outside, Faithful, fileUnits, fileTree, Passed, Kept, Claim}
 use Rattle.ways.proofs.Logic.{Follow}
-use Rattle.ways.proofs.Emitted.{Opens, group-follows}
+use Rattle.ways.proofs.Followed.{group-follows}
 use Rattle.ways.proofs.Bounded.{total, Spent, at-most-total, spent-rules, parts}
 use Rattle.ways.proofs.Once.{lone-rises, once-of}
 use Rattle.ways.proofs.Behind.{Allowed, Apart, History, history-rules, lone-seen, behind-of}
@@ -51,7 +52,7 @@ module _ (limit : ℕ) (bodies : List Body) (apart : Apart bodies) where
       )
 
 module _ (F : File) (max : ℕ) where
-  open File F using (bodyOf, faithful, bs, limit)
+  open File F using (hashOf, bodyOf, faithful, bs, limit)
 
   -- a function of the units stands in a group of the plan
   in-group : (t : Top) → Own t → List·Memᴰ t (fileTree bodyOf limit max bs) → (g : List ℕ) × List·Memᴰ g (groups limit bs) × List·Memᴰ t (emitGroup (membersOf (bodies F) g))
@@ -81,11 +82,11 @@ module _ (F : File) (max : ℕ) where
                 (subst (λ c. Way (fileTree bodyOf limit max bs) c c xs es) (p .1) (r .2)),
           )
 
-  -- from the (bodies F)' words to the blocks'
-  passed : (b : Block) (es : List Event) → Allowed (bodyOf b) es → Passed bodyOf b es
+  -- what is known of a body is known of its block
+  passed : (b : Block) (es : List Event) → Allowed (bodyOf b) es → Passed hashOf bodyOf b es
   passed b es p = (
     p .0,
-    p .1,
+    sym (faithful .hash b) ∙ p .1,
     Memᴰ·cast
         (ap₂ (λ (a l : ℕ). said (guard a l (p .0)) true) (sym (faithful .addr b))
         (sym (ap₂ (λ (n s : ℕ). n * s) (faithful .count b) (ap sizeOf (faithful .thumb b)))))
@@ -97,13 +98,13 @@ module _ (F : File) (max : ℕ) where
   is-guarded b t = subst (λ (a : ℕ). T (not (eqb (a / 2 ^ 24 % 16) 8 || eqb (a / 2 ^ 24 % 16) 0))) (sym (faithful .addr b)) t
 
   seen : (es us vs : List Event) (e : Event) → es ≡ us ++ (e ∷ vs) → Follow (History (bodies F)) es [] → (b : Block) → List·Memᴰ b bs → AtNative (blockKey b) e → T (outside b)
-      → Passed bodyOf b us
+      → Passed hashOf bodyOf b us
   seen es us vs e p h b m n t =
       passed b us
       (behind-of (bodies F) us vs e (subst (λ es′. Follow (History (bodies F)) es′ []) p h) (bodyOf b) (Memᴰ·map bodyOf m)
       (subst (λ k. AtNative k e) (sym (key-of F b)) n) (is-guarded b t))
 
-  -- the group in which block i stands is the one F of its function
+  -- block i stands in the group of its function
   here : (i : ℕ) → i < length bs → (g : List ℕ) → List·Memᴰ g (groups limit bs) → (b : Body) → List·Memᴰ b (membersOf (bodies F) g)
       → bodyKey b ≡ blockKey (getD bs i nowhere) → List·Memᴰ i g
   here i h g m b n e =
@@ -113,7 +114,7 @@ module _ (F : File) (max : ℕ) where
 
   module _ (i : ℕ) (h : i < length bs) (g : List ℕ) (m : List·Memᴰ g (groups limit bs)) (es : List Event) where
     kept-lone : (b : Body) → membersOf (bodies F) g ≡ b ∷ [] → bodyKey b ≡ blockKey (getD bs i nowhere)
-        → {xs : List Bool} → Way (fileTree bodyOf limit max bs) (declared (blockCode [] b)) (declared (blockCode [] b)) xs es → Kept bodyOf limit bs i es
+        → {xs : List Bool} → Way (fileTree bodyOf limit max bs) (declared (blockCode [] b)) (declared (blockCode [] b)) xs es → Kept hashOf bodyOf limit bs i es
     kept-lone b e k w =
         let there : List·Memᴰ b (membersOf (bodies F) g) = subst (λ l. List·Memᴰ b l) (sym e) (List·Memᴰ·head refl) in
         let single : length g ≡ 1 = one F g b e in
@@ -127,7 +128,7 @@ module _ (F : File) (max : ℕ) where
         }
 
     kept-several : Many (membersOf (bodies F) g) → (b : Body) → List·Memᴰ b (membersOf (bodies F) g) → bodyKey b ≡ blockKey (getD bs i nowhere)
-        → (g′ : List Body) → Both limit (bodies F) (apart F) g′ es → Kept bodyOf limit bs i es
+        → (g′ : List Body) → Both limit (bodies F) (apart F) g′ es → Kept hashOf bodyOf limit bs i es
     kept-several v b n k g′ q =
         let mine : List·Memᴰ i g = here i h g m b n k in
         record {
@@ -139,17 +140,17 @@ module _ (F : File) (max : ℕ) where
         }
 
     kept : (c : Code) → Alone (blockKey (getD bs i nowhere)) c (membersOf (bodies F) g) ⊎ Among (blockKey (getD bs i nowhere)) c (membersOf (bodies F) g)
-        → (xs : List Bool) → Way (fileTree bodyOf limit max bs) c c xs es → Kept bodyOf limit bs i es
+        → (xs : List Bool) → Way (fileTree bodyOf limit max bs) c c xs es → Kept hashOf bodyOf limit bs i es
     kept c (inl a) xs w = kept-lone (a .0) (a .1) (a .2) (subst (λ d. Way (fileTree bodyOf limit max bs) d d xs es) (a .3) w)
     kept c (inr a) xs w =
         let q = forwarded (a .2 .0) (a .2 .1) (subst (λ d. Way (fileTree bodyOf limit max bs) d d xs es) (a .2 .2) w) in
         kept-several (a .0) (a .1 .0) (a .1 .1) (a .1 .2) (q .0) (q .1)
 
 -- demand 3
-pub theorem : (bodyOf : Block → Body) → Faithful bodyOf → Claim bodyOf
+pub theorem : (hashOf : Block → Option ℕ) (bodyOf : Block → Body) → Faithful hashOf bodyOf → Claim hashOf bodyOf
 unfolding Claim
-theorem bodyOf faithful f bs accepted limit max i b e c m xs es w =
-    let F : File = record { bodyOf = bodyOf; faithful = faithful; bytes = f; bs = bs; accepted = accepted; limit = limit } in
+theorem hashOf bodyOf faithful f bs accepted limit max i b e c m xs es w =
+    let F : File = record { hashOf = hashOf; bodyOf = bodyOf; faithful = faithful; bytes = f; bs = bs; accepted = accepted; limit = limit } in
     let at = found-at bs i nowhere b e in
     let k : ℕ = blockKey (getD bs i nowhere) in
     let g = in-group F max (function (block k) c) tt (subst (λ d. List·Memᴰ (function (block (blockKey d)) c) (fileTree bodyOf limit max bs)) (sym (at .1)) m) in

@@ -9,7 +9,7 @@ use lib.ListN.{length, getElem?}
 use Rattle.armv4t.specs.Instr.{sizeOf}
 use Rattle.block_file.specs.Parse.{Block, Parsed, parse}
 use Rattle.plan.specs.Plan.{blockKey, page, groups}
-use Rattle.c_tree.specs.Stmt.{Test, guard, gate, other, Owner, native, common, Code, block, Top, function}
+use Rattle.c_tree.specs.Stmt.{Test, guard, gate, other, native, common, Code, block, Top, function}
 use Rattle.forms.specs.Forms.{weights, Body}
 use Rattle.lowering.specs.Units.{TranslationUnit, unitsOf}
 use Rattle.ways.specs.Ways.{Event, reach, said, natively, shelled, Way}
@@ -63,11 +63,13 @@ Several limit bs i = (g : List ℕ) × List·Memᴰ g (groups limit bs) × List�
 abbrev pub Lone : ℕ → List Block → ℕ → Type 0
 Lone limit bs i = List·Memᴰ (i ∷ []) (groups limit bs)
 
--- what the claim needs of the forms of a block: that they are the block's, and stand for each of its instructions
-pub record Faithful (bodyOf : Block → Body) : Type 0 where
+-- what the claim needs of the forms of a block, where hashOf is the hash of its code bytes or their absence: that they are the block's, and stand for each
+-- of its instructions
+pub record Faithful (hashOf : Block → Option ℕ) (bodyOf : Block → Body) : Type 0 where
   pub addr : (b : Block) → bodyOf b .addr ≡ b .addr
   pub thumb : (b : Block) → bodyOf b .thumb ≡ b .thumb
   pub count : (b : Block) → bodyOf b .count ≡ length (b .instrs)
+  pub hash : (b : Block) → bodyOf b .hash ≡ hashOf b
   pub whole : (b : Block) → weights (bodyOf b .forms) ≡ bodyOf b .count
 
 module _ (bodyOf : Block → Body) where
@@ -79,10 +81,11 @@ module _ (bodyOf : Block → Body) where
   unfoldable pub fileTree : ℕ → ℕ → List Block → List Top
   fileTree limit max bs = flatten (map (λ (u : TranslationUnit). u .tree) (fileUnits limit max bs))
 
+module _ (hashOf : Block → Option ℕ) (bodyOf : Block → Body) where
   -- the guard said yes to a block: to its address, length and hash
   abbrev pub Passed : Block → List Event → Type 0
   Passed b es =
-      (h : ℕ) × (bodyOf b .hash ≡ some h) × List·Memᴰ (said (guard (b .addr) (length (b .instrs) * sizeOf (b .thumb)) h) true) es
+      (h : ℕ) × (hashOf b ≡ some h) × List·Memᴰ (said (guard (b .addr) (length (b .instrs) * sizeOf (b .thumb)) h) true) es
 
   -- what holds of the events of a way from the function of block i
   pub record Kept (limit : ℕ) (bs : List Block) (i : ℕ) (es : List Event) : Type 0 where
@@ -97,5 +100,5 @@ module _ (bodyOf : Block → Body) where
   unfoldable pub Claim : Type 0
   Claim =
       (f : List ℕ) (bs : List Block) → parse f ≡ Parsed.accepted bs → (limit max i : ℕ) (b : Block) → getElem? bs i ≡ some b
-      → (c : Code) → List·Memᴰ (function (block (blockKey b)) c) (fileTree limit max bs)
-      → (xs : List Bool) (es : List Event) → Way (fileTree limit max bs) c c xs es → Kept limit bs i es
+      → (c : Code) → List·Memᴰ (function (block (blockKey b)) c) (fileTree bodyOf limit max bs)
+      → (xs : List Bool) (es : List Event) → Way (fileTree bodyOf limit max bs) c c xs es → Kept limit bs i es
