@@ -26,7 +26,7 @@ fused-or P Nothing p q = p
 fused-or P (Pair t r) p q = q t r
 
 -- P of each form
-abbrev pub Each : (Form → Type 0) → List Form → Type 0
+abbrev pub Each : {A : Type 0} → (A → Type 0) → List A → Type 0
 Each P [] = Unit {0}
 Each P (r ∷ rs) = P r × Each P rs
 

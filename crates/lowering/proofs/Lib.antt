@@ -1,2 +1,4 @@
 -- What is proved of the tree of blocks, groups and units.
 pub mod Starred
+pub mod Units
+pub mod Binds

@@ -13,7 +13,7 @@ use Rattle.c_tree.specs.Stmt.{is, plus, declare, set, tick, Simple, gap, begin,
 use Rattle.c_tree.specs.Preamble.{v32}
 use Rattle.forms.specs.Forms.{Lines, straight, holds, branch, jump, pair, bx, pop, native, shell, Body}
 use Rattle.lowering.specs.Block.{guarded, chain, transfer, closing, nativeText, rest, underGuard, blockCode}
-use Rattle.lowering.specs.Units.{TranslationUnit, declared, emitBlock, labelled, groupCode, forwarders, emitGroup, tail, textOf, cut, membersOf, unitsOf}
+use Rattle.lowering.specs.Units.{TranslationUnit, declared, emitBlock, labelled, groupCode, forwarders, emitGroup, textOf, cut, membersOf, unitsOf}
 
 -- c[15] = a, and that behind a tick
 abbrev to : ℕ → Lines

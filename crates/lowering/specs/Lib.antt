@@ -1,4 +1,5 @@
 -- The tree of blocks, groups and units, in the order of emit.rs.
 pub mod Block
 pub mod Units
+pub mod Binds
 pub mod Examples
