@@ -4,18 +4,18 @@ use mathlib.Core.Path.{refl}
 use Rattle.forms.specs.Block.{bodyOf}
 use Rattle.forms.proofs.Weights.{body-weight}
 use Rattle.ways.specs.Claim.{Faithful}
-use Rattle.ways.specs.Demand3.{Demand3, Demand3Applies}
+use Rattle.ways.specs.Demand3.{codeHash, Demand3, Demand3Applies}
 use Rattle.ways.proofs.Theorem.{theorem}
 use Rattle.ways.proofs.Complete.{complete}
 
-faithful : (multiplier : ℕ) → Faithful (bodyOf multiplier)
+faithful : (multiplier : ℕ) → Faithful (codeHash multiplier) (bodyOf multiplier)
 unfolding bodyOf
-faithful multiplier = record { addr = λ b. refl; thumb = λ b. refl; count = λ b. refl; whole = λ b. body-weight multiplier b }
+faithful multiplier = record { addr = λ b. refl; thumb = λ b. refl; count = λ b. refl; hash = λ b. refl; whole = λ b. body-weight multiplier b }
 
 pub demand-3 : Demand3
 unfolding Demand3
-demand-3 multiplier = theorem (bodyOf multiplier) (faithful multiplier)
+demand-3 multiplier = theorem (codeHash multiplier) (bodyOf multiplier) (faithful multiplier)
 
 pub demand-3-applies : Demand3Applies
 unfolding Demand3Applies
-demand-3-applies multiplier = complete (bodyOf multiplier) (faithful multiplier)
+demand-3-applies multiplier = complete (codeHash multiplier) (bodyOf multiplier) (faithful multiplier)

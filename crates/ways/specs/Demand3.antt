@@ -1,12 +1,18 @@
 -- Demand 3: the claim on ways, and that it is about something, for the blocks as `forms` has them and any multiplier of the hash.
 use Prim.Native.Nat.{ℕ}
-use Rattle.forms.specs.Block.{bodyOf}
+use mathlib.Core.Option.{Option}
+use Rattle.block_file.specs.Parse.{Block}
+use Rattle.forms.specs.Block.{hashOf, bodyOf}
 use Rattle.ways.specs.Claim.{Claim}
 use Rattle.ways.specs.Complete.{Complete}
 
+-- the hash of a block's code bytes, or their absence
+abbrev pub codeHash : ℕ → Block → Option ℕ
+codeHash multiplier b = hashOf multiplier (b .code)
+
 -- the claim on ways
 unfoldable pub Demand3 : Type 0
-Demand3 = (multiplier : ℕ) → Claim (bodyOf multiplier)
+Demand3 = (multiplier : ℕ) → Claim (codeHash multiplier) (bodyOf multiplier)
 
 -- each block has its function, and a way from it
 unfoldable pub Demand3Applies : Type 0
