@@ -2,3 +2,4 @@
 pub mod Starred
 pub mod Units
 pub mod Binds
+pub mod Whole
