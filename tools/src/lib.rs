@@ -1,9 +1,10 @@
-//! Block files in plain Rust: a builder, a check, exits and plan, a generator, damage and the stored vectors.
+//! Block files in plain Rust: a builder, a check, exits, plan and listing, a generator, damage and the stored vectors.
 
 pub mod check;
 pub mod damage;
 pub mod file;
 pub mod generate;
+pub mod listing;
 pub mod model;
 pub mod original;
 pub mod record;

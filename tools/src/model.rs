@@ -1,7 +1,8 @@
-//! Exits and plan of an accepted block file, written from document 01 ('Exits and plan').
+//! Exits, plan and listing of an accepted block file, written from document 01 ('Exits and plan').
 
 use crate::check::{check, words};
 use crate::file::{self, RECORD, TRAILER};
+use crate::listing::{self, Row};
 use std::collections::HashMap;
 
 /// Edges join blocks of this address page only.
@@ -130,6 +131,16 @@ pub fn plan(file: &[u8]) -> Vec<[u32; 2]> {
         group += 1;
     }
     out
+}
+
+/// The text of the listing.
+pub fn listing(file: &[u8]) -> String {
+    let row = |block: &Block| Row {
+        key: block.key(),
+        exits: block.exits(),
+    };
+    let rows: Vec<Row> = blocks(file).iter().map(row).collect();
+    listing::text(&rows, &plan(file))
 }
 
 /// The answer for a block's exits as the C interface gives it: numbers it does not have are 0.

@@ -1,6 +1,7 @@
 //! The original Rust, run on a file by the program `oracle` in the directory that `RECOMP_ORACLE`
 //! names.
 
+use crate::listing::{self, Row};
 use std::path::{Path, PathBuf};
 use std::process::Command;
 
@@ -62,15 +63,28 @@ impl Original {
             .collect()
     }
 
+    /// Key and exit list of every block.
+    fn rows(&self, file: &[u8]) -> Vec<Row> {
+        let key = |word: &str| u32::from_str_radix(word, 16).expect("a key");
+        let row = |line: &str| {
+            let (first, exits) = line.split_once(' ').expect("a key and exits");
+            let exits = exits.split(' ').filter(|&word| word != "-");
+            Row {
+                key: key(first),
+                exits: exits.map(key).collect(),
+            }
+        };
+        self.run("exits", file, &[]).lines().map(row).collect()
+    }
+
     /// The exit list of every block.
     pub fn exits(&self, file: &[u8]) -> Vec<Vec<u32>> {
-        let keys = |line: &str| -> Vec<u32> {
-            let exits = line.split(' ').skip(1).filter(|&word| word != "-");
-            exits
-                .map(|word| u32::from_str_radix(word, 16).expect("a key"))
-                .collect()
-        };
-        self.run("exits", file, &[]).lines().map(keys).collect()
+        self.rows(file).into_iter().map(|row| row.exits).collect()
+    }
+
+    /// The text that follows from its plan and exits; it prints no listing of its own.
+    pub fn listing(&self, file: &[u8]) -> String {
+        listing::text(&self.rows(file), &self.plan(file))
     }
 }
 
