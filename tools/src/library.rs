@@ -4,6 +4,7 @@
 #![allow(dead_code)]
 
 use recomp_tools::check::Numbers;
+use recomp_tools::listing::ListingNumbers;
 use recomp_tools::model::{ExitNumbers, PlanNumbers};
 
 extern "C" {
@@ -34,6 +35,17 @@ extern "C" {
         plan_len: usize,
         at: *mut u64,
         blocks: *mut u64,
+    ) -> u32;
+
+    fn recomp_listing(
+        file: *const u8,
+        file_len: usize,
+        work: *mut u32,
+        work_len: usize,
+        text: *mut u8,
+        text_len: usize,
+        at: *mut u64,
+        length: *mut u64,
     ) -> u32;
 }
 
@@ -100,4 +112,23 @@ pub fn plan(file: &[u8], work: &mut [u32], plan: &mut [u32]) -> PlanNumbers {
         )
     };
     PlanNumbers { number, at, blocks }
+}
+
+pub fn listing(file: &[u8], work: &mut [u32], text: &mut [u8]) -> ListingNumbers {
+    let [mut at, mut length] = [UNWRITTEN; 2];
+    // SAFETY: the three slices and the two numbers are apart and outlive the call, which keeps none
+    // of them.
+    let number = unsafe {
+        recomp_listing(
+            file.as_ptr(),
+            file.len(),
+            work.as_mut_ptr(),
+            work.len(),
+            text.as_mut_ptr(),
+            text.len(),
+            &mut at,
+            &mut length,
+        )
+    };
+    ListingNumbers { number, at, length }
 }

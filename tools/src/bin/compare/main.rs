@@ -4,6 +4,7 @@ mod check;
 mod exits;
 #[path = "../../library.rs"]
 mod library;
+mod listing;
 mod plan;
 
 use recomp_tools::damage::damaged;
@@ -17,10 +18,11 @@ use std::process::ExitCode;
 /// where its words are not understood.
 type Command = (&'static str, &'static str, fn(&[String]) -> Option<u64>);
 
-const COMMANDS: [Command; 3] = [
+const COMMANDS: [Command; 4] = [
     ("check", "[FILES] [FIRST_SEED]", check::run),
     ("exits", "[FILES] [FIRST_SEED]", exits::run),
     ("plan", "[FILES] [FIRST_SEED]", plan::run),
+    ("listing", "[FILES] [FIRST_SEED]", listing::run),
 ];
 
 /// How many small files, from which seed on, and the original, whose place the environment names.
