@@ -1,4 +1,4 @@
-//! The generated files that exits and plan are compared on.
+//! The generated files that exits, plan and listing are compared on.
 
 use crate::file::File;
 use crate::generate::closings::{self, Closings};

@@ -1,4 +1,4 @@
-//! The files that exits and plan are compared on: all are accepted, and what they are for occurs.
+//! The files that exits, plan and listing are compared on: all are accepted, and what they are for occurs.
 
 use recomp_tools::check::check;
 use recomp_tools::generate::linked::{Graph, Linked};
