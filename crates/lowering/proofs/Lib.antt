@@ -1,5 +1,6 @@
 -- What is proved of the tree of blocks, groups and units.
+pub mod Binds
+pub mod Lengths
 pub mod Starred
 pub mod Units
-pub mod Binds
 pub mod Whole
