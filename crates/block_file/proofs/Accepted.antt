@@ -21,11 +21,11 @@ use Rattle.block_file.specs.BlockRecord.{addrAt, countAt, codeOffsetAt, 
 use Rattle.block_file.specs.InstrRecord.{instrRight}
 use Rattle.block_file.specs.Decode.{timedAt}
 use Rattle.block_file.specs.Refusal.{Row, broken, firstBroken, blockRows, instrRows, rows}
-use Rattle.block_file.specs.Parse.{Block, Parsed, instrsFrom, codeAt, blockAt, blocksFrom, parsed, parse}
+use Rattle.block_file.specs.Parse.{Block, Parsed, instrsFrom, codeAt, blockAt, blocksFrom, parsed, parse, instrTotal}
 use Rattle.block_file.specs.Read.{recordAt, foundBlock, foundInstr, codeBytes}
 use Rattle.block_file.proofs.Parts.{Parts, parts}
 use Rattle.block_file.proofs.Rules as rules
-use Rattle.block_file.proofs.Whole.{length-instrs, length-blocks, each-kept, block-rows, instr-rows}
+use Rattle.block_file.proofs.Whole.{length-instrs, length-blocks, total-blocks, each-kept, block-rows, instr-rows}
 
 shift : (i j : ℕ) → suc i + j ≡ i + suc j
 shift i j = omega arith
@@ -133,6 +133,11 @@ module _ (f : List ℕ) (bs : List Block) (accepted : parse f ≡ Parsed.accepte
   -- the counts sum to I
   pub sums : countSum f (blockCount f) ≡ instrCount f
   sums = eqb-true _ _ (not-false _ (kept Row.sum (in-sum f)))
+
+  -- so the blocks have I instructions in all
+  pub instrs-of : instrTotal bs ≡ instrCount f
+  unfolding countSum
+  instrs-of = ap instrTotal blocks-of ∙ sym (zero-add _) ∙ total-blocks f (blockCount f) 0 0 ∙ ap (countSum f) (zero-add (blockCount f)) ∙ sums
 
   unless-false : (b : Bool) → (b ≡ false → ⊥) → b ≡ true
   unless-false true never = refl

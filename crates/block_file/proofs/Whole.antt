@@ -61,7 +61,7 @@ length-blocks f zero i k = refl
 length-blocks f (suc n) i k = ap suc (length-blocks f n (suc i) _)
 
 -- the instructions of n blocks from block i on, with the counts before them
-total-blocks : (f : List ℕ) (n i k : ℕ) → countSum f i + instrTotal (blocksFrom f n i k) ≡ countSum f (i + n)
+pub total-blocks : (f : List ℕ) (n i k : ℕ) → countSum f i + instrTotal (blocksFrom f n i k) ≡ countSum f (i + n)
 unfolding blocksFrom instrTotal countSum blockAt
 total-blocks f zero i k = rw (add-zero (countSum f i), add-zero)
 total-blocks f (suc n) i k =

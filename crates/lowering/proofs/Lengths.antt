@@ -13,7 +13,7 @@ use Rattle.armv4t.specs.Bit0.{clearBit0}
 use Rattle.block_file.specs.Trailer.{blockCount, instrCount, blockStart}
 use Rattle.block_file.specs.BlockRecord.{addrAt, countAt, thumbAt, countSum}
 use Rattle.block_file.specs.Parse.{Block, Parsed, instrsFrom, blockAt, blocksFrom, parse, instrTotal}
-use Rattle.block_file.proofs.Accepted.{blocks-of, length-of, few-blocks, few-instrs, sums}
+use Rattle.block_file.proofs.Accepted.{length-of, few-blocks, few-instrs, instrs-of}
 use Rattle.plan.specs.Forest.{range}
 use Rattle.plan.specs.Plan.{groups}
 use Rattle.plan.proofs.Cutting.{instructions, instructions-append, instructions-within}
@@ -401,24 +401,6 @@ module _ (limit : ℕ) (bs : List Block) where
       )
 
 -- the instructions of blocks are as many as their records count
-instrs-count : (f : List ℕ) (n k addr : ℕ) (thumb : Bool) → length (instrsFrom f n k addr thumb) ≡ n
-instrs-count f zero k addr thumb = refl
-instrs-count f (suc n) k addr thumb = ap suc (instrs-count f n (suc k) _ thumb)
-
-blocks-total : (f : List ℕ) (n i k : ℕ) → countSum f i + instrTotal (blocksFrom f n i k) ≡ countSum f (i + n)
-unfolding blocksFrom instrTotal countSum blockAt
-blocks-total f zero i k = rw (add-zero (countSum f i), add-zero)
-blocks-total f (suc n) i k =
-    let at : ℕ = blockStart f i in
-    let shift : i + suc n ≡ suc i + n = omega arith in
-    omega (arith, ap (countSum f) shift, blocks-total f n (suc i) (k + countAt f at), instrs-count f (countAt f at) k (addrAt f at) (thumbAt f at))
-
--- an accepted file has as many instructions as its trailer says
-file-total : (f : List ℕ) (bs : List Block) → parse f ≡ Parsed.accepted bs → instrTotal bs ≡ instrCount f
-unfolding countSum
-file-total f bs accepted =
-    omega (arith, ap instrTotal (blocks-of f bs accepted), blocks-total f (blockCount f) 0 0, ap (countSum f) (zero-add (blockCount f)), sums f bs accepted)
-
 -- the text of every unit of an accepted file: at most 2,778,730,600 bytes by its limits
 pub units-short : (f : List ℕ) (bs : List Block) → parse f ≡ Parsed.accepted bs → (multiplier limit max : ℕ) (u : TranslationUnit)
     → List·Memᴰ u (unitsOf max (map (bodyOf multiplier) bs) (groups limit bs)) → length (textOf (u .tree)) < top
@@ -428,6 +410,6 @@ units-short f bs accepted multiplier limit max u m =
       units-most limit bs multiplier max u m,
       length-of f bs accepted,
       few-blocks f bs accepted,
-      file-total f bs accepted,
+      instrs-of f bs accepted,
       few-instrs f bs accepted,
     )
