@@ -20,6 +20,7 @@ use Rattle.plan.specs.Forest.{follow}
 use Rattle.text.specs.Digits.{numeral, fixed}
 use Rattle.text.specs.Doc.{text, decimal, hexadecimal, hexadecimal8, hexadecimal16, print}
 use Rattle.c_tree.specs.Print.{codeText}
+use Rattle.fnv.specs.Fnv.{hashMultiplier}
 use Rattle.forms.specs.Block.{emitInstr, emitInstrs, bodyOf}
 use Rattle.forms.specs.InlineBody.{inlineBody}
 use Rattle.lowering.specs.Block.{guarded, chain, transfer, closing, nativeText, rest, underGuard, blockCode}
@@ -97,16 +98,12 @@ cases =
     ∷ units (lone 0x0800_0000 ∷ lone 0x0800_0004 ∷ []) 3
     ∷ []
 
--- that of document 01
-abbrev multiplier : ℕ
-multiplier = 4_294_967_731
-
 -- what the definitions give for a case
 pub defined : Case → List ℕ
 defined (exit b keys) = exits b
 defined (part n rows) = plan partLimit (two n)
-defined (goto b s) = print (codeText (blockCode (0x0800_0100 ∷ 0x0800_0104 ∷ []) (bodyOf multiplier b)))
-defined (units bs n) = length (unitsOf 0 (map (bodyOf multiplier) bs) (groups partLimit bs)) ∷ []
+defined (goto b s) = print (codeText (blockCode (0x0800_0100 ∷ 0x0800_0104 ∷ []) (bodyOf hashMultiplier b)))
+defined (units bs n) = length (unitsOf 0 (map (bodyOf hashMultiplier) bs) (groups partLimit bs)) ∷ []
 
 -- what document 01 says of a case
 pub stated : Case → List ℕ

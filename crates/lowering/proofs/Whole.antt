@@ -8,12 +8,13 @@ use Rattle.plan.specs.Examples.{armBlock, threeBlocks}
 use Rattle.plan.specs.Exits.{exits, instrExits}
 use Rattle.plan.specs.Forest.{follow}
 use Rattle.plan.specs.Plan.{target, joinExits, joinBlocks, parents, members, insert, sortByKey, parts, groupsFrom, groups}
+use Rattle.fnv.specs.Fnv.{hashMultiplier}
 use Rattle.forms.specs.Block.{emitInstr, emitInstrs, bodyOf}
 use Rattle.forms.specs.InlineBody.{inlineBody}
 use Rattle.lowering.specs.Block.{guarded, chain, transfer, closing, nativeText, rest, underGuard, blockCode}
 use Rattle.lowering.specs.Units.{declared, emitBlock, labelled, groupCode, forwarders, emitGroup, opened, tail, TranslationUnit, textOf, cut, membersOf, unitsOf}
 
-three-blocks : map (λ (u : TranslationUnit). textOf (u .tree)) (unitsOf 1_000_000 (map (bodyOf 4_294_967_731) threeBlocks) (groups partLimit threeBlocks))
+three-blocks : map (λ (u : TranslationUnit). textOf (u .tree)) (unitsOf 1_000_000 (map (bodyOf hashMultiplier) threeBlocks) (groups partLimit threeBlocks))
     ≡ (textOf opened
     ++ print
     (text

@@ -10,6 +10,9 @@ use Rattle.c_tree.specs.Expr.{u32, x-pc}
 use Rattle.c_tree.specs.Stmt.{registers, local, drop, common, gap, plain, label, call, switch, Code, end, _⨾_, _⧺_, block, group, Top, function, blank, extern, table, count}
 use Rattle.c_tree.specs.Print.{unitText}
 use Rattle.c_tree.specs.Preamble.{preamble}
+use Rattle.block_file.specs.Parse.{Block}
+use Rattle.plan.specs.Plan.{groups}
+use Rattle.forms.specs.Block.{bodyOf}
 use Rattle.forms.specs.Forms.{Body}
 use Rattle.lowering.specs.Block.{bodyKey, nl, sp, blockCode}
 
@@ -88,6 +91,28 @@ membersOf bs is = map (λ (i : ℕ). getD bs i nobody) is
 unfoldable pub unitsOf : ℕ → List Body → List (List ℕ) → List TranslationUnit
 unitsOf max bs gs = cut max (tail bs) opened 0 (map (membersOf bs) gs)
 
--- the unit with a number, if there is one
-abbrev pub unit : ℕ → List TranslationUnit → Option TranslationUnit
-unit k us = getElem? us k
+-- the units of some blocks, where bodyOf says how one is printed: grouped by a limit, cut at a wished size
+unfoldable pub unitsFor : (Block → Body) → ℕ → ℕ → List Block → List TranslationUnit
+unitsFor bodyOf limit max bs = unitsOf max (map bodyOf bs) (groups limit bs)
+
+-- the units of a file's blocks, where the guards' hashes are made with a multiplier
+abbrev pub fileUnits : ℕ → ℕ → ℕ → List Block → List TranslationUnit
+fileUnits multiplier = unitsFor (bodyOf multiplier)
+
+-- what is told of a unit: its text, the text's length, the blocks done with it, and whether it is the last
+pub record UnitAnswer : Type 0 where
+  pub text : List ℕ
+  pub length : ℕ
+  pub done : ℕ
+  pub last : Bool
+
+abbrev pub answerOf : TranslationUnit → UnitAnswer
+answerOf u = record { text = textOf (u .tree); length = length (textOf (u .tree)); done = u .done; last = u .last }
+
+-- unit k of a file's blocks, if there is one
+abbrev pub unit : ℕ → ℕ → ℕ → List Block → ℕ → Option UnitAnswer
+unit multiplier limit max bs k = getElem? (map answerOf (fileUnits multiplier limit max bs)) k
+
+-- how many units there are
+abbrev pub unitCount : ℕ → ℕ → ℕ → List Block → ℕ
+unitCount multiplier limit max bs = length (fileUnits multiplier limit max bs)

@@ -13,8 +13,9 @@ use Rattle.plan.proofs.Listing.{count, count-append, count-here, count-other, m
 use Rattle.c_tree.specs.Stmt.{block, function}
 use Rattle.forms.specs.Forms.{weights, Body}
 use Rattle.lowering.specs.Block.{bodyKey}
-use Rattle.lowering.specs.Units.{emitGroup, opened, tail, nobody, membersOf, unitsOf}
-use Rattle.ways.specs.Claim.{times, Faithful, fileUnits, fileTree}
+use Rattle.lowering.specs.Units.{emitGroup, opened, tail, nobody, membersOf, unitsOf, unitsFor}
+use Rattle.ways.proofs.Faithful.{Faithful}
+use Rattle.ways.specs.Claim.{times, fileTree}
 use Rattle.ways.specs.Complete.{functions, Found, Complete}
 use Rattle.ways.proofs.Places.{found-at}
 use Rattle.ways.proofs.Members.{nowhere, File, bodies, key-of, is-member, same-place}
@@ -69,7 +70,7 @@ module _ (F : File) (i : ℕ) (h : i < length (F .bs)) where
 
   module _ (max : ℕ) where
     one-function : functions (key i) (fileTree bodyOf limit max bs) ≡ 1
-    unfolding fileTree fileUnits unitsOf
+    unfolding fileTree unitsFor unitsOf
     one-function =
         let none : functions (key i) opened ≡ 0 = refl in
         functions-cut (key i) max (tail (bodies F)) (no-tail (key i) (bodies F)) (map (membersOf (bodies F)) (groups limit bs)) opened 0
@@ -78,8 +79,8 @@ module _ (F : File) (i : ℕ) (h : i < length (F .bs)) where
     abbrev mine : List ℕ
     mine = group-of limit bs i h .0
 
-    part : Part (emitGroup (membersOf (bodies F) mine)) (fileUnits bodyOf limit max bs)
-    unfolding fileUnits unitsOf
+    part : Part (emitGroup (membersOf (bodies F) mine)) (unitsFor bodyOf limit max bs)
+    unfolding unitsFor unitsOf
     part =
         group-part max (tail (bodies F)) (membersOf (bodies F) mine) (map (membersOf (bodies F)) (groups limit bs)) opened 0
         (Memᴰ·map (membersOf (bodies F)) (group-of limit bs i h .1))
@@ -95,7 +96,7 @@ module _ (F : File) (i : ℕ) (h : i < length (F .bs)) where
     unfolding fileTree
     found b e =
         let w = entered (fileTree bodyOf limit max bs) (bodyOf (getD bs i nowhere)) filled (membersOf (bodies F) mine) here
-        (λ t m. in-part t (emitGroup (membersOf (bodies F) mine)) (fileUnits bodyOf limit max bs) part m) in
+        (λ t m. in-part t (emitGroup (membersOf (bodies F) mine)) (unitsFor bodyOf limit max bs) part m) in
         let k : key i ≡ blockKey b = key-of F (getD bs i nowhere) ∙ ap blockKey e in
         record {
           single = subst (λ n. functions n (fileTree bodyOf limit max bs) ≡ 1) k one-function;

@@ -3,7 +3,7 @@ use Prim.Native.Nat.{ℕ}
 use mathlib.Core.Path.{refl}
 use Rattle.forms.specs.Block.{bodyOf}
 use Rattle.forms.proofs.Weights.{body-weight}
-use Rattle.ways.specs.Claim.{Faithful}
+use Rattle.ways.proofs.Faithful.{Faithful}
 use Rattle.ways.specs.Demand3.{codeHash, Demand3, Demand3Applies}
 use Rattle.ways.proofs.Theorem.{theorem}
 use Rattle.ways.proofs.Complete.{complete}

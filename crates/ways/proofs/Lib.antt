@@ -1,4 +1,5 @@
 -- The proof of the claim on ways.
+pub mod Faithful
 pub mod Logic
 pub mod Emitted
 pub mod Bare

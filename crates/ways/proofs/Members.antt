@@ -15,7 +15,7 @@ use Rattle.plan.proofs.Listing.{map-at}
 use Rattle.forms.specs.Forms.{Body}
 use Rattle.lowering.specs.Block.{bodyKey}
 use Rattle.lowering.specs.Units.{nobody, membersOf}
-use Rattle.ways.specs.Claim.{Faithful}
+use Rattle.ways.proofs.Faithful.{Faithful}
 use Rattle.ways.proofs.Bounded.{Member, total}
 use Rattle.ways.proofs.Behind.{Apart}
 use Rattle.ways.proofs.Places.{at-member, place-of}

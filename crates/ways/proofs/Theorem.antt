@@ -16,9 +16,10 @@ use Rattle.plan.proofs.GroupLaws.{group-same}
 use Rattle.c_tree.specs.Stmt.{guard, Code, block, group, Top, function}
 use Rattle.forms.specs.Forms.{Body}
 use Rattle.lowering.specs.Block.{bodyKey, guarded, blockCode}
-use Rattle.lowering.specs.Units.{declared, groupCode, emitGroup, opened, tail, membersOf, unitsOf}
+use Rattle.lowering.specs.Units.{declared, groupCode, emitGroup, opened, tail, membersOf, unitsOf, unitsFor}
 use Rattle.ways.specs.Ways.{Event, said, Way, stop, w-gap, w-call}
-use Rattle.ways.specs.Claim.{AtNative, outside, Faithful, fileUnits, fileTree, Passed, Kept, Claim}
+use Rattle.ways.proofs.Faithful.{Faithful}
+use Rattle.ways.specs.Claim.{AtNative, outside, fileTree, Passed, Kept, Claim}
 use Rattle.ways.proofs.Logic.{Follow}
 use Rattle.ways.proofs.Followed.{group-follows}
 use Rattle.ways.proofs.Bounded.{total, Spent, at-most-total, spent-rules, parts}
@@ -56,7 +57,7 @@ module _ (F : File) (max : ℕ) where
 
   -- a function of the units stands in a group of the plan
   in-group : (t : Top) → Own t → List·Memᴰ t (fileTree bodyOf limit max bs) → (g : List ℕ) × List·Memᴰ g (groups limit bs) × List·Memᴰ t (emitGroup (membersOf (bodies F) g))
-  unfolding fileTree fileUnits unitsOf
+  unfolding fileTree unitsFor unitsOf
   in-group t o m = go (from-cut max (tail (bodies F)) (tail-foreign (bodies F)) t o (map (membersOf (bodies F)) (groups limit bs)) opened 0 m)
     where
       go : List·Memᴰ t opened ⊎ InGroup t (map (membersOf (bodies F)) (groups limit bs))
@@ -83,7 +84,7 @@ module _ (F : File) (max : ℕ) where
           )
 
   -- what is known of a body is known of its block
-  passed : (b : Block) (es : List Event) → Allowed (bodyOf b) es → Passed hashOf bodyOf b es
+  passed : (b : Block) (es : List Event) → Allowed (bodyOf b) es → Passed hashOf b es
   passed b es p = (
     p .0,
     sym (faithful .hash b) ∙ p .1,
@@ -98,7 +99,7 @@ module _ (F : File) (max : ℕ) where
   is-guarded b t = subst (λ (a : ℕ). T (not (eqb (a / 2 ^ 24 % 16) 8 || eqb (a / 2 ^ 24 % 16) 0))) (sym (faithful .addr b)) t
 
   seen : (es us vs : List Event) (e : Event) → es ≡ us ++ (e ∷ vs) → Follow (History (bodies F)) es [] → (b : Block) → List·Memᴰ b bs → AtNative (blockKey b) e → T (outside b)
-      → Passed hashOf bodyOf b us
+      → Passed hashOf b us
   seen es us vs e p h b m n t =
       passed b us
       (behind-of (bodies F) us vs e (subst (λ es′. Follow (History (bodies F)) es′ []) p h) (bodyOf b) (Memᴰ·map bodyOf m)
@@ -114,7 +115,7 @@ module _ (F : File) (max : ℕ) where
 
   module _ (i : ℕ) (h : i < length bs) (g : List ℕ) (m : List·Memᴰ g (groups limit bs)) (es : List Event) where
     kept-lone : (b : Body) → membersOf (bodies F) g ≡ b ∷ [] → bodyKey b ≡ blockKey (getD bs i nowhere)
-        → {xs : List Bool} → Way (fileTree bodyOf limit max bs) (declared (blockCode [] b)) (declared (blockCode [] b)) xs es → Kept hashOf bodyOf limit bs i es
+        → {xs : List Bool} → Way (fileTree bodyOf limit max bs) (declared (blockCode [] b)) (declared (blockCode [] b)) xs es → Kept hashOf limit bs i es
     kept-lone b e k w =
         let there : List·Memᴰ b (membersOf (bodies F) g) = subst (λ l. List·Memᴰ b l) (sym e) (List·Memᴰ·head refl) in
         let single : length g ≡ 1 = one F g b e in
@@ -128,7 +129,7 @@ module _ (F : File) (max : ℕ) where
         }
 
     kept-several : Many (membersOf (bodies F) g) → (b : Body) → List·Memᴰ b (membersOf (bodies F) g) → bodyKey b ≡ blockKey (getD bs i nowhere)
-        → (g′ : List Body) → Both limit (bodies F) (apart F) g′ es → Kept hashOf bodyOf limit bs i es
+        → (g′ : List Body) → Both limit (bodies F) (apart F) g′ es → Kept hashOf limit bs i es
     kept-several v b n k g′ q =
         let mine : List·Memᴰ i g = here i h g m b n k in
         record {
@@ -140,7 +141,7 @@ module _ (F : File) (max : ℕ) where
         }
 
     kept : (c : Code) → Alone (blockKey (getD bs i nowhere)) c (membersOf (bodies F) g) ⊎ Among (blockKey (getD bs i nowhere)) c (membersOf (bodies F) g)
-        → (xs : List Bool) → Way (fileTree bodyOf limit max bs) c c xs es → Kept hashOf bodyOf limit bs i es
+        → (xs : List Bool) → Way (fileTree bodyOf limit max bs) c c xs es → Kept hashOf limit bs i es
     kept c (inl a) xs w = kept-lone (a .0) (a .1) (a .2) (subst (λ d. Way (fileTree bodyOf limit max bs) d d xs es) (a .3) w)
     kept c (inr a) xs w =
         let q = forwarded (a .2 .0) (a .2 .1) (subst (λ d. Way (fileTree bodyOf limit max bs) d d xs es) (a .2 .2) w) in

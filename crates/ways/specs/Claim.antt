@@ -10,8 +10,8 @@ use Rattle.armv4t.specs.Instr.{sizeOf}
 use Rattle.block_file.specs.Parse.{Block, Parsed, parse}
 use Rattle.plan.specs.Plan.{blockKey, page, groups}
 use Rattle.c_tree.specs.Stmt.{Test, guard, gate, other, native, common, Code, block, Top, function}
-use Rattle.forms.specs.Forms.{weights, Body}
-use Rattle.lowering.specs.Units.{TranslationUnit, unitsOf}
+use Rattle.forms.specs.Forms.{Body}
+use Rattle.lowering.specs.Units.{TranslationUnit, unitsFor}
 use Rattle.ways.specs.Ways.{Event, reach, said, natively, shelled, Way}
 
 -- how many instructions some events carry out
@@ -63,25 +63,12 @@ Several limit bs i = (g : List ℕ) × List·Memᴰ g (groups limit bs) × List�
 abbrev pub Lone : ℕ → List Block → ℕ → Type 0
 Lone limit bs i = List·Memᴰ (i ∷ []) (groups limit bs)
 
--- what the claim needs of the forms of a block, where hashOf is the hash of its code bytes or their absence: that they are the block's, and stand for each
--- of its instructions
-pub record Faithful (hashOf : Block → Option ℕ) (bodyOf : Block → Body) : Type 0 where
-  pub addr : (b : Block) → bodyOf b .addr ≡ b .addr
-  pub thumb : (b : Block) → bodyOf b .thumb ≡ b .thumb
-  pub count : (b : Block) → bodyOf b .count ≡ length (b .instrs)
-  pub hash : (b : Block) → bodyOf b .hash ≡ hashOf b
-  pub whole : (b : Block) → weights (bodyOf b .forms) ≡ bodyOf b .count
-
 module _ (bodyOf : Block → Body) where
-  -- the units of some blocks at a wished size
-  unfoldable pub fileUnits : ℕ → ℕ → List Block → List TranslationUnit
-  fileUnits limit max bs = unitsOf max (map bodyOf bs) (groups limit bs)
-
-  -- all that stands in them
+  -- all that stands in the units of some blocks
   unfoldable pub fileTree : ℕ → ℕ → List Block → List Top
-  fileTree limit max bs = flatten (map (λ (u : TranslationUnit). u .tree) (fileUnits limit max bs))
+  fileTree limit max bs = flatten (map (λ (u : TranslationUnit). u .tree) (unitsFor bodyOf limit max bs))
 
-module _ (hashOf : Block → Option ℕ) (bodyOf : Block → Body) where
+module _ (hashOf : Block → Option ℕ) where
   -- the guard said yes to a block: to its address, length and hash
   abbrev pub Passed : Block → List Event → Type 0
   Passed b es =
@@ -96,9 +83,10 @@ module _ (hashOf : Block → Option ℕ) (bodyOf : Block → Body) where
     -- native statements of a block outside ROM and BIOS are reached only behind the guard's yes to that block
     pub behind : (us vs : List Event) (e : Event) → es ≡ us ++ (e ∷ vs) → (b : Block) → List·Memᴰ b bs → AtNative (blockKey b) e → T (outside b) → Passed b us
 
+module _ (hashOf : Block → Option ℕ) (bodyOf : Block → Body) where
   -- every accepted file, limit and wished size; every block and its function in the units; every list of answers and every way
   unfoldable pub Claim : Type 0
   Claim =
       (f : List ℕ) (bs : List Block) → parse f ≡ Parsed.accepted bs → (limit max i : ℕ) (b : Block) → getElem? bs i ≡ some b
       → (c : Code) → List·Memᴰ (function (block (blockKey b)) c) (fileTree bodyOf limit max bs)
-      → (xs : List Bool) (es : List Event) → Way (fileTree bodyOf limit max bs) c c xs es → Kept limit bs i es
+      → (xs : List Bool) (es : List Event) → Way (fileTree bodyOf limit max bs) c c xs es → Kept hashOf limit bs i es

@@ -10,9 +10,9 @@ use Rattle.block_file.specs.Parse.{Block, Parsed, parse}
 use Rattle.plan.specs.Plan.{blockKey, groups}
 use Rattle.c_tree.specs.Stmt.{Code, helper, block, group, Top, opening, function, blank, extern, table, count}
 use Rattle.forms.specs.Forms.{Body}
-use Rattle.lowering.specs.Units.{TranslationUnit, emitGroup, membersOf}
+use Rattle.lowering.specs.Units.{TranslationUnit, emitGroup, membersOf, unitsFor}
 use Rattle.ways.specs.Ways.{Event, Way}
-use Rattle.ways.specs.Claim.{times, fileUnits, fileTree}
+use Rattle.ways.specs.Claim.{times, fileTree}
 
 -- 1 for the function of the block with the key k, else 0
 abbrev pub isFunction : ℕ → Top → ℕ
@@ -40,7 +40,7 @@ module _ (bodyOf : Block → Body) where
     pub grouped : List·Memᴰ members (groups limit bs)
     pub among : List·Memᴰ i members
     pub unit : TranslationUnit
-    pub made : List·Memᴰ unit (fileUnits bodyOf limit max bs)
+    pub made : List·Memᴰ unit (unitsFor bodyOf limit max bs)
     pub before : List Top
     pub after : List Top
     pub piece : unit .tree ≡ before ++ (emitGroup (membersOf (map bodyOf bs) members) ++ after)
