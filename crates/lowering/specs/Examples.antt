@@ -6,10 +6,11 @@ use mathlib.Core.List.{List, [], _∷_, _++_, map}
 use mathlib.Core.Option.{none, some}
 use lib.Dec.{leb}
 use borrow.Author.Tests.{le-leb}
+use lib.ListN.{replicate}
 use Rattle.text.specs.Digits.{numeral, fixed}
 use Rattle.text.specs.Doc.{text, decimal, hexadecimal, hexadecimal8, hexadecimal16, print}
 use Rattle.c_tree.specs.Expr.{u32, word, udec, x-r, x-addr, x-cz, reg, var, lnot, compl, add, band, bor, w32, lit, get, un, bin, read}
-use Rattle.c_tree.specs.Stmt.{is, plus, declare, set, tick, Simple, gap, begin, plain, label, goto, ret, retIf, interp, retInterp, call, switch, Code, end, _⨾_, when, braces}
+use Rattle.c_tree.specs.Stmt.{is, plus, declare, set, tick, Simple, gap, begin, plain, label, goto, ret, retIf, interp, retInterp, call, switch, Code, end, _⨾_, when, braces, Owner, common}
 use Rattle.c_tree.specs.Preamble.{v32}
 use Rattle.forms.specs.Forms.{Lines, straight, holds, branch, jump, pair, bx, pop, native, shell, Body}
 use Rattle.lowering.specs.Block.{guarded, chain, transfer, closing, nativeText, rest, underGuard, blockCode}
@@ -167,6 +168,49 @@ marks end = []
 marks (s ⨾ c) = mark s ++ marks c
 marks (when o n t b c) = marks b ++ marks c
 marks (braces b c) = marks b ++ marks c
+
+-- The owners of a block's statements
+abbrev owner : Simple → List Owner
+owner (gap l n) = []
+owner (begin k i n) = []
+owner (plain o p) = o ∷ []
+owner (label k) = []
+owner (goto o k) = o ∷ []
+owner (ret o e) = o ∷ []
+owner (retIf o t e) = o ∷ []
+owner (interp k i) = []
+owner (retInterp k i) = []
+owner (call k n) = []
+owner (switch ks) = []
+
+abbrev owners : Code → List Owner
+owners end = []
+owners (s ⨾ c) = owner s ++ owners c
+owners (when o n t b c) = o ∷ owners b ++ owners c
+owners (braces b c) = owners b ++ owners c
+
+-- guard and interpreter, straight, shell, branch, holds, closing
+ram-owners : owners (blockCode [] ram)
+    ≡ replicate 2 common ++ replicate 2 (Owner.native 0x02000000) ++ replicate 3 common ++ replicate 11 (Owner.native 0x02000000) ++ replicate 3 common
+unfolding blockCode guarded underGuard rest nativeText transfer closing
+ram-owners = refl
+
+-- straight and bx; a fused pair; pop; branch, straight and jump in a group
+lone-owners : owners (blockCode [] lone) ≡ replicate 11 (Owner.native 0x08000000)
+unfolding blockCode guarded rest nativeText
+lone-owners = refl
+
+fused-owners : owners (blockCode [] fused) ≡ replicate 4 (Owner.native 0x08000221)
+unfolding blockCode guarded rest nativeText transfer
+fused-owners = refl
+
+popped-owners : owners (blockCode [] popped) ≡ replicate 7 (Owner.native 0x08000211)
+unfolding blockCode guarded rest nativeText
+popped-owners = refl
+
+loop-owners : owners (blockCode (0x08000100 ∷ 0x08000104 ∷ []) loop) ≡ replicate 12 (Owner.native 0x08000100)
+unfolding blockCode guarded rest nativeText transfer chain
+loop-owners = refl
 
 -- behind the guard's no the first record, then the records in their order
 ram-marks : marks (blockCode [] ram)
