@@ -1,0 +1,44 @@
+-- `emit_flow::exits::emit_pair` meets its contract: what its calls write, one after another. Assumes nothing.
+use mathlib.Core.Path.{ap, _∙_}
+use Prim.Native.Nat.{ℕ}
+use borrow.Author.Needs.{needs}
+use Rattle.emit_flow.proofs.Pieces.{paired}
+use Rattle.lowering.specs.Block.{has}
+use Rattle.text.proofs.Laws.{seq, said}
+use Rattle.emit_flow.proofs.exits.emit_pair.Statement.{statement}
+use Rattle.emit_flow.proofs.exits.emit_pair.Tie as tie
+
+flush-ticks-requires : tie.Need-flush-ticks-requires
+flush-ticks-requires c κs = search needs
+
+set-lr-requires : tie.Need-set-lr-requires
+set-lr-requires c κs = search needs
+
+clear-bit0-requires : tie.Need-clear-bit0-requires
+clear-bit0-requires c κs = search needs
+
+set-pc-requires : tie.Need-set-pc-requires
+set-pc-requires c κs = search needs
+
+set-bit0-requires : tie.Need-set-bit0-requires
+set-bit0-requires c κs = search needs
+
+transfer-requires : tie.Need-transfer-requires
+transfer-requires c κs = search needs
+
+returns : tie.Need-returns
+returns c =
+    let c6 = c .before .before in
+    let c5 = c6 .before in
+    let c4 = c5 .before .before .before .before in
+    let c3 = c4 .before in
+    let c2 = c3 .before .before .before .before in
+    let c1 = c2 .before .before .before .before in
+    let v = c1 .before .before .before .args in
+    λ ks o d h. said (seq (c1 .flush-ticks .ensures) (seq (c2 .set-lr .ensures) (seq (c4 .set-pc .ensures) (c6 .transfer .ensures ks o (ap (λ (n : ℕ). has n ks) (c5 .set-bit0 .ensures) ∙ h))))) (paired ks (v .src) o (v .cycles) (v .target) (v .ret) d _ _ (c3 .clear-bit0 .ensures) (c5 .set-bit0 .ensures))
+
+same-length : tie.Need-same-length
+same-length c = search needs
+
+pub emit-pair-spec : {M : Type 1} → statement M
+emit-pair-spec = tie.close (tie.spec flush-ticks-requires set-lr-requires clear-bit0-requires set-pc-requires set-bit0-requires transfer-requires same-length returns)

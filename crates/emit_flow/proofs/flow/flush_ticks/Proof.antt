@@ -1,0 +1,35 @@
+-- `emit_flow::flow::flush_ticks` meets its contract: what its calls write, one after another. Assumes nothing.
+use borrow.Author.Needs.{needs}
+use Rattle.emit_flow.proofs.Pieces.{ticks}
+use Rattle.text.proofs.Laws.{none, seq, said, kept}
+use Rattle.emit_flow.proofs.flow.flush_ticks.Statement.{statement}
+use Rattle.emit_flow.proofs.flow.flush_ticks.Tie as tie
+
+returns : tie.Need-returns
+returns c =
+    rw (c .if1 .taken) (none (search needs) (search needs))
+
+slice-aggregate-put-then-dec : tie.Need-slice-aggregate-put-then-dec
+slice-aggregate-put-then-dec c = search needs
+
+put-then-dec-requires : tie.Need-put-then-dec-requires
+put-then-dec-requires c κs = search needs
+
+slice-aggregate-put : tie.Need-slice-aggregate-put
+slice-aggregate-put c = search needs
+
+put-requires : tie.Need-put-requires
+put-requires c κs = search needs
+
+returns-2 : tie.Need-returns-2
+returns-2 c =
+    let c3 = c .before .before in
+    let c2 = c3 .before .before .before .before .before in
+    let c1 = c2 .before .before .before in
+    said (seq (c2 .put-then-dec .ensures) (c3 .put .ensures)) (ticks _ (c1 .if1 .left))
+
+same-length : tie.Need-same-length
+same-length c = kept (returns-2 c)
+
+pub flush-ticks-spec : {M : Type 1} → statement M
+flush-ticks-spec = tie.close (tie.spec returns slice-aggregate-put-then-dec put-then-dec-requires slice-aggregate-put put-requires same-length returns-2)

@@ -1,0 +1,60 @@
+-- Parts of a tree's text that no tree prints alone: what stands before and behind what another function writes.
+use Prim.Native.Nat.{ℕ}
+use mathlib.Core.Bool.{Bool, true, false, cond}
+use mathlib.Core.List.{List, [], _∷_, _++_}
+use lib.Dec.{eqb}
+use Rattle.text.specs.Doc.{Doc, text, _▸_}
+use Rattle.c_tree.specs.Expr.{word, reg, Expr, lit, get}
+use Rattle.c_tree.specs.Stmt.{Plain, common, gap, Code, end, _⨾_, block, group, blank}
+use Rattle.c_tree.specs.Print.{codeText, headText, topText}
+use Rattle.forms.specs.InlineBody.{only}
+use Rattle.forms.specs.Block.{setWord}
+use Rattle.lowering.specs.Block.{nl, sp, line, flags}
+use Rattle.lowering.specs.Units.{declared}
+
+-- the indent of a transfer: 8 where it is conditional
+abbrev pub indent : Bool → ℕ
+indent deep = cond deep 8 4
+
+-- the registers that a branch sets
+abbrev pub branchRegs : Bool → ℕ → ℕ → List Plain
+branchRegs link ret target = only link (setWord 14 ret) ++ (setWord 15 target ∷ [])
+
+-- a register, or the value of PC in its place
+abbrev pub regOr : ℕ → ℕ → Expr
+regOr pc r = cond (eqb r 15) (lit word pc) (get (reg r))
+
+-- { flags; if (
+abbrev pub beforeCondition : Doc
+beforeCondition = codeText (sp 4 ⨾ end) ▸ text "{" ▸ codeText (sp 1 ⨾ line common flags (gap true 6 ⨾ end)) ▸ text "if ("
+
+-- ) {, behind the condition
+abbrev pub behindCondition : Doc
+behindCondition = text ") {"
+
+-- the two braces behind what is conditional
+abbrev pub behindConditional : Doc
+behindConditional = text "}" ▸ codeText (sp 1 ⨾ end) ▸ text "}" ▸ codeText (nl ⨾ end)
+
+-- the head of a block's function, with c and pc
+abbrev pub blockOpen : ℕ → Doc
+blockOpen key = headText (block key) ▸ text " {" ▸ codeText (declared end)
+
+-- the end of a function of a block or a group
+abbrev pub functionEnd : Doc
+functionEnd = text "}\n" ▸ topText blank
+
+-- the head of a group's function up to its first case
+abbrev pub groupOpen : ℕ → Doc
+groupOpen key = headText (group key) ▸ text " {" ▸ codeText (declared (sp 4 ⨾ end)) ▸ text "switch (entry) {\n"
+
+-- the end of the switch
+abbrev pub switchEnd : Doc
+switchEnd = text "    default: return 0u;\n    }" ▸ codeText (nl ⨾ end)
+
+-- the head of the table, and its end
+abbrev pub tableOpen : Doc
+tableOpen = text "RCG_EXPORT const RcgBlock rcg_blocks[] = {\n"
+
+abbrev pub tableEnd : Doc
+tableEnd = text "};\n"

@@ -1,0 +1,152 @@
+// Branches, fused pairs, Bx, and the closing transfer.
+use crate::flow::flush_ticks;
+use crate::flow::set_lr;
+use crate::flow::set_pc;
+use crate::flow::transfer;
+use armv4t::clear_bit0;
+use armv4t::set_bit0;
+ghost use mathlib.Core.Path.{_≡_};
+ghost use mathlib.Core.List.{List, [], _∷_, _++_};
+ghost use Prim.Native.Nat.{ℕ};
+ghost use Rattle.text.specs.Doc.{text, _▸_};
+ghost use Rattle.text.specs.Wrote.{Wrote};
+ghost use Rattle.armv4t.specs.Bit0.{setBit0};
+ghost use Rattle.c_tree.specs.Stmt.{Owner, common, Code, end, _⨾_};
+ghost use Rattle.c_tree.specs.Print.{exprText, codeText};
+ghost use Rattle.forms.specs.Forms.{jump, bx};
+ghost use Rattle.forms.specs.InlineBody.{only, apart};
+ghost use Rattle.forms.specs.Block.{flushTicks, setWord, emitPair};
+ghost use Rattle.lowering.specs.Block.{nl, sp, line, lines, has, transfer as Block·transfer, nativeText};
+ghost use Rattle.emit_flow.specs.Pieces.{branchRegs, regOr, beforeCondition, behindCondition, behindConditional};
+
+// What stands before the condition of a record.
+pub fn open_conditional(out: &mut [u8], at: usize) -> usize
+    ensures { λ r. ⌜ Wrote (now (out .entry)) at beforeCondition (now (out .exit)) r ⌝ }
+{
+    text::put(
+        out,
+        at,
+        b"    { uint32_t s_ = c[16]; uint32_t cn = s_ >> 31, cz = (s_ >> 30) & 1u, cc = (s_ >> 29) & 1u, cv = (s_ >> 28) & 1u;\n      if (",
+    )
+}
+
+// The registers of a branch, behind its condition.
+fn put_taken(out: &mut [u8], at: usize, link: bool, ret: u32, target: u32) -> usize
+    ensures { λ r. ⌜ Wrote (now (out .entry)) at (behindCondition ▸ codeText (sp 1 ⨾ line common (branchRegs link ret target) (nl ⨾ end))) (now (out .exit)) r ⌝ }
+{
+    if link {
+        let p = text::put_then_hex8(out, at, b") { c[14] = 0x", ret);
+        let q = text::put_then_hex8(out, p, b"u; c[15] = 0x", target);
+        text::put(out, q, b"u;\n")
+    } else {
+        let p = text::put_then_hex8(out, at, b") { c[15] = 0x", target);
+        text::put(out, p, b"u;\n")
+    }
+}
+
+// A conditional branch, behind its condition.
+pub fn branch_taken(
+    out: &mut [u8],
+    at: usize,
+    link: bool,
+    ret: u32,
+    target: u32,
+    inside: bool,
+    src: u32,
+    key: u32,
+) -> usize
+    ensures { λ r. ⌜ ((ks : List ℕ) (o : Owner) → has key ks ≡ inside → Wrote (now (out .entry)) at (behindCondition ▸ codeText (sp 1 ⨾ line o (branchRegs link ret target) (nl ⨾ Block·transfer ks src o 8 key (sp 6 ⨾ end))) ▸ behindConditional) (now (out .exit)) r) ⌝ }
+{
+    let p = put_taken(out, at, link, ret, target);
+    let q = transfer(out, p, inside, src, key, true);
+    text::put(out, q, b"      } }\n")
+}
+
+// r14 set where a branch links.
+fn set_link(out: &mut [u8], at: usize, link: bool, ret: u32) -> usize
+    ensures { λ r. ⌜ Wrote (now (out .entry)) at (codeText (lines common 4 (apart (only link (setWord 14 ret))) end)) (now (out .exit)) r ⌝ }
+{
+    if link { set_lr(out, at, ret) } else { at }
+}
+
+// A branch that is always taken.
+pub fn branch_always(
+    out: &mut [u8],
+    at: usize,
+    cycles: u64,
+    link: bool,
+    ret: u32,
+    target: u32,
+    inside: bool,
+    src: u32,
+    key: u32,
+) -> usize
+    ensures { λ r. ⌜ ((ks : List ℕ) (o : Owner) (c : Code) → has key ks ≡ inside → Wrote (now (out .entry)) at (codeText (nativeText ks src o (jump (flushTicks cycles ++ apart (branchRegs link ret target)) key) c)) (now (out .exit)) r) ⌝ }
+{
+    let p = flush_ticks(out, at, cycles);
+    let q = set_link(out, p, link, ret);
+    let s = set_pc(out, q, target);
+    transfer(out, s, inside, src, key, false)
+}
+
+// A fused pair; inside is for the key of its target.
+pub fn emit_pair(
+    out: &mut [u8],
+    at: usize,
+    cycles: u64,
+    target: u32,
+    ret: u32,
+    inside: bool,
+    src: u32,
+) -> usize
+    ensures { λ r. ⌜ ((ks : List ℕ) (o : Owner) (c : Code) → has (setBit0 target) ks ≡ inside → Wrote (now (out .entry)) at (codeText (nativeText ks src o (emitPair cycles target ret) c)) (now (out .exit)) r) ⌝ }
+{
+    let p = flush_ticks(out, at, cycles);
+    let q = set_lr(out, p, ret);
+    let s = set_pc(out, q, clear_bit0(target));
+    transfer(out, s, inside, src, set_bit0(target), false)
+}
+
+// A register, or the value of PC in its place.
+pub fn put_reg(out: &mut [u8], at: usize, r: u8, pc: u32) -> usize
+    ensures { λ n. ⌜ Wrote (now (out .entry)) at (exprText (regOr pc r)) (now (out .exit)) n ⌝ }
+{
+    if r == 15 {
+        let p = text::put_then_hex8(out, at, b"0x", pc);
+        text::put(out, p, b"u")
+    } else {
+        let p = text::put_then_dec(out, at, b"c[", r as u64);
+        text::put(out, p, b"]")
+    }
+}
+
+// A Bx.
+pub fn emit_bx(out: &mut [u8], at: usize, cycles: u64, r: u8, pc: u32) -> usize
+    ensures { λ n. ⌜ ((ks : List ℕ) (a : ℕ) (o : Owner) (c : Code) → Wrote (now (out .entry)) at (codeText (nativeText ks a o (bx (flushTicks cycles) (regOr pc r)) c)) (now (out .exit)) n) ⌝ }
+{
+    let p = flush_ticks(out, at, cycles);
+    let q = text::put(out, p, b"    { uint32_t t = ");
+    let s = put_reg(out, q, r, pc);
+    text::put(
+        out,
+        s,
+        b";\n      if (t & 1u) { c[16] |= 0x20u; c[15] = t & ~1u; return (t & ~1u) | 1u; }\n      c[16] &= ~0x20u; c[15] = t & ~3u; return t & ~3u; }\n",
+    )
+}
+
+// The end of a block that goes on at address next, whose key is given too.
+pub fn emit_closing(
+    out: &mut [u8],
+    at: usize,
+    cycles: u64,
+    next: u32,
+    inside: bool,
+    src: u32,
+    key: u32,
+) -> usize
+    ensures { λ r. ⌜ ((ks : List ℕ) → has key ks ≡ inside → Wrote (now (out .entry)) at (codeText (lines common 4 (flushTicks cycles ++ apart (setWord 15 next ∷ [])) (Block·transfer ks src common 4 key end))) (now (out .exit)) r) ⌝ }
+{
+    let p = flush_ticks(out, at, cycles);
+    let q = set_pc(out, p, next);
+    transfer(out, q, inside, src, key, false)
+}

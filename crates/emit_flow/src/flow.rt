@@ -1,0 +1,96 @@
+// Ticks, registers set to a word, and transfers.
+use crate::keys::put_then_key;
+use armv4t::clear_bit0;
+ghost use mathlib.Core.Path.{_≡_};
+ghost use mathlib.Core.List.{List, [], _∷_};
+ghost use Prim.Native.Nat.{ℕ};
+ghost use mathlib.Core.Bool.{false};
+ghost use Rattle.text.specs.Wrote.{Wrote};
+ghost use Rattle.c_tree.specs.Expr.{word, lit};
+ghost use Rattle.c_tree.specs.Stmt.{gate, Owner, common, ret, retIf, end, _⨾_};
+ghost use Rattle.c_tree.specs.Print.{codeText};
+ghost use Rattle.forms.specs.InlineBody.{apart};
+ghost use Rattle.forms.specs.Block.{flushTicks, setWord};
+ghost use Rattle.lowering.specs.Block.{nl, sp, lines, has, chain, transfer};
+ghost use Rattle.emit_flow.specs.Pieces.{indent};
+
+// The cycles pending, if there are any.
+pub fn flush_ticks(out: &mut [u8], at: usize, cycles: u64) -> usize
+    ensures { λ r. ⌜ Wrote (now (out .entry)) at (codeText (lines common 4 (flushTicks cycles) end)) (now (out .exit)) r ⌝ }
+{
+    if cycles == 0 {
+        return at;
+    }
+    let p = text::put_then_dec(out, at, b"    a->tick(m, ", cycles);
+    text::put(out, p, b"u);\n")
+}
+
+// r14 set to n.
+pub(crate) fn set_lr(out: &mut [u8], at: usize, n: u32) -> usize
+    ensures { λ r. ⌜ Wrote (now (out .entry)) at (codeText (lines common 4 (apart (setWord 14 n ∷ [])) end)) (now (out .exit)) r ⌝ }
+{
+    let p = text::put_then_hex8(out, at, b"    c[14] = 0x", n);
+    text::put(out, p, b"u;\n")
+}
+
+// r15 set to n.
+pub(crate) fn set_pc(out: &mut [u8], at: usize, n: u32) -> usize
+    ensures { λ r. ⌜ Wrote (now (out .entry)) at (codeText (lines common 4 (apart (setWord 15 n ∷ [])) end)) (now (out .exit)) r ⌝ }
+{
+    let p = text::put_then_hex8(out, at, b"    c[15] = 0x", n);
+    text::put(out, p, b"u;\n")
+}
+
+// Four spaces, or eight.
+fn put_indent(out: &mut [u8], at: usize, deep: bool) -> usize
+    ensures { λ r. ⌜ Wrote (now (out .entry)) at (codeText (sp (indent deep) ⨾ end)) (now (out .exit)) r ⌝ }
+{
+    if deep {
+        text::put(out, at, b"        ")
+    } else {
+        text::put(out, at, b"    ")
+    }
+}
+
+// A goto in a line of its own.
+fn put_goto(out: &mut [u8], at: usize, key: u32, deep: bool) -> usize
+    ensures { λ r. ⌜ Wrote (now (out .entry)) at (codeText (chain false common (indent deep) key end)) (now (out .exit)) r ⌝ }
+{
+    let p = put_indent(out, at, deep);
+    let q = put_then_key(out, p, b"goto L_", key);
+    text::put(out, q, b";\n")
+}
+
+// The chain gate before a goto.
+fn put_gate(out: &mut [u8], at: usize, key: u32, deep: bool) -> usize
+    ensures { λ r. ⌜ Wrote (now (out .entry)) at (codeText (sp (indent deep) ⨾ retIf common gate (lit word key) ⨾ nl ⨾ end)) (now (out .exit)) r ⌝ }
+{
+    let p = put_indent(out, at, deep);
+    let q = text::put_then_hex8(out, p, b"if (a->chain_gate(m)) return 0x", key);
+    text::put(out, q, b"u;\n")
+}
+
+// The return of a key.
+fn put_return(out: &mut [u8], at: usize, key: u32, deep: bool) -> usize
+    ensures { λ r. ⌜ Wrote (now (out .entry)) at (codeText (sp (indent deep) ⨾ ret common (lit word key) ⨾ nl ⨾ end)) (now (out .exit)) r ⌝ }
+{
+    let p = put_indent(out, at, deep);
+    let q = text::put_then_hex8(out, p, b"return 0x", key);
+    text::put(out, q, b"u;\n")
+}
+
+// From the block at src to a key: a goto within the group, gated if it does not go up, or else a return.
+pub fn transfer(out: &mut [u8], at: usize, inside: bool, src: u32, key: u32, deep: bool) -> usize
+    ensures { λ r. ⌜ ((ks : List ℕ) (o : Owner) → has key ks ≡ inside → Wrote (now (out .entry)) at (codeText (transfer ks src o (indent deep) key end)) (now (out .exit)) r) ⌝ }
+{
+    if !inside {
+        return put_return(out, at, key, deep);
+    }
+    let to = clear_bit0(key);
+    if to <= src {
+        let p = put_gate(out, at, key, deep);
+        put_goto(out, p, key, deep)
+    } else {
+        put_goto(out, at, key, deep)
+    }
+}

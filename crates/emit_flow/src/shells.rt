@@ -1,0 +1,31 @@
+// A record left to the interpreter.
+use crate::flow::flush_ticks;
+use crate::flow::set_pc;
+ghost use mathlib.Core.List.{[], _∷_, _++_};
+ghost use Prim.Native.Nat.{ℕ};
+ghost use Rattle.text.specs.Wrote.{Wrote};
+ghost use Rattle.c_tree.specs.Stmt.{common, retInterp, end, _⨾_};
+ghost use Rattle.c_tree.specs.Print.{codeText};
+ghost use Rattle.forms.specs.Forms.{Body};
+ghost use Rattle.forms.specs.InlineBody.{apart};
+ghost use Rattle.forms.specs.Block.{flushTicks, setWord};
+ghost use Rattle.lowering.specs.Block.{nl, sp, lines, emitShell};
+
+// One that has others behind it: on to them if the interpreter comes to their key.
+pub fn emit_shell(out: &mut [u8], at: usize, cycles: u64, addr: u32, expect: u32) -> usize
+    ensures { λ r. ⌜ ((b : Body) (i : ℕ) → Wrote (now (out .entry)) at (codeText (lines common 4 (flushTicks cycles ++ apart (setWord 15 addr ∷ [])) (emitShell b i expect end))) (now (out .exit)) r) ⌝ }
+{
+    let p = flush_ticks(out, at, cycles);
+    let q = set_pc(out, p, addr);
+    let s = text::put_then_hex8(out, q, b"    pc = a->interp_one(m); if (pc != 0x", expect);
+    text::put(out, s, b"u) return pc;\n")
+}
+
+// The last of a block.
+pub fn emit_last_shell(out: &mut [u8], at: usize, cycles: u64, addr: u32) -> usize
+    ensures { λ r. ⌜ ((k i : ℕ) → Wrote (now (out .entry)) at (codeText (lines common 4 (flushTicks cycles ++ apart (setWord 15 addr ∷ [])) (sp 4 ⨾ retInterp k i ⨾ nl ⨾ end))) (now (out .exit)) r) ⌝ }
+{
+    let p = flush_ticks(out, at, cycles);
+    let q = set_pc(out, p, addr);
+    text::put(out, q, b"    return a->interp_one(m);\n")
+}
