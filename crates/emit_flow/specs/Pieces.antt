@@ -24,6 +24,13 @@ branchRegs link ret target = only link (setWord 14 ret) ++ (setWord 15 target �
 abbrev pub regOr : ℕ → ℕ → Expr
 regOr pc r = cond (eqb r 15) (lit word pc) (get (reg r))
 
+-- the braces around lines that have no condition
+abbrev pub straightOpen : Doc
+straightOpen = codeText (sp 4 ⨾ end) ▸ text "{" ▸ codeText (nl ⨾ end)
+
+abbrev pub straightEnd : Doc
+straightEnd = codeText (sp 4 ⨾ end) ▸ text "}" ▸ codeText (nl ⨾ end)
+
 -- { flags; if (
 abbrev pub beforeCondition : Doc
 beforeCondition = codeText (sp 4 ⨾ end) ▸ text "{" ▸ codeText (sp 1 ⨾ line common flags (gap true 6 ⨾ end)) ▸ text "if ("
@@ -35,6 +42,13 @@ behindCondition = text ") {"
 -- the two braces behind what is conditional
 abbrev pub behindConditional : Doc
 behindConditional = text "}" ▸ codeText (sp 1 ⨾ end) ▸ text "}" ▸ codeText (nl ⨾ end)
+
+-- the same around lines, with their line ends and indents
+abbrev pub holdsOpen : Doc
+holdsOpen = behindCondition ▸ codeText (nl ⨾ end)
+
+abbrev pub holdsEnd : Doc
+holdsEnd = codeText (sp 6 ⨾ end) ▸ behindConditional
 
 -- the head of a block's function, with c and pc
 abbrev pub blockOpen : ℕ → Doc

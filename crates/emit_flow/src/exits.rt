@@ -8,7 +8,7 @@ use armv4t::set_bit0;
 ghost use mathlib.Core.Path.{_≡_};
 ghost use mathlib.Core.List.{List, [], _∷_, _++_};
 ghost use Prim.Native.Nat.{ℕ};
-ghost use Rattle.text.specs.Doc.{text, _▸_};
+ghost use Rattle.text.specs.Doc.{_▸_};
 ghost use Rattle.text.specs.Wrote.{Wrote};
 ghost use Rattle.armv4t.specs.Bit0.{setBit0};
 ghost use Rattle.c_tree.specs.Stmt.{Owner, common, Code, end, _⨾_};
@@ -17,18 +17,7 @@ ghost use Rattle.forms.specs.Forms.{jump, bx};
 ghost use Rattle.forms.specs.InlineBody.{only, apart};
 ghost use Rattle.forms.specs.Block.{flushTicks, setWord, emitPair};
 ghost use Rattle.lowering.specs.Block.{nl, sp, line, lines, has, transfer as Block·transfer, nativeText};
-ghost use Rattle.emit_flow.specs.Pieces.{branchRegs, regOr, beforeCondition, behindCondition, behindConditional};
-
-// What stands before the condition of a record.
-pub fn open_conditional(out: &mut [u8], at: usize) -> usize
-    ensures { λ r. ⌜ Wrote (now (out .entry)) at beforeCondition (now (out .exit)) r ⌝ }
-{
-    text::put(
-        out,
-        at,
-        b"    { uint32_t s_ = c[16]; uint32_t cn = s_ >> 31, cz = (s_ >> 30) & 1u, cc = (s_ >> 29) & 1u, cv = (s_ >> 28) & 1u;\n      if (",
-    )
-}
+ghost use Rattle.emit_flow.specs.Pieces.{branchRegs, regOr, behindCondition, behindConditional};
 
 // The registers of a branch, behind its condition.
 fn put_taken(out: &mut [u8], at: usize, link: bool, ret: u32, target: u32) -> usize

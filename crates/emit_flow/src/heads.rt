@@ -3,8 +3,8 @@ use crate::keys::put_then_key;
 ghost use mathlib.Core.List.{[], _∷_};
 ghost use Rattle.text.specs.Wrote.{Wrote};
 ghost use Rattle.c_tree.specs.Stmt.{call, end, _⨾_, block, function};
-ghost use Rattle.c_tree.specs.Print.{casesText, topText};
-ghost use Rattle.lowering.specs.Block.{sp};
+ghost use Rattle.c_tree.specs.Print.{casesText, codeText, topText};
+ghost use Rattle.lowering.specs.Block.{nl, sp};
 ghost use Rattle.emit_flow.specs.Pieces.{blockOpen, functionEnd, groupOpen, switchEnd};
 
 // The head of a lone block's function.
@@ -52,6 +52,13 @@ pub fn put_switch_end(out: &mut [u8], at: usize) -> usize
     ensures { λ r. ⌜ Wrote (now (out .entry)) at switchEnd (now (out .exit)) r ⌝ }
 {
     text::put(out, at, b"    default: return 0u;\n    }\n")
+}
+
+// The end of a member's code, in its group's function.
+pub fn put_member_end(out: &mut [u8], at: usize) -> usize
+    ensures { λ r. ⌜ Wrote (now (out .entry)) at (codeText (nl ⨾ end)) (now (out .exit)) r ⌝ }
+{
+    text::put(out, at, b"\n")
 }
 
 // The function of member n, which enters the function of its group.

@@ -1,5 +1,6 @@
 // The text of control flow: transfers, shells, branches, guards, and what stands around the blocks of a unit. Each function writes at index at of a lent
 // buffer, and answers the index after it.
+mod braces;
 mod exits;
 mod flow;
 mod guards;
@@ -9,12 +10,17 @@ mod opening;
 mod shells;
 mod tables;
 
+pub use braces::close_holds;
+pub use braces::close_straight;
+pub use braces::open_conditional;
+pub use braces::open_holds;
+pub use braces::open_straight;
 pub use exits::branch_always;
 pub use exits::branch_taken;
 pub use exits::emit_bx;
 pub use exits::emit_closing;
 pub use exits::emit_pair;
-pub use exits::open_conditional;
+pub use exits::put_reg;
 pub use flow::flush_ticks;
 pub use flow::transfer;
 pub use guards::emit_defer;
@@ -24,6 +30,7 @@ pub use heads::put_case;
 pub use heads::put_forwarder;
 pub use heads::put_function_end;
 pub use heads::put_group_head;
+pub use heads::put_member_end;
 pub use heads::put_switch_end;
 pub use keys::put_key;
 pub use keys::put_label;

@@ -1,11 +1,11 @@
--- `emit_flow::exits::open_conditional` meets its contract: what its calls write, one after another. Assumes nothing.
+-- `emit_flow::braces::open_conditional` meets its contract: what its calls write, one after another. Assumes nothing.
 use mathlib.Core.Path.{refl}
 use borrow.Author.Needs.{needs}
 use Rattle.text.specs.Digits.{numeral}
 use Rattle.text.specs.Doc.{decimal}
 use Rattle.text.proofs.Laws.{said, kept}
-use Rattle.emit_flow.proofs.exits.open_conditional.Statement.{statement}
-use Rattle.emit_flow.proofs.exits.open_conditional.Tie as tie
+use Rattle.emit_flow.proofs.braces.open_conditional.Statement.{statement}
+use Rattle.emit_flow.proofs.braces.open_conditional.Tie as tie
 
 slice-aggregate-put : tie.Need-slice-aggregate-put
 slice-aggregate-put c = search needs

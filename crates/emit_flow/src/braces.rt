@@ -1,0 +1,42 @@
+// The braces around the lines of a record that is carried out here.
+ghost use Rattle.text.specs.Wrote.{Wrote};
+ghost use Rattle.emit_flow.specs.Pieces.{straightOpen, straightEnd, beforeCondition, holdsOpen, holdsEnd};
+
+// Before the lines of a record without a condition.
+pub fn open_straight(out: &mut [u8], at: usize) -> usize
+    ensures { λ r. ⌜ Wrote (now (out .entry)) at straightOpen (now (out .exit)) r ⌝ }
+{
+    text::put(out, at, b"    {\n")
+}
+
+// Behind them.
+pub fn close_straight(out: &mut [u8], at: usize) -> usize
+    ensures { λ r. ⌜ Wrote (now (out .entry)) at straightEnd (now (out .exit)) r ⌝ }
+{
+    text::put(out, at, b"    }\n")
+}
+
+// What stands before the condition of a record.
+pub fn open_conditional(out: &mut [u8], at: usize) -> usize
+    ensures { λ r. ⌜ Wrote (now (out .entry)) at beforeCondition (now (out .exit)) r ⌝ }
+{
+    text::put(
+        out,
+        at,
+        b"    { uint32_t s_ = c[16]; uint32_t cn = s_ >> 31, cz = (s_ >> 30) & 1u, cc = (s_ >> 29) & 1u, cv = (s_ >> 28) & 1u;\n      if (",
+    )
+}
+
+// Between the condition and the lines that it is for.
+pub fn open_holds(out: &mut [u8], at: usize) -> usize
+    ensures { λ r. ⌜ Wrote (now (out .entry)) at holdsOpen (now (out .exit)) r ⌝ }
+{
+    text::put(out, at, b") {\n")
+}
+
+// Behind those lines.
+pub fn close_holds(out: &mut [u8], at: usize) -> usize
+    ensures { λ r. ⌜ Wrote (now (out .entry)) at holdsEnd (now (out .exit)) r ⌝ }
+{
+    text::put(out, at, b"      } }\n")
+}
