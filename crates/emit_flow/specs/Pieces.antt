@@ -1,11 +1,11 @@
 -- Parts of a tree's text that no tree prints alone: what stands before and behind what another function writes.
 use Prim.Native.Nat.{ℕ}
-use mathlib.Core.Bool.{Bool, true, false, cond}
+use mathlib.Core.Bool.{Bool, true, cond}
 use mathlib.Core.List.{List, [], _∷_, _++_}
 use lib.Dec.{eqb}
 use Rattle.text.specs.Doc.{Doc, text, _▸_}
 use Rattle.c_tree.specs.Expr.{word, reg, Expr, lit, get}
-use Rattle.c_tree.specs.Stmt.{Plain, common, gap, Code, end, _⨾_, block, group, blank}
+use Rattle.c_tree.specs.Stmt.{Plain, common, gap, end, _⨾_, block, group, blank}
 use Rattle.c_tree.specs.Print.{codeText, headText, topText}
 use Rattle.forms.specs.InlineBody.{only}
 use Rattle.forms.specs.Block.{setWord}

@@ -1,0 +1,62 @@
+-- The text of a block's forms, as the pieces that functions write one after another.
+use mathlib.Core.Path.{_≡_, refl, sym, ap, _∙_}
+use Prim.Native.Nat.{ℕ}
+use mathlib.Core.Bool.{true}
+use mathlib.Core.List.{List}
+use mathlib.Core.Option.{some}
+use Rattle.text.specs.Doc.{text, _▸_, flat}
+use Rattle.c_tree.specs.Expr.{Expr}
+use Rattle.c_tree.specs.Stmt.{Plain, guard, Owner, common, plain, Code, end, _⨾_, when, braces}
+use Rattle.c_tree.specs.Print.{exprText, plainText, codeText}
+use Rattle.forms.specs.Forms.{Lines, straight, holds, branch, pop, Body}
+use Rattle.lowering.specs.Block.{bodyLength, nl, sp, line, lines, transfer, conditional, leave, nativeText, emitShell, rest, defer, underGuard}
+use Rattle.emit_flow.specs.Pieces.{straightOpen, straightEnd, beforeCondition, behindCondition, behindConditional, holdsOpen, holdsEnd}
+use Rattle.emit_flow.proofs.Pieces.{lines-behind}
+
+-- lines in braces
+pub straight-text : (ks : List ℕ) (a : ℕ) (o : Owner) (t l : Lines) (c : Code) (k : List ℕ)
+    → flat (codeText (nativeText ks a o (straight t l) c)) k
+    ≡ flat (codeText (lines common 4 t end) ▸ straightOpen ▸ codeText (lines common 8 l end) ▸ straightEnd ▸ codeText c) k
+unfolding nativeText
+straight-text ks a o t l c k =
+    lines-behind o common 4 t (sp 4 ⨾ braces (nl ⨾ lines o 8 l (sp 4 ⨾ end)) (nl ⨾ c)) k
+    ∙ ap (flat (codeText (lines common 4 t end) ▸ straightOpen)) (lines-behind o common 8 l (sp 4 ⨾ end) (flat (text "}" ▸ codeText (nl ⨾ c)) k))
+
+-- lines behind a condition
+pub holds-text : (ks : List ℕ) (a : ℕ) (o : Owner) (t : Lines) (e : Expr) (l : Lines) (c : Code) (k : List ℕ)
+    → flat (codeText (nativeText ks a o (holds t e l) c)) k
+    ≡ flat (codeText (lines common 4 t end) ▸ beforeCondition ▸ exprText e ▸ holdsOpen ▸ codeText (lines common 8 l end) ▸ holdsEnd ▸ codeText c) k
+unfolding nativeText
+holds-text ks a o t e l c k =
+    lines-behind o common 4 t (conditional o e (nl ⨾ lines o 8 l (sp 6 ⨾ end)) c) k
+    ∙ ap (flat (codeText (lines common 4 t end) ▸ beforeCondition ▸ exprText e ▸ holdsOpen))
+    (lines-behind o common 8 l (sp 6 ⨾ end) (flat (behindConditional ▸ codeText c) k))
+
+-- a branch behind a condition
+pub branch-text : (ks : List ℕ) (a : ℕ) (o : Owner) (t : Lines) (e : Expr) (l : List Plain) (key : ℕ) (c : Code) (k : List ℕ)
+    → flat (codeText (nativeText ks a o (branch t e l key) c)) k
+    ≡ flat (codeText (lines common 4 t end) ▸ beforeCondition ▸ exprText e ▸ (behindCondition ▸ codeText (sp 1 ⨾ line o l (nl ⨾ transfer ks a o 8 key (sp 6 ⨾ end))) ▸ behindConditional) ▸ codeText c) k
+unfolding nativeText
+branch-text ks a o t e l key c k = lines-behind o common 4 t (conditional o e (sp 1 ⨾ line o l (nl ⨾ transfer ks a o 8 key (sp 6 ⨾ end))) c) k
+
+-- a pop of PC
+pub pop-text : (ks : List ℕ) (a : ℕ) (o : Owner) (t : Lines) (p : Plain) (l : Lines) (q : Plain) (e : Expr) (c : Code) (k : List ℕ)
+    → flat (codeText (nativeText ks a o (pop t p l q e) c)) k
+    ≡ flat (codeText (lines common 4 t end) ▸ text "    { " ▸ plainText p ▸ text ";\n" ▸ codeText (lines common 6 l end) ▸ text "      " ▸ plainText q ▸ text "; return " ▸ exprText e ▸ text "; }\n") k
+unfolding nativeText
+pop-text ks a o t p l q e c k =
+    lines-behind o common 4 t (sp 4 ⨾ braces (sp 1 ⨾ plain o p ⨾ nl ⨾ lines o 6 l (sp 6 ⨾ plain o q ⨾ leave o e)) (nl ⨾ end)) k
+    ∙ ap (flat (codeText (lines common 4 t end) ▸ text "    { " ▸ plainText p ▸ text ";\n")) (lines-behind o common 6 l (sp 6 ⨾ plain o q ⨾ leave o e) (flat (text "}\n") k))
+
+-- a shell, and the code behind it
+pub shell-behind : (b : Body) (i key : ℕ) (t : Lines) (c : Code) (k : List ℕ)
+    → flat (codeText (lines common 4 t (emitShell b i key c))) k ≡ flat (codeText (lines common 4 t (emitShell b i key end)) ▸ codeText c) k
+shell-behind b i key t c k =
+    lines-behind common common 4 t (emitShell b i key c) k ∙ sym (lines-behind common common 4 t (emitShell b i key end) (flat (codeText c) k))
+
+-- the guard, and the code behind it
+pub guard-behind : (ks : List ℕ) (b : Body) (h : ℕ) (k : List ℕ)
+    → flat (codeText (underGuard ks b (some h))) k
+    ≡ flat (codeText (sp 4 ⨾ when common true (guard (b .addr) (bodyLength b) h) (sp 1 ⨾ defer b (sp 1 ⨾ end)) (nl ⨾ end)) ▸ codeText (rest ks b 0 (b .forms))) k
+unfolding underGuard
+guard-behind ks b h k = refl
