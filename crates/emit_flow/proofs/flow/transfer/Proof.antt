@@ -1,6 +1,7 @@
 -- `emit_flow::flow::transfer` meets its contract: what its calls write, one after another. Assumes nothing.
 use mathlib.Core.Path.{sym, ap, _∙_}
 use Prim.Native.Nat.{ℕ}
+use native.Mathlib.Omega.{arith}
 use lib.Dec.{leb}
 use borrow.Author.Needs.{needs}
 use borrow.Author.Tests.{not-true, not-false, le-leb, lt-leb}
@@ -42,7 +43,7 @@ returns-2 c =
     let c2 = c3 .before in
     let c1 = c2 .before in
     let v = c1 .before .before .args in
-    λ ks o h. said (seq (c4 .put-gate .ensures) (c5 .put-goto .ensures)) (gated ks (v .src) o (indent (v .deep)) (v .key) (h ∙ not-false _ (c1 .if1 .left)) (ap (λ (n : ℕ). leb n (v .src)) (sym (c2 .clear-bit0 .ensures)) ∙ le-leb _ _ (c3 .if2 .taken)))
+    λ ks o h. said (seq (c4 .put-gate .ensures) (c5 .put-goto .ensures)) (gated ks (v .src) o (indent (v .deep)) (v .key) (h ∙ not-false _ (c1 .if1 .left)) (ap (λ (n : ℕ). leb n (v .src)) (sym (c2 .clear-bit0 .ensures)) ∙ le-leb (c2 .clear-bit0 .result) (v .src) (omega (arith, c3 .if2 .taken))))
 
 same-length-2 : tie.Need-same-length-2
 same-length-2 c = search needs
@@ -54,7 +55,7 @@ returns-3 c =
     let c2 = c3 .before in
     let c1 = c2 .before in
     let v = c1 .before .before .args in
-    λ ks o h. said (c4 .put-goto2 .ensures) (ungated ks (v .src) o (indent (v .deep)) (v .key) (h ∙ not-false _ (c1 .if1 .left)) (ap (λ (n : ℕ). leb n (v .src)) (sym (c2 .clear-bit0 .ensures)) ∙ lt-leb _ _ (c3 .if2 .left)))
+    λ ks o h. said (c4 .put-goto2 .ensures) (ungated ks (v .src) o (indent (v .deep)) (v .key) (h ∙ not-false _ (c1 .if1 .left)) (ap (λ (n : ℕ). leb n (v .src)) (sym (c2 .clear-bit0 .ensures)) ∙ lt-leb (c2 .clear-bit0 .result) (v .src) (omega (arith, c3 .if2 .left))))
 
 same-length-3 : tie.Need-same-length-3
 same-length-3 c = search needs
