@@ -1,15 +1,17 @@
 -- The text of a block's forms, as the pieces that functions write one after another.
 use mathlib.Core.Path.{_≡_, refl, sym, ap, _∙_}
-use Prim.Native.Nat.{ℕ}
-use mathlib.Core.Bool.{true}
-use mathlib.Core.List.{List}
+use Prim.Native.Nat.{ℕ, _+_}
+use mathlib.Core.Bool.{Bool, true, cond}
+use mathlib.Core.List.{List, [], _∷_, _++_}
 use mathlib.Core.Option.{some}
 use Rattle.text.specs.Doc.{text, _▸_, flat}
 use Rattle.c_tree.specs.Expr.{Expr}
-use Rattle.c_tree.specs.Stmt.{Plain, guard, Owner, common, plain, Code, end, _⨾_, when, braces}
+use Rattle.c_tree.specs.Stmt.{Plain, guard, Owner, common, plain, retInterp, Code, end, _⨾_, when, braces}
 use Rattle.c_tree.specs.Print.{exprText, plainText, codeText}
-use Rattle.forms.specs.Forms.{Lines, straight, holds, branch, pop, Body}
-use Rattle.lowering.specs.Block.{bodyLength, nl, sp, line, lines, transfer, conditional, leave, nativeText, emitShell, rest, defer, underGuard}
+use Rattle.forms.specs.Forms.{Lines, Native, straight, holds, branch, pop, Form, shell, records, Body}
+use Rattle.forms.specs.InlineBody.{apart}
+use Rattle.forms.specs.Block.{flushTicks, setWord}
+use Rattle.lowering.specs.Block.{bodyKey, bodyLength, bodyEnd, nl, sp, line, lines, transfer, closing, conditional, leave, nativeText, emitShell, rest, defer, underGuard}
 use Rattle.emit_flow.specs.Pieces.{straightOpen, straightEnd, beforeCondition, behindCondition, behindConditional, holdsOpen, holdsEnd}
 use Rattle.emit_flow.proofs.Pieces.{lines-behind}
 
@@ -60,3 +62,35 @@ pub guard-behind : (ks : List ℕ) (b : Body) (h : ℕ) (k : List ℕ)
     ≡ flat (codeText (sp 4 ⨾ when common true (guard (b .addr) (bodyLength b) h) (sp 1 ⨾ defer b (sp 1 ⨾ end)) (nl ⨾ end)) ▸ codeText (rest ks b 0 (b .forms))) k
 unfolding underGuard
 guard-behind ks b h k = refl
+
+-- the text from a native record on: its mark prints nothing
+pub rest-native : (ks : List ℕ) (b : Body) (i : ℕ) (r : Native) (rs : List Form) (k : List ℕ)
+    → flat (codeText (rest ks b i (Form.native r ∷ rs))) k
+    ≡ flat (codeText (nativeText ks (b .addr) (Owner.native (bodyKey b)) r (rest ks b (i + records r) rs))) k
+unfolding rest
+rest-native ks b i r rs k = refl
+
+-- from a shell on that has others behind it
+pub rest-shell : (ks : List ℕ) (b : Body) (i : ℕ) (h : Bool) (t : Lines) (key : ℕ) (r : Form) (rs : List Form) (k : List ℕ)
+    → flat (codeText (rest ks b i (shell h t key ∷ r ∷ rs))) k
+    ≡ flat (codeText (lines common 4 t (emitShell b i key end)) ▸ codeText (rest ks b (i + 1) (r ∷ rs))) k
+unfolding rest
+rest-shell ks b i h t key r rs k = shell-behind b i key t (rest ks b (i + 1) (r ∷ rs)) k
+
+-- the last shell, and the closing transfer where it is an unfused half
+pub rest-last : (ks : List ℕ) (b : Body) (i : ℕ) (h : Bool) (t : Lines) (key : ℕ) (k : List ℕ)
+    → flat (codeText (rest ks b i (shell h t key ∷ []))) k
+    ≡ flat (codeText (lines common 4 t (sp 4 ⨾ retInterp (bodyKey b) i ⨾ nl ⨾ end)) ▸ codeText (cond h (closing ks b) end)) k
+unfolding rest
+rest-last ks b i h t key k =
+    lines-behind common common 4 t (sp 4 ⨾ retInterp (bodyKey b) i ⨾ nl ⨾ cond h (closing ks b) end) k
+    ∙ sym (lines-behind common common 4 t (sp 4 ⨾ retInterp (bodyKey b) i ⨾ nl ⨾ end) (flat (codeText (cond h (closing ks b) end)) k))
+
+-- the end of a block, by the cycles pending there and where it goes on
+pub closing-text : (ks : List ℕ) (b : Body) (cycles next key : ℕ) (k : List ℕ) → b .last ≡ flushTicks cycles ++ apart (setWord 15 next ∷ [])
+    → bodyEnd b + cond (b .thumb) 1 0 ≡ key
+    → flat (codeText (closing ks b)) k ≡ flat (codeText (lines common 4 (flushTicks cycles ++ apart (setWord 15 next ∷ [])) (transfer ks (b .addr) common 4 key end))) k
+unfolding closing
+closing-text ks b cycles next key k e f =
+    ap (λ (l : Lines). flat (codeText (lines common 4 l (transfer ks (b .addr) common 4 (bodyEnd b + cond (b .thumb) 1 0) end))) k) e
+    ∙ ap (λ (n : ℕ). flat (codeText (lines common 4 (flushTicks cycles ++ apart (setWord 15 next ∷ [])) (transfer ks (b .addr) common 4 n end))) k) f
