@@ -1,16 +1,16 @@
--- A way that goes round a loop twice, and ends where the chain gate says so; at any wished size.
+-- Ways: round a loop twice, up to where the chain gate says so, at any wished size; through a shell; behind the guard's yes and its no.
 use Prim.Native.Nat.{ℕ}
 use mathlib.Core.Path.{_≡_, refl}
 use mathlib.Core.Bool.{Bool, true, false}
 use mathlib.Core.List.{List, [], _∷_, _++_, map, List·Memᴰ, List·Memᴰ·head}
-use mathlib.Core.Option.{none}
+use mathlib.Core.Option.{none, some}
 use Rattle.c_tree.specs.Expr.{word, x-cz, reg, lit}
-use Rattle.c_tree.specs.Stmt.{is, set, tick, gate, other, Owner, Code, _⨾_, _⧺_, group, Top, function}
+use Rattle.c_tree.specs.Stmt.{is, set, tick, gate, other, Owner, Code, _⨾_, _⧺_, group, Top, function, Test, guard}
 use Rattle.c_tree.specs.Preamble.{v32}
-use Rattle.forms.specs.Forms.{branch, Form, shell, Body}
-use Rattle.lowering.specs.Block.{bodyKey, guarded, nl, chain, transfer, nativeText, rest, blockCode}
+use Rattle.forms.specs.Forms.{branch, Form, shell, Body, straight}
+use Rattle.lowering.specs.Block.{bodyKey, guarded, nl, chain, transfer, nativeText, rest, blockCode, underGuard}
 use Rattle.lowering.specs.Units.{declared, labelled, groupCode, emitGroup, opened, tail, membersOf, unitsOf}
-use Rattle.ways.specs.Ways.{Place, here, later, Event, reach, said, natively, shelled, Way, w-gap, w-begin, w-plain, w-goto, w-leave, w-stay, w-call, w-retInterp, w-entry, w-when, w-braces}
+use Rattle.ways.specs.Ways.{Place, here, later, Event, reach, said, natively, shelled, Way, w-gap, w-begin, w-plain, w-goto, w-leave, w-stay, w-call, w-retInterp, w-entry, w-when, w-braces, stop}
 use Rattle.ways.specs.Claim.{carried, times}
 use Rattle.ways.proofs.Functions.{trees, forwarder}
 use Rattle.ways.proofs.Pieces.{group-part, in-part}
@@ -108,3 +108,35 @@ lone ts = w-gap (w-plain (w-gap (w-plain (w-gap (w-plain (w-gap (w-gap (w-plain 
 
 pub one : carried shelling ≡ 1
 one = refl
+
+-- a guarded block of one native record
+abbrev ram : Body
+ram =
+    record {
+      addr = 0x02000000;
+      thumb = false;
+      count = 1;
+      hash = some 7;
+      forms = Form.native (straight [] ((set (reg 0) is (lit word 0) ∷ []) ∷ [])) ∷ [];
+      last = (set (reg 15) is (lit word 0x02000004) ∷ []) ∷ [];
+    }
+
+-- what happens before the guard answers, and what it is asked about: address, length and hash
+abbrev asking : List Event
+asking = reach Owner.common ∷ reach Owner.common ∷ reach Owner.common ∷ reach Owner.common ∷ []
+
+abbrev asked : Test
+asked = guard 0x02000000 4 7
+
+-- its yes leads to the native statement
+pub guard-yes : (ts : List Top)
+    → Way ts (declared (blockCode [] ram)) (declared (blockCode [] ram)) (true ∷ [])
+    (asking ++ (said asked true ∷ natively 0x02000000 0 1 ∷ reach (Owner.native 0x02000000) ∷ []))
+unfolding declared blockCode guarded underGuard rest nativeText
+guard-yes ts = w-gap (w-plain (w-gap (w-plain (w-gap (w-plain (w-gap (w-gap (w-when (w-gap (w-begin (w-gap (w-braces (w-gap (w-gap (w-plain stop)))))))))))))))
+
+-- its no to the interpreter, which carries out the block's first instruction
+pub guard-no : (ts : List Top)
+    → Way ts (declared (blockCode [] ram)) (declared (blockCode [] ram)) (false ∷ []) (asking ++ (said asked false ∷ reach Owner.common ∷ shelled 0x02000000 0 ∷ []))
+unfolding declared blockCode guarded underGuard rest
+guard-no ts = w-gap (w-plain (w-gap (w-plain (w-gap (w-plain (w-gap (w-gap (w-when (w-gap (w-plain (w-gap w-retInterp)))))))))))
