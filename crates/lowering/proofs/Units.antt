@@ -2,14 +2,17 @@
 use Prim.Native.Nat.{ℕ, suc, _+_, _≤_}
 use mathlib.Core.Path.{_≡_, refl, sym, ap, _∙_, subst}
 use mathlib.Core.Bool.{Bool, true, false, cond}
-use mathlib.Core.List.{List, [], _∷_, _++_, map, append-assoc, List·Memᴰ, List·Memᴰ·head, List·Memᴰ·tail, List·Memᴰ·not-nil}
+use mathlib.Core.List.{List, [], _∷_, _++_, map, append-assoc, List·Memᴰ, List·Memᴰ·head, List·Memᴰ·tail, List·Memᴰ·not-nil, flatten}
 use native.Mathlib.Omega.{arith}
 use borrow.Author.Tests.{leb-true}
 use lib.Dec.{leb}
-use lib.ListN.{length, getD}
+use lib.ListN.{length, getD, length-append}
+use Rattle.block_file.specs.Parse.{Block}
+use Rattle.plan.proofs.PlanLength.{groups-length}
+use Rattle.plan.specs.Plan.{groups}
 use Rattle.c_tree.specs.Stmt.{Top}
 use Rattle.forms.specs.Forms.{Body}
-use Rattle.lowering.specs.Units.{TranslationUnit, emitGroup, opened, tail, textOf, cut, nobody, membersOf, unitsOf}
+use Rattle.lowering.specs.Units.{TranslationUnit, emitGroup, opened, tail, textOf, cut, nobody, membersOf, unitsOf, unitsFor}
 
 -- how many blocks some groups have
 abbrev pub blocksIn : {A : Type 0} → List (List A) → ℕ
@@ -116,3 +119,15 @@ units-end max bs gs =
 pub unit-opens : (max : ℕ) (bs : List Body) (gs : List (List ℕ)) (u : TranslationUnit) → List·Memᴰ u (unitsOf max bs gs) → (r : List Top) × (u .tree ≡ opened ++ r)
 unfolding unitsOf
 unit-opens max bs gs u m = cut-opens max (tail bs) (map (membersOf bs) gs) opened 0 [] refl u m
+
+blocks-flat : (gs : List (List ℕ)) → blocksIn gs ≡ length (flatten gs)
+unfolding flatten
+blocks-flat [] = refl
+blocks-flat (g ∷ gs) = omega (arith, length-append g (flatten gs), blocks-flat gs)
+
+-- with the last unit of a file's blocks all of them are done
+pub file-ends : (bodyOf : Block → Body) (limit max : ℕ) (bs : List Block) → Ends max (tail (map bodyOf bs)) (length bs) (unitsFor bodyOf limit max bs)
+unfolding unitsFor
+file-ends bodyOf limit max bs =
+    subst (λ (n : ℕ). Ends max (tail (map bodyOf bs)) n (unitsOf max (map bodyOf bs) (groups limit bs))) (blocks-flat (groups limit bs) ∙ groups-length bs limit)
+    (units-end max (map bodyOf bs) (groups limit bs))

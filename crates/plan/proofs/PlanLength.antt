@@ -70,8 +70,11 @@ module _ (bs : List Block) where
       (components-length left (suc r))
       ∙ sym (length-append (chain roots r (length bs) 0) (orderFrom roots (length bs) left (suc r)))
 
+  -- all groups together have each block once
+  pub groups-length : (limit : ℕ) → length (flatten (groups limit bs)) ≡ length bs
+  groups-length limit =
+      ap length (groups-flat limit bs) ∙ components-length (length bs) 0 ∙ order-all roots (length bs) (λ j h. rw (roots-at j h) (root-block bs j h))
+
   pub plan-length : (limit : ℕ) → length (plan limit bs) ≡ 2 * length bs
   unfolding plan
-  plan-length limit =
-      let all : length (flatten (groups limit bs)) ≡ length bs = ap length (groups-flat limit bs) ∙ components-length (length bs) 0 ∙ order-all roots (length bs) (λ j h. rw (roots-at j h) (root-block bs j h)) in
-      rows-length 0 (groups limit bs) ∙ ap (λ (n : ℕ). 2 * n) all
+  plan-length limit = rows-length 0 (groups limit bs) ∙ ap (λ (n : ℕ). 2 * n) (groups-length limit)
