@@ -1,0 +1,54 @@
+-- Lines of plain statements: whose they are does not show in their text, and the text of code behind them stands behind theirs.
+use mathlib.Core.Path.{_≡_, refl, ap, _∙_}
+use Prim.Native.Nat.{ℕ}
+use mathlib.Core.List.{List, [], _∷_}
+use Rattle.text.specs.Doc.{Doc, text, _▸_, flat, each}
+use Rattle.c_tree.specs.Stmt.{Plain, Owner, common, plain, Code, end, _⨾_}
+use Rattle.c_tree.specs.Print.{plainText, spaces, simpleText, codeText}
+use Rattle.forms.specs.Forms.{Lines}
+use Rattle.forms.specs.InlineBody.{apart}
+use Rattle.lowering.specs.Block.{nl, sp, line, lines}
+
+-- a line, and code behind it
+line-owner : (o q : Owner) (l : List Plain) (c d : Code) → ((k : List ℕ) → flat (codeText c) k ≡ flat (codeText d) k) → (k : List ℕ)
+    → flat (codeText (line o l c)) k ≡ flat (codeText (line q l d)) k
+line-owner o q [] c d same k = same k
+line-owner o q (p ∷ []) c d same k = ap (flat (plainText p ▸ text ";")) (same k)
+line-owner o q (p ∷ p′ ∷ ps) c d same k =
+    ap (λ (s : List ℕ). flat (plainText p ▸ text "; ") s) (line-owner o q (p′ ∷ ps) c d same k)
+
+-- the owner of lines prints nothing
+pub lines-owner : (o q : Owner) (n : ℕ) (ls : Lines) (c : Code) (k : List ℕ)
+    → flat (codeText (lines o n ls c)) k ≡ flat (codeText (lines q n ls c)) k
+lines-owner o q n [] c k = refl
+lines-owner o q n (l ∷ ls) c k =
+    ap (flat (spaces n))
+    (line-owner o q l (nl ⨾ lines o n ls c) (nl ⨾ lines q n ls c)
+    (λ (j : List ℕ). ap (flat (simpleText nl)) (lines-owner o q n ls c j)) k)
+
+-- code behind a line
+line-behind : (o : Owner) (l : List Plain) (c d e : Code) → ((k : List ℕ) → flat (codeText c) k ≡ flat (codeText d ▸ codeText e) k)
+    → (k : List ℕ) → flat (codeText (line o l c)) k ≡ flat (codeText (line o l d) ▸ codeText e) k
+line-behind o [] c d e same k = same k
+line-behind o (p ∷ []) c d e same k = ap (flat (plainText p ▸ text ";")) (same k)
+line-behind o (p ∷ p′ ∷ ps) c d e same k =
+    ap (λ (s : List ℕ). flat (plainText p ▸ text "; ") s) (line-behind o (p′ ∷ ps) c d e same k)
+
+-- code behind lines
+pub lines-behind : (o : Owner) (n : ℕ) (ls : Lines) (c : Code) (k : List ℕ)
+    → flat (codeText (lines o n ls c)) k ≡ flat (codeText (lines o n ls end) ▸ codeText c) k
+lines-behind o n [] c k = refl
+lines-behind o n (l ∷ ls) c k =
+    ap (flat (spaces n))
+    (line-behind o l (nl ⨾ lines o n ls c) (nl ⨾ lines o n ls end) c
+    (λ (j : List ℕ). ap (flat (simpleText nl)) (lines-behind o n ls c j)) k)
+
+-- a plain statement in a line of its own
+abbrev pub plainLine : ℕ → Plain → Doc
+plainLine n p = spaces n ▸ plainText p ▸ text ";\n"
+
+-- statements in lines of their own
+pub lines-apart : (o : Owner) (n : ℕ) (ps : List Plain) (k : List ℕ)
+    → flat (each (plainLine n) ps) k ≡ flat (codeText (lines o n (apart ps) end)) k
+lines-apart o n [] k = refl
+lines-apart o n (p ∷ ps) k = ap (flat (plainLine n p)) (lines-apart o n ps k)
