@@ -1,0 +1,69 @@
+-- The lines of an instruction by its fields, and whose they are.
+use mathlib.Core.Path.{_≡_, refl, sym, ap, _∙_}
+use Prim.Native.Nat.{ℕ}
+use mathlib.Core.Bool.{Bool, true, false, not, cond}
+use mathlib.Core.List.{List}
+use mathlib.Core.Option.{Option, none, some, Option·some-injective, Option·none-ne-some}
+use lib.Dec.{eqb}
+use Rattle.armv4t.specs.declared.AluOp.{AluOp}
+use Rattle.armv4t.specs.declared.Operand2.{Operand2}
+use Rattle.armv4t.specs.declared.Instr.{Instr}
+use Rattle.armv4t.specs.declared.Op.the-variants.{Alu, Mul}
+use Rattle.armv4t.specs.Instr.{pcValue}
+use Rattle.text.specs.Doc.{_▸_, flat}
+use Rattle.c_tree.specs.Expr.{Expr}
+use Rattle.c_tree.specs.Stmt.{Plain, Owner, common, Code}
+use Rattle.c_tree.specs.Print.{codeText}
+use Rattle.forms.specs.Forms.{Lines}
+use Rattle.forms.specs.Operands.{regExpr, op2Exprs}
+use Rattle.forms.specs.InlineBody.{apart, alu, aluBody, mulBody, opBody}
+use Rattle.lowering.specs.Block.{lines}
+use Rattle.emit_operands.specs.Operands.{regOf, operandOf, isSome}
+use Rattle.emit_operands.proofs.Operands.{operand-of}
+use Rattle.emit_operands.proofs.Lines.{lines-owner, lines-behind}
+use Rattle.emit_alu.specs.Rows.{rows}
+
+-- rows, and code behind them, are the lines of any owner with that code behind them
+pub rows-behind : (o : Owner) (ps : List Plain) (c : Code) (k : List ℕ)
+    → flat (rows ps ▸ codeText c) k ≡ flat (codeText (lines o 8 (apart ps) c)) k
+rows-behind o ps c k = sym (lines-behind common 8 (apart ps) c k) ∙ lines-owner common o 8 (apart ps) c k
+
+-- Alu, if it has lines
+pub alu-lines : (thumb : Bool) (i : Instr) (op : AluOp) (s : Bool) (rd rn : ℕ) (op2 : Operand2) (ls : Lines)
+    → opBody thumb i (Alu op s rd rn op2) ≡ some ls
+    → apart (alu op s rd (regOf (pcValue i) rn) (operandOf (pcValue i) op2 .0) (operandOf (pcValue i) op2 .1)) ≡ ls
+alu-lines thumb i op s rd rn op2 ls p = of-rd (eqb rd 15) p
+  where
+    of-op2 : (b : Option (Expr × Option Expr)) → op2Exprs i op2 ≡ b → aluBody op s rd (regExpr i rn) b ≡ some ls
+        → apart (alu op s rd (regOf (pcValue i) rn) (operandOf (pcValue i) op2 .0) (operandOf (pcValue i) op2 .1)) ≡ ls
+    of-op2 none e q = absurd (Option·none-ne-some _ q)
+    of-op2 (some b) e q =
+        ap (λ (x : Expr × Option Expr). apart (alu op s rd (regOf (pcValue i) rn) (x .0) (x .1))) (operand-of i op2 b e)
+        ∙ Option·some-injective _ _ q
+
+    of-rd : (t : Bool) → cond t none (aluBody op s rd (regExpr i rn) (op2Exprs i op2)) ≡ some ls
+        → apart (alu op s rd (regOf (pcValue i) rn) (operandOf (pcValue i) op2 .0) (operandOf (pcValue i) op2 .1)) ≡ ls
+    of-rd true q = absurd (Option·none-ne-some _ q)
+    of-rd false q = of-op2 (op2Exprs i op2) refl q
+
+-- Mul, if it has lines
+pub mul-lines : (thumb : Bool) (i : Instr) (acc s : Bool) (rd rn rs rm : ℕ) (ls : Lines)
+    → opBody thumb i (Mul acc s rd rn rs rm) ≡ some ls → apart (mulBody acc s rd rn rs rm) ≡ ls
+mul-lines thumb i acc s rd rn rs rm ls p = of-rd (eqb rd 15) p
+  where
+    of-rd : (t : Bool) → cond t none (some (apart (mulBody acc s rd rn rs rm))) ≡ some ls → apart (mulBody acc s rd rn rs rm) ≡ ls
+    of-rd true q = absurd (Option·none-ne-some _ q)
+    of-rd false q = Option·some-injective _ _ q
+
+-- whether they have lines
+pub alu-has : (i : Instr) (op : AluOp) (s : Bool) (rd rn : ℕ) (op2 : Operand2)
+    → isSome (op2Exprs i op2) ≡ isSome (aluBody op s rd (regExpr i rn) (op2Exprs i op2))
+alu-has i op s rd rn op2 = of-op2 (op2Exprs i op2)
+  where
+    of-op2 : (b : Option (Expr × Option Expr)) → isSome b ≡ isSome (aluBody op s rd (regExpr i rn) b)
+    of-op2 none = refl
+    of-op2 (some b) = refl
+
+pub cond-has : {A : Type 0} (b : Bool) (x : A) → not b ≡ isSome (cond b none (some x))
+cond-has true x = refl
+cond-has false x = refl

@@ -1,0 +1,33 @@
+-- `emit_alu::logical::put_logical_rest` meets its contract: what its calls write, one after another. Assumes nothing.
+use Rattle.emit_alu.proofs.Texts.{rows-append}
+use Rattle.emit_operands.specs.Operands.{operandOf}
+use mathlib.Core.Bool.{cond}
+use mathlib.Core.List.{[], _∷_}
+use Rattle.c_tree.specs.Expr.{x-r}
+use Rattle.c_tree.specs.Preamble.{v32}
+use Rattle.c_tree.specs.Stmt.{f-nz, run}
+use Rattle.forms.specs.InlineBody.{result, logicalC}
+use borrow.Author.Needs.{needs}
+use Rattle.text.proofs.Laws.{seq, said, kept}
+use Rattle.emit_alu.proofs.logical.put_logical_rest.Statement.{statement}
+use Rattle.emit_alu.proofs.logical.put_logical_rest.Tie as tie
+
+put-flags-requires : tie.Need-put-flags-requires
+put-flags-requires c κs = search needs
+
+put-result-requires : tie.Need-put-result-requires
+put-result-requires c κs = search needs
+
+returns : tie.Need-returns
+returns c =
+    let c2 = c .before .before in
+    let c1 = c2 .before .before .before .before in
+    let a = c1 .before .before .before .args in
+    said (seq (c1 .put-flags .ensures) (c2 .put-result .ensures))
+    (rows-append (cond (a .s) (run f-nz (v32 x-r) ∷ logicalC (operandOf (a .pc) (a .op2) .1)) []) (result (a .op) (a .rd) ∷ []) [])
+
+same-length : tie.Need-same-length
+same-length c = kept (returns c)
+
+pub put-logical-rest-spec : {M : Type 1} → statement M
+put-logical-rest-spec = tie.close (tie.spec put-flags-requires put-result-requires same-length returns)

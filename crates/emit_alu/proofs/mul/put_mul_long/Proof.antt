@@ -1,0 +1,34 @@
+-- `emit_alu::mul::put_mul_long` meets its contract: what its calls write, one after another. Assumes nothing.
+use Rattle.emit_alu.proofs.Texts.{mul-long-text}
+use mathlib.Core.List.{[]}
+use borrow.Author.Needs.{needs}
+use Rattle.text.proofs.Laws.{seq, said, kept}
+use Rattle.emit_alu.proofs.mul.put_mul_long.Statement.{statement}
+use Rattle.emit_alu.proofs.mul.put_mul_long.Tie as tie
+
+put-long-product-requires : tie.Need-put-long-product-requires
+put-long-product-requires c κs = search needs
+
+put-long-more-requires : tie.Need-put-long-more-requires
+put-long-more-requires c κs = search needs
+
+put-halves-requires : tie.Need-put-halves-requires
+put-halves-requires c κs = search needs
+
+put-nz64-requires : tie.Need-put-nz64-requires
+put-nz64-requires c κs = search needs
+
+returns : tie.Need-returns
+returns c =
+    let c4 = c .before .before in
+    let c3 = c4 .before .before .before .before in
+    let c2 = c3 .before .before .before .before in
+    let c1 = c2 .before .before .before .before in
+    let a = c1 .before .before .before .args in
+    said (seq (c1 .put-long-product .ensures) (seq (c2 .put-long-more .ensures) (seq (c3 .put-halves .ensures) (c4 .put-nz64 .ensures)))) (mul-long-text (a .signed) (a .acc) (a .s) (a .hi) (a .lo) (a .rs) (a .rm) [])
+
+same-length : tie.Need-same-length
+same-length c = kept (returns c)
+
+pub put-mul-long-spec : {M : Type 1} → statement M
+put-mul-long-spec = tie.close (tie.spec put-long-product-requires put-long-more-requires put-halves-requires put-nz64-requires same-length returns)

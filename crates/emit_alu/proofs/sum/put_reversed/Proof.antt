@@ -1,0 +1,59 @@
+-- `emit_alu::sum::put_reversed` meets its contract: what its calls write, one after another. Assumes nothing.
+use mathlib.Core.Path.{refl}
+use Rattle.emit_alu.proofs.Texts.{sum-of}
+use Rattle.emit_operands.specs.Operands.{regOf, operandOf}
+use Rattle.c_tree.specs.Expr.{compl, un}
+use Rattle.c_tree.specs.Print.{exprText}
+use Rattle.text.specs.Doc.{raw, text, _▸_}
+use mathlib.Core.List.{[]}
+use borrow.Author.Needs.{needs}
+use Rattle.text.proofs.Laws.{seq, said, kept}
+use Rattle.emit_alu.proofs.sum.put_reversed.Statement.{statement}
+use Rattle.emit_alu.proofs.sum.put_reversed.Tie as tie
+
+put-before-requires : tie.Need-put-before-requires
+put-before-requires c κs = search needs
+
+put-op2-value-requires : tie.Need-put-op2-value-requires
+put-op2-value-requires c κs = search needs
+
+put-between-requires : tie.Need-put-between-requires
+put-between-requires c κs = search needs
+
+slice-aggregate-put : tie.Need-slice-aggregate-put
+slice-aggregate-put c = search needs
+
+put-requires : tie.Need-put-requires
+put-requires c κs = search needs
+
+put-reg-requires : tie.Need-put-reg-requires
+put-reg-requires c κs = search needs
+
+put-sum-rest-requires : tie.Need-put-sum-rest-requires
+put-sum-rest-requires c κs = search needs
+
+returns : tie.Need-returns
+returns c =
+    let c6 = c .before .before in
+    let c5 = c6 .before .before .before .before in
+    let c4 = c5 .before .before .before .before in
+    let c3 = c4 .before .before .before .before .before in
+    let c2 = c3 .before .before .before .before in
+    let c1 = c2 .before .before .before .before in
+    let a = c1 .before .before .before .before .args in
+    let e = regOf (a .pc) (a .rn) in
+    λ z q. said (seq (c1 .put-before .ensures) (seq (c2 .put-op2-value .ensures) (seq (c3 .put-between .ensures) (seq (c4 .put .ensures) (seq (c5 .put-reg .ensures) (c6 .put-sum-rest .ensures))))))
+    (sum-of (a .op) (a .s) (a .rd) (operandOf (a .pc) (a .op2) .0) (un compl e) z (text "~" ▸ exprText e) (raw (a .carry .now)) (λ k. refl) q [])
+
+same-length : tie.Need-same-length
+same-length c =
+    let c6 = c .before .before in
+    let c5 = c6 .before .before .before .before in
+    let c4 = c5 .before .before .before .before in
+    let c3 = c4 .before .before .before .before .before in
+    let c2 = c3 .before .before .before .before in
+    let c1 = c2 .before .before .before .before in
+    kept (seq (c1 .put-before .ensures) (seq (c2 .put-op2-value .ensures) (seq (c3 .put-between .ensures) (seq (c4 .put .ensures) (seq (c5 .put-reg .ensures) (c6 .put-sum-rest .ensures))))))
+
+pub put-reversed-spec : {M : Type 1} → statement M
+put-reversed-spec = tie.close (tie.spec put-before-requires put-op2-value-requires put-between-requires slice-aggregate-put put-requires put-reg-requires put-sum-rest-requires same-length returns)

@@ -1,0 +1,22 @@
+-- The lines that an instruction is lowered to, and what stands around the terms of a sum.
+use mathlib.Core.Bool.{Bool, cond}
+use mathlib.Core.List.{List}
+use Rattle.text.specs.Doc.{Doc, text}
+use Rattle.c_tree.specs.Stmt.{Plain, common, end}
+use Rattle.c_tree.specs.Print.{codeText}
+use Rattle.forms.specs.InlineBody.{apart}
+use Rattle.lowering.specs.Block.{lines}
+
+-- statements in lines of their own. No owner shows in the text, so common stands for any
+abbrev pub rows : List Plain → Doc
+rows ps = codeText (lines common 8 (apart ps) end)
+
+-- what stands before the terms of a sum, between two and behind them; whether it sets flags
+abbrev pub before : Bool → Doc
+before s = text (cond s "        uint32_t r = op_adds(c, " "        uint32_t r = ")
+
+abbrev pub between : Bool → Doc
+between s = text (cond s ", " " + ")
+
+abbrev pub behind : Bool → Doc
+behind s = text (cond s ");\n" ";\n")

@@ -1,0 +1,109 @@
+// Data processing that takes the carry from its second operand.
+use armv4t::AluOp;
+use armv4t::Operand2;
+use armv4t::Reg;
+use emit_operands::op2_has_carry;
+use emit_operands::put_op2_carry;
+use emit_operands::put_op2_value;
+use emit_operands::put_reg;
+ghost use mathlib.Core.Bool.{cond};
+ghost use mathlib.Core.List.{[], _∷_, _++_};
+ghost use Rattle.text.specs.Doc.{raw, text, _▸_};
+ghost use Rattle.text.specs.Wrote.{Wrote};
+ghost use Rattle.c_tree.specs.Expr.{x-r};
+ghost use Rattle.c_tree.specs.Stmt.{f-nz, run};
+ghost use Rattle.c_tree.specs.Preamble.{v32};
+ghost use Rattle.c_tree.specs.Print.{exprText};
+ghost use Rattle.forms.specs.InlineBody.{result, logicalC};
+ghost use Rattle.emit_operands.specs.Operands.{regOf, operandOf};
+ghost use Rattle.emit_alu.specs.Rows.{rows};
+
+// The last line of data processing.
+pub(crate) fn put_result(out: &mut [u8], at: usize, op: AluOp, rd: Reg) -> usize
+    ensures { λ r. ⌜ Wrote (now (out .entry)) at (rows (result op rd ∷ [])) (now (out .exit)) r ⌝ }
+{
+    if op.is_compare() {
+        return text::put(out, at, b"        (void)r;\n");
+    }
+    let p = text::put_then_dec(out, at, b"        c[", rd as u64);
+    text::put(out, p, b"] = r;\n")
+}
+
+fn put_logical_c(out: &mut [u8], at: usize, op2: Operand2, pc: u32) -> usize
+    ensures { λ r. ⌜ Wrote (now (out .entry)) at (rows (logicalC (operandOf pc op2 .1))) (now (out .exit)) r ⌝ }
+{
+    if op2_has_carry(op2) {
+        let p = text::put(out, at, b"        f_c(c, ");
+        let q = put_op2_carry(out, p, op2, pc);
+        return text::put(out, q, b");\n");
+    }
+    at
+}
+
+fn put_flags(out: &mut [u8], at: usize, s: bool, op2: Operand2, pc: u32) -> usize
+    ensures { λ r. ⌜ Wrote (now (out .entry)) at (rows (cond s (run f-nz (v32 x-r) ∷ logicalC (operandOf pc op2 .1)) [])) (now (out .exit)) r ⌝ }
+{
+    if s {
+        let p = text::put(out, at, b"        f_nz(c, r);\n");
+        return put_logical_c(out, p, op2, pc);
+    }
+    at
+}
+
+// The lines behind the first.
+fn put_logical_rest(
+    out: &mut [u8],
+    at: usize,
+    op: AluOp,
+    s: bool,
+    rd: Reg,
+    op2: Operand2,
+    pc: u32,
+) -> usize
+    ensures { λ r. ⌜ Wrote (now (out .entry)) at (rows (cond s (run f-nz (v32 x-r) ∷ logicalC (operandOf pc op2 .1)) [] ++ (result op rd ∷ []))) (now (out .exit)) r ⌝ }
+{
+    let p = put_flags(out, at, s, op2, pc);
+    put_result(out, p, op, rd)
+}
+
+// The lines of an operation with two operands: t stands between them.
+pub(crate) fn put_two(
+    out: &mut [u8],
+    at: usize,
+    op: AluOp,
+    s: bool,
+    rd: Reg,
+    rn: Reg,
+    op2: Operand2,
+    pc: u32,
+    t: &[u8],
+) -> usize
+    ensures { λ r. ⌜ Wrote (now (out .entry)) at (text "        uint32_t r = (" ▸ exprText (regOf pc rn) ▸ raw (now (t .entry)) ▸ exprText (operandOf pc op2 .0) ▸ text ");\n" ▸ rows (cond s (run f-nz (v32 x-r) ∷ logicalC (operandOf pc op2 .1)) [] ++ (result op rd ∷ []))) (now (out .exit)) r ⌝ }
+{
+    let p = text::put(out, at, b"        uint32_t r = (");
+    let q = put_reg(out, p, rn, pc);
+    let v = text::put(out, q, t);
+    let w = put_op2_value(out, v, op2, pc);
+    let x = text::put(out, w, b");\n");
+    put_logical_rest(out, x, op, s, rd, op2, pc)
+}
+
+// The lines of an operation with one operand: t stands before it, u behind it.
+pub(crate) fn put_one(
+    out: &mut [u8],
+    at: usize,
+    op: AluOp,
+    s: bool,
+    rd: Reg,
+    op2: Operand2,
+    pc: u32,
+    t: &[u8],
+    u: &[u8],
+) -> usize
+    ensures { λ r. ⌜ Wrote (now (out .entry)) at (raw (now (t .entry)) ▸ exprText (operandOf pc op2 .0) ▸ raw (now (u .entry)) ▸ rows (cond s (run f-nz (v32 x-r) ∷ logicalC (operandOf pc op2 .1)) [] ++ (result op rd ∷ []))) (now (out .exit)) r ⌝ }
+{
+    let p = text::put(out, at, t);
+    let q = put_op2_value(out, p, op2, pc);
+    let v = text::put(out, q, u);
+    put_logical_rest(out, v, op, s, rd, op2, pc)
+}

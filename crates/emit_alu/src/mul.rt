@@ -1,0 +1,147 @@
+// Multiplication.
+use armv4t::Reg;
+ghost use mathlib.Core.Path.{_≡_};
+ghost use Prim.Native.Nat.{ℕ};
+ghost use mathlib.Core.Bool.{Bool};
+ghost use mathlib.Core.List.{[], _∷_};
+ghost use Rattle.armv4t.specs.declared.Instr.{Instr};
+ghost use Rattle.armv4t.specs.declared.Op.the-variants.{Mul};
+ghost use Rattle.text.specs.Wrote.{Wrote};
+ghost use Rattle.c_tree.specs.Expr.{u32, u64, x-r, reg, var, int, mul, shl, shr, bor, lit, get, par, bin, cast};
+ghost use Rattle.c_tree.specs.Stmt.{plus, f-nz, f-nz64, declare, set, run};
+ghost use Rattle.c_tree.specs.Preamble.{v32};
+ghost use Rattle.c_tree.specs.Print.{exprText};
+ghost use Rattle.forms.specs.InlineBody.{only, let32, setReg, mulBody, wide, r64, mulLongBody, opBody};
+ghost use Rattle.emit_operands.specs.Operands.{isSome};
+ghost use Rattle.emit_alu.specs.Rows.{rows};
+
+// Whether a multiplication is lowered to lines; a long one always is.
+pub fn mul_is_inlined(rd: Reg) -> bool
+    ensures { λ r. ⌜ ((thumb : Bool) (i : Instr) (acc s : Bool) (rn rs rm : ℕ) → r ≡ isSome (opBody thumb i (Mul acc s rd rn rs rm))) ⌝ }
+{
+    rd != 15
+}
+
+fn put_product(out: &mut [u8], at: usize, rs: Reg, rm: Reg) -> usize
+    ensures { λ r. ⌜ Wrote (now (out .entry)) at (rows (let32 x-r (bin mul (get (reg rm)) (get (reg rs))) ∷ [])) (now (out .exit)) r ⌝ }
+{
+    let p = text::put_then_dec(out, at, b"        uint32_t r = c[", rm as u64);
+    let q = text::put_then_dec(out, p, b"] * c[", rs as u64);
+    text::put(out, q, b"];\n")
+}
+
+fn put_more(out: &mut [u8], at: usize, acc: bool, rn: Reg) -> usize
+    ensures { λ r. ⌜ Wrote (now (out .entry)) at (rows (only acc (set (var (u32, x-r)) plus (get (reg rn))))) (now (out .exit)) r ⌝ }
+{
+    if acc {
+        let p = text::put_then_dec(out, at, b"        r += c[", rn as u64);
+        return text::put(out, p, b"];\n");
+    }
+    at
+}
+
+fn put_low(out: &mut [u8], at: usize, rd: Reg) -> usize
+    ensures { λ r. ⌜ Wrote (now (out .entry)) at (rows (setReg rd (v32 x-r) ∷ [])) (now (out .exit)) r ⌝ }
+{
+    let p = text::put_then_dec(out, at, b"        c[", rd as u64);
+    text::put(out, p, b"] = r;\n")
+}
+
+fn put_nz(out: &mut [u8], at: usize, s: bool) -> usize
+    ensures { λ r. ⌜ Wrote (now (out .entry)) at (rows (only s (run f-nz (v32 x-r)))) (now (out .exit)) r ⌝ }
+{
+    if s {
+        return text::put(out, at, b"        f_nz(c, r);\n");
+    }
+    at
+}
+
+// The lines of a multiplication.
+pub fn put_mul(
+    out: &mut [u8],
+    at: usize,
+    acc: bool,
+    s: bool,
+    rd: Reg,
+    rn: Reg,
+    rs: Reg,
+    rm: Reg,
+) -> usize
+    ensures { λ r. ⌜ Wrote (now (out .entry)) at (rows (mulBody acc s rd rn rs rm)) (now (out .exit)) r ⌝ }
+{
+    let p = put_product(out, at, rs, rm);
+    let q = put_more(out, p, acc, rn);
+    let v = put_low(out, q, rd);
+    put_nz(out, v, s)
+}
+
+// A factor of a long multiplication.
+fn put_wide(out: &mut [u8], at: usize, signed: bool, n: Reg) -> usize
+    ensures { λ r. ⌜ Wrote (now (out .entry)) at (exprText (wide signed (get (reg n)))) (now (out .exit)) r ⌝ }
+{
+    if signed {
+        let p = text::put_then_dec(out, at, b"(int64_t)(int32_t)c[", n as u64);
+        return text::put(out, p, b"]");
+    }
+    let q = text::put_then_dec(out, at, b"(uint64_t)c[", n as u64);
+    text::put(out, q, b"]")
+}
+
+fn put_long_product(out: &mut [u8], at: usize, signed: bool, rs: Reg, rm: Reg) -> usize
+    ensures { λ r. ⌜ Wrote (now (out .entry)) at (rows (declare (u64, x-r) (cast u64 (par (bin mul (wide signed (get (reg rm))) (wide signed (get (reg rs)))))) [] ∷ [])) (now (out .exit)) r ⌝ }
+{
+    let p = text::put(out, at, b"        uint64_t r = (uint64_t)(");
+    let q = put_wide(out, p, signed, rm);
+    let v = text::put(out, q, b" * ");
+    let w = put_wide(out, v, signed, rs);
+    text::put(out, w, b");\n")
+}
+
+fn put_long_more(out: &mut [u8], at: usize, acc: bool, hi: Reg, lo: Reg) -> usize
+    ensures { λ r. ⌜ Wrote (now (out .entry)) at (rows (only acc (set (var (u64, x-r)) plus (bin bor (par (bin shl (cast u64 (get (reg hi))) (lit int 32))) (cast u64 (get (reg lo))))))) (now (out .exit)) r ⌝ }
+{
+    if acc {
+        let p = text::put_then_dec(out, at, b"        r += ((uint64_t)c[", hi as u64);
+        let q = text::put_then_dec(out, p, b"] << 32) | (uint64_t)c[", lo as u64);
+        return text::put(out, q, b"];\n");
+    }
+    at
+}
+
+// Both halves of the product.
+fn put_halves(out: &mut [u8], at: usize, hi: Reg, lo: Reg) -> usize
+    ensures { λ r. ⌜ Wrote (now (out .entry)) at (rows (setReg lo (cast u32 r64) ∷ setReg hi (cast u32 (par (bin shr r64 (lit int 32)))) ∷ [])) (now (out .exit)) r ⌝ }
+{
+    let p = text::put_then_dec(out, at, b"        c[", lo as u64);
+    let q = text::put_then_dec(out, p, b"] = (uint32_t)r;\n        c[", hi as u64);
+    text::put(out, q, b"] = (uint32_t)(r >> 32);\n")
+}
+
+fn put_nz64(out: &mut [u8], at: usize, s: bool) -> usize
+    ensures { λ r. ⌜ Wrote (now (out .entry)) at (rows (only s (run f-nz64 r64))) (now (out .exit)) r ⌝ }
+{
+    if s {
+        return text::put(out, at, b"        f_nz64(c, r);\n");
+    }
+    at
+}
+
+// The lines of a long multiplication.
+pub fn put_mul_long(
+    out: &mut [u8],
+    at: usize,
+    signed: bool,
+    acc: bool,
+    s: bool,
+    hi: Reg,
+    lo: Reg,
+    rs: Reg,
+    rm: Reg,
+) -> usize
+    ensures { λ r. ⌜ Wrote (now (out .entry)) at (rows (mulLongBody signed acc s hi lo rs rm)) (now (out .exit)) r ⌝ }
+{
+    let p = put_long_product(out, at, signed, rs, rm);
+    let q = put_long_more(out, p, acc, hi, lo);
+    let v = put_halves(out, q, hi, lo);
+    put_nz64(out, v, s)
+}
