@@ -1,0 +1,65 @@
+-- The text of lines put together: lines behind lines, and what stands behind them.
+use Prim.Native.Nat.{ℕ, _+_}
+use mathlib.Core.Path.{_≡_, refl, sym, ap, _∙_}
+use mathlib.Core.List.{List, [], _∷_, _++_}
+use Rattle.text.specs.Doc.{_▸_, flat}
+use Rattle.c_tree.specs.Expr.{w32, Expr, read}
+use Rattle.c_tree.specs.Stmt.{Plain, write, Owner, common, plain, Code, end, _⨾_}
+use Rattle.c_tree.specs.Print.{simpleText, codeText}
+use Rattle.forms.specs.Forms.{Lines}
+use Rattle.emit_mem.proofs.Listed.{listed-suc}
+use Rattle.forms.specs.InlineBody.{only, setReg, aligned, names, listed, advance, loads, stores}
+use Rattle.lowering.specs.Block.{nl, sp, line, lines}
+
+-- a line, and what stands behind it
+line-then : (o : Owner) (l : List Plain) (c : Code) (k : List ℕ)
+    → flat (codeText (line o l c)) k ≡ flat (codeText (line o l end)) (flat (codeText c) k)
+line-then o [] c k = refl
+line-then o (p ∷ []) c k = refl
+line-then o (p ∷ q ∷ ps) c k = ap (λ (s : List ℕ). flat (simpleText (plain o p)) (flat (simpleText (sp 1)) s)) (line-then o (q ∷ ps) c k)
+
+-- lines, and what stands behind them
+pub lines-then : (o : Owner) (n : ℕ) (ls : Lines) (c : Code) (k : List ℕ)
+    → flat (codeText (lines o n ls c)) k ≡ flat (codeText (lines o n ls end)) (flat (codeText c) k)
+lines-then o n [] c k = refl
+lines-then o n (l ∷ ls) c k =
+    ap (flat (simpleText (sp n)))
+    (line-then o l (nl ⨾ lines o n ls c) k
+    ∙ ap (λ (s : List ℕ). flat (codeText (line o l end)) (flat (simpleText nl) s)) (lines-then o n ls c k)
+    ∙ sym (line-then o l (nl ⨾ lines o n ls end) (flat (codeText c) k)))
+
+-- lines behind lines
+pub lines-append : (o : Owner) (n : ℕ) (ls ms : Lines) (c : Code) → lines o n (ls ++ ms) c ≡ lines o n ls (lines o n ms c)
+lines-append o n [] ms c = refl
+lines-append o n (l ∷ ls) ms c = ap (λ (d : Code). sp n ⨾ line o l (nl ⨾ d)) (lines-append o n ls ms c)
+
+pub lines-both : (n : ℕ) (ls ms : Lines) (c : Code) (k : List ℕ)
+    → flat (codeText (lines common n ls end) ▸ codeText (lines common n ms c)) k ≡ flat (codeText (lines common n (ls ++ ms) c)) k
+lines-both n ls ms c k =
+    sym (ap (λ (d : Code). flat (codeText d) k) (lines-append common n ls ms c) ∙ lines-then common n ls (lines common n ms c) k)
+
+-- the loads and the stores of two lists of registers, one after the other
+pub loads-append : (xs ys : List ℕ) → loads (xs ++ ys) ≡ loads xs ++ loads ys
+loads-append [] ys = refl
+loads-append (x ∷ xs) ys = ap (_∷_ (setReg x (read w32 (aligned 3)) ∷ advance ∷ [])) (loads-append xs ys)
+
+pub stores-append : (value : ℕ → Expr) (xs ys : List ℕ) → stores value (xs ++ ys) ≡ stores value xs ++ stores value ys
+stores-append value [] ys = refl
+stores-append value (x ∷ xs) ys = ap (_∷_ (write w32 (aligned 3) (value x) ∷ advance ∷ [])) (stores-append value xs ys)
+
+-- the lines of one register more
+pub loads-more : (n rlist r : ℕ)
+    → flat (codeText (lines common n (loads (listed rlist r)) end) ▸ codeText (lines common n (loads (only (names rlist r) r)) end)) []
+    ≡ flat (codeText (lines common n (loads (listed rlist (r + 1))) end)) []
+loads-more n rlist r =
+    lines-both n (loads (listed rlist r)) (loads (only (names rlist r) r)) end []
+    ∙ ap (λ (ls : Lines). flat (codeText (lines common n ls end)) [])
+    (sym (loads-append (listed rlist r) (only (names rlist r) r)) ∙ ap loads (sym (listed-suc rlist r)))
+
+pub stores-more : (n : ℕ) (value : ℕ → Expr) (rlist r : ℕ)
+    → flat (codeText (lines common n (stores value (listed rlist r)) end) ▸ codeText (lines common n (stores value (only (names rlist r) r)) end)) []
+    ≡ flat (codeText (lines common n (stores value (listed rlist (r + 1))) end)) []
+stores-more n value rlist r =
+    lines-both n (stores value (listed rlist r)) (stores value (only (names rlist r) r)) end []
+    ∙ ap (λ (ls : Lines). flat (codeText (lines common n ls end)) [])
+    (sym (stores-append value (listed rlist r) (only (names rlist r) r)) ∙ ap (stores value) (sym (listed-suc rlist r)))

@@ -1,0 +1,38 @@
+-- `block_mem::put_block_loads` meets its contract: what its calls write, one after another.
+-- Assumes nothing.
+use mathlib.Core.Path.{sym}
+use mathlib.Core.Bool.{not, _&&_}
+use mathlib.Core.List.{[]}
+use borrow.Author.Needs.{needs}
+use Rattle.c_tree.specs.Stmt.{end}
+use Rattle.emit_mem.proofs.Lines.{lines-both}
+use Rattle.forms.specs.Forms.{Lines}
+use Rattle.forms.specs.InlineBody.{only, apart, setReg, listed, loads, movedBase}
+use Rattle.text.proofs.Laws.{seq, said, kept}
+use Rattle.emit_mem.proofs.block_mem.put_block_loads.Statement.{statement}
+use Rattle.emit_mem.proofs.block_mem.put_block_loads.Tie as tie
+
+is-listed-requires : tie.Need-is-listed-requires
+is-listed-requires c κs = search needs
+
+put-load-back-requires : tie.Need-put-load-back-requires
+put-load-back-requires c κs = search needs
+
+put-loads-requires : tie.Need-put-loads-requires
+put-loads-requires c κs = search needs
+
+returns : tie.Need-returns
+returns c =
+    let c3 = c .before .before in
+    let c2 = c3 .before .before .before .before in
+    let c1 = c2 .before .before in
+    let a = c1 .before .before .args in
+    let back : Lines = apart (only (a .writeback && not (c1 .is-listed .result)) (setReg (a .rn) (movedBase (a .up) (a .total)))) in
+    let rest : Lines = loads (listed (a .rlist) 16) in
+    rw (sym (c1 .is-listed .ensures)) (said (seq (c2 .put-load-back .ensures) (c3 .put-loads .ensures)) (lines-both 8 back rest end []))
+
+same-length : tie.Need-same-length
+same-length c = kept (returns c)
+
+pub put-block-loads-spec : {M : Type 1} → statement M
+put-block-loads-spec = tie.close (tie.spec is-listed-requires put-load-back-requires put-loads-requires same-length returns)

@@ -1,0 +1,41 @@
+-- `block_mem::put_block_mem` meets its contract: what its calls write, one after another.
+-- Assumes nothing.
+use Prim.Native.Nat.{ℕ}
+use mathlib.Core.Path.{sym}
+use mathlib.Core.List.{[], _∷_}
+use borrow.Author.Needs.{needs}
+use Rattle.c_tree.specs.Expr.{x-base, x-addr, reg, get}
+use Rattle.c_tree.specs.Stmt.{end}
+use Rattle.emit_mem.proofs.Lines.{lines-both}
+use Rattle.forms.specs.Forms.{Lines}
+use Rattle.forms.specs.InlineBody.{apart, let32, names, listed, movedBase, start, transfers}
+use Rattle.text.proofs.Laws.{seq, said, kept}
+use Rattle.emit_mem.proofs.block_mem.put_block_mem.Statement.{statement}
+use Rattle.emit_mem.proofs.block_mem.put_block_mem.Tie as tie
+
+bytes-listed-requires : tie.Need-bytes-listed-requires
+bytes-listed-requires c κs = search needs
+
+put-block-base-requires : tie.Need-put-block-base-requires
+put-block-base-requires c κs = search needs
+
+put-transfers-requires : tie.Need-put-transfers-requires
+put-transfers-requires c κs = search needs
+
+returns : tie.Need-returns
+returns c =
+    let c3 = c .before .before in
+    let c2 = c3 .before .before .before .before in
+    let c1 = c2 .before .before in
+    let a = c1 .before .before .args in
+    let total : ℕ = c1 .bytes-listed .result in
+    let first : Lines = apart (let32 x-base (get (reg (a .rn))) ∷ let32 x-addr (start (a .up) (a .pre) total) ∷ []) in
+    let rest : Lines =
+    transfers (a .load) (a .i) (a .rn) (a .writeback) (names (a .rlist) (a .rn)) (movedBase (a .up) total) (listed (a .rlist) 16) in
+    rw (sym (c1 .bytes-listed .ensures .0)) (said (seq (c2 .put-block-base .ensures) (c3 .put-transfers .ensures)) (lines-both 8 first rest end []))
+
+same-length : tie.Need-same-length
+same-length c = kept (returns c)
+
+pub put-block-mem-spec : {M : Type 1} → statement M
+put-block-mem-spec = tie.close (tie.spec bytes-listed-requires put-block-base-requires put-transfers-requires same-length returns)

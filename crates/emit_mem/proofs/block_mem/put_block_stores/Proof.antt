@@ -1,0 +1,37 @@
+-- `block_mem::put_block_stores` meets its contract: what its calls write, one after another.
+-- Assumes nothing.
+use mathlib.Core.Path.{sym}
+use mathlib.Core.List.{[]}
+use borrow.Author.Needs.{needs}
+use Rattle.c_tree.specs.Stmt.{end}
+use Rattle.emit_mem.proofs.Lines.{lines-both}
+use Rattle.forms.specs.Forms.{Lines}
+use Rattle.forms.specs.InlineBody.{only, apart, setReg, listed, movedBase, storedReg, stores}
+use Rattle.text.proofs.Laws.{seq, said, kept}
+use Rattle.emit_mem.proofs.block_mem.put_block_stores.Statement.{statement}
+use Rattle.emit_mem.proofs.block_mem.put_block_stores.Tie as tie
+
+lowest-listed-requires : tie.Need-lowest-listed-requires
+lowest-listed-requires c κs = search needs
+
+put-stores-requires : tie.Need-put-stores-requires
+put-stores-requires c κs = search needs
+
+put-store-back-requires : tie.Need-put-store-back-requires
+put-store-back-requires c κs = search needs
+
+returns : tie.Need-returns
+returns c =
+    let c3 = c .before .before in
+    let c2 = c3 .before .before .before .before in
+    let c1 = c2 .before .before in
+    let a = c1 .before .before .args in
+    let first : Lines = stores (storedReg (a .i) (a .rn) (c1 .lowest-listed .result) (movedBase (a .up) (a .total))) (listed (a .rlist) 16) in
+    let back : Lines = apart (only (a .writeback) (setReg (a .rn) (movedBase (a .up) (a .total)))) in
+    rw (sym (c1 .lowest-listed .ensures)) (said (seq (c2 .put-stores .ensures) (c3 .put-store-back .ensures)) (lines-both 8 first back end []))
+
+same-length : tie.Need-same-length
+same-length c = kept (returns c)
+
+pub put-block-stores-spec : {M : Type 1} → statement M
+put-block-stores-spec = tie.close (tie.spec lowest-listed-requires put-stores-requires put-store-back-requires same-length returns)

@@ -1,0 +1,50 @@
+-- `put_loads` writes the loads of the registers listed. The loop's invariant: those below r are written.
+-- Assumes nothing.
+use Prim.Native.Nat.{_-_, _≤_}
+use native.Mathlib.Omega.{arith}
+use borrow.Author.Needs.{needs}
+use mathlib.Core.Bool.{cond}
+use mathlib.Core.Path.{_≡_, sym}
+use Rattle.c_tree.specs.Print.{codeText}
+use Rattle.c_tree.specs.Stmt.{common, end}
+use Rattle.emit_mem.proofs.Lines.{loads-more}
+use Rattle.emit_mem.proofs.transfers.put_loads.Statement.{statement}
+use Rattle.emit_mem.proofs.transfers.put_loads.Tie as tie
+use Rattle.forms.specs.InlineBody.{loads, listed}
+use Rattle.lowering.specs.Block.{lines}
+use Rattle.text.proofs.Laws.{none, seq, said, kept}
+use Rattle.text.specs.Wrote.{Wrote}
+
+abbrev Inv-loop : tie.InvT-loop
+Inv-loop out₀ at pop rlist limit p₀ r₀ out p r = (r ≤ limit) × Wrote out₀ at (codeText (lines common (cond pop 6 8) (loads (listed rlist r)) end)) out p
+
+abbrev μ-loop : tie.MeasureT-loop
+μ-loop out₀ at pop rlist limit p₀ r₀ out p r = limit - r
+
+loop-holds : tie.Need-loop-holds Inv-loop μ-loop
+unfolding listed
+loop-holds c = (omega arith, none (search needs) (search needs))
+
+put-listed-load-requires : tie.Need-put-listed-load-requires Inv-loop μ-loop
+put-listed-load-requires c κs = search needs
+
+add-r : tie.Need-add-r Inv-loop μ-loop
+add-r c = omega arith
+
+loop-less : tie.Need-loop-less Inv-loop μ-loop
+loop-less c = omega arith
+
+loop-again : tie.Need-loop-again Inv-loop μ-loop
+loop-again c =
+    let b = c .before .before in
+    let t = b .before .before .before in
+    (omega arith, said (seq (t .loop .inv .1) (b .put-listed-load .ensures)) (loads-more _ _ _))
+
+returns : tie.Need-returns Inv-loop μ-loop
+returns c = let e : c .before .loop .r ≡ c .before .before .before .args .limit = omega arith in rw (sym e) (c .before .loop .inv .1)
+
+same-length : tie.Need-same-length Inv-loop μ-loop
+same-length c = kept (returns c)
+
+pub put-loads-spec : {M : Type 1} → statement M
+put-loads-spec = tie.close (tie.spec Inv-loop μ-loop loop-holds put-listed-load-requires add-r loop-less loop-again same-length returns)

@@ -1,0 +1,49 @@
+-- `put_stores` writes the stores of the registers listed. The loop's invariant: those below r are written.
+-- Assumes nothing.
+use Prim.Native.Nat.{_-_, _≤_}
+use native.Mathlib.Omega.{arith}
+use borrow.Author.Needs.{needs}
+use mathlib.Core.Path.{_≡_, sym}
+use Rattle.c_tree.specs.Print.{codeText}
+use Rattle.c_tree.specs.Stmt.{common, end}
+use Rattle.emit_mem.proofs.Lines.{stores-more}
+use Rattle.emit_mem.proofs.transfers.put_stores.Statement.{statement}
+use Rattle.emit_mem.proofs.transfers.put_stores.Tie as tie
+use Rattle.forms.specs.InlineBody.{listed, movedBase, storedReg, stores}
+use Rattle.lowering.specs.Block.{lines}
+use Rattle.text.proofs.Laws.{none, seq, said, kept}
+use Rattle.text.specs.Wrote.{Wrote}
+
+abbrev Inv-loop : tie.InvT-loop
+Inv-loop out₀ at i rn rlist lowest up total p₀ r₀ out p r = (r ≤ 16) × Wrote out₀ at (codeText (lines common 8 (stores (storedReg i rn lowest (movedBase up total)) (listed rlist r)) end)) out p
+
+abbrev μ-loop : tie.MeasureT-loop
+μ-loop out₀ at i rn rlist lowest up total p₀ r₀ out p r = 16 - r
+
+loop-holds : tie.Need-loop-holds Inv-loop μ-loop
+unfolding listed
+loop-holds c = (omega arith, none (search needs) (search needs))
+
+put-listed-store-requires : tie.Need-put-listed-store-requires Inv-loop μ-loop
+put-listed-store-requires c κs = search needs
+
+add-r : tie.Need-add-r Inv-loop μ-loop
+add-r c = omega arith
+
+loop-less : tie.Need-loop-less Inv-loop μ-loop
+loop-less c = omega arith
+
+loop-again : tie.Need-loop-again Inv-loop μ-loop
+loop-again c =
+    let b = c .before .before in
+    let t = b .before .before .before in
+    (omega arith, said (seq (t .loop .inv .1) (b .put-listed-store .ensures)) (stores-more _ _ _ _))
+
+returns : tie.Need-returns Inv-loop μ-loop
+returns c = let e : c .before .loop .r ≡ 16 = omega arith in rw (sym e) (c .before .loop .inv .1)
+
+same-length : tie.Need-same-length Inv-loop μ-loop
+same-length c = kept (returns c)
+
+pub put-stores-spec : {M : Type 1} → statement M
+put-stores-spec = tie.close (tie.spec Inv-loop μ-loop loop-holds put-listed-store-requires add-r loop-less loop-again same-length returns)

@@ -1,0 +1,192 @@
+// BlockMem: LDM and STM.
+use crate::registers::bytes_listed;
+use crate::registers::is_listed;
+use crate::registers::lowest_listed;
+use crate::transfers::put_loads;
+use crate::transfers::put_moved;
+use crate::transfers::put_stores;
+use armv4t::Instr;
+use armv4t::PC;
+use text::put;
+use text::put_then_dec;
+ghost use mathlib.Core.Path.{_≡_};
+ghost use mathlib.Core.Bool.{true, false, not, _&&_, _||_};
+ghost use mathlib.Core.List.{[], _∷_};
+ghost use lib.Dec.{eqb};
+ghost use Rattle.text.specs.Wrote.{Wrote};
+ghost use Rattle.c_tree.specs.Stmt.{common, end};
+ghost use Rattle.c_tree.specs.Expr.{x-base, x-addr, get, reg};
+ghost use Rattle.c_tree.specs.Print.{exprText, codeText};
+ghost use Rattle.forms.specs.InlineBody.{only, apart, let32, setReg, names, listed, movedBase, start, transfers, blockMemBody};
+ghost use Rattle.lowering.specs.Block.{lines};
+
+// The lowest address, where the registers take total bytes downwards.
+fn put_down(out: &mut [u8], at: usize, pre: bool, total: u32) -> usize
+    ensures { λ n. ⌜ Wrote (now (out .entry)) at (exprText (start false pre total)) (now (out .exit)) n ⌝ }
+{
+    let p = put_then_dec(out, at, b"base - ", total as u64);
+    if pre {
+        put(out, p, b"u")
+    } else {
+        put(out, p, b"u + 4u")
+    }
+}
+
+// The lowest address.
+fn put_start(out: &mut [u8], at: usize, up: bool, pre: bool, total: u32) -> usize
+    ensures { λ n. ⌜ Wrote (now (out .entry)) at (exprText (start up pre total)) (now (out .exit)) n ⌝ }
+{
+    if up {
+        if pre {
+            return put(out, at, b"base + 4u");
+        }
+        return put(out, at, b"base");
+    }
+    put_down(out, at, pre, total)
+}
+
+// The line that writes the base back.
+fn put_write_back(out: &mut [u8], at: usize, rn: u8, up: bool, total: u32) -> usize
+    ensures { λ n. ⌜ Wrote (now (out .entry)) at (codeText (lines common 8 (apart (setReg rn (movedBase up total) ∷ [])) end)) (now (out .exit)) n ⌝ }
+{
+    let p = put_then_dec(out, at, b"        c[", rn as u64);
+    let q = put(out, p, b"] = ");
+    let s = put_moved(out, q, up, total);
+    put(out, s, b";\n")
+}
+
+// The write-back of a load, whose base is not to be listed.
+fn put_load_back(
+    out: &mut [u8],
+    at: usize,
+    rn: u8,
+    writeback: bool,
+    in_list: bool,
+    up: bool,
+    total: u32,
+) -> usize
+    ensures { λ n. ⌜ Wrote (now (out .entry)) at (codeText (lines common 8 (apart (only (writeback && not in_list) (setReg rn (movedBase up total)))) end)) (now (out .exit)) n ⌝ }
+{
+    if writeback {
+        if in_list {
+            return at;
+        }
+        return put_write_back(out, at, rn, up, total);
+    }
+    at
+}
+
+// The write-back of a store.
+fn put_store_back(out: &mut [u8], at: usize, rn: u8, writeback: bool, up: bool, total: u32) -> usize
+    ensures { λ n. ⌜ Wrote (now (out .entry)) at (codeText (lines common 8 (apart (only writeback (setReg rn (movedBase up total)))) end)) (now (out .exit)) n ⌝ }
+{
+    if writeback {
+        return put_write_back(out, at, rn, up, total);
+    }
+    at
+}
+
+// The lines of a load behind its start.
+fn put_block_loads(
+    out: &mut [u8],
+    at: usize,
+    i: Instr,
+    rn: u8,
+    rlist: u16,
+    up: bool,
+    writeback: bool,
+    total: u32,
+) -> usize
+    ensures { λ n. ⌜ Wrote (now (out .entry)) at (codeText (lines common 8 (transfers true i rn writeback (names rlist rn) (movedBase up total) (listed rlist 16)) end)) (now (out .exit)) n ⌝ }
+{
+    let in_list = is_listed(rlist, rn);
+    let p = put_load_back(out, at, rn, writeback, in_list, up, total);
+    put_loads(out, p, false, rlist, 16)
+}
+
+// The lines of a store behind its start.
+fn put_block_stores(
+    out: &mut [u8],
+    at: usize,
+    i: Instr,
+    rn: u8,
+    rlist: u16,
+    up: bool,
+    writeback: bool,
+    total: u32,
+) -> usize
+    ensures { λ n. ⌜ Wrote (now (out .entry)) at (codeText (lines common 8 (transfers false i rn writeback (names rlist rn) (movedBase up total) (listed rlist 16)) end)) (now (out .exit)) n ⌝ }
+{
+    let lowest = lowest_listed(rlist);
+    let p = put_stores(out, at, i, rn, rlist, lowest, up, total);
+    put_store_back(out, p, rn, writeback, up, total)
+}
+
+// The base, and the lowest address.
+fn put_block_base(out: &mut [u8], at: usize, rn: u8, pre: bool, up: bool, total: u32) -> usize
+    ensures { λ n. ⌜ Wrote (now (out .entry)) at (codeText (lines common 8 (apart (let32 x-base (get (reg rn)) ∷ let32 x-addr (start up pre total) ∷ [])) end)) (now (out .exit)) n ⌝ }
+{
+    let p = put_then_dec(out, at, b"        uint32_t base = c[", rn as u64);
+    let q = put(out, p, b"];\n        uint32_t addr = ");
+    let s = put_start(out, q, up, pre, total);
+    put(out, s, b";\n")
+}
+
+// The lines behind the base, by the bytes that the registers take.
+fn put_transfers(
+    out: &mut [u8],
+    at: usize,
+    i: Instr,
+    load: bool,
+    rn: u8,
+    rlist: u16,
+    up: bool,
+    writeback: bool,
+    total: u32,
+) -> usize
+    ensures { λ n. ⌜ Wrote (now (out .entry)) at (codeText (lines common 8 (transfers load i rn writeback (names rlist rn) (movedBase up total) (listed rlist 16)) end)) (now (out .exit)) n ⌝ }
+{
+    if load {
+        put_block_loads(out, at, i, rn, rlist, up, writeback, total)
+    } else {
+        put_block_stores(out, at, i, rn, rlist, up, writeback, total)
+    }
+}
+
+// All lines of a BlockMem that is inlined.
+pub fn put_block_mem(
+    out: &mut [u8],
+    at: usize,
+    i: Instr,
+    load: bool,
+    rn: u8,
+    rlist: u16,
+    pre: bool,
+    up: bool,
+    writeback: bool,
+) -> usize
+    ensures { λ n. ⌜ Wrote (now (out .entry)) at (codeText (lines common 8 (blockMemBody i load rn (names rlist rn) pre up writeback (listed rlist 16)) end)) (now (out .exit)) n ⌝ }
+{
+    let total = bytes_listed(rlist, 16);
+    let p = put_block_base(out, at, rn, pre, up, total);
+    put_transfers(out, p, i, load, rn, rlist, up, writeback, total)
+}
+
+// Whether a BlockMem is inlined: not if it touches the user's registers or SPSR, lists none, is based on PC or loads it.
+pub fn block_mem_is_inlined(load: bool, rn: u8, rlist: u16, s_bit: bool) -> bool
+    ensures { λ b. ⌜ b ≡ not («s_bit» || eqb rlist 0 || eqb rn 15 || (load && names rlist 15)) ⌝ }
+{
+    if s_bit {
+        return false;
+    }
+    if rlist == 0 {
+        return false;
+    }
+    if rn == PC {
+        return false;
+    }
+    if load {
+        return !is_listed(rlist, PC);
+    }
+    true
+}

@@ -1,0 +1,174 @@
+// The loads and stores of a BlockMem, a line for each register.
+use crate::registers::is_listed;
+use armv4t::Instr;
+use text::put;
+use text::put_then_dec;
+use text::put_then_hex8;
+ghost use mathlib.Core.Bool.{cond};
+ghost use mathlib.Core.List.{[], _∷_};
+ghost use Rattle.text.specs.Wrote.{Wrote};
+ghost use Rattle.text.specs.Doc.{text, dec, _▸_};
+ghost use Rattle.c_tree.specs.Stmt.{common, end};
+ghost use Prim.Native.Nat.{_+_, _%_, _^_};
+ghost use Rattle.armv4t.specs.Instr.{pcValue};
+ghost use Rattle.c_tree.specs.Expr.{word, reg, lit, get};
+ghost use Rattle.c_tree.specs.Print.{exprText, spaces, codeText};
+ghost use Rattle.forms.specs.InlineBody.{only, names, listed, loads, movedBase, storedReg, stores};
+ghost use Rattle.lowering.specs.Block.{lines};
+
+// The indent of a line, 6 in a pop, and the register that it sets.
+fn put_target(out: &mut [u8], at: usize, pop: bool, r: u8) -> usize
+    ensures { λ n. ⌜ Wrote (now (out .entry)) at (spaces (cond pop 6 8) ▸ text "c[" ▸ dec r) (now (out .exit)) n ⌝ }
+{
+    if pop {
+        put_then_dec(out, at, b"      c[", r as u64)
+    } else {
+        put_then_dec(out, at, b"        c[", r as u64)
+    }
+}
+
+// The line that loads a register.
+fn put_load(out: &mut [u8], at: usize, pop: bool, r: u8) -> usize
+    ensures { λ n. ⌜ Wrote (now (out .entry)) at (codeText (lines common (cond pop 6 8) (loads (r ∷ [])) end)) (now (out .exit)) n ⌝ }
+{
+    let p = put_target(out, at, pop, r);
+    put(out, p, b"] = a->read32(m, addr & ~3u); addr += 4u;\n")
+}
+
+// The line that loads a register, if it is listed.
+fn put_listed_load(out: &mut [u8], at: usize, pop: bool, rlist: u16, r: u8) -> usize
+    ensures { λ n. ⌜ Wrote (now (out .entry)) at (codeText (lines common (cond pop 6 8) (loads (only (names rlist r) r)) end)) (now (out .exit)) n ⌝ }
+{
+    if is_listed(rlist, r) {
+        return put_load(out, at, pop, r);
+    }
+    at
+}
+
+// The loads of the registers listed below limit, at indent 6 in a pop, else at 8.
+pub(crate) fn put_loads(out: &mut [u8], at: usize, pop: bool, rlist: u16, limit: u8) -> usize
+    ensures { λ n. ⌜ Wrote (now (out .entry)) at (codeText (lines common (cond pop 6 8) (loads (listed rlist limit)) end)) (now (out .exit)) n ⌝ }
+{
+    let mut p = at;
+    let mut r = 0;
+    while r < limit {
+        p = put_listed_load(out, p, pop, rlist, r);
+        r += 1;
+    }
+    p
+}
+
+// A register.
+fn put_register(out: &mut [u8], at: usize, r: u8) -> usize
+    ensures { λ n. ⌜ Wrote (now (out .entry)) at (exprText (get (reg r))) (now (out .exit)) n ⌝ }
+{
+    let p = put_then_dec(out, at, b"c[", r as u64);
+    put(out, p, b"]")
+}
+
+// The base after total bytes.
+pub(crate) fn put_moved(out: &mut [u8], at: usize, up: bool, total: u32) -> usize
+    ensures { λ n. ⌜ Wrote (now (out .entry)) at (exprText (movedBase up total)) (now (out .exit)) n ⌝ }
+{
+    if up {
+        let p = put_then_dec(out, at, b"base + ", total as u64);
+        put(out, p, b"u")
+    } else {
+        let p = put_then_dec(out, at, b"base - ", total as u64);
+        put(out, p, b"u")
+    }
+}
+
+// What a store of PC stores.
+fn put_stored_pc(out: &mut [u8], at: usize, i: Instr) -> usize
+    ensures { λ n. ⌜ Wrote (now (out .entry)) at (exprText (lit word ((pcValue i + 4) % 2 ^ 32))) (now (out .exit)) n ⌝ }
+{
+    let pc = std::num::wrapping_add_u32(i.pc_value(), 4);
+    let p = put_then_hex8(out, at, b"0x", pc);
+    put(out, p, b"u")
+}
+
+// What is stored of a register.
+fn put_stored(
+    out: &mut [u8],
+    at: usize,
+    i: Instr,
+    rn: u8,
+    lowest: u8,
+    up: bool,
+    total: u32,
+    r: u8,
+) -> usize
+    ensures { λ n. ⌜ Wrote (now (out .entry)) at (exprText (storedReg i rn lowest (movedBase up total) r)) (now (out .exit)) n ⌝ }
+{
+    if r == 15 {
+        return put_stored_pc(out, at, i);
+    }
+    if r == rn {
+        if r == lowest {
+            return put(out, at, b"base");
+        }
+        return put_moved(out, at, up, total);
+    }
+    put_register(out, at, r)
+}
+
+// The line that stores a register.
+fn put_store(
+    out: &mut [u8],
+    at: usize,
+    i: Instr,
+    rn: u8,
+    lowest: u8,
+    up: bool,
+    total: u32,
+    r: u8,
+) -> usize
+    ensures { λ n. ⌜ Wrote (now (out .entry)) at (codeText (lines common 8 (stores (storedReg i rn lowest (movedBase up total)) (r ∷ [])) end)) (now (out .exit)) n ⌝ }
+{
+    let p = put(out, at, b"        a->write32(m, addr & ~3u, ");
+    let q = put_stored(out, p, i, rn, lowest, up, total, r);
+    put(out, q, b"); addr += 4u;\n")
+}
+
+// The line that stores a register, if it is listed.
+fn put_listed_store(
+    out: &mut [u8],
+    at: usize,
+    i: Instr,
+    rn: u8,
+    rlist: u16,
+    lowest: u8,
+    up: bool,
+    total: u32,
+    r: u8,
+) -> usize
+    ensures { λ n. ⌜ Wrote (now (out .entry)) at (codeText (lines common 8 (stores (storedReg i rn lowest (movedBase up total)) (only (names rlist r) r)) end)) (now (out .exit)) n ⌝ }
+{
+    if is_listed(rlist, r) {
+        return put_store(out, at, i, rn, lowest, up, total, r);
+    }
+    at
+}
+
+// The stores of the registers listed, given the lowest of them and the bytes that they take.
+pub(crate) fn put_stores(
+    out: &mut [u8],
+    at: usize,
+    i: Instr,
+    rn: u8,
+    rlist: u16,
+    lowest: u8,
+    up: bool,
+    total: u32,
+) -> usize
+    ensures { λ n. ⌜ Wrote (now (out .entry)) at (codeText (lines common 8 (stores (storedReg i rn lowest (movedBase up total)) (listed rlist 16)) end)) (now (out .exit)) n ⌝ }
+{
+    let mut p = at;
+    let mut r = 0;
+    while r < 16 {
+        p = put_listed_store(out, p, i, rn, rlist, lowest, up, total, r);
+        r += 1;
+    }
+    p
+}
