@@ -4,29 +4,13 @@ use mathlib.Core.Path.{_≡_, refl, sym, ap, _∙_}
 use mathlib.Core.List.{List, [], _∷_, _++_}
 use Rattle.text.specs.Doc.{_▸_, flat}
 use Rattle.c_tree.specs.Expr.{w32, Expr, read}
-use Rattle.c_tree.specs.Stmt.{Plain, write, Owner, common, plain, Code, end, _⨾_}
-use Rattle.c_tree.specs.Print.{simpleText, codeText}
+use Rattle.c_tree.specs.Stmt.{Plain, write, Owner, common, Code, end, _⨾_}
+use Rattle.c_tree.specs.Print.{codeText}
+use Rattle.emit_operands.proofs.Lines.{lines-behind}
 use Rattle.forms.specs.Forms.{Lines}
 use Rattle.emit_mem.proofs.Listed.{listed-suc}
-use Rattle.forms.specs.InlineBody.{only, setReg, aligned, names, listed, advance, loads, stores}
+use Rattle.forms.specs.InlineBody.{only, apart, setReg, aligned, names, listed, advance, loads, stores}
 use Rattle.lowering.specs.Block.{nl, sp, line, lines}
-
--- a line, and what stands behind it
-line-then : (o : Owner) (l : List Plain) (c : Code) (k : List ℕ)
-    → flat (codeText (line o l c)) k ≡ flat (codeText (line o l end)) (flat (codeText c) k)
-line-then o [] c k = refl
-line-then o (p ∷ []) c k = refl
-line-then o (p ∷ q ∷ ps) c k = ap (λ (s : List ℕ). flat (simpleText (plain o p)) (flat (simpleText (sp 1)) s)) (line-then o (q ∷ ps) c k)
-
--- lines, and what stands behind them
-pub lines-then : (o : Owner) (n : ℕ) (ls : Lines) (c : Code) (k : List ℕ)
-    → flat (codeText (lines o n ls c)) k ≡ flat (codeText (lines o n ls end)) (flat (codeText c) k)
-lines-then o n [] c k = refl
-lines-then o n (l ∷ ls) c k =
-    ap (flat (simpleText (sp n)))
-    (line-then o l (nl ⨾ lines o n ls c) k
-    ∙ ap (λ (s : List ℕ). flat (codeText (line o l end)) (flat (simpleText nl) s)) (lines-then o n ls c k)
-    ∙ sym (line-then o l (nl ⨾ lines o n ls end) (flat (codeText c) k)))
 
 -- lines behind lines
 pub lines-append : (o : Owner) (n : ℕ) (ls ms : Lines) (c : Code) → lines o n (ls ++ ms) c ≡ lines o n ls (lines o n ms c)
@@ -36,7 +20,19 @@ lines-append o n (l ∷ ls) ms c = ap (λ (d : Code). sp n ⨾ line o l (nl ⨾ 
 pub lines-both : (n : ℕ) (ls ms : Lines) (c : Code) (k : List ℕ)
     → flat (codeText (lines common n ls end) ▸ codeText (lines common n ms c)) k ≡ flat (codeText (lines common n (ls ++ ms) c)) k
 lines-both n ls ms c k =
-    sym (ap (λ (d : Code). flat (codeText d) k) (lines-append common n ls ms c) ∙ lines-then common n ls (lines common n ms c) k)
+    sym (ap (λ (d : Code). flat (codeText d) k) (lines-append common n ls ms c) ∙ lines-behind common n ls (lines common n ms c) k)
+
+-- statements behind statements, each in a line of its own
+apart-append : (ps qs : List Plain) → apart (ps ++ qs) ≡ apart ps ++ apart qs
+apart-append [] qs = refl
+apart-append (p ∷ ps) qs = ap (_∷_ (p ∷ [])) (apart-append ps qs)
+
+pub apart-both : (n : ℕ) (ps qs : List Plain)
+    → flat (codeText (lines common n (apart ps) end) ▸ codeText (lines common n (apart qs) end)) []
+    ≡ flat (codeText (lines common n (apart (ps ++ qs)) end)) []
+apart-both n ps qs =
+    lines-both n (apart ps) (apart qs) end []
+    ∙ ap (λ (ls : Lines). flat (codeText (lines common n ls end)) []) (sym (apart-append ps qs))
 
 -- the loads and the stores of two lists of registers, one after the other
 pub loads-append : (xs ys : List ℕ) → loads (xs ++ ys) ≡ loads xs ++ loads ys

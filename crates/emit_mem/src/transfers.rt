@@ -1,9 +1,10 @@
 // The loads and stores of a BlockMem, a line for each register.
 use crate::registers::is_listed;
 use armv4t::Instr;
+use emit_operands::put_place;
+use emit_operands::put_word;
 use text::put;
 use text::put_then_dec;
-use text::put_then_hex8;
 ghost use mathlib.Core.Bool.{cond};
 ghost use mathlib.Core.List.{[], _∷_};
 ghost use Rattle.text.specs.Wrote.{Wrote};
@@ -11,7 +12,7 @@ ghost use Rattle.text.specs.Doc.{text, dec, _▸_};
 ghost use Rattle.c_tree.specs.Stmt.{common, end};
 ghost use Prim.Native.Nat.{_+_, _%_, _^_};
 ghost use Rattle.armv4t.specs.Instr.{pcValue};
-ghost use Rattle.c_tree.specs.Expr.{word, reg, lit, get};
+ghost use Rattle.c_tree.specs.Expr.{word, lit};
 ghost use Rattle.c_tree.specs.Print.{exprText, spaces, codeText};
 ghost use Rattle.forms.specs.InlineBody.{only, names, listed, loads, movedBase, storedReg, stores};
 ghost use Rattle.lowering.specs.Block.{lines};
@@ -58,14 +59,6 @@ pub(crate) fn put_loads(out: &mut [u8], at: usize, pop: bool, rlist: u16, limit:
     p
 }
 
-// A register.
-fn put_register(out: &mut [u8], at: usize, r: u8) -> usize
-    ensures { λ n. ⌜ Wrote (now (out .entry)) at (exprText (get (reg r))) (now (out .exit)) n ⌝ }
-{
-    let p = put_then_dec(out, at, b"c[", r as u64);
-    put(out, p, b"]")
-}
-
 // The base after total bytes.
 pub(crate) fn put_moved(out: &mut [u8], at: usize, up: bool, total: u32) -> usize
     ensures { λ n. ⌜ Wrote (now (out .entry)) at (exprText (movedBase up total)) (now (out .exit)) n ⌝ }
@@ -84,8 +77,7 @@ fn put_stored_pc(out: &mut [u8], at: usize, i: Instr) -> usize
     ensures { λ n. ⌜ Wrote (now (out .entry)) at (exprText (lit word ((pcValue i + 4) % 2 ^ 32))) (now (out .exit)) n ⌝ }
 {
     let pc = std::num::wrapping_add_u32(i.pc_value(), 4);
-    let p = put_then_hex8(out, at, b"0x", pc);
-    put(out, p, b"u")
+    put_word(out, at, pc)
 }
 
 // What is stored of a register.
@@ -110,7 +102,7 @@ fn put_stored(
         }
         return put_moved(out, at, up, total);
     }
-    put_register(out, at, r)
+    put_place(out, at, r)
 }
 
 // The line that stores a register.

@@ -31,7 +31,7 @@ returns-2 c =
     let c3 = c4 .before .before .before in
     let c2 = c3 .before in
     let c1 = c2 .before in
-    rw (eq-eqb _ _ (c3 .if3 .taken), eq-eqb _ _ (c2 .if2 .taken), ne-eqb _ _ (c1 .if1 .left)) (said (c4 .put .ensures) refl)
+    rw (ne-eqb _ _ (c1 .if1 .left), eq-eqb _ _ (c2 .if2 .taken), eq-eqb _ _ (c3 .if3 .taken)) (said (c4 .put .ensures) refl)
 
 same-length-2 : tie.Need-same-length-2
 same-length-2 c = kept (returns-2 c)
@@ -45,23 +45,23 @@ returns-3 c =
     let c3 = c4 .before .before in
     let c2 = c3 .before in
     let c1 = c2 .before in
-    rw (ne-eqb _ _ (c3 .if3 .left), eq-eqb _ _ (c2 .if2 .taken), ne-eqb _ _ (c1 .if1 .left)) (said (c4 .put-moved .ensures) refl)
+    rw (ne-eqb _ _ (c1 .if1 .left), eq-eqb _ _ (c2 .if2 .taken), ne-eqb _ _ (c3 .if3 .left)) (said (c4 .put-moved .ensures) refl)
 
 same-length-3 : tie.Need-same-length-3
 same-length-3 c = kept (returns-3 c)
 
-put-register-requires : tie.Need-put-register-requires
-put-register-requires c κs = search needs
+put-place-requires : tie.Need-put-place-requires
+put-place-requires c κs = search needs
 
 returns-4 : tie.Need-returns-4
 returns-4 c =
     let c3 = c .before .before in
     let c2 = c3 .before .before in
     let c1 = c2 .before in
-    rw (ne-eqb _ _ (c2 .if2 .left), ne-eqb _ _ (c1 .if1 .left)) (said (c3 .put-register .ensures) refl)
+    rw (ne-eqb _ _ (c1 .if1 .left), ne-eqb _ _ (c2 .if2 .left)) (said (c3 .put-place .ensures) refl)
 
 same-length-4 : tie.Need-same-length-4
 same-length-4 c = kept (returns-4 c)
 
 pub put-stored-spec : {M : Type 1} → statement M
-put-stored-spec = tie.close (tie.spec put-stored-pc-requires same-length returns slice-aggregate-put put-requires same-length-2 returns-2 put-moved-requires same-length-3 returns-3 put-register-requires same-length-4 returns-4)
+put-stored-spec = tie.close (tie.spec put-stored-pc-requires same-length returns slice-aggregate-put put-requires same-length-2 returns-2 put-moved-requires same-length-3 returns-3 put-place-requires same-length-4 returns-4)

@@ -2,7 +2,7 @@
 -- Assumes nothing.
 use mathlib.Core.Path.{refl, sym}
 use borrow.Author.Needs.{needs}
-use Rattle.text.proofs.Laws.{seq, said, kept}
+use Rattle.text.proofs.Laws.{said, kept}
 use Rattle.emit_mem.proofs.transfers.put_stored_pc.Statement.{statement}
 use Rattle.emit_mem.proofs.transfers.put_stored_pc.Tie as tie
 
@@ -12,28 +12,18 @@ pc-value-requires c κs = search needs
 wrapping-add-u32-requires : tie.Need-wrapping-add-u32-requires
 wrapping-add-u32-requires c κs = search needs
 
-slice-aggregate-put-then-hex8 : tie.Need-slice-aggregate-put-then-hex8
-slice-aggregate-put-then-hex8 c = search needs
-
-put-then-hex8-requires : tie.Need-put-then-hex8-requires
-put-then-hex8-requires c κs = search needs
-
-slice-aggregate-put : tie.Need-slice-aggregate-put
-slice-aggregate-put c = search needs
-
-put-requires : tie.Need-put-requires
-put-requires c κs = search needs
+put-word-requires : tie.Need-put-word-requires
+put-word-requires c κs = search needs
 
 returns : tie.Need-returns
 returns c =
-    let c4 = c .before .before in
-    let c3 = c4 .before .before .before .before .before in
-    let c2 = c3 .before .before .before in
+    let c3 = c .before .before in
+    let c2 = c3 .before .before in
     let c1 = c2 .before in
-    rw (sym (c1 .pc-value .ensures), sym (c2 .wrapping-add-u32 .ensures)) (said (seq (c3 .put-then-hex8 .ensures) (c4 .put .ensures)) refl)
+    rw (sym (c1 .pc-value .ensures), sym (c2 .wrapping-add-u32 .ensures)) (said (c3 .put-word .ensures) refl)
 
 same-length : tie.Need-same-length
 same-length c = kept (returns c)
 
 pub put-stored-pc-spec : {M : Type 1} → statement M
-put-stored-pc-spec = tie.close (tie.spec pc-value-requires wrapping-add-u32-requires slice-aggregate-put-then-hex8 put-then-hex8-requires slice-aggregate-put put-requires same-length returns)
+put-stored-pc-spec = tie.close (tie.spec pc-value-requires wrapping-add-u32-requires put-word-requires same-length returns)

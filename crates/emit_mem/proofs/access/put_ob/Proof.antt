@@ -1,10 +1,10 @@
--- `transfers::put_register` meets its contract: what its calls write, one after another.
+-- `access::put_ob` meets its contract: what its calls write, one after another.
 -- Assumes nothing.
 use mathlib.Core.Path.{refl}
 use borrow.Author.Needs.{needs}
 use Rattle.text.proofs.Laws.{seq, said, kept}
-use Rattle.emit_mem.proofs.transfers.put_register.Statement.{statement}
-use Rattle.emit_mem.proofs.transfers.put_register.Tie as tie
+use Rattle.emit_mem.proofs.access.put_ob.Statement.{statement}
+use Rattle.emit_mem.proofs.access.put_ob.Tie as tie
 
 slice-aggregate-put-then-dec : tie.Need-slice-aggregate-put-then-dec
 slice-aggregate-put-then-dec c = search needs
@@ -27,5 +27,5 @@ returns c =
 same-length : tie.Need-same-length
 same-length c = kept (returns c)
 
-pub put-register-spec : {M : Type 1} → statement M
-put-register-spec = tie.close (tie.spec slice-aggregate-put-then-dec put-then-dec-requires slice-aggregate-put put-requires same-length returns)
+pub put-ob-spec : {M : Type 1} → statement M
+put-ob-spec = tie.close (tie.spec slice-aggregate-put-then-dec put-then-dec-requires slice-aggregate-put put-requires same-length returns)

@@ -1,0 +1,35 @@
+-- `access::put_mem_load` meets its contract: what its calls write, one after another.
+-- Assumes nothing.
+use lib.Dec.{eqb}
+use mathlib.Core.Bool.{not, _&&_}
+use mathlib.Core.List.{List, [], _∷_}
+use borrow.Author.Needs.{needs}
+use Rattle.c_tree.specs.Expr.{x-ob}
+use Rattle.c_tree.specs.Preamble.{v32}
+use Rattle.c_tree.specs.Stmt.{Plain}
+use Rattle.emit_mem.proofs.Lines.{apart-both}
+use Rattle.forms.specs.InlineBody.{only, setReg, loaded}
+use Rattle.text.proofs.Laws.{seq, said, kept}
+use Rattle.emit_mem.proofs.access.put_mem_load.Statement.{statement}
+use Rattle.emit_mem.proofs.access.put_mem_load.Tie as tie
+
+put-load-ob-requires : tie.Need-put-load-ob-requires
+put-load-ob-requires c κs = search needs
+
+put-load-line-requires : tie.Need-put-load-line-requires
+put-load-line-requires c κs = search needs
+
+returns : tie.Need-returns
+returns c =
+    let c2 = c .before .before in
+    let c1 = c2 .before .before .before .before in
+    let a = c1 .before .before .before .args in
+    let back : List Plain = only (a .wb && not (eqb (a .rn) (a .rd)) && not (eqb (a .rn) 15)) (setReg (a .rn) (v32 x-ob)) in
+    let load : List Plain = setReg (a .rd) (loaded (a .width) (a .signed)) ∷ [] in
+    said (seq (c1 .put-load-ob .ensures) (c2 .put-load-line .ensures)) (apart-both 8 back load)
+
+same-length : tie.Need-same-length
+same-length c = kept (returns c)
+
+pub put-mem-load-spec : {M : Type 1} → statement M
+put-mem-load-spec = tie.close (tie.spec put-load-ob-requires put-load-line-requires same-length returns)

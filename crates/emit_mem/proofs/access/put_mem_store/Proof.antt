@@ -1,0 +1,35 @@
+-- `access::put_mem_store` meets its contract: what its calls write, one after another.
+-- Assumes nothing.
+use lib.Dec.{eqb}
+use mathlib.Core.Bool.{not, _&&_}
+use mathlib.Core.List.{List, [], _∷_}
+use borrow.Author.Needs.{needs}
+use Rattle.c_tree.specs.Expr.{x-ob, reg, get}
+use Rattle.c_tree.specs.Preamble.{v32}
+use Rattle.c_tree.specs.Stmt.{Plain}
+use Rattle.emit_mem.proofs.Lines.{apart-both}
+use Rattle.forms.specs.InlineBody.{only, setReg, stored}
+use Rattle.text.proofs.Laws.{seq, said, kept}
+use Rattle.emit_mem.proofs.access.put_mem_store.Statement.{statement}
+use Rattle.emit_mem.proofs.access.put_mem_store.Tie as tie
+
+put-store-line-requires : tie.Need-put-store-line-requires
+put-store-line-requires c κs = search needs
+
+put-store-ob-requires : tie.Need-put-store-ob-requires
+put-store-ob-requires c κs = search needs
+
+returns : tie.Need-returns
+returns c =
+    let c2 = c .before .before in
+    let c1 = c2 .before .before .before .before in
+    let a = c1 .before .before .before .args in
+    let store : List Plain = stored (a .width) (get (reg (a .rd))) ∷ [] in
+    let back : List Plain = only (a .wb && not (eqb (a .rn) 15)) (setReg (a .rn) (v32 x-ob)) in
+    said (seq (c1 .put-store-line .ensures) (c2 .put-store-ob .ensures)) (apart-both 8 store back)
+
+same-length : tie.Need-same-length
+same-length c = kept (returns c)
+
+pub put-mem-store-spec : {M : Type 1} → statement M
+put-mem-store-spec = tie.close (tie.spec put-store-line-requires put-store-ob-requires same-length returns)

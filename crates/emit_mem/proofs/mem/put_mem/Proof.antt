@@ -1,0 +1,33 @@
+-- `put_mem` writes the lines of a Mem, where the definition has such.
+-- Assumes nothing.
+use borrow.Author.Needs.{needs}
+use mathlib.Core.Bool.{not, _||_}
+use mathlib.Core.List.{[]}
+use mathlib.Core.Path.{ap}
+use Rattle.c_tree.specs.Print.{codeText}
+use Rattle.c_tree.specs.Stmt.{common, end}
+use Rattle.emit_mem.proofs.Offsets.{mem-lines}
+use Rattle.emit_mem.proofs.mem.put_mem.Statement.{statement}
+use Rattle.emit_mem.proofs.mem.put_mem.Tie as tie
+use Rattle.forms.specs.Forms.{Lines}
+use Rattle.forms.specs.InlineBody.{baseExpr, access}
+use Rattle.lowering.specs.Block.{lines}
+use Rattle.text.proofs.Laws.{said, kept}
+use Rattle.text.specs.Doc.{flat}
+
+put-mem-lines-requires : tie.Need-put-mem-lines-requires
+put-mem-lines-requires c κs = search needs
+
+returns : tie.Need-returns
+returns c = λ ls e.
+    let c1 = c .before .before in
+    let a = c1 .before .before .before .args in
+    said (c1 .put-mem-lines .ensures)
+    (ap (λ (ks : Lines). flat (codeText (lines common 8 ks end)) [])
+    (mem-lines (a .i) (baseExpr (a .thumb) (a .i) (a .rn)) (a .up) (a .pre) (access (a .load) (a .width) (a .signed) (a .rd) (a .rn) (not (a .pre) || a .writeback)) (a .offset) ls e))
+
+same-length : tie.Need-same-length
+same-length c = kept (c .before .before .put-mem-lines .ensures)
+
+pub put-mem-spec : {M : Type 1} → statement M
+put-mem-spec = tie.close (tie.spec put-mem-lines-requires same-length returns)

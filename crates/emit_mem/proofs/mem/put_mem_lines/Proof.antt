@@ -1,0 +1,39 @@
+-- `mem::put_mem_lines` meets its contract: what its calls write, one after another.
+-- Assumes nothing.
+use mathlib.Core.Path.{sym}
+use mathlib.Core.List.{[]}
+use borrow.Author.Needs.{needs}
+use Rattle.armv4t.specs.Instr.{pcValue}
+use Rattle.c_tree.specs.Stmt.{end}
+use Rattle.emit_mem.proofs.Lines.{lines-both}
+use Rattle.emit_mem.specs.Mem.{offsetOf, memLines}
+use Rattle.forms.specs.Forms.{Lines}
+use Rattle.forms.specs.InlineBody.{apart, baseExpr, access}
+use Rattle.text.proofs.Laws.{seq, said, kept}
+use Rattle.emit_mem.proofs.mem.put_mem_lines.Statement.{statement}
+use Rattle.emit_mem.proofs.mem.put_mem_lines.Tie as tie
+
+writes-back-requires : tie.Need-writes-back-requires
+writes-back-requires c κs = search needs
+
+put-address-requires : tie.Need-put-address-requires
+put-address-requires c κs = search needs
+
+put-access-requires : tie.Need-put-access-requires
+put-access-requires c κs = search needs
+
+returns : tie.Need-returns
+returns c =
+    let c3 = c .before .before in
+    let c2 = c3 .before .before .before .before in
+    let c1 = c2 .before .before in
+    let a = c1 .before .before .args in
+    let first : Lines = memLines (baseExpr (a .thumb) (a .i) (a .rn)) (a .up) (a .pre) [] (offsetOf (pcValue (a .i)) (a .offset)) in
+    let rest : Lines = apart (access (a .load) (a .width) (a .signed) (a .rd) (a .rn) (c1 .writes-back .result)) in
+    rw (sym (c1 .writes-back .ensures)) (said (seq (c2 .put-address .ensures) (c3 .put-access .ensures)) (lines-both 8 first rest end []))
+
+same-length : tie.Need-same-length
+same-length c = kept (returns c)
+
+pub put-mem-lines-spec : {M : Type 1} → statement M
+put-mem-lines-spec = tie.close (tie.spec writes-back-requires put-address-requires put-access-requires same-length returns)

@@ -1,0 +1,178 @@
+// The access of a Mem, by its width and sign, and the write-back of its base.
+use armv4t::MemWidth;
+use armv4t::PC;
+use text::put;
+use text::put_then_dec;
+ghost use mathlib.Core.Bool.{true, false, not, _&&_};
+ghost use mathlib.Core.List.{[], _∷_};
+ghost use lib.Dec.{eqb};
+ghost use Rattle.text.specs.Wrote.{Wrote};
+ghost use Rattle.armv4t.specs.declared.MemWidth.the-variants.{Byte, Half};
+ghost use Rattle.c_tree.specs.Expr.{x-ob, reg, get};
+ghost use Rattle.c_tree.specs.Stmt.{common, end};
+ghost use Rattle.c_tree.specs.Preamble.{v32};
+ghost use Rattle.c_tree.specs.Print.{exprText, codeText};
+ghost use Rattle.forms.specs.InlineBody.{only, apart, setReg, loaded, stored, access};
+ghost use Rattle.lowering.specs.Block.{lines};
+
+// A byte as it is loaded.
+fn put_byte(out: &mut [u8], at: usize, signed: bool) -> usize
+    ensures { λ n. ⌜ Wrote (now (out .entry)) at (exprText (loaded Byte signed)) (now (out .exit)) n ⌝ }
+{
+    if signed {
+        put(out, at, b"(uint32_t)(int32_t)(int8_t)a->read8(m, addr)")
+    } else {
+        put(out, at, b"a->read8(m, addr)")
+    }
+}
+
+// A half-word as it is loaded: from an odd address a signed one is a byte, and another is turned.
+fn put_half(out: &mut [u8], at: usize, signed: bool) -> usize
+    ensures { λ n. ⌜ Wrote (now (out .entry)) at (exprText (loaded Half signed)) (now (out .exit)) n ⌝ }
+{
+    if signed {
+        put(
+            out,
+            at,
+            b"((addr & 1u) ? (uint32_t)(int32_t)(int8_t)a->read8(m, addr) : (uint32_t)(int32_t)(int16_t)a->read16(m, addr))",
+        )
+    } else {
+        put(
+            out,
+            at,
+            b"ror32(a->read16(m, addr & ~1u), (addr & 1u) * 8u)",
+        )
+    }
+}
+
+// What is loaded.
+fn put_loaded(out: &mut [u8], at: usize, width: MemWidth, signed: bool) -> usize
+    ensures { λ n. ⌜ Wrote (now (out .entry)) at (exprText (loaded width signed)) (now (out .exit)) n ⌝ }
+{
+    match width {
+        MemWidth::Byte => put_byte(out, at, signed),
+        MemWidth::Half => put_half(out, at, signed),
+        MemWidth::Word => put(
+            out,
+            at,
+            b"ror32(a->read32(m, addr & ~3u), (addr & 3u) * 8u)",
+        ),
+    }
+}
+
+// The line that loads.
+fn put_load_line(out: &mut [u8], at: usize, width: MemWidth, signed: bool, rd: u8) -> usize
+    ensures { λ n. ⌜ Wrote (now (out .entry)) at (codeText (lines common 8 (apart (setReg rd (loaded width signed) ∷ [])) end)) (now (out .exit)) n ⌝ }
+{
+    let p = put_then_dec(out, at, b"        c[", rd as u64);
+    let q = put(out, p, b"] = ");
+    let s = put_loaded(out, q, width, signed);
+    put(out, s, b";\n")
+}
+
+// The line that stores.
+fn put_store_line(out: &mut [u8], at: usize, width: MemWidth, rd: u8) -> usize
+    ensures { λ n. ⌜ Wrote (now (out .entry)) at (codeText (lines common 8 (apart (stored width (get (reg rd)) ∷ [])) end)) (now (out .exit)) n ⌝ }
+{
+    match width {
+        MemWidth::Byte => {
+            let p = put_then_dec(out, at, b"        a->write8(m, addr, c[", rd as u64);
+            put(out, p, b"]);\n")
+        }
+        MemWidth::Half => {
+            let p = put_then_dec(out, at, b"        a->write16(m, addr & ~1u, c[", rd as u64);
+            put(out, p, b"]);\n")
+        }
+        MemWidth::Word => {
+            let p = put_then_dec(out, at, b"        a->write32(m, addr & ~3u, c[", rd as u64);
+            put(out, p, b"]);\n")
+        }
+    }
+}
+
+// The line that writes the base back.
+fn put_ob(out: &mut [u8], at: usize, rn: u8) -> usize
+    ensures { λ n. ⌜ Wrote (now (out .entry)) at (codeText (lines common 8 (apart (setReg rn (v32 x-ob) ∷ [])) end)) (now (out .exit)) n ⌝ }
+{
+    let p = put_then_dec(out, at, b"        c[", rn as u64);
+    put(out, p, b"] = ob;\n")
+}
+
+// The write-back of a load, which does not undo the load.
+fn put_load_ob(out: &mut [u8], at: usize, rd: u8, rn: u8, wb: bool) -> usize
+    ensures { λ n. ⌜ Wrote (now (out .entry)) at (codeText (lines common 8 (apart (only (wb && not (eqb rn rd) && not (eqb rn 15)) (setReg rn (v32 x-ob)))) end)) (now (out .exit)) n ⌝ }
+{
+    if wb {
+        if rn == rd {
+            return at;
+        }
+        if rn == PC {
+            return at;
+        }
+        return put_ob(out, at, rn);
+    }
+    at
+}
+
+// The write-back of a store.
+fn put_store_ob(out: &mut [u8], at: usize, rn: u8, wb: bool) -> usize
+    ensures { λ n. ⌜ Wrote (now (out .entry)) at (codeText (lines common 8 (apart (only (wb && not (eqb rn 15)) (setReg rn (v32 x-ob)))) end)) (now (out .exit)) n ⌝ }
+{
+    if wb {
+        if rn == PC {
+            return at;
+        }
+        return put_ob(out, at, rn);
+    }
+    at
+}
+
+fn put_mem_load(
+    out: &mut [u8],
+    at: usize,
+    width: MemWidth,
+    signed: bool,
+    rd: u8,
+    rn: u8,
+    wb: bool,
+) -> usize
+    ensures { λ n. ⌜ Wrote (now (out .entry)) at (codeText (lines common 8 (apart (access true width signed rd rn wb)) end)) (now (out .exit)) n ⌝ }
+{
+    let p = put_load_ob(out, at, rd, rn, wb);
+    put_load_line(out, p, width, signed, rd)
+}
+
+fn put_mem_store(
+    out: &mut [u8],
+    at: usize,
+    width: MemWidth,
+    signed: bool,
+    rd: u8,
+    rn: u8,
+    wb: bool,
+) -> usize
+    ensures { λ n. ⌜ Wrote (now (out .entry)) at (codeText (lines common 8 (apart (access false width signed rd rn wb)) end)) (now (out .exit)) n ⌝ }
+{
+    let p = put_store_line(out, at, width, rd);
+    put_store_ob(out, p, rn, wb)
+}
+
+// The lines of a Mem behind its address.
+pub(crate) fn put_access(
+    out: &mut [u8],
+    at: usize,
+    load: bool,
+    width: MemWidth,
+    signed: bool,
+    rd: u8,
+    rn: u8,
+    wb: bool,
+) -> usize
+    ensures { λ n. ⌜ Wrote (now (out .entry)) at (codeText (lines common 8 (apart (access load width signed rd rn wb)) end)) (now (out .exit)) n ⌝ }
+{
+    if load {
+        put_mem_load(out, at, width, signed, rd, rn, wb)
+    } else {
+        put_mem_store(out, at, width, signed, rd, rn, wb)
+    }
+}

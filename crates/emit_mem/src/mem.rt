@@ -1,0 +1,197 @@
+// Mem: a single load or store.
+use crate::access::put_access;
+use armv4t::Instr;
+use armv4t::MemOffset;
+use armv4t::MemWidth;
+use armv4t::Operand2;
+use armv4t::PC;
+use emit_operands::put_op2_value;
+use emit_operands::put_place;
+use emit_operands::put_reg;
+use text::put;
+use text::put_hex;
+use text::put_then_hex8;
+ghost use mathlib.Core.Path.{_≡_};
+ghost use mathlib.Core.Bool.{cond, not, _||_};
+ghost use mathlib.Core.List.{[], _∷_};
+ghost use mathlib.Core.Option.{some};
+ghost use Prim.Native.Nat.{_*_, _/_};
+ghost use Rattle.text.specs.Doc.{text, _▸_};
+ghost use Rattle.text.specs.Wrote.{Wrote};
+ghost use Rattle.armv4t.specs.Instr.{pcValue};
+ghost use Rattle.c_tree.specs.Expr.{word, uhex, x-base, x-ob, x-addr, operator, lit, par, bin};
+ghost use Rattle.c_tree.specs.Stmt.{common, end};
+ghost use Rattle.c_tree.specs.Preamble.{v32};
+ghost use Rattle.c_tree.specs.Print.{exprText, codeText};
+ghost use Rattle.forms.specs.Forms.{Lines};
+ghost use Rattle.forms.specs.InlineBody.{apart, let32, baseExpr, offsetExpr, step, access, memBody};
+ghost use Rattle.lowering.specs.Block.{lines};
+ghost use Rattle.emit_mem.specs.Mem.{offsetOf, memLines};
+
+// PC as a base in a Thumb block.
+fn put_aligned(out: &mut [u8], at: usize, pc: u32) -> usize
+    ensures { λ n. ⌜ Wrote (now (out .entry)) at (exprText (par (lit word (pc / 4 * 4)))) (now (out .exit)) n ⌝ }
+{
+    let p = put_then_hex8(out, at, b"(0x", pc / 4 * 4);
+    put(out, p, b"u)")
+}
+
+// The base.
+fn put_base(out: &mut [u8], at: usize, thumb: bool, i: Instr, rn: u8) -> usize
+    ensures { λ n. ⌜ Wrote (now (out .entry)) at (exprText (baseExpr thumb i rn)) (now (out .exit)) n ⌝ }
+{
+    let pc = i.pc_value();
+    if thumb {
+        if rn == PC {
+            return put_aligned(out, at, pc);
+        }
+        return put_place(out, at, rn);
+    }
+    put_reg(out, at, rn, pc)
+}
+
+// An offset that is a number.
+fn put_offset_value(out: &mut [u8], at: usize, value: u16) -> usize
+    ensures { λ n. ⌜ Wrote (now (out .entry)) at (exprText (lit uhex value)) (now (out .exit)) n ⌝ }
+{
+    let p = put(out, at, b"0x");
+    let q = put_hex(out, p, value as u64);
+    put(out, q, b"u")
+}
+
+// The offset.
+fn put_offset(out: &mut [u8], at: usize, offset: MemOffset, pc: u32) -> usize
+    ensures { λ n. ⌜ Wrote (now (out .entry)) at (exprText (offsetOf pc offset)) (now (out .exit)) n ⌝ }
+{
+    match offset {
+        MemOffset::Imm(value) => put_offset_value(out, at, value),
+        MemOffset::Reg { rm, shift } => put_op2_value(out, at, Operand2::Reg { rm, shift }, pc),
+    }
+}
+
+// The line of the base.
+fn put_base_line(out: &mut [u8], at: usize, thumb: bool, i: Instr, rn: u8) -> usize
+    ensures { λ n. ⌜ Wrote (now (out .entry)) at (codeText (lines common 8 (apart (let32 x-base (baseExpr thumb i rn) ∷ [])) end)) (now (out .exit)) n ⌝ }
+{
+    let p = put(out, at, b"        uint32_t base = ");
+    let q = put_base(out, p, thumb, i, rn);
+    put(out, q, b";\n")
+}
+
+// The line of the base with its offset, up to the offset.
+fn put_step(out: &mut [u8], at: usize, up: bool) -> usize
+    ensures { λ n. ⌜ Wrote (now (out .entry)) at (text "        uint32_t ob = base" ▸ text (operator (step up) .0)) (now (out .exit)) n ⌝ }
+{
+    if up {
+        put(out, at, b"        uint32_t ob = base + ")
+    } else {
+        put(out, at, b"        uint32_t ob = base - ")
+    }
+}
+
+// The line of the base with its offset.
+fn put_ob_line(out: &mut [u8], at: usize, up: bool, offset: MemOffset, pc: u32) -> usize
+    ensures { λ n. ⌜ Wrote (now (out .entry)) at (codeText (lines common 8 (apart (let32 x-ob (bin (step up) (v32 x-base) (offsetOf pc offset)) ∷ [])) end)) (now (out .exit)) n ⌝ }
+{
+    let p = put_step(out, at, up);
+    let q = put_offset(out, p, offset, pc);
+    put(out, q, b";\n")
+}
+
+// The line of the address.
+fn put_addr_line(out: &mut [u8], at: usize, pre: bool) -> usize
+    ensures { λ n. ⌜ Wrote (now (out .entry)) at (codeText (lines common 8 (apart (let32 x-addr (v32 (cond pre x-ob x-base)) ∷ [])) end)) (now (out .exit)) n ⌝ }
+{
+    if pre {
+        put(out, at, b"        uint32_t addr = ob;\n")
+    } else {
+        put(out, at, b"        uint32_t addr = base;\n")
+    }
+}
+
+// The lines before the access.
+fn put_address(
+    out: &mut [u8],
+    at: usize,
+    thumb: bool,
+    i: Instr,
+    rn: u8,
+    offset: MemOffset,
+    pre: bool,
+    up: bool,
+) -> usize
+    ensures { λ n. ⌜ Wrote (now (out .entry)) at (codeText (lines common 8 (memLines (baseExpr thumb i rn) up pre [] (offsetOf (pcValue i) offset)) end)) (now (out .exit)) n ⌝ }
+{
+    let pc = i.pc_value();
+    let p = put_base_line(out, at, thumb, i, rn);
+    let q = put_ob_line(out, p, up, offset, pc);
+    put_addr_line(out, q, pre)
+}
+
+// Whether the base is written back: always behind an access that does not count the offset.
+fn writes_back(pre: bool, writeback: bool) -> bool
+    ensures { λ b. ⌜ b ≡ (not pre || writeback) ⌝ }
+{
+    if pre {
+        return writeback;
+    }
+    true
+}
+
+// All lines of a Mem, its offset said with no case left out.
+fn put_mem_lines(
+    out: &mut [u8],
+    at: usize,
+    thumb: bool,
+    i: Instr,
+    load: bool,
+    width: MemWidth,
+    signed: bool,
+    rd: u8,
+    rn: u8,
+    offset: MemOffset,
+    pre: bool,
+    up: bool,
+    writeback: bool,
+) -> usize
+    ensures { λ n. ⌜ Wrote (now (out .entry)) at (codeText (lines common 8 (memLines (baseExpr thumb i rn) up pre (access load width signed rd rn (not pre || writeback)) (offsetOf (pcValue i) offset)) end)) (now (out .exit)) n ⌝ }
+{
+    let wb = writes_back(pre, writeback);
+    let p = put_address(out, at, thumb, i, rn, offset, pre, up);
+    put_access(out, p, load, width, signed, rd, rn, wb)
+}
+
+// All lines of a Mem that is inlined.
+pub fn put_mem(
+    out: &mut [u8],
+    at: usize,
+    thumb: bool,
+    i: Instr,
+    load: bool,
+    width: MemWidth,
+    signed: bool,
+    rd: u8,
+    rn: u8,
+    offset: MemOffset,
+    pre: bool,
+    up: bool,
+    writeback: bool,
+) -> usize
+    ensures { λ n. ⌜ ((ls : Lines) → memBody (baseExpr thumb i rn) up pre (access load width signed rd rn (not pre || writeback)) (offsetExpr i offset) ≡ some ls → Wrote (now (out .entry)) at (codeText (lines common 8 ls end)) (now (out .exit)) n) ⌝ }
+{
+    put_mem_lines(
+        out,
+        at,
+        thumb,
+        i,
+        load,
+        width,
+        signed,
+        rd,
+        rn,
+        offset,
+        pre,
+        up,
+        writeback,
+    )
+}
