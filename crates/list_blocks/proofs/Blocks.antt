@@ -16,7 +16,8 @@ use Rattle.text.specs.Doc.{Doc, flat, _▸_}
 use Rattle.plan.specs.Accepted.{IsBlock}
 use Rattle.plan.specs.Exits.{keyOf, exits}
 use Rattle.plan.proofs.Accepted.{block-record, key-plus}
-use Rattle.list_blocks.specs.Listing.{groupOf, line, blockLine, linesFrom}
+use Rattle.members.specs.Numbers.{groupOf}
+use Rattle.list_blocks.specs.Listing.{line, blockLine, linesFrom}
 
 -- a line by the record is the block's
 pub block-line : {f : List ℕ} {i : ℕ} {b : BlockRecord} {first : ℕ} → IsBlock f i b first → (group key : ℕ) (keys : List ℕ) → key ≡ keyOf (b .addr) (b .thumb)

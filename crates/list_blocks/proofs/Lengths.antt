@@ -12,7 +12,8 @@ use Rattle.text.proofs.Lengths.{most, length-most}
 use Rattle.plan.specs.Exits.{exits}
 use Rattle.plan.specs.Plan.{blockKey, plan}
 use Rattle.plan.proofs.Edges.{exits-few}
-use Rattle.list_blocks.specs.Listing.{groupOf, line, blockLine, linesFrom, listing}
+use Rattle.members.specs.Numbers.{groupOf}
+use Rattle.list_blocks.specs.Listing.{line, blockLine, linesFrom, listing}
 
 -- a line: 8 digits, a space, at most 20 digits, two exits with 9 bytes each, and the line's end
 line-most : (key group : ℕ) (keys : List ℕ) → length keys ≤ 2 → most (line key group keys) ≤ 48

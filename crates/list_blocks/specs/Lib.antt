@@ -2,4 +2,3 @@
 pub mod Calls
 mod Examples
 pub mod Listing
-pub mod Numbers

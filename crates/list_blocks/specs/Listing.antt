@@ -1,18 +1,11 @@
 -- The listing of a file: a header, and one line for each block in file order.
 use Prim.Native.Nat.{ℕ, suc}
-use mathlib.Core.Bool.{cond}
 use mathlib.Core.List.{List, [], _∷_}
-use lib.Dec.{eqb}
 use Rattle.block_file.specs.Parse.{Block}
 use Rattle.text.specs.Doc.{Doc, nothing, text, dec, hex8, _▸_, each}
 use Rattle.plan.specs.Exits.{exits}
 use Rattle.plan.specs.Plan.{blockKey, plan}
-
--- the group of block i in the rows of a plan
-unfoldable pub groupOf : ℕ → List ℕ → ℕ
-groupOf i [] = 0
-groupOf i (g ∷ []) = 0
-groupOf i (g ∷ j ∷ rows) = cond (eqb j i) g (groupOf i rows)
+use Rattle.members.specs.Numbers.{groupOf}
 
 -- the exits of a line: each key with a space before it, or a space and `-` if there is none
 abbrev pub exitsText : List ℕ → Doc

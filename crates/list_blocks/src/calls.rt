@@ -1,8 +1,8 @@
 // The public call for the listing. It checks its file and its lent buffers itself.
-use crate::group_numbers::put_groups;
 use crate::lines::put_listing;
 use block_file::Checked;
 use block_file::check;
+use members::put_groups;
 use plan::PART_LIMIT;
 use plan::clear;
 use plan::group_blocks;
@@ -15,7 +15,8 @@ ghost use Rattle.text.specs.Doc.{print};
 ghost use Rattle.plan.specs.Accepted.{blocksOf, Accepted};
 ghost use Rattle.plan.specs.Calls.{partLimit};
 ghost use Rattle.plan.specs.Plan.{plan};
-ghost use Rattle.list_blocks.specs.Listing.{groupOf, listing};
+ghost use Rattle.list_blocks.specs.Listing.{listing};
+ghost use Rattle.members.specs.Numbers.{groupOf};
 ghost use Rattle.list_blocks.specs.Calls.{listedOf, listingCall};
 
 // The answer of the call for the listing.

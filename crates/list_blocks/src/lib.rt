@@ -1,6 +1,5 @@
 // The listing of a file, into a lent buffer.
 mod calls;
-mod group_numbers;
 mod lines;
 
 pub use calls::Listed;

@@ -15,7 +15,8 @@ ghost use Rattle.plan.specs.Accepted.{blocksOf, Accepted, IsBlock};
 ghost use Rattle.plan.specs.Calls.{partLimit};
 ghost use Rattle.plan.specs.Plan.{plan};
 ghost use Rattle.plan.specs.Exits.{keysOf};
-ghost use Rattle.list_blocks.specs.Listing.{groupOf, exitsText, line, blockLine, listing};
+ghost use Rattle.list_blocks.specs.Listing.{exitsText, line, blockLine, listing};
+ghost use Rattle.members.specs.Numbers.{groupOf};
 
 // The exits of a line.
 fn put_exits(out: &mut [u8], at: usize, exits: Exits) -> usize

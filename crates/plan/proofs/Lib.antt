@@ -9,7 +9,7 @@ pub mod GroupLaws
 mod Grouping
 pub mod HandOver
 mod Joining
-mod Keys
+pub mod Keys
 mod Lending
 mod Linking
 pub mod Listing

@@ -18,3 +18,5 @@ pub use exits::Exits;
 pub use exits::exits_at;
 pub use exits::key_of;
 pub use groups::group_blocks;
+pub use search::Target;
+pub use search::find_target;

@@ -12,7 +12,7 @@ ghost use Rattle.plan.specs.Plan.{target};
 ghost use Rattle.plan.specs.Search.{targetOf, TargetInside, Between, FirstFrom};
 
 // The number of a block, if there is one.
-pub(crate) enum Target {
+pub enum Target {
     At(usize),
     Nothing,
 }
@@ -82,7 +82,7 @@ fn first_from(file: &[u8], key: u64, i: usize) -> usize
 }
 
 // The block of page 8 with a key, an exit of block i.
-pub(crate) fn find_target(file: &[u8], key: u32, i: usize) -> Target
+pub fn find_target(file: &[u8], key: u32, i: usize) -> Target
     requires { ⌜ i < blockCount (now file) ⌝ }
     ensures { λ r. ⌜ TargetInside (now (file .entry)) r ⌝ }
     ensures { λ r. ⌜ (Accepted (now (file .entry)) → targetOf r ≡ target key (blocksOf (now (file .entry))) 0) ⌝ }

@@ -3,7 +3,7 @@
 use Prim.Native.Nat.{_≤_}
 use Rattle.plan.specs.Calls.{partLimit}
 use Rattle.block_file.proofs.Accepted.{few-blocks}
-use Rattle.list_blocks.proofs.Groups.{groups-planned, groups-room, groups-past}
+use Rattle.members.proofs.Groups.{groups-planned, groups-room, groups-past}
 use Rattle.list_blocks.proofs.calls.list_blocks.Statement.{statement}
 use Rattle.list_blocks.proofs.calls.list_blocks.Tie as tie
 use Rattle.list_blocks.specs.Calls.{listedOf, madeListing}

@@ -3,9 +3,9 @@
 use borrow.Author.Needs.{needs}
 use mathlib.Core.Path.{refl}
 use native.Mathlib.Omega.{arith}
-use Rattle.list_blocks.proofs.Groups.{groups-put, groups-kept}
-use Rattle.list_blocks.proofs.group_numbers.put_group.Statement.{statement}
-use Rattle.list_blocks.proofs.group_numbers.put_group.Tie as tie
+use Rattle.members.proofs.Groups.{groups-put, groups-kept}
+use Rattle.members.proofs.group_numbers.put_group.Statement.{statement}
+use Rattle.members.proofs.group_numbers.put_group.Tie as tie
 
 mul-i : tie.Need-mul-i
 mul-i c = search needs

@@ -12,8 +12,7 @@ use lib.Seq.{length-take-le, drop-cons, getD-take, getD-drop, getD-set-same, get
 use Rattle.plan.specs.Accepted.{blocksOf, Accepted}
 use Rattle.plan.specs.Groups.{Grouped, interleave}
 use Rattle.plan.specs.Plan.{plan}
-use Rattle.list_blocks.specs.Listing.{groupOf}
-use Rattle.list_blocks.specs.Numbers.{rowsAt, GroupsFrom}
+use Rattle.members.specs.Numbers.{groupOf, rowsAt, GroupsFrom}
 
 -- past the last row there is none
 rows-end : (n : ℕ) (work : List ℕ) → rowsAt n work n ≡ []

@@ -3,9 +3,9 @@
 use Prim.Native.Nat.{_*_, _-_, _≤_}
 use lib.ListN.{length}
 use native.Mathlib.Omega.{arith}
-use Rattle.list_blocks.proofs.Groups.{Zeroed, zeroed-none, zeroed-more, groups-none}
-use Rattle.list_blocks.proofs.group_numbers.no_groups.Statement.{statement}
-use Rattle.list_blocks.proofs.group_numbers.no_groups.Tie as tie
+use Rattle.members.proofs.Groups.{Zeroed, zeroed-none, zeroed-more, groups-none}
+use Rattle.members.proofs.group_numbers.no_groups.Statement.{statement}
+use Rattle.members.proofs.group_numbers.no_groups.Tie as tie
 
 abbrev Inv-loop : tie.InvT-loop
 Inv-loop work₀ n i₀ work i = (i ≤ n) × (4 * n ≤ length work₀) × (n ≤ 65536) × Zeroed n i work₀ work

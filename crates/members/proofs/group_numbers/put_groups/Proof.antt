@@ -7,9 +7,9 @@ use lib.ListN.{length}
 use mathlib.Core.List.{List}
 use mathlib.Core.Path.{subst}
 use native.Mathlib.Omega.{arith}
-use Rattle.list_blocks.proofs.group_numbers.put_groups.Statement.{statement}
-use Rattle.list_blocks.proofs.group_numbers.put_groups.Tie as tie
-use Rattle.list_blocks.specs.Numbers.{GroupsFrom}
+use Rattle.members.proofs.group_numbers.put_groups.Statement.{statement}
+use Rattle.members.proofs.group_numbers.put_groups.Tie as tie
+use Rattle.members.specs.Numbers.{GroupsFrom}
 
 abbrev Inv-loop : tie.InvT-loop
 Inv-loop work₀ n p₀ work p = (p ≤ n) × (4 * n ≤ length work) × (n ≤ 65536) × ((w : List ℕ) → GroupsFrom n n w work₀ → GroupsFrom n p w work)

@@ -12,7 +12,7 @@ use Rattle.block_file.specs.Parse.{Block}
 use Rattle.plan.specs.Plan.{groupRows, rowsFrom, groups, plan}
 use Rattle.plan.proofs.GroupLaws.{groups-once}
 use Rattle.plan.proofs.Listing.{count, count-append, count-here, count-other, count-in, counted}
-use Rattle.list_blocks.specs.Listing.{groupOf}
+use Rattle.members.specs.Numbers.{groupOf}
 
 module _ (i : ℕ) where
   -- the rows of a group that has the block

@@ -1,10 +1,17 @@
--- What the work numbers hold while a file is listed: part 1 gets the group of each block.
+-- What the work numbers hold while part 1 gets the group of each block.
 use Prim.Native.Nat.{ℕ, _+_, _*_, _≤_, _<_}
 use mathlib.Core.Path.{_≡_}
-use mathlib.Core.List.{List}
+use mathlib.Core.Bool.{cond}
+use mathlib.Core.List.{List, [], _∷_}
+use lib.Dec.{eqb}
 use lib.ListN.{length, getD, take, drop}
 use Rattle.plan.specs.Groups.{interleave}
-use Rattle.list_blocks.specs.Listing.{groupOf}
+
+-- the group of block i in the rows of a plan
+unfoldable pub groupOf : ℕ → List ℕ → ℕ
+groupOf i [] = 0
+groupOf i (g ∷ []) = 0
+groupOf i (g ∷ j ∷ rows) = cond (eqb j i) g (groupOf i rows)
 
 -- the rows from row p on, in parts 2 and 0
 abbrev pub rowsAt : ℕ → List ℕ → ℕ → List ℕ

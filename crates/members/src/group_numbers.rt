@@ -4,7 +4,7 @@ ghost use Prim.Native.Nat.{_+_, _*_, _≤_, _<_};
 ghost use Prim.Native.Nat.{ℕ};
 ghost use mathlib.Core.List.{List};
 ghost use lib.ListN.{length};
-ghost use Rattle.list_blocks.specs.Numbers.{GroupsFrom};
+ghost use Rattle.members.specs.Numbers.{GroupsFrom};
 
 // Part 1 of n numbers becomes 0.
 fn no_groups(work: &mut [u32], n: usize)
@@ -30,7 +30,7 @@ fn put_group(work: &mut [u32], n: usize, p: usize)
 }
 
 // From the last row to the first, so that a block has the group of its first row.
-pub(crate) fn put_groups(work: &mut [u32], n: usize)
+pub fn put_groups(work: &mut [u32], n: usize)
     requires { ⌜ (4 * n ≤ length (now work)) × (n ≤ 65536) ⌝ }
     ensures { λ _. ⌜ GroupsFrom n 0 (now (work .entry)) (now (work .exit)) ⌝ }
 {
