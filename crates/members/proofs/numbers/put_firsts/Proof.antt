@@ -1,0 +1,103 @@
+-- `put_firsts` stores the number of each block's first instruction. The loop's invariant: `first` is the sum of the counts passed, and part 3 has those sums for the blocks passed.
+-- Assumes nothing.
+use Prim.Native.Nat.{_*_, _-_, _≤_}
+use borrow.Author.Needs.{needs}
+use lib.ListN.{length}
+use mathlib.Core.Path.{_≡_, refl, sym, _∙_}
+use native.Mathlib.Omega.{arith}
+use Rattle.block_file.proofs.Accepted.{few-instrs}
+use Rattle.block_file.specs.BlockRecord.{countSum}
+use Rattle.members.proofs.Preparing.{firsts-none, firsts-more, firsts-all}
+use Rattle.members.proofs.numbers.put_firsts.Statement.{statement}
+use Rattle.members.proofs.numbers.put_firsts.Tie as tie
+use Rattle.members.specs.Prepared.{FirstsTo}
+use Rattle.plan.proofs.Accepted.{missing, among, sum-next}
+use Rattle.plan.specs.Accepted.{IsBlock}
+
+abbrev Inv-loop : tie.InvT-loop
+Inv-loop file work₀ n first₀ i₀ work first i = (i ≤ n) × (4 * n ≤ length work₀) × (first ≡ countSum file i) × FirstsTo file n i work₀ work
+
+abbrev μ-loop : tie.MeasureT-loop
+μ-loop file work₀ n first₀ i₀ work first i = n - i
+
+loop-holds : tie.Need-loop-holds Inv-loop μ-loop
+unfolding countSum
+loop-holds c = (omega arith, c .before .before .pre .0, refl, firsts-none _ _ _)
+
+block-at-requires : tie.Need-block-at-requires Inv-loop μ-loop
+block-at-requires c κs = search needs
+
+enum-known-block : tie.Need-enum-known-block Inv-loop μ-loop
+enum-known-block c = search needs
+
+enum-told : tie.Need-enum-told Inv-loop μ-loop
+enum-told c = search needs
+
+same-length : tie.Need-same-length Inv-loop μ-loop
+same-length c = c .before .before .before .before .loop .inv .3 .same
+
+returns : tie.Need-returns Inv-loop μ-loop
+returns c = absurd (omega (arith, missing _ (c .before .before .before .before .before .before .before .pre .3) _ (sym (c .before .before .block-at .ensures) ∙ c .enum-told .given .1), c .before .before .before .before .before .before .before .pre .2))
+
+cast-work : tie.Need-cast-work Inv-loop μ-loop
+cast-work c = let is : IsBlock _ _ _ _ = record { accepted = c .before .before .before .before .before .before .before .before .pre .3; found = sym (c .before .before .before .block-at .ensures) ∙ c .before .block .given .1; starts = c .before .before .before .before .before .loop .inv .2 } in
+    omega (arith, among is, few-instrs _ _ (c .before .before .before .before .before .before .before .before .pre .3))
+
+mul-work : tie.Need-mul-work Inv-loop μ-loop
+mul-work c = omega arith
+
+add-work : tie.Need-add-work Inv-loop μ-loop
+add-work c = omega arith
+
+mul-work-2 : tie.Need-mul-work-2 Inv-loop μ-loop
+mul-work-2 c = omega arith
+
+slice-write-work : tie.Need-slice-write-work Inv-loop μ-loop
+slice-write-work c = omega (arith, c .before .before .before .before .before .loop .inv .3 .same)
+
+cast-wrapping-add-usize : tie.Need-cast-wrapping-add-usize Inv-loop μ-loop
+cast-wrapping-add-usize c = search needs
+
+wrapping-add-usize-requires : tie.Need-wrapping-add-usize-requires Inv-loop μ-loop
+wrapping-add-usize-requires c κs = search needs
+
+add-i : tie.Need-add-i Inv-loop μ-loop
+add-i c = omega arith
+
+loop-less : tie.Need-loop-less Inv-loop μ-loop
+loop-less c = omega arith
+
+loop-again : tie.Need-loop-again Inv-loop μ-loop
+loop-again c = let is : IsBlock _ _ _ _ = record { accepted = c .before .before .before .before .before .before .before .before .before .before .pre .3; found = sym (c .before .before .before .before .before .block-at .ensures) ∙ c .before .before .before .block .given .1; starts = c .before .before .before .before .before .before .before .loop .inv .2 } in
+    (omega arith, c .before .before .before .before .before .before .before .loop .inv .1, c .wrapping-add-usize .ensures ∙ sum-next is, firsts-more _ _ _ _ _ _ (omega arith) (c .before .before .before .before .before .before .before .loop .inv .1) (c .before .before .before .before .before .before .before .loop .inv .2) (c .before .before .before .before .before .before .before .loop .inv .3))
+
+same-length-2 : tie.Need-same-length-2 Inv-loop μ-loop
+same-length-2 c = c .before .loop .inv .3 .same
+
+returns-2 : tie.Need-returns-2 Inv-loop μ-loop
+returns-2 c = firsts-all _ _ _ _ _ (omega arith) (c .before .loop .inv .3)
+
+pub put-firsts-spec : {M : Type 1} → statement M
+put-firsts-spec =
+    tie.close
+    (tie.spec
+    Inv-loop
+    μ-loop
+    loop-holds
+    block-at-requires
+    enum-known-block
+    enum-told
+    same-length
+    returns
+    cast-work
+    mul-work
+    add-work
+    mul-work-2
+    slice-write-work
+    cast-wrapping-add-usize
+    wrapping-add-usize-requires
+    add-i
+    loop-less
+    loop-again
+    same-length-2
+    returns-2)
