@@ -1,8 +1,8 @@
 -- The group that a line shows is the number of the group that the block stands in.
 -- Assumes nothing.
 use Prim.Native.Nat.{ℕ, zero, suc, _+_, _≤_, _<_}
-use mathlib.Core.Path.{_≡_, refl, sym, ap, _∙_}
-use mathlib.Core.List.{List, [], _∷_, _++_, flatten, List·Memᴰ, List·Memᴰ·not-nil}
+use mathlib.Core.Path.{_≡_, refl, sym, _∙_}
+use mathlib.Core.List.{List, [], _∷_, _++_, flatten, List·Memᴰ}
 use native.Mathlib.Decide.{ℕ-discrete}
 use native.Mathlib.Nat.{add-zero, zero-add}
 use native.Mathlib.Omega.{arith}
@@ -11,7 +11,7 @@ use lib.ListN.{length, getD}
 use Rattle.block_file.specs.Parse.{Block}
 use Rattle.plan.specs.Plan.{groupRows, rowsFrom, groups, plan}
 use Rattle.plan.proofs.GroupLaws.{groups-once}
-use Rattle.plan.proofs.Listing.{count, count-append, count-here, count-other, count-in, counted}
+use Rattle.plan.proofs.Listing.{count, count-append, count-here, count-other, counted}
 use Rattle.members.specs.Numbers.{groupOf}
 
 module _ (i : ℕ) where

@@ -10,11 +10,10 @@ use lib.ListN.{length, getD, set, take, drop, length-set, length-drop}
 use lib.Seq.{length-take-le, ext-getD, getD-take, getD-drop, getD-set-same, getD-set-other}
 use Rattle.block_file.specs.Trailer.{blockCount}
 use Rattle.block_file.specs.BlockRecord.{countSum}
-use Rattle.plan.specs.Accepted.{blocksOf, Accepted}
+use Rattle.plan.specs.Accepted.{Accepted}
 use Rattle.plan.specs.Groups.{Grouped, interleave}
-use Rattle.plan.specs.Plan.{plan}
 use Rattle.members.specs.Numbers.{GroupsFrom}
-use Rattle.members.specs.Prepared.{FirstsTo, Ready, Prepared}
+use Rattle.members.specs.Prepared.{FirstsTo, Prepared}
 use Rattle.members.proofs.Groups.{groups-planned, groups-room, groups-past}
 
 pub firsts-none : (f : List ℕ) (n : ℕ) (work : List ℕ) → FirstsTo f n 0 work work

@@ -1,3 +1,4 @@
 -- The definitions that the crate's promises name.
+pub mod Members
 pub mod Numbers
 pub mod Prepared

@@ -22,7 +22,8 @@ group-rows-length : (g : ℕ) (is : List ℕ) → length (groupRows g is) ≡ 2 
 group-rows-length g [] = refl
 group-rows-length g (i ∷ is) = omega (arith, group-rows-length g is)
 
-rows-length : (g : ℕ) (gs : List (List ℕ)) → length (rowsFrom g gs) ≡ 2 * length (flatten gs)
+-- rows have two numbers for each block of their groups
+pub rows-length : (g : ℕ) (gs : List (List ℕ)) → length (rowsFrom g gs) ≡ 2 * length (flatten gs)
 unfolding rowsFrom flatten
 rows-length g [] = refl
 rows-length g (is ∷ gs) =
