@@ -255,7 +255,8 @@ abbrev groupsMost : List (List Body) → ℕ
 groupsMost [] = 0
 groupsMost (g ∷ gs) = membersMost g + groupsMost gs
 
-text-append : (ts us : List Top) → length (textOf (ts ++ us)) ≡ length (textOf ts) + length (textOf us)
+-- a text and another behind it
+pub text-append : (ts us : List Top) → length (textOf (ts ++ us)) ≡ length (textOf ts) + length (textOf us)
 unfolding textOf
 text-append ts us = length-unit ts us
 

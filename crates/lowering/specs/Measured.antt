@@ -1,0 +1,19 @@
+-- Blocks as they are measured. A hash has 16 digits whatever it is, so a text that is only measured has 0 in its place, and no hash is computed.
+use Prim.Native.Nat.{ℕ}
+use mathlib.Core.Bool.{Bool, false, cond}
+use mathlib.Core.Option.{Option, none, some}
+use Rattle.forms.specs.Forms.{Body}
+
+-- a hash as it is written (true) or measured (false)
+abbrev pub seenHash : Bool → Option ℕ → Option ℕ
+seenHash written none = none
+seenHash written (some h) = some (cond written h 0)
+
+-- a body as it is written (true) or measured (false)
+abbrev pub seen : Bool → Body → Body
+seen written b =
+    record { addr = b .addr; thumb = b .thumb; count = b .count; hash = seenHash written (b .hash); forms = b .forms; last = b .last }
+
+-- a body with 0 in the place of its hash, if it has one: what is measured instead of it
+abbrev pub measured : Body → Body
+measured = seen false
