@@ -101,7 +101,8 @@ module _ (written : Bool) where
         labelled-size ks bs,
       )
 
-  forwarders-seen : (k n : ℕ) (bs : List Body) → forwarders k n (map (seen written) bs) ≡ forwarders k n bs
+  -- the functions that enter a group stay: they show keys alone
+  pub forwarders-seen : (k n : ℕ) (bs : List Body) → forwarders k n (map (seen written) bs) ≡ forwarders k n bs
   unfolding forwarders
   forwarders-seen k n [] = refl
   forwarders-seen k n (b ∷ bs) =
