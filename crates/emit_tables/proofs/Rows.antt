@@ -1,0 +1,59 @@
+-- The keys of blocks, as the readers of records and rows give them.
+use mathlib.Core.Path.{_≡_, refl, sym, ap, _∙_}
+use Prim.Native.Nat.{ℕ, _+_, _<_}
+use native.Mathlib.Omega.{arith}
+use mathlib.Core.Bool.{cond}
+use mathlib.Core.List.{List}
+use lib.ListN.{length, getD, length-map, List·getD-eq-default}
+use Rattle.block_file.specs.declared.read.BlockRecord.{BlockRecord}
+use Rattle.block_file.specs.declared.read.FoundBlock.{FoundBlock}
+use Rattle.block_file.specs.BlockRecord.{countSum}
+use Rattle.block_file.specs.Parse.{Block, blockAt}
+use Rattle.block_file.specs.Read.{foundBlock}
+use Rattle.block_file.specs.Trailer.{blockCount, blockStart}
+use Rattle.block_file.proofs.Accepted.{length-of}
+use Rattle.plan.specs.Accepted.{blocksOf, Accepted, IsBlock}
+use Rattle.plan.specs.Exits.{keyOf}
+use Rattle.plan.specs.Plan.{blockKey, groups}
+use Rattle.plan.proofs.Accepted.{missing, block-inside, block-record, key-plus}
+use Rattle.plan.proofs.Keys.{key-of-record, block-key}
+use Rattle.plan.proofs.Listing.{map-at}
+use Rattle.members.specs.Members.{membersOf}
+use Rattle.members.proofs.Places.{start-next}
+use Rattle.emit_tables.specs.Tables.{fileKeys, groupKeys, IsGroup}
+
+-- as many as blocks
+pub file-length : (f : List ℕ) → Accepted f → length (fileKeys f) ≡ blockCount f
+file-length f ok = length-map (blocksOf f) blockKey ∙ length-of f (blocksOf f) ok
+
+-- the key of a record that was found
+pub key-found : (f : List ℕ) (i : ℕ) (b : BlockRecord) (key : ℕ) → foundBlock f i ≡ FoundBlock.At b → key ≡ keyOf (b .addr) (b .thumb) → Accepted f
+    → key ≡ getD (fileKeys f) i 0
+key-found f i b key found e ok =
+    let is : IsBlock f i b (countSum f i) = record { accepted = ok; found = found; starts = refl } in
+    let inside : i < blockCount f = block-inside is in
+    let other : Block = blockAt f 0 0 in
+    e
+    ∙ key-plus is
+    ∙ ap (λ (r : BlockRecord). r .addr + cond (r .thumb) 1 0) (block-record is)
+    ∙ key-of-record f (blockStart f i)
+    ∙ sym (block-key f ok i other inside)
+    ∙ sym (map-at blockKey (blocksOf f) i other 0 (omega (arith, inside, length-of f (blocksOf f) ok)))
+
+-- and that of none
+pub key-missing : (f : List ℕ) (i : ℕ) → foundBlock f i ≡ FoundBlock.Nothing → Accepted f → 0 ≡ getD (fileKeys f) i 0
+key-missing f i e ok = sym (List·getD-eq-default (fileKeys f) 0 (omega (arith, missing f ok i e, file-length f ok)))
+
+-- the key of a member
+pub key-member : (limit : ℕ) (f : List ℕ) (g k i key : ℕ) → key ≡ getD (fileKeys f) i 0 → i ≡ getD (membersOf limit (blocksOf f) g) k 0
+    → k < length (membersOf limit (blocksOf f) g) → key ≡ getD (groupKeys limit f g) k 0
+key-member limit f g k i key e is inside =
+    e ∙ ap (λ (j : ℕ). getD (fileKeys f) j 0) is ∙ sym (map-at (λ (j : ℕ). getD (fileKeys f) j 0) (membersOf limit (blocksOf f) g) k 0 0 inside)
+
+module _ {f : List ℕ} {n limit : ℕ} {work : List ℕ} {g p end : ℕ} (is : IsGroup f n limit work g p end) where
+  -- a row for each member
+  pub group-size : end ≡ p + length (membersOf limit (blocksOf f) g)
+  group-size = omega (arith, is .first, is .next, start-next (groups limit (blocksOf f)) g)
+
+  pub keys-size : length (groupKeys limit f g) ≡ length (membersOf limit (blocksOf f) g)
+  keys-size = length-map (membersOf limit (blocksOf f) g) (λ (j : ℕ). getD (fileKeys f) j 0)

@@ -1,0 +1,61 @@
+-- `put_externs` writes the declarations. The loop's invariant: those of the blocks before block i are written.
+-- Assumes nothing.
+use Prim.Native.Nat.{ℕ, _-_, _≤_}
+use borrow.Author.Needs.{needs}
+use mathlib.Core.List.{[]}
+use mathlib.Core.Path.{ap}
+use native.Mathlib.Omega.{arith}
+use lib.ListN.{take}
+use Rattle.c_tree.specs.Print.{topText}
+use Rattle.c_tree.specs.Stmt.{extern}
+use Rattle.text.proofs.Laws.{none, said, each-more, each-all, kept}
+use Rattle.text.specs.Doc.{flat, each}
+use Rattle.text.specs.Wrote.{Wrote}
+use Rattle.emit_tables.proofs.Rows.{file-length}
+use Rattle.emit_tables.proofs.ends.put_externs.Statement.{statement}
+use Rattle.emit_tables.proofs.ends.put_externs.Tie as tie
+use Rattle.emit_tables.specs.Tables.{fileKeys}
+
+abbrev Inv-loop : tie.InvT-loop
+Inv-loop out₀ at file n p₀ i₀ out p i = (i ≤ n) × Wrote out₀ at (each (λ (k : ℕ). topText (extern k)) (take i (fileKeys file))) out p
+
+abbrev μ-loop : tie.MeasureT-loop
+μ-loop out₀ at file n p₀ i₀ out p i = n - i
+
+loop-holds : tie.Need-loop-holds Inv-loop μ-loop
+loop-holds c = (omega arith, none (search needs) (search needs))
+
+block-key-requires : tie.Need-block-key-requires Inv-loop μ-loop
+block-key-requires c κs = search needs
+
+put-extern-requires : tie.Need-put-extern-requires Inv-loop μ-loop
+put-extern-requires c κs = search needs
+
+add-i : tie.Need-add-i Inv-loop μ-loop
+add-i c = omega arith
+
+loop-less : tie.Need-loop-less Inv-loop μ-loop
+loop-less c = omega arith
+
+loop-again : tie.Need-loop-again Inv-loop μ-loop
+loop-again c =
+    let put = c .before .before in
+    let key = put .before in
+    let turn = key .before .before .before in
+    let pre = turn .before .before .before .pre in
+    let ks = fileKeys (turn .before .before .before .args .file .now) in
+    (omega arith, each-more (λ (k : ℕ). topText (extern k)) ks 0 _ (omega (arith, pre .0, file-length _ (pre .1))) (turn .loop .inv .1) (said (put .put-extern .ensures) (ap (λ (k : ℕ). flat (topText (extern k)) []) (key .block-key .ensures (pre .1)))))
+
+returns : tie.Need-returns Inv-loop μ-loop
+returns c =
+    let start = c .before .before .before .before in
+    let pre = start .pre in
+    each-all (λ (k : ℕ). topText (extern k)) (fileKeys (start .args .file .now)) (c .before .loop .i) (omega (arith, pre .0, file-length _ (pre .1))) (c .before .loop .inv .1)
+
+same-length : tie.Need-same-length Inv-loop μ-loop
+same-length c = kept (returns c)
+
+pub put-externs-spec : {M : Type 1} → statement M
+put-externs-spec =
+    tie.close
+    (tie.spec Inv-loop μ-loop loop-holds block-key-requires put-extern-requires add-i loop-less loop-again same-length returns)

@@ -1,0 +1,45 @@
+-- `put_tail` writes what its calls write, one after another.
+-- Assumes nothing.
+use borrow.Author.Needs.{needs}
+use mathlib.Core.List.{[]}
+use mathlib.Core.Path.{sym, _∙_}
+use Rattle.text.proofs.Laws.{seq, said}
+use Rattle.emit_tables.proofs.Around.{tail-keys}
+use Rattle.emit_tables.proofs.Rows.{file-length}
+use Rattle.emit_tables.proofs.ends.put_tail.Statement.{statement}
+use Rattle.emit_tables.proofs.ends.put_tail.Tie as tie
+
+put-externs-requires : tie.Need-put-externs-requires
+put-externs-requires c κs = search needs
+
+put-table-head-requires : tie.Need-put-table-head-requires
+put-table-head-requires c κs = search needs
+
+put-rows-requires : tie.Need-put-rows-requires
+put-rows-requires c κs = search needs
+
+put-table-end-requires : tie.Need-put-table-end-requires
+put-table-end-requires c κs = search needs
+
+put-count-requires : tie.Need-put-count-requires
+put-count-requires c κs = search needs
+
+same-length : tie.Need-same-length
+same-length c = search needs
+
+returns : tie.Need-returns
+returns c = λ bs keys.
+    let c5 = c .before .before in
+    let c4 = c5 .before .before .before .before in
+    let c3 = c4 .before .before .before .before in
+    let c2 = c3 .before .before .before .before in
+    let c1 = c2 .before .before .before .before in
+    let pre = c1 .before .before .before .before .pre in
+    said
+    (seq (c1 .put-externs .ensures) (seq (c2 .put-table-head .ensures) (seq (c3 .put-rows .ensures) (seq (c4 .put-table-end .ensures) (c5 .put-count .ensures)))))
+    (tail-keys bs _ _ [] keys (pre .0 ∙ sym (file-length _ (pre .1))))
+
+pub put-tail-spec : {M : Type 1} → statement M
+put-tail-spec =
+    tie.close
+    (tie.spec put-externs-requires put-table-head-requires put-rows-requires put-table-end-requires put-count-requires same-length returns)

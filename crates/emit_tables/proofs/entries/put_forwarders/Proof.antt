@@ -1,0 +1,108 @@
+-- `put_forwarders` writes the functions of a group's members. The loop's invariant: those of the first k are written.
+-- Assumes nothing.
+use Prim.Native.Nat.{ℕ, _-_, _≤_, _<_}
+use borrow.Author.Needs.{needs}
+use lib.ListN.{length, take}
+use mathlib.Core.List.{[]}
+use mathlib.Core.Path.{_≡_, refl, _∙_}
+use native.Mathlib.Omega.{arith}
+use Rattle.members.specs.Members.{membersOf}
+use Rattle.plan.specs.Accepted.{blocksOf}
+use Rattle.text.proofs.Laws.{none, seq, said, kept}
+use Rattle.text.specs.Wrote.{Wrote}
+use Rattle.emit_tables.proofs.Around.{numbered, numbered-more, entry, forwarders-keys}
+use Rattle.emit_tables.proofs.Rows.{group-size, keys-size}
+use Rattle.emit_tables.proofs.entries.put_forwarders.Statement.{statement}
+use Rattle.emit_tables.proofs.entries.put_forwarders.Tie as tie
+use Rattle.emit_tables.specs.Tables.{groupKeys, IsGroup}
+
+abbrev Inv-loop : tie.InvT-loop
+Inv-loop out₀ at file work n p end group size q₀ k₀ t12 out q k =
+    (k ≤ size)
+    × (length out ≡ length out₀)
+    × ((limit g : ℕ) → IsGroup file n limit work g p end → Wrote out₀ at (numbered (entry group) 0 (take k (groupKeys limit file g))) out q)
+
+abbrev μ-loop : tie.MeasureT-loop
+μ-loop out₀ at file work n p end group size q₀ k₀ t12 out q k = size - k
+
+row-key-requires : tie.Need-row-key-requires Inv-loop μ-loop
+row-key-requires c κs = omega arith
+
+sub-size : tie.Need-sub-size Inv-loop μ-loop
+sub-size c = omega arith
+
+loop-holds : tie.Need-loop-holds Inv-loop μ-loop
+loop-holds c = (omega arith, refl, λ limit g is. none (search needs) (search needs))
+
+add-row-key : tie.Need-add-row-key Inv-loop μ-loop
+add-row-key c = omega arith
+
+row-key-requires-2 : tie.Need-row-key-requires-2 Inv-loop μ-loop
+row-key-requires-2 c κs = omega arith
+
+put-forwarder-requires : tie.Need-put-forwarder-requires Inv-loop μ-loop
+put-forwarder-requires c κs = search needs
+
+add-k : tie.Need-add-k Inv-loop μ-loop
+add-k c = omega arith
+
+loop-less : tie.Need-loop-less Inv-loop μ-loop
+loop-less c = omega arith
+
+loop-again : tie.Need-loop-again Inv-loop μ-loop
+loop-again c =
+    let put = c .before .before in
+    let key = put .before in
+    let turn = key .before .before .before in
+    let group = turn .before in
+    let k = turn .loop .k in
+    let file = group .before .before .before .before .args .file .now in
+    let inv = turn .loop .inv in (
+      omega arith,
+      kept (put .put-forwarder .ensures) ∙ inv .1,
+      λ limit g is.
+          let inside : k < length (membersOf limit (blocksOf file) g) = omega (arith, group-size is) in
+          numbered-more (entry (group .row-key .result)) (groupKeys limit file g) k _ (omega (arith, keys-size is)) (key .row-key2 .ensures _ limit g k (is .ready) (omega (arith, is .first)) inside) (inv .2 limit g is) (put .put-forwarder .ensures),
+    )
+
+slice-aggregate-put : tie.Need-slice-aggregate-put Inv-loop μ-loop
+slice-aggregate-put c = search needs
+
+put-requires : tie.Need-put-requires Inv-loop μ-loop
+put-requires c κs = search needs
+
+same-length : tie.Need-same-length Inv-loop μ-loop
+same-length c =
+    let put = c .before .before in
+    kept (put .put .ensures) ∙ put .before .before .before .before .loop .inv .1
+
+returns : tie.Need-returns Inv-loop μ-loop
+returns c = λ limit g is b bs keys.
+    let put = c .before .before in
+    let turn = put .before .before .before .before in
+    let group = turn .before in
+    let file = group .before .before .before .before .args .file .now in
+    let inside : 0 < length (membersOf limit (blocksOf file) g) = omega (arith, group-size is) in
+    said (seq (turn .loop .inv .2 limit g is) (put .put .ensures))
+    (forwarders-keys b bs (groupKeys limit file g) (group .row-key .result) (turn .loop .k) [] keys (group .row-key .ensures _ limit g 0 (is .ready) (omega (arith, is .first)) inside)
+    (omega (arith, keys-size is, group-size is)))
+
+pub put-forwarders-spec : {M : Type 1} → statement M
+put-forwarders-spec =
+    tie.close
+    (tie.spec
+    Inv-loop
+    μ-loop
+    row-key-requires
+    sub-size
+    loop-holds
+    add-row-key
+    row-key-requires-2
+    put-forwarder-requires
+    add-k
+    loop-less
+    loop-again
+    slice-aggregate-put
+    put-requires
+    same-length
+    returns)

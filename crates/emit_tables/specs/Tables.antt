@@ -1,0 +1,28 @@
+-- The keys that a unit has around the code of its blocks: those of a file's blocks, and those of a group's members in its rows.
+use Prim.Native.Nat.{ℕ, suc}
+use mathlib.Core.Path.{_≡_}
+use mathlib.Core.List.{List, map}
+use Rattle.plan.specs.Accepted.{blocksOf}
+use Rattle.plan.specs.Plan.{blockKey, groups}
+use Rattle.members.specs.Members.{membersOf, keysOf, startOf}
+use Rattle.members.specs.Prepared.{Ready}
+use Rattle.forms.specs.Forms.{Body}
+use Rattle.lowering.specs.Block.{bodyKey}
+
+-- the keys of the blocks of a file
+abbrev pub fileKeys : List ℕ → List ℕ
+fileKeys f = map blockKey (blocksOf f)
+
+-- the keys of the members of group g
+abbrev pub groupKeys : ℕ → List ℕ → ℕ → List ℕ
+groupKeys limit f g = keysOf (blocksOf f) (membersOf limit (blocksOf f) g)
+
+-- bodies with some keys: of a body, what stands around the code shows its key alone
+abbrev pub HaveKeys : List Body → List ℕ → Type 0
+HaveKeys bs ks = map bodyKey bs ≡ ks
+
+-- the rows from p to the one before end are those of group g
+pub record IsGroup (f : List ℕ) (n limit : ℕ) (work : List ℕ) (g p end : ℕ) : Type 0 where
+  pub ready : Ready f n limit work
+  pub first : p ≡ startOf (groups limit (blocksOf f)) g
+  pub next : end ≡ startOf (groups limit (blocksOf f)) (suc g)

@@ -1,0 +1,62 @@
+// The ways into a group's function: the cases of its switch, and the functions of its members.
+use crate::keys::row_key;
+use emit_flow::put_case;
+use emit_flow::put_forwarder;
+ghost use mathlib.Core.Path.{_≡_};
+ghost use mathlib.Core.List.{List, _∷_, map};
+ghost use Prim.Native.Nat.{ℕ, _*_, _≤_, _<_};
+ghost use lib.ListN.{length};
+ghost use Rattle.text.specs.Wrote.{Wrote};
+ghost use Rattle.block_file.specs.Trailer.{blockCount};
+ghost use Rattle.c_tree.specs.Print.{casesText, unitText};
+ghost use Rattle.forms.specs.Forms.{Body};
+ghost use Rattle.lowering.specs.Block.{bodyKey};
+ghost use Rattle.lowering.specs.Units.{forwarders};
+ghost use Rattle.emit_tables.specs.Tables.{groupKeys, HaveKeys, IsGroup};
+
+// The cases of the group in the rows from p to the one before end.
+pub fn put_cases(
+    out: &mut [u8],
+    at: usize,
+    file: &[u8],
+    work: &[u32],
+    n: usize,
+    p: usize,
+    end: usize,
+) -> usize
+    requires { ⌜ (4 * n ≤ length (now work)) × (n ≤ 65536) × (n ≡ blockCount (now file)) × (p < end) × (end ≤ n) ⌝ }
+    ensures { λ r. ⌜ ((limit g : ℕ) → IsGroup (now (file .entry)) n limit (now (work .entry)) g p end → (bs : List Body) → HaveKeys bs (groupKeys limit (now (file .entry)) g) → Wrote (now (out .entry)) at (casesText 0 (map bodyKey bs)) (now (out .exit)) r) ⌝ }
+{
+    let size = end - p;
+    let mut q = at;
+    let mut k = 0;
+    while k < size {
+        q = put_case(out, q, k as u64, row_key(file, work, p + k));
+        k += 1;
+    }
+    q
+}
+
+// The functions of the members of the group in the rows from p to the one before end, and an empty line.
+pub fn put_forwarders(
+    out: &mut [u8],
+    at: usize,
+    file: &[u8],
+    work: &[u32],
+    n: usize,
+    p: usize,
+    end: usize,
+) -> usize
+    requires { ⌜ (4 * n ≤ length (now work)) × (n ≤ 65536) × (n ≡ blockCount (now file)) × (p < end) × (end ≤ n) ⌝ }
+    ensures { λ r. ⌜ ((limit g : ℕ) → IsGroup (now (file .entry)) n limit (now (work .entry)) g p end → (b : Body) (bs : List Body) → HaveKeys (b ∷ bs) (groupKeys limit (now (file .entry)) g) → Wrote (now (out .entry)) at (unitText (forwarders (bodyKey b) 0 (b ∷ bs))) (now (out .exit)) r) ⌝ }
+{
+    let group = row_key(file, work, p);
+    let size = end - p;
+    let mut q = at;
+    let mut k = 0;
+    while k < size {
+        q = put_forwarder(out, q, row_key(file, work, p + k), group, k as u64);
+        k += 1;
+    }
+    text::put(out, q, b"\n")
+}

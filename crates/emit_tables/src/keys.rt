@@ -1,0 +1,31 @@
+// The keys of blocks, by their numbers and by the rows of a plan.
+use block_file::FoundBlock;
+use block_file::block_at;
+use members::row_block;
+use plan::key_of;
+ghost use mathlib.Core.Path.{_≡_};
+ghost use Prim.Native.Nat.{ℕ, _+_, _<_};
+ghost use lib.ListN.{length, getD};
+ghost use Rattle.plan.specs.Accepted.{blocksOf, Accepted};
+ghost use Rattle.plan.specs.Plan.{groups};
+ghost use Rattle.members.specs.Members.{membersOf, startOf};
+ghost use Rattle.members.specs.Prepared.{Ready};
+ghost use Rattle.emit_tables.specs.Tables.{fileKeys, groupKeys};
+
+// The key of block i, or 0 where there is none.
+pub fn block_key(file: &[u8], i: usize) -> u32
+    ensures { λ r. ⌜ (Accepted (now (file .entry)) → r ≡ getD (fileKeys (now (file .entry))) i 0) ⌝ }
+{
+    let FoundBlock::At(block) = block_at(file, i) else {
+        return 0;
+    };
+    key_of(block.addr, block.thumb)
+}
+
+// The key of the block in row p.
+pub fn row_key(file: &[u8], work: &[u32], p: usize) -> u32
+    requires { ⌜ p < length (now work) ⌝ }
+    ensures { λ r. ⌜ ((n limit g k : ℕ) → Ready (now (file .entry)) n limit (now (work .entry)) → p ≡ startOf (groups limit (blocksOf (now (file .entry)))) g + k → k < length (membersOf limit (blocksOf (now (file .entry))) g) → r ≡ getD (groupKeys limit (now (file .entry)) g) k 0) ⌝ }
+{
+    block_key(file, row_block(work, p))
+}
