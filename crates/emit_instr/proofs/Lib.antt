@@ -1,0 +1,2 @@
+-- The laws of `Onward`, for whoever writes a block, and the texts of the forms.
+pub mod Onward

@@ -1,0 +1,3 @@
+-- The definitions that the contracts name beside those of `forms` and `lowering`.
+pub mod Onward
+pub mod Steps
