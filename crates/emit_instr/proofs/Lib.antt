@@ -1,2 +1,4 @@
 -- The laws of `Onward`, for whoever writes a block, and the texts of the forms.
 pub mod Onward
+mod Unlined
+mod Lined
