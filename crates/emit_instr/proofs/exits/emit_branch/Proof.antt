@@ -1,0 +1,97 @@
+-- `exits::emit_branch` meets its contract: its calls write the text of a branch, by its condition. Assumes nothing.
+use Prim.Native.Nat.{_+_}
+use mathlib.Core.Path.{refl, sym, ap, _∙_}
+use mathlib.Core.List.{_++_}
+use Prim.Native.Nat.{ℕ}
+use Rattle.c_tree.specs.Stmt.{Owner}
+use Rattle.text.proofs.Laws.{seq}
+use Rattle.forms.specs.Forms.{Form}
+use Rattle.forms.specs.Operands.{condExpr}
+use Rattle.forms.specs.InlineBody.{apart}
+use Rattle.forms.specs.Block.{flushTicks}
+use Rattle.plan.specs.Exits.{isAl}
+use Rattle.lowering.specs.Block.{bodyKey, has, rest}
+use Rattle.emit_flow.specs.Pieces.{branchRegs}
+use Rattle.emit_instr.proofs.Texts.{jump-step, branch-step, branch-form}
+use Rattle.emit_instr.proofs.Chosen.{same-form}
+use borrow.Author.Needs.{needs}
+use Rattle.emit_instr.proofs.exits.emit_branch.Statement.{statement}
+use Rattle.emit_instr.proofs.exits.emit_branch.Tie as tie
+
+wrapping-add-u32-requires : tie.Need-wrapping-add-u32-requires
+wrapping-add-u32-requires c κs = search needs
+
+key-of-requires : tie.Need-key-of-requires
+key-of-requires c κs = search needs
+
+is-al-requires : tie.Need-is-al-requires
+is-al-requires c κs = search needs
+
+branch-always-requires : tie.Need-branch-always-requires
+branch-always-requires c κs = search needs
+
+same-length : tie.Need-same-length
+same-length c = search needs
+
+returns : tie.Need-returns
+returns c =
+    let c2 = c .before .before in
+    let c1 = c2 .before .before in
+    let key = c1 .before .before in
+    let back = key .before in
+    let a = back .before .before .args in
+    λ ks b j fs h e.
+    same-form _ _
+    (ap (λ n. (Form.native n, 0)) (branch-form (a .thumb) (a .cycles) (a .i) (a .link) (a .target) (back .wrapping-add-u32 .result) (key .key-of .result) (back .wrapping-add-u32 .ensures) (key .key-of .ensures)))
+    (record {
+      onward =
+          jump-step ks b j (isAl (a .i .cond)) (flushTicks (a .cycles) ++ apart (branchRegs (a .link) (back .wrapping-add-u32 .result) (a .target))) (flushTicks (a .cycles)) (condExpr (a .i .cond))
+          (branchRegs (a .link) (back .wrapping-add-u32 .result) (a .target)) (key .key-of .result) (a .src) fs
+          (sym (c1 .before .is-al .ensures) ∙ c1 .if1 .taken) e
+          (c2 .branch-always .ensures ks (Owner.native (bodyKey b)) (rest ks b (j + 1) fs) (ap (λ (n : ℕ). has n ks) (key .key-of .ensures) ∙ h));
+      cycles = refl;
+    })
+
+put-condition-requires : tie.Need-put-condition-requires
+put-condition-requires c κs = search needs
+
+branch-taken-requires : tie.Need-branch-taken-requires
+branch-taken-requires c κs = search needs
+
+same-length-2 : tie.Need-same-length-2
+same-length-2 c = search needs
+
+returns-2 : tie.Need-returns-2
+returns-2 c =
+    let c3 = c .before .before in
+    let c2 = c3 .before .before .before .before in
+    let c1 = c2 .before .before in
+    let key = c1 .before .before in
+    let back = key .before in
+    let a = back .before .before .args in
+    λ ks b j fs h e.
+    same-form _ _
+    (ap (λ n. (Form.native n, 0)) (branch-form (a .thumb) (a .cycles) (a .i) (a .link) (a .target) (back .wrapping-add-u32 .result) (key .key-of .result) (back .wrapping-add-u32 .ensures) (key .key-of .ensures)))
+    (record {
+      onward =
+          branch-step ks b j (isAl (a .i .cond)) (flushTicks (a .cycles) ++ apart (branchRegs (a .link) (back .wrapping-add-u32 .result) (a .target))) (flushTicks (a .cycles)) (condExpr (a .i .cond))
+          (branchRegs (a .link) (back .wrapping-add-u32 .result) (a .target)) (key .key-of .result) (a .src) fs
+          (sym (c1 .before .is-al .ensures) ∙ c1 .if1 .left) e
+          (seq (c2 .put-condition .ensures) (c3 .branch-taken .ensures ks (Owner.native (bodyKey b)) (ap (λ (n : ℕ). has n ks) (key .key-of .ensures) ∙ h)));
+      cycles = refl;
+    })
+
+pub emit-branch-spec : {M : Type 1} → statement M
+emit-branch-spec =
+    tie.close
+    (tie.spec
+    wrapping-add-u32-requires
+    key-of-requires
+    is-al-requires
+    branch-always-requires
+    same-length
+    returns
+    put-condition-requires
+    branch-taken-requires
+    same-length-2
+    returns-2)

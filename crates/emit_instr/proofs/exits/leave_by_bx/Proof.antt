@@ -1,0 +1,43 @@
+-- `exits::leave_by_bx` meets its contract: its call writes the whole text of an exit. Assumes nothing.
+use Prim.Native.Nat.{ℕ, _+_}
+use mathlib.Core.Path.{refl, ap}
+use mathlib.Core.List.{[]}
+use Rattle.text.specs.Doc.{flat}
+use Rattle.text.proofs.Laws.{said}
+use Rattle.c_tree.specs.Stmt.{Owner}
+use Rattle.c_tree.specs.Print.{codeText}
+use Rattle.forms.specs.Forms.{bx}
+use Rattle.forms.specs.Operands.{regExpr}
+use Rattle.forms.specs.Block.{flushTicks}
+use Rattle.lowering.specs.Block.{bodyKey, nativeText, rest}
+use Rattle.emit_flow.specs.Pieces.{regOr}
+use Rattle.emit_instr.proofs.Texts.{exit-step}
+use borrow.Author.Needs.{needs}
+use Rattle.emit_instr.proofs.exits.leave_by_bx.Statement.{statement}
+use Rattle.emit_instr.proofs.exits.leave_by_bx.Tie as tie
+
+pc-value-requires : tie.Need-pc-value-requires
+pc-value-requires c κs = search needs
+
+emit-bx-requires : tie.Need-emit-bx-requires
+emit-bx-requires c κs = search needs
+
+same-length : tie.Need-same-length
+same-length c = search needs
+
+returns : tie.Need-returns
+returns c =
+    let c2 = c .before .before in
+    let c1 = c2 .before .before in
+    let a = c1 .before .before .args in
+    λ ks b j fs.
+    record {
+      onward =
+          exit-step ks b j (bx (flushTicks (a .cycles)) (regExpr (a .i) (a .rm))) fs
+          (said (c2 .emit-bx .ensures ks (b .addr) (Owner.native (bodyKey b)) (rest ks b (j + 1) fs))
+          (ap (λ (n : ℕ). flat (codeText (nativeText ks (b .addr) (Owner.native (bodyKey b)) (bx (flushTicks (a .cycles)) (regOr n (a .rm))) (rest ks b (j + 1) fs))) []) (c1 .pc-value .ensures)));
+      cycles = refl;
+    }
+
+pub leave-by-bx-spec : {M : Type 1} → statement M
+leave-by-bx-spec = tie.close (tie.spec pc-value-requires emit-bx-requires same-length returns)

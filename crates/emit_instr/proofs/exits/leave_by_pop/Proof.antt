@@ -1,0 +1,40 @@
+-- `exits::leave_by_pop` meets its contract: its calls write the whole text of an exit, one after the other. Assumes nothing.
+use Prim.Native.Nat.{_+_}
+use mathlib.Core.Path.{refl, sym}
+use mathlib.Core.List.{[]}
+use Rattle.c_tree.specs.Stmt.{Owner}
+use Rattle.text.proofs.Laws.{seq, said}
+use Rattle.forms.specs.InlineBody.{listed}
+use Rattle.forms.specs.Block.{emitPop}
+use Rattle.lowering.specs.Block.{bodyKey, rest}
+use Rattle.emit_mem.proofs.PopText.{ticks-then-pop}
+use Rattle.emit_instr.proofs.Texts.{exit-step}
+use borrow.Author.Needs.{needs}
+use Rattle.emit_instr.proofs.exits.leave_by_pop.Statement.{statement}
+use Rattle.emit_instr.proofs.exits.leave_by_pop.Tie as tie
+
+flush-ticks-requires : tie.Need-flush-ticks-requires
+flush-ticks-requires c κs = search needs
+
+put-pop-requires : tie.Need-put-pop-requires
+put-pop-requires c κs = search needs
+
+same-length : tie.Need-same-length
+same-length c = search needs
+
+returns : tie.Need-returns
+returns c =
+    let c2 = c .before .before in
+    let c1 = c2 .before .before .before .before in
+    let a = c1 .before .before .before .args in
+    λ ks b j fs.
+    record {
+      onward =
+          exit-step ks b j (emitPop (a .thumb) (a .cycles) (a .rn) (listed (a .rlist) 15)) fs
+          (said (seq (c1 .flush-ticks .ensures) (c2 .put-pop .ensures))
+          (sym (ticks-then-pop ks (b .addr) (Owner.native (bodyKey b)) (a .thumb) (a .cycles) (a .rn) (listed (a .rlist) 15) (rest ks b (j + 1) fs) [])));
+      cycles = refl;
+    }
+
+pub leave-by-pop-spec : {M : Type 1} → statement M
+leave-by-pop-spec = tie.close (tie.spec flush-ticks-requires put-pop-requires same-length returns)

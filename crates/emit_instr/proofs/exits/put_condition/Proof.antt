@@ -1,0 +1,34 @@
+-- `exits::put_condition` meets its contract: what its calls write, one after another. Assumes nothing.
+use Rattle.text.proofs.Laws.{seq}
+use borrow.Author.Needs.{needs}
+use Rattle.emit_instr.proofs.exits.put_condition.Statement.{statement}
+use Rattle.emit_instr.proofs.exits.put_condition.Tie as tie
+
+flush-ticks-requires : tie.Need-flush-ticks-requires
+flush-ticks-requires c κs = search needs
+
+open-conditional-requires : tie.Need-open-conditional-requires
+open-conditional-requires c κs = search needs
+
+put-cond-expr-requires : tie.Need-put-cond-expr-requires
+put-cond-expr-requires c κs = search needs
+
+same-length : tie.Need-same-length
+same-length c = search needs
+
+returns : tie.Need-returns
+returns c =
+    let c3 = c .before .before in
+    let c2 = c3 .before .before .before .before in
+    let c1 = c2 .before .before .before .before in
+    seq (c1 .flush-ticks .ensures) (seq (c2 .open-conditional .ensures) (c3 .put-cond-expr .ensures))
+
+pub put-condition-spec : {M : Type 1} → statement M
+put-condition-spec =
+    tie.close
+    (tie.spec
+    flush-ticks-requires
+    open-conditional-requires
+    put-cond-expr-requires
+    same-length
+    returns)

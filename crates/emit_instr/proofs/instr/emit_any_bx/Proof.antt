@@ -1,0 +1,62 @@
+-- `instr::emit_any_bx` meets its contract: by whether it is carried out here. Assumes nothing.
+use Prim.Native.Nat.{ℕ}
+use mathlib.Core.Path.{sym, ap, _∙_}
+use mathlib.Core.Bool.{false}
+use Rattle.forms.specs.Forms.{bx, Form}
+use Rattle.forms.specs.Operands.{regExpr}
+use Rattle.forms.specs.Block.{flushTicks, isBx, emitStraight}
+use Rattle.emit_instr.proofs.Chosen.{same-form, chosen, refused}
+use borrow.Author.Needs.{needs}
+use Rattle.emit_instr.proofs.instr.emit_any_bx.Statement.{statement}
+use Rattle.emit_instr.proofs.instr.emit_any_bx.Tie as tie
+
+is-bx-requires : tie.Need-is-bx-requires
+is-bx-requires c κs = search needs
+
+with-cost-requires : tie.Need-with-cost-requires
+with-cost-requires c κs = search needs
+
+leave-by-bx-requires : tie.Need-leave-by-bx-requires
+leave-by-bx-requires c κs = search needs
+
+emit-straight-requires : tie.Need-emit-straight-requires
+emit-straight-requires c κs = search needs
+
+same-length : tie.Need-same-length
+same-length c = search needs
+
+returns : tie.Need-returns
+returns c =
+    let c2 = c .before .before in
+    let c1 = c2 .before .before .before in
+    let a = c1 .before .before .before .before .args in
+    λ ks b j fs h g.
+    same-form _ _
+    (ap (λ (n : ℕ). (Form.native (bx (flushTicks n) (regExpr (a .x .instr) (a .rm))), 0)) (c2 .before .with-cost .ensures g)
+    ∙ chosen (isBx (a .region) (a .x .instr)) _ (emitStraight (a .thumb) false (a .cycles) (a .x)) (sym (c1 .before .is-bx .ensures) ∙ c1 .if1 .taken))
+    (c2 .leave-by-bx .ensures ks b j fs)
+
+same-length-2 : tie.Need-same-length-2
+same-length-2 c = search needs
+
+returns-2 : tie.Need-returns-2
+returns-2 c =
+    let c2 = c .before .before in
+    let c1 = c2 .before .before in
+    let a = c1 .before .before .before .before .args in
+    λ ks b j fs h g.
+    same-form _ _ (refused (isBx (a .region) (a .x .instr)) _ (emitStraight (a .thumb) false (a .cycles) (a .x)) (sym (c1 .before .is-bx .ensures) ∙ c1 .if1 .left))
+    (c2 .emit-straight .ensures ks b j fs h g)
+
+pub emit-any-bx-spec : {M : Type 1} → statement M
+emit-any-bx-spec =
+    tie.close
+    (tie.spec
+    is-bx-requires
+    with-cost-requires
+    leave-by-bx-requires
+    emit-straight-requires
+    same-length
+    returns
+    same-length-2
+    returns-2)

@@ -1,0 +1,64 @@
+-- `shells::put_shell` meets its contract: its call writes the text of a shell, the last or not. Assumes nothing.
+use Prim.Native.Nat.{ℕ}
+use mathlib.Core.Path.{ap}
+use mathlib.Core.List.{[], _∷_, _++_}
+use Rattle.text.specs.Doc.{flat}
+use Rattle.text.proofs.Laws.{said}
+use Rattle.c_tree.specs.Stmt.{common, end}
+use Rattle.c_tree.specs.Print.{codeText}
+use Rattle.plan.specs.Exits.{fallThrough}
+use Rattle.forms.specs.Forms.{Lines}
+use Rattle.forms.specs.InlineBody.{apart}
+use Rattle.forms.specs.Block.{flushTicks, setWord}
+use Rattle.lowering.specs.Block.{bodyKey, lines, emitShell}
+use Rattle.emit_instr.proofs.Texts.{shell-step, last-step}
+use borrow.Author.Needs.{needs}
+use Rattle.emit_instr.proofs.shells.put_shell.Statement.{statement}
+use Rattle.emit_instr.proofs.shells.put_shell.Tie as tie
+
+emit-last-shell-requires : tie.Need-emit-last-shell-requires
+emit-last-shell-requires c κs = search needs
+
+fall-through-requires : tie.Need-fall-through-requires
+fall-through-requires c κs = search needs
+
+emit-shell-requires : tie.Need-emit-shell-requires
+emit-shell-requires c κs = search needs
+
+same-length : tie.Need-same-length
+same-length c = search needs
+
+returns : tie.Need-returns
+returns c =
+    let c2 = c .before .before in
+    let c1 = c2 .before .before in
+    let a = c1 .before .before .args in
+    let t : Lines = flushTicks (a .cycles) ++ apart (setWord 15 (a .i .addr) ∷ []) in
+    λ high ks b j fs h.
+    last-step ks b j high (a .last) t (fallThrough (a .thumb) (a .i)) fs h (c1 .if1 .taken) (c2 .emit-last-shell .ensures (bodyKey b) j)
+
+same-length-2 : tie.Need-same-length-2
+same-length-2 c = search needs
+
+returns-2 : tie.Need-returns-2
+returns-2 c =
+    let c3 = c .before .before in
+    let c2 = c3 .before .before in
+    let c1 = c2 .before in
+    let a = c1 .before .before .args in
+    let t : Lines = flushTicks (a .cycles) ++ apart (setWord 15 (a .i .addr) ∷ []) in
+    λ high ks b j fs h.
+    shell-step ks b j high (a .last) t (fallThrough (a .thumb) (a .i)) fs h (c1 .if1 .left)
+    (said (c3 .emit-shell .ensures b j) (ap (λ (n : ℕ). flat (codeText (lines common 4 t (emitShell b j n end))) []) (c2 .fall-through .ensures)))
+
+pub put-shell-spec : {M : Type 1} → statement M
+put-shell-spec =
+    tie.close
+    (tie.spec
+    emit-last-shell-requires
+    fall-through-requires
+    emit-shell-requires
+    same-length
+    returns
+    same-length-2
+    returns-2)

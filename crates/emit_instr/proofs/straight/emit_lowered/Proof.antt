@@ -1,0 +1,41 @@
+-- `straight::emit_lowered` meets its contract: what its calls write, one after the other, is a form with lines. Assumes nothing.
+use mathlib.Core.Bool.{cond}
+use mathlib.Core.List.{[]}
+use Rattle.text.proofs.Laws.{seq}
+use Rattle.plan.specs.Exits.{isAl}
+use Rattle.forms.specs.Operands.{condExpr}
+use Rattle.forms.specs.Block.{flushTicks}
+use Rattle.emit_instr.proofs.Texts.{lowered-step}
+use borrow.Author.Needs.{needs}
+use Rattle.emit_instr.proofs.straight.emit_lowered.Statement.{statement}
+use Rattle.emit_instr.proofs.straight.emit_lowered.Tie as tie
+
+put-ticks-requires : tie.Need-put-ticks-requires
+put-ticks-requires c κs = search needs
+
+put-lowered-requires : tie.Need-put-lowered-requires
+put-lowered-requires c κs = search needs
+
+pending-requires : tie.Need-pending-requires
+pending-requires c κs = search needs
+
+same-length : tie.Need-same-length
+same-length c = search needs
+
+returns : tie.Need-returns
+returns c =
+    let c2 = c .before .before .before in
+    let c1 = c2 .before .before .before .before .before in
+    let a = c1 .before .before .before .args in
+    λ body e ks b j fs h.
+    record {
+      onward =
+          lowered-step ks b j (isAl (a .x .instr .cond)) (cond (a .bus) (flushTicks (a .cycles)) []) (condExpr (a .x .instr .cond)) body fs
+          (seq (c1 .put-ticks .ensures) (c2 .put-lowered .ensures body e));
+      cycles = c .pending .ensures h;
+    }
+
+pub emit-lowered-spec : {M : Type 1} → statement M
+emit-lowered-spec =
+    tie.close
+    (tie.spec put-ticks-requires put-lowered-requires pending-requires same-length returns)

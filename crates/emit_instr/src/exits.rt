@@ -1,0 +1,117 @@
+// Instructions that leave the block: branches, Bx and the pop of PC.
+use crate::step::Step;
+use armv4t::Cond;
+use armv4t::Instr;
+use emit_flow::branch_always;
+use emit_flow::branch_taken;
+use emit_flow::emit_bx;
+use emit_flow::flush_ticks;
+use emit_flow::open_conditional;
+use emit_mem::is_al;
+use emit_mem::put_pop;
+use emit_operands::put_cond_expr;
+use plan::key_of;
+ghost use mathlib.Core.Path.{_≡_};
+ghost use mathlib.Core.Bool.{not, _&&_};
+ghost use mathlib.Core.List.{List};
+ghost use Prim.Native.Nat.{ℕ};
+ghost use lib.Dec.{eqb};
+ghost use Rattle.text.specs.Doc.{_▸_};
+ghost use Rattle.text.specs.Wrote.{Wrote};
+ghost use Rattle.c_tree.specs.Stmt.{Owner, common, end};
+ghost use Rattle.c_tree.specs.Print.{exprText, codeText};
+ghost use Rattle.plan.specs.Exits.{keyOf};
+ghost use Rattle.forms.specs.Forms.{bx, Form, native, Body};
+ghost use Rattle.forms.specs.Operands.{condExpr, regExpr};
+ghost use Rattle.forms.specs.InlineBody.{listed};
+ghost use Rattle.forms.specs.Block.{flushTicks, emitBranch, isBx, emitPop};
+ghost use Rattle.lowering.specs.Block.{lines, has};
+ghost use Rattle.emit_flow.specs.Pieces.{beforeCondition};
+ghost use Rattle.emit_instr.specs.Steps.{Steps};
+
+// What stands before the registers of a conditional branch.
+fn put_condition(out: &mut [u8], at: usize, cycles: u64, cond: Cond) -> usize
+    ensures { λ r. ⌜ Wrote (now (out .entry)) at (codeText (lines common 4 (flushTicks cycles) end) ▸ beforeCondition ▸ exprText (condExpr cond)) (now (out .exit)) r ⌝ }
+{
+    let p = flush_ticks(out, at, cycles);
+    let q = open_conditional(out, p);
+    put_cond_expr(out, q, cond)
+}
+
+// A branch; the cycles are those pending with its own. inside: the key of its target is among those of its group. src: the address of its block.
+pub(crate) fn emit_branch(
+    out: &mut [u8],
+    at: usize,
+    thumb: bool,
+    cycles: u64,
+    i: Instr,
+    link: bool,
+    target: u32,
+    inside: bool,
+    src: u32,
+) -> Step
+    ensures { λ r. ⌜ ((ks : List ℕ) (b : Body) (j : ℕ) (fs : List Form) → has (keyOf target thumb) ks ≡ inside → b .addr ≡ src → Steps (now (out .entry)) at ks b j (native (emitBranch thumb cycles i link target), 0) fs (now (out .exit)) r) ⌝ }
+{
+    let ret = std::num::wrapping_add_u32(i.addr, 4);
+    let key = key_of(target, thumb);
+    let condition = i.cond;
+    if is_al(condition) {
+        let p = branch_always(out, at, cycles, link, ret, target, inside, src, key);
+        return Step {
+            at: p,
+            cycles: 0,
+            done: true,
+        };
+    }
+    let q = put_condition(out, at, cycles, condition);
+    let s = branch_taken(out, q, link, ret, target, inside, src, key);
+    Step {
+        at: s,
+        cycles: 0,
+        done: false,
+    }
+}
+
+// Whether a Bx is carried out here, in a block of a region.
+pub(crate) fn is_bx(region: u32, i: Instr) -> bool
+    ensures { λ r. ⌜ r ≡ isBx region i ⌝ }
+{
+    let condition = i.cond;
+    if is_al(condition) {
+        return region != 0;
+    }
+    false
+}
+
+// A Bx; the cycles are those pending with its own.
+pub(crate) fn leave_by_bx(out: &mut [u8], at: usize, cycles: u64, i: Instr, rm: u8) -> Step
+    ensures { λ r. ⌜ ((ks : List ℕ) (b : Body) (j : ℕ) (fs : List Form) → Steps (now (out .entry)) at ks b j (native (bx (flushTicks cycles) (regExpr i rm)), 0) fs (now (out .exit)) r) ⌝ }
+{
+    let pc = i.pc_value();
+    let p = emit_bx(out, at, cycles, rm, pc);
+    Step {
+        at: p,
+        cycles: 0,
+        done: true,
+    }
+}
+
+// A pop of PC; the cycles are those pending with its own.
+pub(crate) fn leave_by_pop(
+    out: &mut [u8],
+    at: usize,
+    thumb: bool,
+    cycles: u64,
+    rn: u8,
+    rlist: u16,
+) -> Step
+    ensures { λ r. ⌜ ((ks : List ℕ) (b : Body) (j : ℕ) (fs : List Form) → Steps (now (out .entry)) at ks b j (native (emitPop thumb cycles rn (listed rlist 15)), 0) fs (now (out .exit)) r) ⌝ }
+{
+    let p = flush_ticks(out, at, cycles);
+    let q = put_pop(out, p, thumb, rn, rlist);
+    Step {
+        at: q,
+        cycles: 0,
+        done: true,
+    }
+}

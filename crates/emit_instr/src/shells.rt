@@ -1,0 +1,72 @@
+// Instructions left to the interpreter.
+use crate::step::Step;
+use armv4t::Instr;
+use emit_flow::emit_last_shell;
+use emit_flow::emit_shell;
+use plan::key_of;
+ghost use mathlib.Core.Path.{_≡_};
+ghost use mathlib.Core.Bool.{Bool, true, false, not, cond, _&&_};
+ghost use mathlib.Core.List.{List, _∷_};
+ghost use Prim.Native.Nat.{ℕ, _+_};
+ghost use Rattle.c_tree.specs.Stmt.{end};
+ghost use Rattle.plan.specs.Exits.{fallThrough};
+ghost use Rattle.forms.specs.Forms.{Form, Body};
+ghost use Rattle.forms.specs.Block.{emitShell};
+ghost use Rattle.lowering.specs.Block.{rest};
+ghost use Rattle.emit_instr.specs.Onward.{Onward};
+ghost use Rattle.emit_instr.specs.Steps.{empty, Steps};
+
+// The key after an instruction.
+fn fall_through(thumb: bool, i: Instr) -> u32
+    ensures { λ r. ⌜ r ≡ fallThrough thumb i ⌝ }
+{
+    key_of(std::num::wrapping_add_u32(i.addr, i.size()), thumb)
+}
+
+// A shell, also for an unfused ThumbBlHigh (high), behind which the closing transfer stands where it is the last of its block.
+fn put_shell(out: &mut [u8], at: usize, thumb: bool, cycles: u64, i: Instr, last: bool) -> usize
+    ensures { λ r. ⌜ ((high : Bool) (ks : List ℕ) (b : Body) (j : ℕ) (fs : List Form) → last ≡ empty fs → Onward (now (out .entry)) at (rest ks b j (emitShell thumb high cycles i ∷ fs)) (cond (not high && last) end (rest ks b (j + 1) fs)) (now (out .exit)) r) ⌝ }
+{
+    if last {
+        emit_last_shell(out, at, cycles, i.addr)
+    } else {
+        let expect = fall_through(thumb, i);
+        emit_shell(out, at, cycles, i.addr, expect)
+    }
+}
+
+// An instruction that is not inlined.
+pub(crate) fn emit_left(
+    out: &mut [u8],
+    at: usize,
+    thumb: bool,
+    cycles: u64,
+    i: Instr,
+    last: bool,
+) -> Step
+    ensures { λ r. ⌜ ((ks : List ℕ) (b : Body) (j : ℕ) (fs : List Form) → last ≡ empty fs → Steps (now (out .entry)) at ks b j (emitShell thumb false cycles i, 0) fs (now (out .exit)) r) ⌝ }
+{
+    Step {
+        at: put_shell(out, at, thumb, cycles, i, last),
+        cycles: 0,
+        done: last,
+    }
+}
+
+// A ThumbBlHigh that is not fused: the block goes on behind it, also where it is the last.
+pub(crate) fn emit_half(
+    out: &mut [u8],
+    at: usize,
+    thumb: bool,
+    cycles: u64,
+    i: Instr,
+    last: bool,
+) -> Step
+    ensures { λ r. ⌜ ((ks : List ℕ) (b : Body) (j : ℕ) (fs : List Form) → last ≡ empty fs → Steps (now (out .entry)) at ks b j (emitShell thumb true cycles i, 0) fs (now (out .exit)) r) ⌝ }
+{
+    Step {
+        at: put_shell(out, at, thumb, cycles, i, last),
+        cycles: 0,
+        done: false,
+    }
+}

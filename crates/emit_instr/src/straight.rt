@@ -1,0 +1,125 @@
+// Instructions that go on to the next one: inlined, or left to the interpreter.
+use crate::bodies::is_inlined;
+use crate::bodies::put_body;
+use crate::shells::emit_left;
+use crate::step::Step;
+use armv4t::Instr;
+use block_file::TimedInstr;
+use emit_flow::close_holds;
+use emit_flow::close_straight;
+use emit_flow::flush_ticks;
+use emit_flow::open_conditional;
+use emit_flow::open_holds;
+use emit_flow::open_straight;
+use emit_mem::is_al;
+use emit_operands::put_cond_expr;
+ghost use mathlib.Core.Path.{_≡_};
+ghost use mathlib.Core.Bool.{true, false, cond};
+ghost use mathlib.Core.List.{List, []};
+ghost use mathlib.Core.Option.{some};
+ghost use Prim.Native.Nat.{ℕ, _+_, _^_, _<_};
+ghost use Rattle.text.specs.Wrote.{Wrote};
+ghost use Rattle.c_tree.specs.Stmt.{common, end};
+ghost use Rattle.c_tree.specs.Print.{codeText};
+ghost use Rattle.plan.specs.Exits.{isAl};
+ghost use Rattle.forms.specs.Forms.{Lines, Form, Body};
+ghost use Rattle.forms.specs.Operands.{condExpr};
+ghost use Rattle.forms.specs.InlineBody.{inlineBody};
+ghost use Rattle.forms.specs.Block.{flushTicks, emitLines, emitStraight};
+ghost use Rattle.lowering.specs.Block.{lines};
+ghost use Rattle.emit_instr.specs.Steps.{empty, Steps, lowered};
+
+// The cycles pending before an instruction that touches memory; they stay pending before another.
+fn put_ticks(out: &mut [u8], at: usize, bus: bool, cycles: u64) -> usize
+    ensures { λ r. ⌜ Wrote (now (out .entry)) at (codeText (lines common 4 (cond bus (flushTicks cycles) []) end)) (now (out .exit)) r ⌝ }
+{
+    if bus {
+        flush_ticks(out, at, cycles)
+    } else {
+        at
+    }
+}
+
+// The cycles pending behind an instruction of a cost.
+fn pending(bus: bool, cycles: u64, cost: u16) -> u64
+    ensures { λ r. ⌜ (cycles + cost < 2 ^ 64 → r ≡ cond bus 0 cycles + cost) ⌝ }
+{
+    if bus {
+        cost as u64
+    } else {
+        std::num::wrapping_add_u64(cycles, cost as u64)
+    }
+}
+
+// The lines of an instruction in braces.
+fn put_straight(out: &mut [u8], at: usize, thumb: bool, i: Instr) -> usize
+    ensures { λ r. ⌜ ((body : Lines) → inlineBody thumb i ≡ some body → Wrote (now (out .entry)) at (lowered true (condExpr (i .cond)) body) (now (out .exit)) r) ⌝ }
+{
+    let p = open_straight(out, at);
+    let q = put_body(out, p, thumb, i);
+    close_straight(out, q)
+}
+
+// The same behind its condition.
+fn put_holds(out: &mut [u8], at: usize, thumb: bool, i: Instr) -> usize
+    ensures { λ r. ⌜ ((body : Lines) → inlineBody thumb i ≡ some body → Wrote (now (out .entry)) at (lowered false (condExpr (i .cond)) body) (now (out .exit)) r) ⌝ }
+{
+    let condition = i.cond;
+    let p = open_conditional(out, at);
+    let q = put_cond_expr(out, p, condition);
+    let s = open_holds(out, q);
+    let t = put_body(out, s, thumb, i);
+    close_holds(out, t)
+}
+
+fn put_lowered(out: &mut [u8], at: usize, thumb: bool, i: Instr) -> usize
+    ensures { λ r. ⌜ ((body : Lines) → inlineBody thumb i ≡ some body → Wrote (now (out .entry)) at (lowered (isAl (i .cond)) (condExpr (i .cond)) body) (now (out .exit)) r) ⌝ }
+{
+    let condition = i.cond;
+    if is_al(condition) {
+        put_straight(out, at, thumb, i)
+    } else {
+        put_holds(out, at, thumb, i)
+    }
+}
+
+// An instruction that is inlined.
+fn emit_lowered(
+    out: &mut [u8],
+    at: usize,
+    thumb: bool,
+    bus: bool,
+    cycles: u64,
+    x: TimedInstr,
+) -> Step
+    ensures { λ r. ⌜ ((body : Lines) → inlineBody thumb (x .instr) ≡ some body → (ks : List ℕ) (b : Body) (j : ℕ) (fs : List Form) → cycles + x .cost < 2 ^ 64 → Steps (now (out .entry)) at ks b j (emitLines thumb bus cycles x (some body)) fs (now (out .exit)) r) ⌝ }
+{
+    let p = put_ticks(out, at, bus, cycles);
+    let i = x.instr;
+    let q = put_lowered(out, p, thumb, i);
+    Step {
+        at: q,
+        cycles: pending(bus, cycles, x.cost),
+        done: false,
+    }
+}
+
+// An instruction of a block that goes on behind it; bus: it touches memory. last: it is the block's last.
+pub(crate) fn emit_straight(
+    out: &mut [u8],
+    at: usize,
+    thumb: bool,
+    bus: bool,
+    cycles: u64,
+    x: TimedInstr,
+    last: bool,
+) -> Step
+    ensures { λ r. ⌜ ((ks : List ℕ) (b : Body) (j : ℕ) (fs : List Form) → last ≡ empty fs → cycles + x .cost < 2 ^ 64 → Steps (now (out .entry)) at ks b j (emitStraight thumb bus cycles x) fs (now (out .exit)) r) ⌝ }
+{
+    let i = x.instr;
+    if is_inlined(thumb, i) {
+        emit_lowered(out, at, thumb, bus, cycles, x)
+    } else {
+        emit_left(out, at, thumb, cycles, i, last)
+    }
+}
