@@ -1,18 +1,8 @@
--- Equal forms, and which of two stands where a test chose it.
-use mathlib.Core.Path.{_≡_, refl, sym, subst}
-use Prim.Native.Nat.{ℕ}
+-- Which of two stands where a test chose it.
+use mathlib.Core.Path.{_≡_, refl, sym}
 use mathlib.Core.Bool.{Bool, true, false, cond, true≢false}
-use mathlib.Core.List.{List}
 use mathlib.Core.Option.{Option, none, some}
-use Rattle.forms.specs.Forms.{Form, Body}
 use Rattle.emit_operands.specs.Operands.{isSome}
-use Rattle.emit_instr.specs.declared.step.Step.{Step}
-use Rattle.emit_instr.specs.Steps.{Steps}
-
--- a form that equals the one written
-pub same-form : {o o′ ks : List ℕ} {at j : ℕ} {b : Body} {fs : List Form} {r : Step} (f g : Form × ℕ) → f ≡ g → Steps o at ks b j f fs o′ r
-    → Steps o at ks b j g fs o′ r
-same-form {o} {o′} {ks} {at} {j} {b} {fs} {r} f g e s = subst (λ (x : Form × ℕ). Steps o at ks b j x fs o′ r) e s
 
 -- one of two
 pub chosen : {A : Type 0} (t : Bool) (x y : A) → t ≡ true → x ≡ cond t x y

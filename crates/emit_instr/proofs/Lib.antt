@@ -1,6 +1,7 @@
--- The laws of `Onward`, for whoever writes a block, and the texts of the forms.
+-- The laws by which the text of a block is put together, and those that the functions' proofs share.
 pub mod Onward
+pub mod Steps
+pub mod Texts
 mod Chosen
-mod Unlined
+mod Operations
 mod Lined
-mod Texts

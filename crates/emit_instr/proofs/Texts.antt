@@ -1,12 +1,11 @@
 -- From a form of a block on to what is left of the block, by what was written of the form.
-use mathlib.Core.Path.{_≡_, refl, sym, ap, _∙_}
+use mathlib.Core.Path.{_≡_, sym, ap, _∙_}
 use Prim.Native.Nat.{ℕ, _+_, _%_, _^_}
 use mathlib.Core.Bool.{Bool, true, false, not, cond, _&&_, true≢false}
 use mathlib.Core.List.{List, [], _∷_, _++_}
 use Rattle.armv4t.specs.declared.Instr.{Instr}
 use Rattle.text.specs.Doc.{_▸_, flat}
 use Rattle.text.specs.Wrote.{Wrote}
-use Rattle.text.proofs.Laws.{said}
 use Rattle.c_tree.specs.Expr.{Expr}
 use Rattle.c_tree.specs.Stmt.{Plain, Owner, common, retInterp, end, _⨾_}
 use Rattle.c_tree.specs.Print.{exprText, codeText}
@@ -14,20 +13,23 @@ use Rattle.plan.specs.Exits.{keyOf, isAl}
 use Rattle.forms.specs.Forms.{Lines, Native, straight, holds, branch, jump, Form, shell, records, Body}
 use Rattle.forms.specs.Operands.{condExpr}
 use Rattle.forms.specs.InlineBody.{apart}
-use Rattle.forms.specs.Block.{flushTicks, emitBranch}
-use Rattle.lowering.specs.Block.{bodyKey, nl, sp, line, lines, transfer, nativeText, emitShell, rest}
+use Rattle.forms.specs.Block.{flushTicks, setWord, emitBranch}
+use Rattle.lowering.specs.Block.{bodyKey, bodyEnd, nl, sp, line, lines, transfer, nativeText, emitShell, rest}
 use Rattle.emit_flow.specs.Pieces.{branchRegs, beforeCondition, behindCondition, behindConditional}
-use Rattle.emit_flow.proofs.Blocks.{straight-text, holds-text, branch-text, rest-native, rest-shell, rest-last}
+use Rattle.emit_flow.proofs.Blocks.{straight-text, holds-text, branch-text, rest-native, rest-shell, rest-last, closing-text}
 use Rattle.emit_instr.specs.Onward.{Onward}
 use Rattle.emit_instr.specs.Steps.{empty, lowered}
 use Rattle.emit_instr.proofs.Onward.{by}
 
 module _ {o o′ : List ℕ} {at r : ℕ} (ks : List ℕ) (b : Body) (j : ℕ) where
-  -- an exit, whose text has nothing behind it
-  pub exit-step : (n : Native) (fs : List Form)
-      → Wrote o at (codeText (nativeText ks (b .addr) (Owner.native (bodyKey b)) n (rest ks b (j + records n) fs))) o′ r
+  -- an exit, whose text has nothing behind it, from the block's address
+  pub exit-step : (n : Native) (src : ℕ) (fs : List Form) → b .addr ≡ src
+      → Wrote o at (codeText (nativeText ks src (Owner.native (bodyKey b)) n (rest ks b (j + records n) fs))) o′ r
       → Onward o at (rest ks b j (Form.native n ∷ fs)) end o′ r
-  exit-step n fs w = by _ end w (λ k. rest-native ks b j n fs k)
+  exit-step n src fs q w =
+      by _ end w
+      (λ k. rest-native ks b j n fs k
+      ∙ ap (λ (a : ℕ). flat (codeText (nativeText ks a (Owner.native (bodyKey b)) n (rest ks b (j + records n) fs))) k) q)
 
   -- lines in braces, behind a condition or not
   pub lowered-step : (al : Bool) (t : Lines) (e : Expr) (l : Lines) (fs : List Form)
@@ -44,9 +46,7 @@ module _ {o o′ : List ℕ} {at r : ℕ} (ks : List ℕ) (b : Body) (j : ℕ) w
   pub jump-step : (al : Bool) (t u : Lines) (e : Expr) (l : List Plain) (key src : ℕ) (fs : List Form) → al ≡ true → b .addr ≡ src
       → Wrote o at (codeText (nativeText ks src (Owner.native (bodyKey b)) (jump t key) (rest ks b (j + 1) fs))) o′ r
       → Onward o at (rest ks b j (Form.native (cond al (jump t key) (branch u e l key)) ∷ fs)) end o′ r
-  jump-step true t u e l key src fs p q w =
-      exit-step (jump t key) fs
-      (said w (ap (λ (n : ℕ). flat (codeText (nativeText ks n (Owner.native (bodyKey b)) (jump t key) (rest ks b (j + 1) fs))) []) (sym q)))
+  jump-step true t u e l key src fs p q w = exit-step (jump t key) src fs q w
   jump-step false t u e l key src fs p q w = absurd (true≢false (sym p))
 
   -- a branch behind a condition
@@ -77,6 +77,17 @@ module _ {o o′ : List ℕ} {at r : ℕ} (ks : List ℕ) (b : Body) (j : ℕ) w
   last-step high false t key [] p q w = absurd (true≢false (sym q))
   last-step true true t key [] p q w = by _ _ w (λ k. rest-last ks b j true t key k)
   last-step false true t key [] p q w = by _ _ w (λ k. rest-last ks b j false t key k)
+
+  -- the end of a block, by the cycles pending there and where it goes on
+  pub closing-step : (cycles next key src : ℕ) → b .last ≡ flushTicks cycles ++ apart (setWord 15 next ∷ [])
+      → bodyEnd b + cond (b .thumb) 1 0 ≡ key → b .addr ≡ src
+      → Wrote o at (codeText (lines common 4 (flushTicks cycles ++ apart (setWord 15 next ∷ [])) (transfer ks src common 4 key end))) o′ r
+      → Onward o at (rest ks b j []) end o′ r
+  unfolding rest
+  closing-step cycles next key src p q e w =
+      by _ end w
+      (λ k. closing-text ks b cycles next key k p q
+      ∙ ap (λ (a : ℕ). flat (codeText (lines common 4 (flushTicks cycles ++ apart (setWord 15 next ∷ [])) (transfer ks a common 4 key end))) k) e)
 
 -- a branch by its key and the address behind it
 pub branch-form : (thumb : Bool) (cycles : ℕ) (i : Instr) (link : Bool) (target back key : ℕ) → back ≡ (i .addr + 4) % 2 ^ 32

@@ -1,4 +1,5 @@
 // An instruction of a block, by its operation.
+use crate::cycles::with_cost;
 use crate::exits::emit_branch;
 use crate::exits::is_bx;
 use crate::exits::leave_by_bx;
@@ -13,19 +14,10 @@ use emit_mem::is_pop;
 ghost use mathlib.Core.Path.{_≡_};
 ghost use mathlib.Core.List.{List};
 ghost use Prim.Native.Nat.{ℕ, _+_, _^_, _<_};
-ghost use Rattle.armv4t.specs.declared.Op.the-variants.{Bx, Branch, BlockMem};
-ghost use Rattle.plan.specs.Exits.{keyOf};
+ghost use Rattle.armv4t.specs.declared.Op.the-variants.{Bx, BlockMem};
 ghost use Rattle.forms.specs.Forms.{Form, Body};
 ghost use Rattle.forms.specs.Block.{emitOp, emitInstr};
-ghost use Rattle.lowering.specs.Block.{has};
 ghost use Rattle.emit_instr.specs.Steps.{empty, Steps, Reaches};
-
-// The cycles pending with those of an instruction.
-fn with_cost(cycles: u64, cost: u16) -> u64
-    ensures { λ r. ⌜ (cycles + cost < 2 ^ 64 → r ≡ cycles + cost) ⌝ }
-{
-    std::num::wrapping_add_u64(cycles, cost as u64)
-}
 
 // A Bx: an exit, or left to the interpreter.
 fn emit_any_bx(

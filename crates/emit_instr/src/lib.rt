@@ -1,5 +1,6 @@
 // The text of one instruction of a block: its lines where it is inlined, a call of the interpreter where it is not, or an exit of the block.
 mod bodies;
+mod cycles;
 mod exits;
 mod instr;
 mod shells;

@@ -1,6 +1,7 @@
 // Instructions that go on to the next one: inlined, or left to the interpreter.
 use crate::bodies::is_inlined;
 use crate::bodies::put_body;
+use crate::cycles::pending;
 use crate::shells::emit_left;
 use crate::step::Step;
 use armv4t::Instr;
@@ -37,17 +38,6 @@ fn put_ticks(out: &mut [u8], at: usize, bus: bool, cycles: u64) -> usize
         flush_ticks(out, at, cycles)
     } else {
         at
-    }
-}
-
-// The cycles pending behind an instruction of a cost.
-fn pending(bus: bool, cycles: u64, cost: u16) -> u64
-    ensures { λ r. ⌜ (cycles + cost < 2 ^ 64 → r ≡ cond bus 0 cycles + cost) ⌝ }
-{
-    if bus {
-        cost as u64
-    } else {
-        std::num::wrapping_add_u64(cycles, cost as u64)
     }
 }
 

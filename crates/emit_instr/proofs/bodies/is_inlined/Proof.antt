@@ -2,7 +2,7 @@
 use mathlib.Core.Path.{refl, sym, ap, _∙_}
 use Rattle.emit_operands.specs.Operands.{isSome}
 use Rattle.emit_mem.proofs.Offsets.{mem-inlined, block-mem-inlined}
-use Rattle.emit_instr.proofs.Unlined.{no-lines}
+use Rattle.emit_instr.proofs.Operations.{no-lines}
 use borrow.Author.Needs.{needs}
 use Rattle.armv4t.specs.declared.Op.{Op}
 use Rattle.forms.specs.InlineBody.{opBody, inlineBody}

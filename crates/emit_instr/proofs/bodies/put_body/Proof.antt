@@ -7,7 +7,7 @@ use Rattle.armv4t.specs.declared.Op.the-variants.{Alu, Mul, MulLong, Mem, Block
 use Rattle.forms.specs.InlineBody.{names}
 use Rattle.emit_alu.proofs.Bodies.{mul-lines}
 use Rattle.emit_instr.proofs.Lined.{as-lines, known-body, tested, tested-lines, alu-by-pc}
-use Rattle.emit_instr.proofs.Unlined.{no-lines}
+use Rattle.emit_instr.proofs.Operations.{no-lines}
 use borrow.Author.Needs.{needs}
 use Rattle.emit_instr.proofs.bodies.put_body.Statement.{statement}
 use Rattle.emit_instr.proofs.bodies.put_body.Tie as tie

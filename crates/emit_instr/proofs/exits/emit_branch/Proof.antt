@@ -1,8 +1,7 @@
 -- `exits::emit_branch` meets its contract: its calls write the text of a branch, by its condition. Assumes nothing.
-use Prim.Native.Nat.{_+_}
+use Prim.Native.Nat.{ℕ, _+_}
 use mathlib.Core.Path.{refl, sym, ap, _∙_}
 use mathlib.Core.List.{_++_}
-use Prim.Native.Nat.{ℕ}
 use Rattle.c_tree.specs.Stmt.{Owner}
 use Rattle.text.proofs.Laws.{seq}
 use Rattle.forms.specs.Forms.{Form}
@@ -13,7 +12,7 @@ use Rattle.plan.specs.Exits.{isAl}
 use Rattle.lowering.specs.Block.{bodyKey, has, rest}
 use Rattle.emit_flow.specs.Pieces.{branchRegs}
 use Rattle.emit_instr.proofs.Texts.{jump-step, branch-step, branch-form}
-use Rattle.emit_instr.proofs.Chosen.{same-form}
+use Rattle.emit_instr.proofs.Steps.{same-form}
 use borrow.Author.Needs.{needs}
 use Rattle.emit_instr.proofs.exits.emit_branch.Statement.{statement}
 use Rattle.emit_instr.proofs.exits.emit_branch.Tie as tie
@@ -40,13 +39,14 @@ returns c =
     let key = c1 .before .before in
     let back = key .before in
     let a = back .before .before .args in
+    let regs = branchRegs (a .link) (back .wrapping-add-u32 .result) (a .target) in
     λ ks b j fs h e.
     same-form _ _
-    (ap (λ n. (Form.native n, 0)) (branch-form (a .thumb) (a .cycles) (a .i) (a .link) (a .target) (back .wrapping-add-u32 .result) (key .key-of .result) (back .wrapping-add-u32 .ensures) (key .key-of .ensures)))
+    (ap (λ n. (Form.native n, 0)) (branch-form (a .thumb) (a .cycles) (a .i) (a .link) (a .target) _ _ (back .wrapping-add-u32 .ensures) (key .key-of .ensures)))
     (record {
       onward =
-          jump-step ks b j (isAl (a .i .cond)) (flushTicks (a .cycles) ++ apart (branchRegs (a .link) (back .wrapping-add-u32 .result) (a .target))) (flushTicks (a .cycles)) (condExpr (a .i .cond))
-          (branchRegs (a .link) (back .wrapping-add-u32 .result) (a .target)) (key .key-of .result) (a .src) fs
+          jump-step ks b j (isAl (a .i .cond)) (flushTicks (a .cycles) ++ apart regs) (flushTicks (a .cycles)) (condExpr (a .i .cond)) regs
+          (key .key-of .result) (a .src) fs
           (sym (c1 .before .is-al .ensures) ∙ c1 .if1 .taken) e
           (c2 .branch-always .ensures ks (Owner.native (bodyKey b)) (rest ks b (j + 1) fs) (ap (λ (n : ℕ). has n ks) (key .key-of .ensures) ∙ h));
       cycles = refl;
@@ -69,13 +69,14 @@ returns-2 c =
     let key = c1 .before .before in
     let back = key .before in
     let a = back .before .before .args in
+    let regs = branchRegs (a .link) (back .wrapping-add-u32 .result) (a .target) in
     λ ks b j fs h e.
     same-form _ _
-    (ap (λ n. (Form.native n, 0)) (branch-form (a .thumb) (a .cycles) (a .i) (a .link) (a .target) (back .wrapping-add-u32 .result) (key .key-of .result) (back .wrapping-add-u32 .ensures) (key .key-of .ensures)))
+    (ap (λ n. (Form.native n, 0)) (branch-form (a .thumb) (a .cycles) (a .i) (a .link) (a .target) _ _ (back .wrapping-add-u32 .ensures) (key .key-of .ensures)))
     (record {
       onward =
-          branch-step ks b j (isAl (a .i .cond)) (flushTicks (a .cycles) ++ apart (branchRegs (a .link) (back .wrapping-add-u32 .result) (a .target))) (flushTicks (a .cycles)) (condExpr (a .i .cond))
-          (branchRegs (a .link) (back .wrapping-add-u32 .result) (a .target)) (key .key-of .result) (a .src) fs
+          branch-step ks b j (isAl (a .i .cond)) (flushTicks (a .cycles) ++ apart regs) (flushTicks (a .cycles)) (condExpr (a .i .cond)) regs
+          (key .key-of .result) (a .src) fs
           (sym (c1 .before .is-al .ensures) ∙ c1 .if1 .left) e
           (seq (c2 .put-condition .ensures) (c3 .branch-taken .ensures ks (Owner.native (bodyKey b)) (ap (λ (n : ℕ). has n ks) (key .key-of .ensures) ∙ h)));
       cycles = refl;

@@ -33,7 +33,7 @@ returns c =
     λ ks b j fs.
     record {
       onward =
-          exit-step ks b j (bx (flushTicks (a .cycles)) (regExpr (a .i) (a .rm))) fs
+          exit-step ks b j (bx (flushTicks (a .cycles)) (regExpr (a .i) (a .rm))) (b .addr) fs refl
           (said (c2 .emit-bx .ensures ks (b .addr) (Owner.native (bodyKey b)) (rest ks b (j + 1) fs))
           (ap (λ (n : ℕ). flat (codeText (nativeText ks (b .addr) (Owner.native (bodyKey b)) (bx (flushTicks (a .cycles)) (regOr n (a .rm))) (rest ks b (j + 1) fs))) []) (c1 .pc-value .ensures)));
       cycles = refl;

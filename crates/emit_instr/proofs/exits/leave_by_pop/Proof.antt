@@ -30,7 +30,7 @@ returns c =
     λ ks b j fs.
     record {
       onward =
-          exit-step ks b j (emitPop (a .thumb) (a .cycles) (a .rn) (listed (a .rlist) 15)) fs
+          exit-step ks b j (emitPop (a .thumb) (a .cycles) (a .rn) (listed (a .rlist) 15)) (b .addr) fs refl
           (said (seq (c1 .flush-ticks .ensures) (c2 .put-pop .ensures))
           (sym (ticks-then-pop ks (b .addr) (Owner.native (bodyKey b)) (a .thumb) (a .cycles) (a .rn) (listed (a .rlist) 15) (rest ks b (j + 1) fs) [])));
       cycles = refl;

@@ -5,7 +5,8 @@ use mathlib.Core.Bool.{false}
 use Rattle.forms.specs.Forms.{bx, Form}
 use Rattle.forms.specs.Operands.{regExpr}
 use Rattle.forms.specs.Block.{flushTicks, isBx, emitStraight}
-use Rattle.emit_instr.proofs.Chosen.{same-form, chosen, refused}
+use Rattle.emit_instr.proofs.Chosen.{chosen, refused}
+use Rattle.emit_instr.proofs.Steps.{same-form}
 use borrow.Author.Needs.{needs}
 use Rattle.emit_instr.proofs.instr.emit_any_bx.Statement.{statement}
 use Rattle.emit_instr.proofs.instr.emit_any_bx.Tie as tie

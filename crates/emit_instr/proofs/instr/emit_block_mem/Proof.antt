@@ -5,7 +5,8 @@ use mathlib.Core.Bool.{true}
 use Rattle.forms.specs.Forms.{Form}
 use Rattle.forms.specs.InlineBody.{listed}
 use Rattle.forms.specs.Block.{isPop, emitPop, emitStraight}
-use Rattle.emit_instr.proofs.Chosen.{same-form, chosen, refused}
+use Rattle.emit_instr.proofs.Chosen.{chosen, refused}
+use Rattle.emit_instr.proofs.Steps.{same-form}
 use borrow.Author.Needs.{needs}
 use Rattle.emit_instr.proofs.instr.emit_block_mem.Statement.{statement}
 use Rattle.emit_instr.proofs.instr.emit_block_mem.Tie as tie

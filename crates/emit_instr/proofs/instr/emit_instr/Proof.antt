@@ -1,14 +1,11 @@
 -- `instr::emit_instr` meets its contract: an arm of one operation is given its fields, and `_` answers for all that go on to the next instruction and do not touch memory. Assumes nothing.
 use Prim.Native.Nat.{ℕ}
 use mathlib.Core.Path.{sym, ap, subst, _∙_}
-use mathlib.Core.List.{[], _∷_}
-use mathlib.Core.Bool.{false}
-use Rattle.armv4t.specs.declared.Op.the-variants.{Branch}
 use Rattle.forms.specs.Forms.{Form}
 use Rattle.forms.specs.Block.{emitBranch, emitOp, emitInstr}
 use Rattle.emit_instr.specs.Steps.{Reaches}
-use Rattle.emit_instr.proofs.Chosen.{same-form}
-use Rattle.emit_instr.proofs.Unlined.{goes-on}
+use Rattle.emit_instr.proofs.Steps.{same-form}
+use Rattle.emit_instr.proofs.Operations.{straight-on}
 use borrow.Author.Needs.{needs}
 use Rattle.emit_instr.proofs.instr.emit_instr.Statement.{statement}
 use Rattle.emit_instr.proofs.instr.emit_instr.Tie as tie
@@ -127,7 +124,7 @@ returns-6 c =
     let known = done .before .before in
     let a = known .before .before .before .args in
     λ ks b j fs h e g reach.
-    same-form _ _ (sym (goes-on (a .thumb) (a .region) (a .cycles) (a .x) (a .x .instr .op) (known .match .keys6))) (done .emit-straight2 .ensures ks b j fs h g)
+    same-form _ _ (sym (straight-on (a .thumb) (a .region) (a .cycles) (a .x) (a .x .instr .op) (known .match .keys6))) (done .emit-straight2 .ensures ks b j fs h g)
 
 pub emit-instr-spec : {M : Type 1} → statement M
 emit-instr-spec =

@@ -3,7 +3,8 @@ use mathlib.Core.Path.{sym, ap, _∙_}
 use mathlib.Core.Option.{none, some}
 use Rattle.forms.specs.InlineBody.{inlineBody}
 use Rattle.forms.specs.Block.{emitLines}
-use Rattle.emit_instr.proofs.Chosen.{same-form, there, missing}
+use Rattle.emit_instr.proofs.Chosen.{there, missing}
+use Rattle.emit_instr.proofs.Steps.{same-form}
 use borrow.Author.Needs.{needs}
 use Rattle.emit_instr.proofs.straight.emit_straight.Statement.{statement}
 use Rattle.emit_instr.proofs.straight.emit_straight.Tie as tie

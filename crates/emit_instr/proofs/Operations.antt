@@ -22,10 +22,10 @@ pub no-lines : (thumb : Bool) (i : Instr) (op : Op) → OneOf unlined (tagOf the
 no-lines thumb i op o = arm enum (λ x. opBody thumb i x ≡ none) unlined op o (search depth 16)
 
 -- all but Bx, Branch, ThumbBlHigh, Mem and BlockMem
-abbrev pub onward : List ℕ
-onward = others 15 (4 ∷ 5 ∷ 6 ∷ 8 ∷ 9 ∷ [])
+abbrev pub passing : List ℕ
+passing = others 15 (4 ∷ 5 ∷ 6 ∷ 8 ∷ 9 ∷ [])
 
-pub goes-on : (thumb : Bool) (region cycles : ℕ) (x : TimedInstr) (op : Op) → OneOf onward (tagOf the-type op)
+pub straight-on : (thumb : Bool) (region cycles : ℕ) (x : TimedInstr) (op : Op) → OneOf passing (tagOf the-type op)
     → emitOp thumb region cycles x op ≡ emitStraight thumb false cycles x
-goes-on thumb region cycles x op o =
-    arm enum (λ y. emitOp thumb region cycles x y ≡ emitStraight thumb false cycles x) onward op o (search depth 16)
+straight-on thumb region cycles x op o =
+    arm enum (λ y. emitOp thumb region cycles x y ≡ emitStraight thumb false cycles x) passing op o (search depth 16)
