@@ -33,13 +33,13 @@ abbrev pairExits : Bool → TimedInstr → TimedInstr → List ℕ
 pairExits thumb x y = closingExits (fuse (x .instr) (y .instr)) (lastExits thumb (y .instr))
 
 module _ (f : List ℕ) (thumb : Bool) where
-  later : (k addr j : ℕ) → instrAt f (suc k) (addr + sizeOf thumb) thumb j ≡ instrAt f k addr thumb (suc j)
+  pub later : (k addr j : ℕ) → instrAt f (suc k) (addr + sizeOf thumb) thumb j ≡ instrAt f k addr thumb (suc j)
   later k addr j =
       let place : suc k + j ≡ k + suc j = omega arith in
       let address : addr + sizeOf thumb + sizeOf thumb * j ≡ addr + sizeOf thumb * suc j = rw mul-suc (omega arith) in
       ap₂ (λ (m a : ℕ). timedAt f (instrStart f m) a thumb) place address
 
-  at-first : (k addr : ℕ) → timedAt f (instrStart f k) addr thumb ≡ instrAt f k addr thumb 0
+  pub at-first : (k addr : ℕ) → timedAt f (instrStart f k) addr thumb ≡ instrAt f k addr thumb 0
   at-first k addr = rw (add-zero, mul-zero, add-zero)
 
   by-one : (k addr : ℕ) → instrExits thumb (instrsFrom f 1 k addr thumb) ≡ lastExits thumb (instrAt f k addr thumb 0 .instr)
@@ -84,7 +84,7 @@ module _ {f : List ℕ} {i : ℕ} {b : BlockRecord} {first : ℕ} (is : IsBlock 
       let address : b .addr + sizeOf (b .thumb) * j < 2 ^ 32 = addr-below (b .addr) (b .count) j (b .thumb) h (ends is) in
       rw (mod-eq-of-lt place, mod-eq-of-lt address) (instr-found f (blocksOf f) (is .accepted) (first + j) _ (b .thumb) (omega (arith, among is)))
 
-  read-as : (j : ℕ) (r : FoundInstr) (x : TimedInstr) → j < b .count → r ≡ readInstr f b first j → r ≡ FoundInstr.At x → x ≡ instrAt f first (b .addr) (b .thumb) j
+  pub read-as : (j : ℕ) (r : FoundInstr) (x : TimedInstr) → j < b .count → r ≡ readInstr f b first j → r ≡ FoundInstr.At x → x ≡ instrAt f first (b .addr) (b .thumb) j
   read-as j r x h e g = cc (instr-there j h)
 
   pub not-missing : (j : ℕ) (r : FoundInstr) → j < b .count → r ≡ readInstr f b first j → r ≡ FoundInstr.Nothing → ⊥

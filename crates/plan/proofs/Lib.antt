@@ -1,7 +1,7 @@
 -- The laws that the functions' proofs share.
 pub mod Accepted
 pub mod Answers
-mod Closing
+pub mod Closing
 pub mod Components
 pub mod Cutting
 pub mod Edges

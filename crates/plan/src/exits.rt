@@ -120,7 +120,7 @@ fn ends_bl(instr: Instr) -> bool
 }
 
 // The address of instruction j of a block at an address.
-fn instr_addr(addr: u32, thumb: bool, j: u32) -> u32
+pub fn instr_addr(addr: u32, thumb: bool, j: u32) -> u32
     ensures { λ r. ⌜ r ≡ (addr + sizeOf thumb * j) % 2 ^ 32 ⌝ }
 {
     let start = addr as u64;
@@ -133,7 +133,7 @@ fn instr_addr(addr: u32, thumb: bool, j: u32) -> u32
 }
 
 // Instruction j of a block whose instructions are those from record `first` on. In an accepted file nothing wraps.
-fn instr_of(file: &[u8], block: BlockRecord, first: usize, j: u32) -> FoundInstr
+pub fn instr_of(file: &[u8], block: BlockRecord, first: usize, j: u32) -> FoundInstr
     ensures { λ r. ⌜ r ≡ foundInstr (now (file .entry)) ((first + j) % 2 ^ 64) ((block .addr + sizeOf (block .thumb) * j) % 2 ^ 32) (block .thumb) ⌝ }
 {
     let at = std::num::wrapping_add_usize(first, j as usize);

@@ -16,6 +16,8 @@ pub use calls::exits_of;
 pub use calls::plan_of;
 pub use exits::Exits;
 pub use exits::exits_at;
+pub use exits::instr_addr;
+pub use exits::instr_of;
 pub use exits::key_of;
 pub use groups::group_blocks;
 pub use search::Target;

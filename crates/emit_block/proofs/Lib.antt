@@ -1,0 +1,7 @@
+-- The laws that the functions' proofs share.
+mod Bodies
+mod FormsFrom
+mod Inside
+mod Reading
+mod Recording
+mod Walking

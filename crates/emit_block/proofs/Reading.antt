@@ -1,0 +1,60 @@
+-- What the reader of instructions gives of a block, as the walk over its records has it.
+-- Assumes nothing.
+use Prim.Native.Nat.{ℕ, zero, suc, _+_, _*_, _%_, _<_, _^_}
+use mathlib.Core.Path.{_≡_, sym, ap, _∙_}
+use mathlib.Core.Bool.{Bool}
+use mathlib.Core.List.{List, [], _∷_, _++_}
+use native.Mathlib.Nat.{mul-suc, mul-zero}
+use native.Mathlib.Numerals.{add-one}
+use native.Mathlib.Omega.{arith}
+use lib.ListN.{drop}
+use Rattle.armv4t.specs.declared.Instr.{Instr}
+use Rattle.armv4t.specs.Instr.{sizeOf}
+use Rattle.block_file.specs.declared.decode.TimedInstr.{TimedInstr}
+use Rattle.block_file.specs.declared.read.BlockRecord.{BlockRecord}
+use Rattle.block_file.specs.declared.read.FoundInstr.{FoundInstr}
+use Rattle.block_file.specs.Decode.{timedAt}
+use Rattle.block_file.specs.Parse.{instrsFrom}
+use Rattle.plan.specs.Accepted.{IsBlock}
+use Rattle.plan.proofs.Closing.{instrAt, readInstr, read-as}
+use Rattle.forms.specs.InlineBody.{apart}
+use Rattle.forms.specs.Block.{flushTicks, setWord, closing}
+use Rattle.emit_block.specs.declared.records.Next.{Next}
+use Rattle.emit_block.specs.Walk.{instrsOf, nextOf}
+use Rattle.emit_block.proofs.FormsFrom.{drop-instr, drop-all}
+
+module _ {f : List ℕ} {i : ℕ} {r : BlockRecord} {first : ℕ} (is : IsBlock f i r first) (j : ℕ) (inside : j < r .count) where
+  -- the instruction that was read, and those behind it
+  pub here-read : (q : FoundInstr) (x : TimedInstr) → q ≡ readInstr f r first j → q ≡ FoundInstr.At x
+      → drop j (instrsOf f r first) ≡ x ∷ drop (suc j) (instrsOf f r first)
+  here-read q x e g =
+      drop-instr f (r .thumb) (r .count) first (r .addr) j inside
+      ∙ ap (λ (y : TimedInstr). y ∷ drop (suc j) (instrsOf f r first)) (sym (read-as is j q x inside e g))
+
+  -- the last one makes nothing with another
+  pub next-last : (x : Instr) → j + 1 ≡ r .count → Next.Alone ≡ nextOf x (drop (suc j) (instrsOf f r first))
+  next-last x e =
+      let all : suc j ≡ r .count = omega arith in
+      ap (nextOf x) (sym (drop-all f (r .thumb) (r .count) first (r .addr)) ∙ ap (λ (n : ℕ). drop n (instrsOf f r first)) (sym all))
+
+  -- what another makes with the one behind it
+  pub next-read : (x : Instr) (q : FoundInstr) (y : TimedInstr) → (j + 1 ≡ r .count → ⊥) → q ≡ readInstr f r first (j + 1) → q ≡ FoundInstr.At y
+      → nextOf x (y ∷ []) ≡ nextOf x (drop (suc j) (instrsOf f r first))
+  next-read x q y more e g =
+      let below : suc j < r .count = omega arith in
+      let same : y ≡ instrAt f first (r .addr) (r .thumb) (suc j) =
+      read-as is (suc j) q y below (e ∙ ap (readInstr f r first) (add-one j)) g in
+      ap (λ (z : TimedInstr). nextOf x (z ∷ [])) same
+      ∙ ap (nextOf x) (sym (drop-instr f (r .thumb) (r .count) first (r .addr) (suc j) below))
+
+-- the lines before the closing transfer of consecutive instructions: the address behind the last one
+pub closing-address : (f : List ℕ) (thumb : Bool) (n k addr cycles : ℕ)
+    → closing cycles (instrsFrom f (suc n) k addr thumb) ≡ flushTicks cycles ++ apart (setWord 15 ((addr + sizeOf thumb * suc n) % 2 ^ 32) ∷ [])
+unfolding timedAt
+closing-address f thumb zero k addr cycles =
+    let one : addr + sizeOf thumb ≡ addr + sizeOf thumb * 1 = rw (mul-suc, mul-zero) (omega arith) in
+    ap (λ (a : ℕ). flushTicks cycles ++ apart (setWord 15 (a % 2 ^ 32) ∷ [])) one
+closing-address f thumb (suc n) k addr cycles =
+    let more : addr + sizeOf thumb + sizeOf thumb * suc n ≡ addr + sizeOf thumb * suc (suc n) = rw mul-suc (omega arith) in
+    closing-address f thumb n (suc k) (addr + sizeOf thumb) cycles
+    ∙ ap (λ (a : ℕ). flushTicks cycles ++ apart (setWord 15 (a % 2 ^ 32) ∷ [])) more

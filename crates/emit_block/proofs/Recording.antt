@@ -1,0 +1,75 @@
+-- A record of a block that was written, alone or as the first of a fused pair.
+-- Assumes nothing.
+use Prim.Native.Nat.{ℕ, suc, _+_, _*_, _%_, _≤_, _<_, _^_}
+use mathlib.Core.Path.{_≡_, sym, ap, _∙_, subst}
+use mathlib.Core.Bool.{Bool, true, false, cond, true≢false}
+use mathlib.Core.List.{List, _∷_}
+use package.native.Mathlib.Nat.{mod-eq-of-lt}
+use package.native.Mathlib.Numerals.{add-one}
+use package.native.Mathlib.Omega.{arith}
+use lib.ListN.{drop}
+use Rattle.block_file.specs.declared.decode.TimedInstr.{TimedInstr}
+use Rattle.block_file.specs.declared.read.BlockRecord.{BlockRecord}
+use Rattle.c_tree.specs.Stmt.{end}
+use Rattle.forms.specs.Forms.{Form, native, shell, Body}
+use Rattle.forms.specs.Block.{regionOf, emitPair, emitInstr, before, emitInstrs}
+use Rattle.forms.proofs.Cycles.{own, instr-cycles}
+use Rattle.lowering.specs.Block.{rest}
+use Rattle.emit_block.specs.declared.records.Next.{Next}
+use Rattle.emit_instr.specs.declared.step.Step.{Step}
+use Rattle.emit_instr.specs.Onward.{Onward}
+use Rattle.emit_block.specs.Walk.{instrsOf, formsFrom, nextOf, Recorded}
+use Rattle.emit_block.proofs.FormsFrom.{instrs-alone, instrs-pair}
+
+own-most : (r : Form) (n : ℕ) → own r n ≤ n
+own-most (native r) n = omega arith
+own-most (shell h t k) n = omega arith
+
+-- the cycles pending behind an instruction are at most those before it with its cost
+pub pending-most : (thumb : Bool) (region cycles : ℕ) (x : TimedInstr) → emitInstr thumb region cycles x .1 ≤ cycles + x .cost
+pending-most thumb region cycles x = omega (arith, instr-cycles thumb region cycles x, own-most (emitInstr thumb region cycles x .0) (x .cost))
+
+-- the cycles of a pair do not wrap
+pub pair-sum : (cycles own cost j sum : ℕ) → sum ≡ (cycles + (own + cost)) % 2 ^ 64 → cycles ≤ 65535 * j → j < 2 ^ 32 → own < 2 ^ 16 → cost < 2 ^ 16
+    → sum ≡ cycles + (own + cost)
+pair-sum cycles own cost j sum e few index first second = e ∙ mod-eq-of-lt (omega arith)
+
+module _ (f : List ℕ) (r : BlockRecord) (first : ℕ) (ks : List ℕ) (b : Body) (j cycles : ℕ) (x : TimedInstr) (out : List ℕ) (at : ℕ) (out′ : List ℕ) (s : Step)
+    (here : drop j (instrsOf f r first) ≡ x ∷ drop (suc j) (instrsOf f r first)) where
+  -- an instruction that makes no pair
+  pub alone-recorded : nextOf (x .instr) (drop (suc j) (instrsOf f r first)) ≡ Next.Alone → x .cost ≤ 65535
+      → s .cycles ≡ emitInstr (r .thumb) (regionOf (r .addr)) cycles x .1
+      → Onward out at (rest ks b j (emitInstr (r .thumb) (regionOf (r .addr)) cycles x .0 ∷ formsFrom f r first (suc j) (s .cycles) .0))
+      (cond (s .done) end (rest ks b (j + 1) (formsFrom f r first (suc j) (s .cycles) .0))) out′ (s .at)
+      → Recorded f r first ks b j cycles out at out′ s
+  alone-recorded alone small pending onward =
+      let form : Form = emitInstr (r .thumb) (regionOf (r .addr)) cycles x .0 in
+      let ys : List TimedInstr = drop (suc j) (instrsOf f r first) in
+      let all : formsFrom f r first j cycles ≡ before form (formsFrom f r first (suc j) (s .cycles)) =
+      ap (emitInstrs (r .thumb) (regionOf (r .addr)) cycles) here
+      ∙ instrs-alone (r .thumb) (regionOf (r .addr)) cycles x ys alone
+      ∙ ap (λ (n : ℕ). before form (emitInstrs (r .thumb) (regionOf (r .addr)) n ys)) (sym pending) in
+      record {
+        onward =
+            subst (λ (p : List Form × ℕ). Onward out at (rest ks b j (p .0)) (cond (s .done) end (rest ks b (suc j) (formsFrom f r first (suc j) (s .cycles) .0))) out′ (s .at))
+            (sym all)
+            (subst (λ (n : ℕ). Onward out at (rest ks b j (form ∷ formsFrom f r first (suc j) (s .cycles) .0)) (cond (s .done) end (rest ks b n (formsFrom f r first (suc j) (s .cycles) .0))) out′ (s .at)) (add-one j) onward);
+        same = λ _. ap (λ (p : List Form × ℕ). p .1) all;
+        few = omega (arith, pending-most (r .thumb) (regionOf (r .addr)) cycles x, pending, small);
+      }
+
+  -- a fused pair: nothing stands behind it
+  pub pair-recorded : (target ret cost : ℕ) → nextOf (x .instr) (drop (suc j) (instrsOf f r first)) ≡ Next.Pair target ret cost → s .done ≡ true → s .cycles ≡ 0
+      → ((fs : List Form) → Onward out at (rest ks b j (Form.native (emitPair (cycles + (x .cost + cost)) target ret) ∷ fs)) end out′ (s .at))
+      → Recorded f r first ks b j cycles out at out′ s
+  pair-recorded target ret cost next done none onward =
+      let forms = instrs-pair (r .thumb) (regionOf (r .addr)) cycles x (drop (suc j) (instrsOf f r first)) target ret cost next in
+      let all : formsFrom f r first j cycles .0 ≡ Form.native (emitPair (cycles + (x .cost + cost)) target ret) ∷ forms .0 =
+      ap (λ (ys : List TimedInstr). emitInstrs (r .thumb) (regionOf (r .addr)) cycles ys .0) here ∙ forms .1 in
+      record {
+        onward =
+            subst (λ (d : Bool). Onward out at (rest ks b j (formsFrom f r first j cycles .0)) (cond d end (rest ks b (suc j) (formsFrom f r first (suc j) (s .cycles) .0))) out′ (s .at)) (sym done)
+            (subst (λ (fs : List Form). Onward out at (rest ks b j fs) end out′ (s .at)) (sym all) (onward (forms .0)));
+        same = λ e. absurd (true≢false (sym done ∙ e));
+        few = omega (arith, none);
+      }

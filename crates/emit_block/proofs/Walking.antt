@@ -1,0 +1,97 @@
+-- The walk over the records of a block: none, one more, all.
+-- Assumes nothing.
+use Prim.Native.Nat.{ℕ, suc, _+_, _-_, _*_, _%_, _≤_, _^_}
+use mathlib.Core.Path.{_≡_, refl, sym, ap, _∙_, subst}
+use mathlib.Core.Bool.{Bool, true, false, cond}
+use mathlib.Core.List.{List, [], _∷_, _++_}
+use package.native.Mathlib.Numerals.{add-one}
+use package.native.Mathlib.Omega.{arith}
+use lib.ListN.{length, drop}
+use Rattle.armv4t.specs.Instr.{sizeOf}
+use Rattle.block_file.specs.declared.read.BlockRecord.{BlockRecord}
+use Rattle.block_file.specs.Parse.{instrsFrom}
+use Rattle.plan.specs.Accepted.{IsBlock}
+use Rattle.plan.specs.Exits.{keyOf}
+use Rattle.plan.proofs.Accepted.{some-instr, key-plus}
+use Rattle.text.specs.Wrote.{Wrote, top}
+use Rattle.c_tree.specs.Stmt.{end}
+use Rattle.c_tree.specs.Print.{codeText}
+use Rattle.forms.specs.Forms.{Form, Body}
+use Rattle.forms.specs.InlineBody.{apart}
+use Rattle.forms.specs.Block.{regionOf, flushTicks, setWord, emitInstrs, closing}
+use Rattle.lowering.specs.Block.{bodyEnd, rest}
+use Rattle.emit_instr.specs.declared.step.Step.{Step}
+use Rattle.emit_instr.specs.Onward.{Onward}
+use Rattle.emit_instr.proofs.Onward.{stay, then, finish}
+use Rattle.emit_block.specs.Walk.{instrsOf, formsFrom, IsBody, Recorded, Walked}
+use Rattle.emit_block.proofs.FormsFrom.{drop-all}
+use Rattle.emit_block.proofs.Reading.{closing-address}
+
+module _ {f : List ℕ} {r : BlockRecord} {first : ℕ} {ks : List ℕ} {b : Body} {out : List ℕ} {at : ℕ} where
+  -- no record yet
+  pub walked-none : IsBody f r first b → length out ≤ top → at ≤ top → Walked f r first ks b out at 0 0 out at
+  walked-none body small fits =
+      record {
+        onward = subst (λ (fs : List Form). Onward out at (rest ks b 0 (b .forms)) (rest ks b 0 fs) out at) (body .forms) (stay (rest ks b 0 (b .forms)) small fits);
+        same = refl;
+        few = omega arith;
+      }
+
+  module _ {j cycles : ℕ} {out₁ : List ℕ} {p : ℕ} (walked : Walked f r first ks b out at j cycles out₁ p) where
+    -- one record more
+    pub walked-more : {out₂ : List ℕ} {s : Step} → Recorded f r first ks b j cycles out₁ p out₂ s → s .done ≡ false
+        → Walked f r first ks b out at (j + 1) (s .cycles) out₂ (s .at)
+    walked-more {out₂} {s} recorded goes =
+        let next : Onward out₁ p (rest ks b j (formsFrom f r first j cycles .0)) (rest ks b (suc j) (formsFrom f r first (suc j) (s .cycles) .0)) out₂ (s .at) =
+        subst (λ (d : Bool). Onward out₁ p (rest ks b j (formsFrom f r first j cycles .0)) (cond d end (rest ks b (suc j) (formsFrom f r first (suc j) (s .cycles) .0))) out₂ (s .at)) goes (recorded .onward) in
+        let all : Walked f r first ks b out at (suc j) (s .cycles) out₂ (s .at) =
+        record { onward = then (walked .onward) next; same = sym (recorded .same goes) ∙ walked .same; few = omega (arith, recorded .few, walked .few) } in
+        subst (λ (n : ℕ). Walked f r first ks b out at n (s .cycles) out₂ (s .at)) (sym (add-one j)) all
+
+    -- a record behind which nothing stands
+    pub walked-done : {out₂ : List ℕ} {s : Step} → Recorded f r first ks b j cycles out₁ p out₂ s → s .done ≡ true
+        → Wrote out at (codeText (rest ks b 0 (b .forms))) out₂ (s .at)
+    walked-done {out₂} {s} recorded done =
+        finish (then (walked .onward)
+        (subst (λ (d : Bool). Onward out₁ p (rest ks b j (formsFrom f r first j cycles .0)) (cond d end (rest ks b (suc j) (formsFrom f r first (suc j) (s .cycles) .0))) out₂ (s .at)) done (recorded .onward)))
+
+    -- all records: no form is left, and the cycles pending are those of the whole block
+    nothing-left : j ≡ r .count → formsFrom f r first j cycles ≡ ([], cycles)
+    unfolding emitInstrs
+    nothing-left e =
+        ap (emitInstrs (r .thumb) (regionOf (r .addr)) cycles)
+        (ap (λ (n : ℕ). drop n (instrsOf f r first)) e ∙ drop-all f (r .thumb) (r .count) first (r .addr))
+
+    pub walked-cycles : j ≡ r .count → cycles ≡ formsFrom f r first 0 0 .1
+    walked-cycles e = sym (ap (λ (p : List Form × ℕ). p .1) (nothing-left e)) ∙ walked .same
+
+    pub walked-end : {out₂ : List ℕ} {q : ℕ} → j ≡ r .count → Onward out₁ p (rest ks b j []) end out₂ q
+        → Wrote out at (codeText (rest ks b 0 (b .forms))) out₂ q
+    walked-end {out₂} {q} e last =
+        finish (then (walked .onward) (subst (λ (n : List Form × ℕ). Onward out₁ p (rest ks b j (n .0)) end out₂ q) (sym (nothing-left e)) last))
+
+-- where the closing transfer of a block goes
+module _ {f : List ℕ} {i : ℕ} {r : BlockRecord} {first : ℕ} {b : Body} (is : IsBlock f i r first) (body : IsBody f r first b) where
+  -- the lines before it set PC to the address behind the block
+  pub end-lines : (cycles next : ℕ) → cycles ≡ formsFrom f r first 0 0 .1 → next ≡ (r .addr + sizeOf (r .thumb) * r .count) % 2 ^ 32
+      → b .last ≡ flushTicks cycles ++ apart (setWord 15 next ∷ [])
+  end-lines cycles next pending e =
+      let some : r .count ≡ suc (r .count - 1) = omega (arith, some-instr is) in
+      body .last
+      ∙ ap (λ (n : ℕ). closing n (instrsOf f r first)) (sym pending)
+      ∙ ap (λ (n : ℕ). closing cycles (instrsFrom f n first (r .addr) (r .thumb))) some
+      ∙ closing-address f (r .thumb) (r .count - 1) first (r .addr) cycles
+      ∙ ap (λ (n : ℕ). flushTicks cycles ++ apart (setWord 15 ((r .addr + sizeOf (r .thumb) * n) % 2 ^ 32) ∷ [])) (sym some)
+      ∙ ap (λ (n : ℕ). flushTicks cycles ++ apart (setWord 15 n ∷ [])) (sym e)
+
+  end-even : (thumb : Bool) (addr count : ℕ) → keyOf addr thumb ≡ addr + cond thumb 1 0
+      → (addr + count * sizeOf thumb) % 2 ^ 32 + cond thumb 1 0 ≡ keyOf ((addr + sizeOf thumb * count) % 2 ^ 32) thumb
+  end-even true addr count e = omega (arith, e)
+  end-even false addr count e = omega (arith, e)
+
+  -- its target is the key of that address
+  pub end-key : (next key : ℕ) → next ≡ (r .addr + sizeOf (r .thumb) * r .count) % 2 ^ 32 → key ≡ keyOf next (r .thumb)
+      → bodyEnd b + cond (b .thumb) 1 0 ≡ key
+  end-key next key e k =
+      rw (body .addr, body .thumb, body .count)
+      (end-even (r .thumb) (r .addr) (r .count) (key-plus is) ∙ ap (λ (n : ℕ). keyOf n (r .thumb)) (sym e) ∙ sym k)

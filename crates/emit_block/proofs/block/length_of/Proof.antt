@@ -1,0 +1,27 @@
+-- `length_of` multiplies by the size of an instruction.
+-- Assumes nothing.
+use Prim.Native.Nat.{_*_}
+use mathlib.Core.Path.{sym, ap}
+use mathlib.Core.Bool.{Bool}
+use Rattle.armv4t.specs.Instr.{sizeOf}
+use borrow.Author.Needs.{needs}
+use Rattle.emit_block.proofs.block.length_of.Statement.{statement}
+use Rattle.emit_block.proofs.block.length_of.Tie as tie
+
+cast-n : tie.Need-cast-n
+cast-n c = search needs
+
+mul-result : tie.Need-mul-result
+mul-result c = search needs
+
+mul-result-2 : tie.Need-mul-result-2
+mul-result-2 c = search needs
+
+returns : tie.Need-returns
+returns c = ap (λ (t : Bool). c .before .before .args .block .count * sizeOf t) (sym (c .if1 .taken))
+
+returns-2 : tie.Need-returns-2
+returns-2 c = ap (λ (t : Bool). c .before .before .args .block .count * sizeOf t) (sym (c .if1 .left))
+
+pub length-of-spec : {M : Type 1} → statement M
+length-of-spec = tie.close (tie.spec cast-n mul-result mul-result-2 returns returns-2)

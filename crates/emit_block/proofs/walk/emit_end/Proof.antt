@@ -1,0 +1,42 @@
+-- `emit_end` writes the closing transfer to the address behind the block.
+-- Assumes nothing.
+use Rattle.emit_instr.proofs.Texts.{closing-step}
+use Rattle.emit_block.proofs.Walking.{end-lines, end-key}
+use borrow.Author.Needs.{needs}
+use Rattle.emit_block.proofs.walk.emit_end.Statement.{statement}
+use Rattle.emit_block.proofs.walk.emit_end.Tie as tie
+
+instr-addr-requires : tie.Need-instr-addr-requires
+instr-addr-requires c κs = search needs
+
+key-of-requires : tie.Need-key-of-requires
+key-of-requires c κs = search needs
+
+is-inside-requires : tie.Need-is-inside-requires
+is-inside-requires c κs = search needs
+
+emit-closing-requires : tie.Need-emit-closing-requires
+emit-closing-requires c κs = search needs
+
+same-length : tie.Need-same-length
+same-length c = search needs
+
+returns : tie.Need-returns
+returns c = let v = c .before .before .before .before .before .before .before .before .before .before .args in
+    λ ks b first j here pending.
+    closing-step ks b j (v .cycles) _ _ (v .block .addr)
+    (end-lines (here .is) (here .body) (v .cycles) _ pending (c .before .before .before .before .before .before .instr-addr .ensures))
+    (end-key (here .is) (here .body) _ _ (c .before .before .before .before .before .before .instr-addr .ensures) (c .before .before .before .before .before .key-of .ensures))
+    (here .body .addr)
+    (c .before .before .emit-closing .ensures ks (c .before .before .before .before .is-inside .ensures ks (here .stands)))
+
+pub emit-end-spec : {M : Type 1} → statement M
+emit-end-spec =
+    tie.close
+    (tie.spec
+    instr-addr-requires
+    key-of-requires
+    is-inside-requires
+    emit-closing-requires
+    same-length
+    returns)

@@ -1,0 +1,74 @@
+-- The walk over the records of a block: what is known of the block, and what of its code is still to be written.
+use Prim.Native.Nat.{ℕ, suc, _+_, _*_, _≤_}
+use mathlib.Core.Path.{_≡_}
+use mathlib.Core.Bool.{true, false, cond}
+use mathlib.Core.List.{List, [], _∷_}
+use lib.ListN.{length, drop}
+use Rattle.armv4t.specs.declared.Instr.{Instr}
+use Rattle.armv4t.specs.declared.Fused.{Fused}
+use Rattle.armv4t.specs.Fused.{fuse}
+use Rattle.block_file.specs.declared.decode.TimedInstr.{TimedInstr}
+use Rattle.block_file.specs.declared.read.BlockRecord.{BlockRecord}
+use Rattle.block_file.specs.Parse.{instrsFrom}
+use Rattle.plan.specs.Accepted.{blocksOf, IsBlock}
+use Rattle.members.specs.Members.{membersOf, keysOf}
+use Rattle.members.specs.Prepared.{Ready}
+use Rattle.c_tree.specs.Stmt.{end}
+use Rattle.forms.specs.Forms.{Form, Body}
+use Rattle.forms.specs.Block.{regionOf, emitInstrs, closing}
+use Rattle.lowering.specs.Block.{rest}
+use Rattle.emit_block.specs.declared.member.Member.{Member}
+use Rattle.emit_block.specs.declared.records.Next.{Next}
+use Rattle.emit_instr.specs.declared.step.Step.{Step}
+use Rattle.emit_instr.specs.Onward.{Onward}
+
+-- the instructions of a block, by its record and the number of the first
+abbrev pub instrsOf : List ℕ → BlockRecord → ℕ → List TimedInstr
+instrsOf f r first = instrsFrom f (r .count) first (r .addr) (r .thumb)
+
+-- the forms of its instructions from index j on with cycles pending before them, and the cycles pending behind them
+abbrev pub formsFrom : List ℕ → BlockRecord → ℕ → ℕ → ℕ → List Form × ℕ
+formsFrom f r first j cycles = emitInstrs (r .thumb) (regionOf (r .addr)) cycles (drop j (instrsOf f r first))
+
+-- a body is that of a block, whatever its hash: what is measured has no hash
+pub record IsBody (f : List ℕ) (r : BlockRecord) (first : ℕ) (b : Body) : Type 0 where
+  pub addr : b .addr ≡ r .addr
+  pub thumb : b .thumb ≡ r .thumb
+  pub count : b .count ≡ r .count
+  pub forms : b .forms ≡ formsFrom f r first 0 0 .0
+  pub last : b .last ≡ closing (formsFrom f r first 0 0 .1) (instrsOf f r first)
+
+-- where a block stands in the plan that the work numbers have: ks are the keys that a transfer goes to by a goto, those of its group if it has several blocks
+pub record Stands (f work : List ℕ) (m : Member) (ks : List ℕ) : Type 0 where
+  pub limit : ℕ
+  pub ready : Ready f (m .blocks) limit work
+  pub several : m .several ≡ true → 2 ≤ length (membersOf limit (blocksOf f) (m .group))
+  pub keys : ks ≡ cond (m .several) (keysOf (blocksOf f) (membersOf limit (blocksOf f) (m .group))) []
+
+-- a block of an accepted file, as the walk has it
+pub record Here (f work : List ℕ) (m : Member) (r : BlockRecord) (first : ℕ) (ks : List ℕ) (b : Body) : Type 0 where
+  pub stands : Stands f work m ks
+  pub is : IsBlock f (m .index) r first
+  pub body : IsBody f r first b
+
+-- what two instructions make, the second with a cost
+abbrev pub fusedNext : Fused → ℕ → Next
+fusedNext Fused.Nothing cost = Next.Alone
+fusedNext (Fused.Pair target ret) cost = Next.Pair target ret cost
+
+-- what an instruction makes with the first of those behind it
+abbrev pub nextOf : Instr → List TimedInstr → Next
+nextOf x [] = Next.Alone
+nextOf x (y ∷ ys) = fusedNext (fuse x (y .instr)) (y .cost)
+
+-- the record with index j was written, with cycles pending before it
+pub record Recorded (f : List ℕ) (r : BlockRecord) (first : ℕ) (ks : List ℕ) (b : Body) (j cycles : ℕ) (out : List ℕ) (at : ℕ) (out′ : List ℕ) (s : Step) : Type 0 where
+  pub onward : Onward out at (rest ks b j (formsFrom f r first j cycles .0)) (cond (s .done) end (rest ks b (suc j) (formsFrom f r first (suc j) (s .cycles) .0))) out′ (s .at)
+  pub same : s .done ≡ false → formsFrom f r first j cycles .1 ≡ formsFrom f r first (suc j) (s .cycles) .1
+  pub few : s .cycles ≤ cycles + 65535
+
+-- the records before index j were written, and cycles are pending
+pub record Walked (f : List ℕ) (r : BlockRecord) (first : ℕ) (ks : List ℕ) (b : Body) (out : List ℕ) (at j cycles : ℕ) (out′ : List ℕ) (p : ℕ) : Type 0 where
+  pub onward : Onward out at (rest ks b 0 (b .forms)) (rest ks b j (formsFrom f r first j cycles .0)) out′ p
+  pub same : formsFrom f r first j cycles .1 ≡ formsFrom f r first 0 0 .1
+  pub few : cycles ≤ 65535 * j

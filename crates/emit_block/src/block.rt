@@ -1,0 +1,90 @@
+// The code of a block: what stands between its head, or label, and its close.
+use crate::member::Member;
+use crate::walk::emit_records;
+use block_file::BlockRecord;
+use block_file::FoundBlock;
+use block_file::block_at;
+use block_file::code_bytes;
+use emit_flow::emit_defer;
+use emit_flow::emit_guard;
+use fnv::hash;
+use members::first_of;
+ghost use mathlib.Core.Path.{_≡_};
+ghost use mathlib.Core.Bool.{cond, not, _||_};
+ghost use mathlib.Core.List.{List, map};
+ghost use Prim.Native.Nat.{ℕ, _*_, _≤_, _<_};
+ghost use lib.Dec.{eqb};
+ghost use lib.ListN.{length, getD};
+ghost use Rattle.armv4t.specs.Instr.{sizeOf};
+ghost use Rattle.block_file.specs.Read.{codeBytes};
+ghost use Rattle.block_file.specs.Trailer.{blockCount};
+ghost use Rattle.fnv.specs.Fnv.{hashMultiplier, fnv64};
+ghost use Rattle.plan.specs.Accepted.{blocksOf};
+ghost use Rattle.text.specs.Wrote.{Wrote};
+ghost use Rattle.c_tree.specs.Print.{codeText};
+ghost use Rattle.forms.specs.Block.{regionOf, bodyOf};
+ghost use Rattle.lowering.specs.Block.{blockCode};
+ghost use Rattle.lowering.specs.Units.{nobody};
+ghost use Rattle.lowering.specs.Measured.{seen};
+ghost use Rattle.emit_block.specs.Walk.{Stands};
+
+// The multiplier of the guards' hash.
+const MULTIPLIER: u64 = 4294967731;
+
+// Whether a block's code has a guard before it: its code bytes can change, outside BIOS and ROM.
+fn is_guarded(addr: u32) -> bool
+    ensures { λ r. ⌜ r ≡ not (eqb (regionOf addr) 8 || eqb (regionOf addr) 0) ⌝ }
+{
+    let region = addr / 16777216 % 16;
+    if region == 8 {
+        return false;
+    }
+    region != 0
+}
+
+// The length of a block in bytes.
+fn length_of(block: BlockRecord) -> u64
+    ensures { λ r. ⌜ r ≡ block .count * sizeOf (block .thumb) ⌝ }
+{
+    let n = block.count as u64;
+    if block.thumb { n * 2 } else { n * 4 }
+}
+
+// The hash of a block's code bytes. Where the text is measured only, any number will do.
+fn guard_hash(file: &[u8], block: BlockRecord, hashing: bool) -> u64
+    ensures { λ r. ⌜ r ≡ cond hashing (fnv64 hashMultiplier (codeBytes (now (file .entry)) block)) 0 ⌝ }
+{
+    if hashing {
+        hash(code_bytes(file, block), MULTIPLIER)
+    } else {
+        0
+    }
+}
+
+// A block: behind its guard, or the interpreter in its place where its code bytes are absent, or bare in BIOS and ROM. Without hashing its length is right, and
+// its hash is 0.
+pub fn emit_block(
+    out: &mut [u8],
+    at: usize,
+    file: &[u8],
+    work: &[u32],
+    m: Member,
+    hashing: bool,
+) -> usize
+    requires { ⌜ (4 * m .blocks ≤ length (now work)) × (m .blocks ≤ 65536) × (m .blocks ≡ blockCount (now file)) × (m .index < m .blocks) ⌝ }
+    ensures { λ r. ⌜ ((ks : List ℕ) → Stands (now (file .entry)) (now (work .entry)) m ks → Wrote (now (out .entry)) at (codeText (blockCode ks (seen hashing (getD (map (bodyOf hashMultiplier) (blocksOf (now (file .entry)))) (m .index) nobody)))) (now (out .exit)) r) ⌝ }
+{
+    let FoundBlock::At(block) = block_at(file, m.index) else {
+        return at;
+    };
+    let first = first_of(work, m.blocks, m.index);
+    if !is_guarded(block.addr) {
+        return emit_records(out, at, file, work, m, block, first);
+    }
+    if !block.present {
+        return emit_defer(out, at, block.addr);
+    }
+    let h = guard_hash(file, block, hashing);
+    let p = emit_guard(out, at, block.addr, length_of(block), h);
+    emit_records(out, p, file, work, m, block, first)
+}

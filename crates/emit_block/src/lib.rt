@@ -1,0 +1,8 @@
+// The text of a block: the walk over its instructions, and the guard before them.
+mod block;
+mod member;
+mod records;
+mod walk;
+
+pub use block::emit_block;
+pub use member::Member;

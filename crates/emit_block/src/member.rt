@@ -1,0 +1,32 @@
+// Where a block stands in the plan, and whether a transfer from it stays in its group.
+use members::in_group;
+ghost use mathlib.Core.Path.{_≡_};
+ghost use mathlib.Core.List.{List};
+ghost use Prim.Native.Nat.{ℕ, _*_, _≤_, _<_};
+ghost use lib.ListN.{length};
+ghost use Rattle.block_file.specs.Trailer.{blockCount};
+ghost use Rattle.lowering.specs.Block.{has};
+ghost use Rattle.emit_block.specs.Walk.{Stands};
+
+pub struct Member {
+    // How many blocks the file has.
+    pub blocks: usize,
+    // The number of this one.
+    pub index: usize,
+    // The number of its group.
+    pub group: u32,
+    // Whether the group has other blocks.
+    pub several: bool,
+}
+
+// Whether a transfer to a key is a goto. A lone block has none.
+pub(crate) fn is_inside(file: &[u8], work: &[u32], m: Member, key: u32) -> bool
+    requires { ⌜ (4 * m .blocks ≤ length (now work)) × (m .blocks ≤ 65536) × (m .blocks ≡ blockCount (now file)) × (m .index < m .blocks) ⌝ }
+    ensures { λ r. ⌜ ((ks : List ℕ) → Stands (now (file .entry)) (now (work .entry)) m ks → has key ks ≡ r) ⌝ }
+{
+    if m.several {
+        in_group(file, work, m.blocks, m.group, m.index, key)
+    } else {
+        false
+    }
+}

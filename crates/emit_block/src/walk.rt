@@ -1,0 +1,67 @@
+// All records of a block, and the end of its code.
+use crate::member::Member;
+use crate::member::is_inside;
+use crate::records::emit_record;
+use block_file::BlockRecord;
+use emit_flow::emit_closing;
+use plan::instr_addr;
+use plan::key_of;
+ghost use mathlib.Core.Path.{_≡_};
+ghost use mathlib.Core.List.{List, []};
+ghost use Prim.Native.Nat.{ℕ, _*_, _≤_, _<_};
+ghost use lib.ListN.{length};
+ghost use Rattle.block_file.specs.Trailer.{blockCount};
+ghost use Rattle.text.specs.Wrote.{Wrote};
+ghost use Rattle.c_tree.specs.Stmt.{end};
+ghost use Rattle.c_tree.specs.Print.{codeText};
+ghost use Rattle.forms.specs.Forms.{Body};
+ghost use Rattle.lowering.specs.Block.{rest};
+ghost use Rattle.emit_instr.specs.Onward.{Onward};
+ghost use Rattle.emit_block.specs.Walk.{formsFrom, Here};
+
+// The closing transfer, to the key behind the block.
+fn emit_end(
+    out: &mut [u8],
+    at: usize,
+    file: &[u8],
+    work: &[u32],
+    m: Member,
+    block: BlockRecord,
+    cycles: u64,
+) -> usize
+    requires { ⌜ (4 * m .blocks ≤ length (now work)) × (m .blocks ≤ 65536) × (m .blocks ≡ blockCount (now file)) × (m .index < m .blocks) ⌝ }
+    ensures { λ r. ⌜ ((ks : List ℕ) (b : Body) (first j : ℕ) → Here (now (file .entry)) (now (work .entry)) m block first ks b → cycles ≡ formsFrom (now (file .entry)) block first 0 0 .1 → Onward (now (out .entry)) at (rest ks b j []) end (now (out .exit)) r) ⌝ }
+{
+    let next = instr_addr(block.addr, block.thumb, block.count);
+    let key = key_of(next, block.thumb);
+    let inside = is_inside(file, work, m, key);
+    emit_closing(out, at, cycles, next, inside, block.addr, key)
+}
+
+// The code of a block behind its guard: record after record, until one leaves nothing to write behind it.
+pub(crate) fn emit_records(
+    out: &mut [u8],
+    at: usize,
+    file: &[u8],
+    work: &[u32],
+    m: Member,
+    block: BlockRecord,
+    first: usize,
+) -> usize
+    requires { ⌜ (4 * m .blocks ≤ length (now work)) × (m .blocks ≤ 65536) × (m .blocks ≡ blockCount (now file)) × (m .index < m .blocks) ⌝ }
+    ensures { λ r. ⌜ ((ks : List ℕ) (b : Body) → Here (now (file .entry)) (now (work .entry)) m block first ks b → Wrote (now (out .entry)) at (codeText (rest ks b 0 (b .forms))) (now (out .exit)) r) ⌝ }
+{
+    let mut p = at;
+    let mut cycles: u64 = 0;
+    let mut j: u32 = 0;
+    while j < block.count {
+        let step = emit_record(out, p, file, work, m, block, first, cycles, j);
+        if step.done {
+            return step.at;
+        }
+        p = step.at;
+        cycles = step.cycles;
+        j += 1;
+    }
+    emit_end(out, p, file, work, m, block, cycles)
+}
