@@ -1,10 +1,12 @@
 -- Demand 3 holds: the forms of a block are the block's, and stand for each of its instructions.
 use Prim.Native.Nat.{ℕ}
 use mathlib.Core.Path.{refl}
+use mathlib.Core.List.{List}
+use Rattle.ways.specs.Claim.{Claim}
 use Rattle.forms.specs.Block.{bodyOf}
 use Rattle.forms.proofs.Weights.{body-weight}
 use Rattle.ways.proofs.Faithful.{Faithful}
-use Rattle.ways.specs.Demand3.{codeHash, Demand3, Demand3Applies}
+use Rattle.ways.specs.Demand3.{codeHash, Demand3Of, Demand3, Demand3Applies}
 use Rattle.ways.proofs.Theorem.{theorem}
 use Rattle.ways.proofs.Complete.{complete}
 
@@ -15,6 +17,11 @@ faithful multiplier = record { addr = λ b. refl; thumb = λ b. refl; count = λ
 pub demand-3 : Demand3
 unfolding Demand3
 demand-3 multiplier = theorem (codeHash multiplier) (bodyOf multiplier) (faithful multiplier)
+
+-- so it holds of each file
+pub demand-3-of : (multiplier limit max : ℕ) (f : List ℕ) → Demand3Of multiplier limit max f
+unfolding Demand3 Demand3Of Claim
+demand-3-of multiplier = demand-3 multiplier
 
 pub demand-3-applies : Demand3Applies
 unfolding Demand3Applies

@@ -19,7 +19,7 @@ use Rattle.lowering.specs.Block.{bodyKey, guarded, blockCode}
 use Rattle.lowering.specs.Units.{declared, groupCode, emitGroup, opened, tail, membersOf, unitsOf, unitsFor}
 use Rattle.ways.specs.Ways.{Event, said, Way, stop, w-gap, w-call}
 use Rattle.ways.proofs.Faithful.{Faithful}
-use Rattle.ways.specs.Claim.{AtNative, outside, fileTree, Passed, Kept, Claim}
+use Rattle.ways.specs.Claim.{AtNative, outside, fileTree, Passed, Kept, ClaimOf, Claim}
 use Rattle.ways.proofs.Logic.{Follow}
 use Rattle.ways.proofs.Followed.{group-follows}
 use Rattle.ways.proofs.Bounded.{total, Spent, at-most-total, spent-rules, parts}
@@ -149,8 +149,8 @@ module _ (F : File) (max : ℕ) where
 
 -- demand 3
 pub theorem : (hashOf : Block → Option ℕ) (bodyOf : Block → Body) → Faithful hashOf bodyOf → Claim hashOf bodyOf
-unfolding Claim
-theorem hashOf bodyOf faithful f bs accepted limit max i b e c m xs es w =
+unfolding Claim ClaimOf
+theorem hashOf bodyOf faithful limit max f bs accepted i b e c m xs es w =
     let F : File = record { hashOf = hashOf; bodyOf = bodyOf; faithful = faithful; bytes = f; bs = bs; accepted = accepted; limit = limit } in
     let at = found-at bs i nowhere b e in
     let k : ℕ = blockKey (getD bs i nowhere) in

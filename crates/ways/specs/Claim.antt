@@ -74,19 +74,25 @@ module _ (hashOf : Block → Option ℕ) where
   Passed b es =
       (h : ℕ) × (hashOf b ≡ some h) × List·Memᴰ (said (guard (b .addr) (length (b .instrs) * sizeOf (b .thumb)) h) true) es
 
-  -- what holds of the events of a way from the function of block i
+  -- What holds of the events of a way from the function of block i, by demand 3: "each part without a consultation of the chain gate carries out at most
+  -- 8,192 instructions in a group of several blocks; a lone block carries out no instruction twice; native statements of a block outside ROM and BIOS are
+  -- reached only after the guard said yes to that block's address, length and hash"
   pub record Kept (limit : ℕ) (bs : List Block) (i : ℕ) (es : List Event) : Type 0 where
-    -- in a group of several no gateless run carries out more instructions than the limit
+    -- a part without a consultation of the gate, in a group of several
     pub bounded : Several limit bs i → (us ps vs : List Event) → es ≡ us ++ (ps ++ vs) → Gateless ps → carried ps ≤ limit
-    -- a lone block carries out no instruction twice
+    -- a lone block
     pub once : Lone limit bs i → (h j : ℕ) → times h j es ≤ 1
-    -- native statements of a block outside ROM and BIOS are reached only behind the guard's yes to that block
+    -- native statements
     pub behind : (us vs : List Event) (e : Event) → es ≡ us ++ (e ∷ vs) → (b : Block) → List·Memᴰ b bs → AtNative (blockKey b) e → T (outside b) → Passed b us
 
 module _ (hashOf : Block → Option ℕ) (bodyOf : Block → Body) where
-  -- every accepted file, limit and wished size; every block and its function in the units; every list of answers and every way
-  unfoldable pub Claim : Type 0
-  Claim =
-      (f : List ℕ) (bs : List Block) → parse f ≡ Parsed.accepted bs → (limit max i : ℕ) (b : Block) → getElem? bs i ≡ some b
+  -- a file at a limit and a wished size, if it is accepted: every block and its function in the units; every list of answers and every way
+  unfoldable pub ClaimOf : ℕ → ℕ → List ℕ → Type 0
+  ClaimOf limit max f =
+      (bs : List Block) → parse f ≡ Parsed.accepted bs → (i : ℕ) (b : Block) → getElem? bs i ≡ some b
       → (c : Code) → List·Memᴰ (function (block (blockKey b)) c) (fileTree bodyOf limit max bs)
       → (xs : List Bool) (es : List Event) → Way (fileTree bodyOf limit max bs) c c xs es → Kept hashOf limit bs i es
+
+  -- every file, limit and wished size
+  unfoldable pub Claim : Type 0
+  Claim = (limit max : ℕ) (f : List ℕ) → ClaimOf limit max f

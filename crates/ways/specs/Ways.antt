@@ -16,7 +16,7 @@ pub data Place (k : ℕ) : Code → Code → Type 0 where
 
 -- what happens on a way
 pub data Event : Type 0 where
-  reach : Owner → Event  -- a statement is reached
+  reach : Owner → Event  -- a statement with an owner, or a switch's default, is reached
   said : Test → Bool → Event  -- a condition went by an answer: what its test said, before any `!`
   natively : ℕ → ℕ → ℕ → Event  -- the start of the text of native records is reached: block's key, index of the first record, how many
   shelled : ℕ → ℕ → Event  -- interp_one is called: block's key, index of the record that it carries out
@@ -39,12 +39,12 @@ pub data Way (ts : List Top) : Code → Code → List Bool → List Event → Ty
   w-begin : {f c : Code} {xs : List Bool} {es : List Event} {k i n : ℕ} → Way ts f c xs es → Way ts f (begin k i n ⨾ c) xs (natively k i n ∷ es)
   w-plain : {f c : Code} {xs : List Bool} {es : List Event} {o : Owner} {p : Plain} → Way ts f c xs es → Way ts f (plain o p ⨾ c) xs (reach o ∷ es)
   w-label : {f c : Code} {xs : List Bool} {es : List Event} {k : ℕ} → Way ts f c xs es → Way ts f (label k ⨾ c) xs es
-  -- a goto leads to any place in its function with that label; without one it ends the way
+  -- a goto leads to any place in its function with that label; without one it ends the way (with one, ending there is a beginning of a way)
   w-goto : {f c d : Code} {xs : List Bool} {es : List Event} {o : Owner} {k : ℕ} → Place k f d → Way ts f d xs es → Way ts f (goto o k ⨾ c) xs (reach o ∷ es)
   w-lost : {f c : Code} {xs : List Bool} {o : Owner} {k : ℕ} → Way ts f (goto o k ⨾ c) xs (reach o ∷ [])
   -- a return ends the way
   w-ret : {f c : Code} {xs : List Bool} {o : Owner} {e : Expr} → Way ts f (ret o e ⨾ c) xs (reach o ∷ [])
-  -- a condition goes by the next answer; with none left it ends the way
+  -- a condition goes by the next answer; with none left it ends the way (with one left, ending there is a beginning of a way)
   w-leave : {f c : Code} {xs : List Bool} {o : Owner} {t : Test} {e : Expr} → Way ts f (retIf o t e ⨾ c) (true ∷ xs) (reach o ∷ said t true ∷ reach o ∷ [])
   w-stay : {f c : Code} {xs : List Bool} {es : List Event} {o : Owner} {t : Test} {e : Expr} → Way ts f c xs es → Way ts f (retIf o t e ⨾ c) (false ∷ xs) (reach o ∷ said t false ∷ es)
   w-unsaid : {f c : Code} {xs : List Bool} {o : Owner} {t : Test} {e : Expr} → Way ts f (retIf o t e ⨾ c) xs (reach o ∷ [])
