@@ -1,0 +1,72 @@
+-- `put_several` writes the functions of the group piece by piece.
+-- Assumes nothing.
+use borrow.Author.Needs.{needs}
+use mathlib.Core.List.{map}
+use native.Mathlib.Omega.{arith}
+use Rattle.emit_tables.proofs.Around.{seen-member-keys}
+use Rattle.emit_tables.specs.Tables.{groupKeys}
+use Rattle.fnv.specs.Fnv.{hashMultiplier}
+use Rattle.lowering.specs.Measured.{seen}
+use Rattle.lowering.specs.Units.{membersOf as Units·membersOf}
+use Rattle.members.specs.Members.{membersOf}
+use Rattle.plan.specs.Accepted.{blocksOf}
+use Rattle.emit_units.specs.Groups.{bodiesOf}
+use Rattle.emit_units.proofs.Functions.{members-count, several-wrote}
+use Rattle.emit_units.proofs.groups.put_several.Statement.{statement}
+use Rattle.emit_units.proofs.groups.put_several.Tie as tie
+
+row-key-requires : tie.Need-row-key-requires
+row-key-requires c κs = search needs
+
+put-group-head-requires : tie.Need-put-group-head-requires
+put-group-head-requires c κs = search needs
+
+put-cases-requires : tie.Need-put-cases-requires
+put-cases-requires c κs = search needs
+
+put-switch-end-requires : tie.Need-put-switch-end-requires
+put-switch-end-requires c κs = search needs
+
+put-members-requires : tie.Need-put-members-requires
+put-members-requires c κs = search needs
+
+put-function-end-requires : tie.Need-put-function-end-requires
+put-function-end-requires c κs = search needs
+
+put-forwarders-requires : tie.Need-put-forwarders-requires
+put-forwarders-requires c κs = search needs
+
+same-length : tie.Need-same-length
+same-length c = search needs
+
+returns : tie.Need-returns
+returns c = λ limit g is some.
+    let c6 = c .before .before in
+    let c5 = c6 .before .before .before .before in
+    let c4 = c5 .before .before .before .before in
+    let c3 = c4 .before .before .before .before in
+    let c2 = c3 .before .before .before .before in
+    let c1 = c2 .before .before .before .before in
+    let a = c1 .before .before .before .before .before .before .args in
+    let f = a .file .now in
+    let is′ = membersOf limit (blocksOf f) g in
+    let ms = map (seen (a .hashing)) (Units·membersOf (bodiesOf f) is′) in
+    let keys = seen-member-keys (a .hashing) hashMultiplier (blocksOf f) is′ in
+    several-wrote ms (groupKeys limit f g) _ (omega (arith, members-count (a .hashing) f is′)) keys
+    (c1 .before .row-key .ensures _ limit g 0 (is .ready) (omega (arith, is .first)) (omega arith)) (c1 .put-group-head .ensures)
+    (c2 .put-cases .ensures limit g is ms keys) (c3 .put-switch-end .ensures) (c4 .put-members .ensures limit g is some) (c5 .put-function-end .ensures)
+    (c6 .put-forwarders .ensures limit g is)
+
+pub put-several-spec : {M : Type 1} → statement M
+put-several-spec =
+    tie.close
+    (tie.spec
+    row-key-requires
+    put-group-head-requires
+    put-cases-requires
+    put-switch-end-requires
+    put-members-requires
+    put-function-end-requires
+    put-forwarders-requires
+    same-length
+    returns)

@@ -1,0 +1,25 @@
+-- A text that is written to no bytes is measured; of the blocks it shows their keys.
+-- Assumes nothing.
+use borrow.Author.Needs.{needs}
+use Rattle.emit_tables.proofs.Around.{body-keys}
+use Rattle.fnv.specs.Fnv.{hashMultiplier}
+use Rattle.lowering.specs.Units.{textOf}
+use Rattle.plan.specs.Accepted.{blocksOf}
+use Rattle.emit_units.specs.Groups.{bodiesOf}
+use Rattle.emit_units.proofs.lengths.after_tail.Statement.{statement}
+use Rattle.emit_units.proofs.lengths.after_tail.Tie as tie
+
+slice-aggregate-put-tail : tie.Need-slice-aggregate-put-tail
+slice-aggregate-put-tail c = search needs
+
+put-tail-requires : tie.Need-put-tail-requires
+put-tail-requires c κs = search needs
+
+returns : tie.Need-returns
+unfolding textOf
+returns c =
+    let f = c .before .before .before .before .args .file .now in
+    c .before .put-tail .ensures (bodiesOf f) (body-keys hashMultiplier (blocksOf f)) .next
+
+pub after-tail-spec : {M : Type 1} → statement M
+after-tail-spec = tie.close (tie.spec slice-aggregate-put-tail put-tail-requires returns)

@@ -1,0 +1,41 @@
+-- The text of a group of a file, by the numbers of its blocks.
+use Prim.Native.Nat.{ℕ}
+use mathlib.Core.Bool.{Bool, cond}
+use mathlib.Core.List.{List, [], map}
+use lib.ListN.{getD}
+use Rattle.text.specs.Doc.{Doc, _▸_}
+use Rattle.fnv.specs.Fnv.{hashMultiplier}
+use Rattle.plan.specs.Accepted.{blocksOf}
+use Rattle.c_tree.specs.Stmt.{label, end, _⨾_}
+use Rattle.c_tree.specs.Print.{codeText, unitText}
+use Rattle.forms.specs.Block.{bodyOf}
+use Rattle.forms.specs.Forms.{Body}
+use Rattle.lowering.specs.Block.{bodyKey, nl, blockCode}
+use Rattle.lowering.specs.Measured.{seen}
+use Rattle.lowering.specs.Units.{emitGroup, labelled, nobody, membersOf}
+use Rattle.emit_tables.specs.Tables.{groupKeys}
+
+-- the bodies of a file's blocks
+abbrev pub bodiesOf : List ℕ → List Body
+bodiesOf f = map (bodyOf hashMultiplier) (blocksOf f)
+
+-- the code of block i, written or measured, where ks are the keys of its group
+abbrev pub memberText : Bool → List ℕ → List ℕ → ℕ → Doc
+memberText written f ks i = codeText (blockCode ks (seen written (getD (bodiesOf f) i nobody)))
+
+-- the same with its label before it
+abbrev pub labelledText : Bool → List ℕ → List ℕ → ℕ → Doc
+labelledText written f ks i =
+    codeText (label (bodyKey (getD (bodiesOf f) i nobody)) ⨾ nl ⨾ end) ▸ memberText written f ks i ▸ codeText (nl ⨾ end)
+
+-- the labelled code of some blocks, written or measured, where ks are the keys of their group
+abbrev pub membersText : Bool → List ℕ → List ℕ → List ℕ → Doc
+membersText written f ks is = codeText (labelled ks (map (seen written) (membersOf (bodiesOf f) is)))
+
+-- the functions of a group of some blocks, written or measured
+abbrev pub groupText : Bool → List ℕ → List ℕ → Doc
+groupText written f is = unitText (emitGroup (map (seen written) (membersOf (bodiesOf f) is)))
+
+-- the keys that a member of group g transfers to by a goto: none where it is alone
+abbrev pub keysWithin : Bool → ℕ → List ℕ → ℕ → List ℕ
+keysWithin several limit f g = cond several (groupKeys limit f g) []

@@ -1,0 +1,77 @@
+// Which rows a unit takes, and how long it is.
+use crate::lengths::after_group;
+use crate::lengths::after_preamble;
+use crate::lengths::after_tail;
+use members::group_end;
+ghost use mathlib.Core.Path.{_≡_};
+ghost use Prim.Native.Nat.{ℕ, _*_, _≤_};
+ghost use lib.ListN.{length};
+ghost use Rattle.block_file.specs.Trailer.{blockCount};
+ghost use Rattle.plan.specs.Accepted.{blocksOf, Accepted};
+ghost use Rattle.plan.specs.Plan.{groups};
+ghost use Rattle.members.specs.Members.{startOf};
+ghost use Rattle.members.specs.Prepared.{Ready};
+ghost use Rattle.emit_units.specs.Units.{FirstUnit, describes};
+
+// A unit: the rows from start to the one before end, the length of its text, and whether it is the last.
+pub struct Extent {
+    pub start: usize,
+    pub end: usize,
+    pub length: usize,
+    pub last: bool,
+}
+
+// The unit with a number, if there is one.
+pub enum Found {
+    Nothing,
+    At(Extent),
+}
+
+// The first unit of the groups from row p on.
+fn measure_unit(file: &[u8], work: &[u32], n: usize, max: u64, p: usize) -> Extent
+    requires { ⌜ (4 * n ≤ length (now work)) × (n ≤ 65536) × (n ≡ blockCount (now file)) × (p ≤ n) ⌝ }
+    requires { ⌜ Accepted (now file) ⌝ }
+    ensures { λ r. ⌜ r .end ≤ n ⌝ }
+    ensures { λ r. ⌜ ((limit g : ℕ) → Ready (now (file .entry)) n limit (now (work .entry)) → g ≤ length (groups limit (blocksOf (now (file .entry)))) → p ≡ startOf (groups limit (blocksOf (now (file .entry)))) g → FirstUnit (now (file .entry)) limit max g r) ⌝ }
+{
+    let mut at = after_preamble();
+    let mut q = p;
+    while q < n {
+        let end = group_end(work, n, q);
+        at = after_group(at, file, work, n, q, end);
+        q = end;
+        if max <= at as u64 {
+            return Extent {
+                start: p,
+                end: q,
+                length: at,
+                last: false,
+            };
+        }
+    }
+    Extent {
+        start: p,
+        end: q,
+        length: after_tail(at, file, n),
+        last: true,
+    }
+}
+
+// Unit k at a wished size, of an accepted file with n blocks.
+pub(crate) fn find_unit(file: &[u8], work: &[u32], n: usize, max: u64, k: u64) -> Found
+    requires { ⌜ (4 * n ≤ length (now work)) × (n ≤ 65536) × (n ≡ blockCount (now file)) ⌝ }
+    requires { ⌜ Accepted (now file) ⌝ }
+    ensures { λ r. ⌜ ((limit : ℕ) → Ready (now (file .entry)) n limit (now (work .entry)) → describes (now (file .entry)) limit max k r) ⌝ }
+{
+    let mut p = 0;
+    let mut i = 0;
+    while i < k {
+        let unit = measure_unit(file, work, n, max, p);
+        if unit.last {
+            return Found::Nothing;
+        }
+        p = unit.end;
+        i += 1;
+    }
+    Found::At(measure_unit(file, work, n, max, p))
+}

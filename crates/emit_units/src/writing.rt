@@ -1,0 +1,45 @@
+// A unit, written to a lent buffer.
+use crate::extents::Extent;
+use crate::groups::emit_group;
+use emit_flow::put_preamble;
+use emit_tables::put_tail;
+use members::group_end;
+ghost use mathlib.Core.Path.{_≡_};
+ghost use mathlib.Core.Bool.{true};
+ghost use Prim.Native.Nat.{ℕ, _*_, _≤_};
+ghost use lib.ListN.{length, take, drop};
+ghost use Rattle.text.specs.Doc.{each};
+ghost use Rattle.text.specs.Wrote.{Wrote};
+ghost use Rattle.block_file.specs.Trailer.{blockCount};
+ghost use Rattle.plan.specs.Accepted.{blocksOf, Accepted};
+ghost use Rattle.plan.specs.Plan.{groups};
+ghost use Rattle.members.specs.Prepared.{Ready};
+ghost use Rattle.c_tree.specs.Print.{unitText};
+ghost use Rattle.emit_units.specs.Groups.{groupText};
+ghost use Rattle.emit_units.specs.Units.{Takes, IsUnit};
+
+// The groups of a unit.
+fn put_groups(out: &mut [u8], at: usize, file: &[u8], work: &[u32], n: usize, e: Extent) -> usize
+    requires { ⌜ (4 * n ≤ length (now work)) × (n ≤ 65536) × (n ≡ blockCount (now file)) × (e .end ≤ n) ⌝ }
+    ensures { λ r. ⌜ ((limit g size : ℕ) → Ready (now (file .entry)) n limit (now (work .entry)) → Takes (now (file .entry)) limit g size e → Wrote (now (out .entry)) at (each (groupText true (now (file .entry))) (take size (drop g (groups limit (blocksOf (now (file .entry))))))) (now (out .exit)) r) ⌝ }
+{
+    let mut q = at;
+    let mut p = e.start;
+    while p < e.end {
+        let end = group_end(work, n, p);
+        q = emit_group(out, q, file, work, n, p, end, true);
+        p = end;
+    }
+    q
+}
+
+// The unit of an extent, with its hashes, from the front of `out` on.
+pub(crate) fn write_unit(out: &mut [u8], file: &[u8], work: &[u32], n: usize, e: Extent) -> usize
+    requires { ⌜ (4 * n ≤ length (now work)) × (n ≤ 65536) × (n ≡ blockCount (now file)) × (e .end ≤ n) ⌝ }
+    requires { ⌜ Accepted (now file) ⌝ }
+    ensures { λ r. ⌜ ((limit max k : ℕ) → Ready (now (file .entry)) n limit (now (work .entry)) → (is : IsUnit (now (file .entry)) limit max k e) → Wrote (now (out .entry)) 0 (unitText (is .unit .tree)) (now (out .exit)) r) ⌝ }
+{
+    let at = put_preamble(out, 0);
+    let q = put_groups(out, at, file, work, n, e);
+    if e.last { put_tail(out, q, file, n) } else { q }
+}
