@@ -1,9 +1,11 @@
 -- The numbers that an answer hands over through the C interface: 0 or the refusal's number, its i, and the values of a success, which are 0 on refusal.
 use Prim.Native.Nat.{ℕ}
+use mathlib.Core.Bool.{cond}
 use mathlib.Core.List.{List}
 use lib.ListN.{length, getD}
 use Rattle.block_file.specs.Answer.{Answer, refusal, value, Counts}
 use Rattle.plan.specs.Calls.{Outcome}
+use Rattle.emit_units.specs.Calls.{UnitValues}
 
 -- what the check hands over
 pub record CheckNumbers : Type 0 where
@@ -42,3 +44,21 @@ withAnswer (value v) work result = record { number = 0; at = 0; count = v; work 
 
 abbrev pub outcomeNumbers : Outcome ℕ → OutcomeNumbers
 outcomeNumbers l = withAnswer (l .answer) (l .work) (l .result)
+
+-- what the call for a unit hands over, and the lent buffers; `last` is 1 for the last unit, else 0
+pub record UnitNumbers : Type 0 where
+  pub number : ℕ
+  pub at : ℕ
+  pub length : ℕ
+  pub done : ℕ
+  pub last : ℕ
+  pub work : List ℕ
+  pub text : List ℕ
+
+abbrev pub withUnit : Answer UnitValues → List ℕ → List ℕ → UnitNumbers
+withUnit (refusal n i) work text = record { number = n; at = i; length = 0; done = 0; last = 0; work = work; text = text }
+withUnit (value u) work text =
+    record { number = 0; at = 0; length = u .length; done = u .done; last = cond (u .last) 1 0; work = work; text = text }
+
+abbrev pub unitNumbers : Outcome UnitValues → UnitNumbers
+unitNumbers l = withUnit (l .answer) (l .work) (l .result)

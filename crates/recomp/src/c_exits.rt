@@ -7,7 +7,7 @@ ghost use lib.ListN.{length, getD};
 ghost use Rattle.block_file.specs.Parse.{parse};
 ghost use Rattle.plan.specs.Exits.{keysOf};
 ghost use Rattle.plan.specs.Calls.{exitsCall};
-ghost use Rattle.recomp.specs.Answer.{ExitsNumbers, exitsNumbers};
+ghost use Rattle.recomp.specs.Answer.{exitsNumbers};
 
 // The keys of exits as three numbers.
 fn put_exits(exits: Exits, count: &mut u64, first: &mut u64, second: &mut u64)

@@ -1,0 +1,17 @@
+// The public call for a unit, with demand 3 in its promise.
+use crate::Translated;
+use emit_units::unit_of;
+ghost use mathlib.Core.Path.{_≡_};
+ghost use Rattle.fnv.specs.Fnv.{hashMultiplier};
+ghost use Rattle.block_file.specs.Parse.{parse};
+ghost use Rattle.plan.specs.Calls.{partLimit};
+ghost use Rattle.emit_units.specs.Calls.{translatedOf, unitCall};
+ghost use Rattle.ways.specs.Demand3.{Demand3Of};
+
+// Unit k of a file at a wished size: its text in the front of `text`. Every way through the units of that file at that size keeps demand 3.
+pub fn unit(file: &[u8], max_bytes: u64, k: u64, work: &mut [u32], text: &mut [u8]) -> Translated
+    ensures { λ r. ⌜ record { answer = translatedOf r; work = now (work .exit); result = now (text .exit) } ≡ unitCall «max_bytes» k (parse (now (file .entry))) (now (work .entry)) (now (text .entry)) ⌝ }
+    ensures { λ r. ⌜ Demand3Of hashMultiplier partLimit «max_bytes» (now (file .entry)) ⌝ }
+{
+    unit_of(file, max_bytes, k, work, text)
+}
