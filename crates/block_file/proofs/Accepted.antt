@@ -12,19 +12,20 @@ use native.Mathlib.Decide.{le-ind}
 use lib.ListN.{length, getD}
 use lib.Dec.{leb}
 use Rattle.armv4t.specs.Instr.{sizeOf}
-use Rattle.block_file.specs.declared.decode.TimedInstr.{TimedInstr}
+use Rattle.instr_records.specs.declared.decode.TimedInstr.{TimedInstr}
 use Rattle.block_file.specs.declared.read.BlockRecord.{BlockRecord}
 use Rattle.block_file.specs.declared.read.FoundBlock.{FoundBlock}
 use Rattle.block_file.specs.declared.read.FoundInstr.{FoundInstr}
-use Rattle.block_file.specs.Trailer.{blockCount, instrCount, codeCount, blockStart, instrStart, withinLimits}
-use Rattle.block_file.specs.BlockRecord.{addrAt, countAt, codeOffsetAt, thumbAt, presentAt, lengthAt, aligned, countSum, codeRight, blockRight, keyRises}
-use Rattle.block_file.specs.InstrRecord.{instrRight}
-use Rattle.block_file.specs.Decode.{timedAt}
+use Rattle.records.specs.Trailer.{blockCount, instrCount, codeCount, blockStart, instrStart, withinLimits}
+use Rattle.records.specs.BlockRecord.{addrAt, countAt, codeOffsetAt, thumbAt, presentAt, lengthAt, aligned, countSum, codeRight, blockRight, keyRises}
+use Rattle.instr_records.specs.InstrRecord.{instrRight}
+use Rattle.instr_records.specs.Decode.{timedAt}
 use Rattle.block_file.specs.Refusal.{Row, broken, firstBroken, blockRows, instrRows, rows}
 use Rattle.block_file.specs.Parse.{Block, Parsed, instrsFrom, codeAt, blockAt, blocksFrom, parsed, parse, instrTotal}
 use Rattle.block_file.specs.Read.{recordAt, foundBlock, foundInstr, codeBytes}
-use Rattle.block_file.proofs.Parts.{Parts, parts}
-use Rattle.block_file.proofs.Rules as rules
+use Rattle.records.proofs.Sections.{Sections, sections}
+use Rattle.records.proofs.Rules as rules
+use Rattle.block_file.proofs.Reading as reading
 use Rattle.block_file.proofs.Whole.{length-instrs, length-blocks, total-blocks, each-kept, block-rows, instr-rows}
 
 shift : (i j : ℕ) → suc i + j ≡ i + suc j
@@ -96,8 +97,8 @@ module _ (f : List ℕ) (bs : List Block) (accepted : parse f ≡ Parsed.accepte
   kept : (r : Row) → List·Memᴰ r (rows f) → broken f r ≡ false
   kept r m = each-kept f (rows f) r all-kept m
 
-  pub parts-of : Parts f
-  parts-of = parts f (not-false _ (kept Row.trailer (List·Memᴰ·tail (List·Memᴰ·tail (List·Memᴰ·head refl)))))
+  pub sections-of : Sections f
+  sections-of = sections f (not-false _ (kept Row.trailer (List·Memᴰ·tail (List·Memᴰ·tail (List·Memᴰ·head refl)))))
 
   -- the rules hold of each record
   pub block-right : (i : ℕ) → i < blockCount f → blockRight f (blockStart f i) ≡ true
@@ -111,10 +112,10 @@ module _ (f : List ℕ) (bs : List Block) (accepted : parse f ≡ Parsed.accepte
 
   -- the readers find each record
   pub block-found : (i : ℕ) → i < length bs → foundBlock f i ≡ FoundBlock.At (recordAt f (blockStart f i))
-  block-found i h = sym (rules.block-there f i _ (omega (arith, length-of)) refl (omega (arith, length-of, parts-of)))
+  block-found i h = sym (reading.block-there f i _ (omega (arith, length-of)) refl (omega (arith, length-of, sections-of)))
 
   pub instr-found : (i addr : ℕ) (thumb : Bool) → i < instrCount f → foundInstr f i addr thumb ≡ FoundInstr.At (timedAt f (instrStart f i) addr thumb)
-  instr-found i addr thumb h = sym (rules.instr-there f i _ addr thumb h refl (omega (arith, parts-of)))
+  instr-found i addr thumb h = sym (reading.instr-there f i _ addr thumb h refl (omega (arith, sections-of)))
 
   -- the limits hold
   limits : withinLimits f ≡ true
@@ -171,7 +172,7 @@ module _ (f : List ℕ) (bs : List Block) (accepted : parse f ≡ Parsed.accepte
     code-inside e =
         let within : leb (codeOffsetAt f (blockStart f i) + lengthAt f (blockStart f i)) (codeCount f) ≡ true = (rw e at (rules.code-kept f (blockStart f i) right)) in
         let below : codeOffsetAt f (blockStart f i) + lengthAt f (blockStart f i) ≤ codeCount f = leb-true _ _ within in
-        omega (arith, below, parts-of)
+        omega (arith, below, sections-of)
 
     -- the reader gives the fields of the block
     pub record-reads : Reads f (blockAt f (blockStart f i) (countSum f i)) (recordAt f (blockStart f i))

@@ -8,7 +8,7 @@ use mathlib.Core.Option.{Option, none, some}
 use Prim.Native.Nat.{ℕ, _-_, _≤_}
 use native.Mathlib.Omega.{arith}
 use lib.ListN.{getD}
-use Rattle.block_file.specs.Trailer.{blockCount}
+use Rattle.records.specs.Trailer.{blockCount}
 use Rattle.block_file.specs.Refusal.{Row, number, place, broken, pick, firstBroken, rows, First, Applies}
 use Rattle.block_file.specs.Parse.{Block, Parsed, blocksFrom, parsed, parse, checkAnswer}
 use Rattle.block_file.specs.Answer.{refusal}

@@ -1,9 +1,9 @@
 -- The laws that the functions' proofs, and those of the crates above, share.
 pub mod Accepted
+pub mod Answers
 pub mod Exactly
-mod Match
-mod Parts
+pub mod IsBlock
+pub mod Keys
 mod Passes
-mod Rows
-mod Rules
+mod Reading
 mod Whole

@@ -11,10 +11,10 @@ use lib.ListN.{length}
 use lib.Dec.{leb, leb·zero}
 use borrow.Author.Tests.{le-leb, lt-leb, eq-eqb, ne-eqb}
 use native.Mathlib.Nat.{sub-zero}
-use Rattle.block_file.proofs.Rules.{large-count}
-use Rattle.block_file.specs.Trailer.{blocksBack, blockCount, instrsBack, instrCount, blockStart}
-use Rattle.block_file.specs.BlockRecord.{keyAt, countAt, blockRight, keyRises, countSum}
-use Rattle.block_file.specs.InstrRecord.{instrRight}
+use Rattle.records.proofs.Rules.{large-count}
+use Rattle.records.specs.Trailer.{blocksBack, blockCount, instrsBack, instrCount, blockStart}
+use Rattle.records.specs.BlockRecord.{keyAt, countAt, blockRight, keyRises, countSum}
+use Rattle.instr_records.specs.InstrRecord.{instrRight}
 use Rattle.block_file.specs.Refusal.{Row, blockRows, instrRows, firstBroken}
 
 -- the least key that is above that of the block before block i

@@ -13,8 +13,8 @@ use lib.ListN.{length}
 use Rattle.block_file.specs.declared.refusal.Checked.{Checked}
 use Rattle.block_file.specs.declared.refusal.Found.{Found}
 use Rattle.block_file.specs.Answer.{answerOf}
-use Rattle.block_file.specs.Trailer.{blockCount, instrCount, blockStart, withinLimits, trailerRight}
-use Rattle.block_file.specs.BlockRecord.{countAt, countSum}
+use Rattle.records.specs.Trailer.{blockCount, instrCount, blockStart, withinLimits, trailerRight}
+use Rattle.records.specs.BlockRecord.{countAt, countSum}
 use Rattle.block_file.specs.Refusal.{Row, broken, pick, firstBroken, blockRows, instrRows, found}
 use Rattle.block_file.specs.Parse.{Parsed, instrsFrom, blockAt, blocksFrom, parsed, parse, instrTotal, checkAnswer}
 

@@ -4,9 +4,9 @@ use mathlib.Core.Path.{_≡_, refl}
 use mathlib.Core.List.{List, [], _∷_, _++_}
 use lib.ListN.{set, take}
 use Rattle.block_file.specs.Answer.{Answer, refusal, value, Counts}
-use Rattle.block_file.specs.Trailer.{trailerWord, withinLimits, trailerRight}
-use Rattle.block_file.specs.BlockRecord.{aligned, codeRight, blockRight, keyRises, countSum}
-use Rattle.block_file.specs.InstrRecord.{largest, within, evenFields, instrRight}
+use Rattle.records.specs.Trailer.{trailerWord, withinLimits, trailerRight}
+use Rattle.records.specs.BlockRecord.{aligned, codeRight, blockRight, keyRises, countSum}
+use Rattle.instr_records.specs.InstrRecord.{largest, within, evenFields, instrRight}
 use Rattle.block_file.specs.Parse.{blockAt, blocksFrom, parse, instrTotal, checkAnswer}
 
 -- a branch over one block to another, each of one instruction

@@ -1,15 +1,16 @@
 -- A file as a whole: a refusal, or the list of its blocks.
 use Prim.Native.Nat.{ℕ, zero, suc, _+_}
+use mathlib.Core.Path.{_≡_}
 use mathlib.Core.Bool.{Bool, cond}
 use mathlib.Core.List.{List, [], _∷_}
 use mathlib.Core.Option.{Option, none, some}
 use lib.ListN.{length, take, drop}
 use Rattle.armv4t.specs.Instr.{sizeOf}
-use Rattle.block_file.specs.declared.decode.TimedInstr.{TimedInstr}
+use Rattle.instr_records.specs.declared.decode.TimedInstr.{TimedInstr}
 use Rattle.block_file.specs.Answer.{Answer, refusal, value, Counts}
-use Rattle.block_file.specs.Trailer.{blockCount, blockStart, instrStart}
-use Rattle.block_file.specs.BlockRecord.{addrAt, countAt, codeOffsetAt, thumbAt, presentAt, lengthAt}
-use Rattle.block_file.specs.Decode.{timedAt}
+use Rattle.records.specs.Trailer.{blockCount, blockStart, instrStart}
+use Rattle.records.specs.BlockRecord.{addrAt, countAt, codeOffsetAt, thumbAt, presentAt, lengthAt, keyPlus}
+use Rattle.instr_records.specs.Decode.{timedAt}
 use Rattle.block_file.specs.Refusal.{Row, number, place, firstBroken, rows}
 
 -- a block: its address, whether it is Thumb, its code bytes or their absence, its instructions with their costs
@@ -19,18 +20,21 @@ pub record Block : Type 0 where
   pub code : Option (List ℕ)
   pub instrs : List TimedInstr
 
+abbrev pub blockKey : Block → ℕ
+blockKey b = keyPlus (b .addr) (b .thumb)
+
 -- n instructions of a file from record k on, at consecutive addresses
 abbrev pub instrsFrom : List ℕ → ℕ → ℕ → ℕ → Bool → List TimedInstr
 instrsFrom f zero k addr thumb = []
 instrsFrom f (suc n) k addr thumb = timedAt f (instrStart f k) addr thumb ∷ instrsFrom f n (suc k) (addr + sizeOf thumb) thumb
 
 -- n bytes of the file from an offset on, or those up to its end where it has fewer
-abbrev pub part : List ℕ → ℕ → ℕ → List ℕ
-part f start n = take n (drop start f)
+abbrev pub slice : List ℕ → ℕ → ℕ → List ℕ
+slice f start n = take n (drop start f)
 
 -- the code bytes that the block record at an offset names
 abbrev pub codeAt : List ℕ → ℕ → Option (List ℕ)
-codeAt f at = cond (presentAt f at) (some (part f (codeOffsetAt f at) (lengthAt f at))) none
+codeAt f at = cond (presentAt f at) (some (slice f (codeOffsetAt f at) (lengthAt f at))) none
 
 -- the block of the record at an offset, whose instructions are those from record k on
 unfoldable pub blockAt : List ℕ → ℕ → ℕ → Block
@@ -47,6 +51,10 @@ unfoldable pub blocksFrom : List ℕ → ℕ → ℕ → ℕ → List Block
 blocksFrom f zero i k = []
 blocksFrom f (suc n) i k = blockAt f (blockStart f i) k ∷ blocksFrom f n (suc i) (k + countAt f (blockStart f i))
 
+-- the blocks that a file's records say
+abbrev pub blocksOf : List ℕ → List Block
+blocksOf f = blocksFrom f (blockCount f) 0 0
+
 -- what a file is: refused, with number and place, or accepted, with its blocks
 pub data Parsed : Type 0 where
   refused : ℕ → ℕ → Parsed
@@ -54,12 +62,16 @@ pub data Parsed : Type 0 where
 
 -- the first broken row refuses the file
 abbrev pub parsed : List ℕ → Option Row → Parsed
-parsed f none = accepted (blocksFrom f (blockCount f) 0 0)
+parsed f none = accepted (blocksOf f)
 parsed f (some r) = refused (number r) (place r)
 
 -- a file, by the first rule that it breaks
 unfoldable pub parse : List ℕ → Parsed
 parse f = parsed f (firstBroken f (rows f))
+
+-- none of the refusals 1 to 7 applies
+abbrev pub Accepted : List ℕ → Type 0
+Accepted f = parse f ≡ accepted (blocksOf f)
 
 -- how many instructions some blocks have
 unfoldable pub instrTotal : List Block → ℕ

@@ -1,6 +1,7 @@
 -- Single records by number, and code bytes by offset and length, whether or not the file is accepted. A record that the trailer does not count, or
 -- that does not lie inside the file, is Nothing; code bytes that are absent, or do not lie inside it, are the empty list.
 use Prim.Native.Nat.{ℕ, _+_, _*_}
+use mathlib.Core.Path.{_≡_}
 use mathlib.Core.Bool.{Bool, cond, _&&_}
 use mathlib.Core.List.{List, []}
 use lib.ListN.{length}
@@ -9,10 +10,10 @@ use Rattle.armv4t.specs.Instr.{sizeOf}
 use Rattle.block_file.specs.declared.read.BlockRecord.{BlockRecord}
 use Rattle.block_file.specs.declared.read.FoundBlock.{FoundBlock}
 use Rattle.block_file.specs.declared.read.FoundInstr.{FoundInstr}
-use Rattle.block_file.specs.Trailer.{blockCount, instrCount, blockStart, instrStart}
-use Rattle.block_file.specs.BlockRecord.{addrAt, countAt, codeOffsetAt, thumbAt, presentAt}
-use Rattle.block_file.specs.Decode.{timedAt}
-use Rattle.block_file.specs.Parse.{part}
+use Rattle.records.specs.Trailer.{blockCount, instrCount, blockStart, instrStart}
+use Rattle.records.specs.BlockRecord.{addrAt, countAt, codeOffsetAt, thumbAt, presentAt, countSum}
+use Rattle.instr_records.specs.Decode.{timedAt}
+use Rattle.block_file.specs.Parse.{slice, Accepted}
 
 -- the block record at an offset
 unfoldable pub recordAt : List ℕ → ℕ → BlockRecord
@@ -42,5 +43,11 @@ foundInstr f i addr thumb =
 unfoldable pub codeBytes : List ℕ → BlockRecord → List ℕ
 codeBytes f b =
     cond (b .present)
-    (cond (leb (b .offset + b .count * sizeOf (b .thumb)) (length f)) (part f (b .offset) (b .count * sizeOf (b .thumb))) [])
+    (cond (leb (b .offset + b .count * sizeOf (b .thumb)) (length f)) (slice f (b .offset) (b .count * sizeOf (b .thumb))) [])
     []
+
+-- block i of an accepted file, as a pass over the records has it: its record, and the number of its first instruction
+pub record IsBlock (f : List ℕ) (i : ℕ) (b : BlockRecord) (first : ℕ) : Type 0 where
+  pub accepted : Accepted f
+  pub found : foundBlock f i ≡ FoundBlock.At b
+  pub starts : first ≡ countSum f i

@@ -6,9 +6,9 @@ use mathlib.Core.List.{List, [], _∷_, _++_, List·Memᴰ}
 use mathlib.Core.Option.{Option, none, some}
 use lib.Dec.{eqb}
 use Rattle.block_file.specs.declared.refusal.Found.{Found}
-use Rattle.block_file.specs.Trailer.{hasTrailer, withinLimits, trailerRight, blockCount, instrCount, blockStart, instrStart}
-use Rattle.block_file.specs.BlockRecord.{blockRight, keyRises, countSum}
-use Rattle.block_file.specs.InstrRecord.{instrRight}
+use Rattle.records.specs.Trailer.{hasTrailer, withinLimits, trailerRight, blockCount, instrCount, blockStart, instrStart}
+use Rattle.records.specs.BlockRecord.{blockRight, keyRises, countSum}
+use Rattle.instr_records.specs.InstrRecord.{instrRight}
 
 -- a row of the table at one place of the file
 pub data Row : Type 0 where

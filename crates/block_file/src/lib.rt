@@ -1,13 +1,8 @@
-// Block files: the trailer, block and instruction records, and refusals 1 to 7.
-mod block_record;
-mod bytes;
-mod decode;
-mod instr_record;
+// Block files: refusals 1 to 7, and readers of records and code bytes.
 mod read;
 mod refusal;
-mod trailer;
 
-pub use decode::TimedInstr;
+pub use instr_records::decode::TimedInstr;
 pub use read::BlockRecord;
 pub use read::FoundBlock;
 pub use read::FoundInstr;

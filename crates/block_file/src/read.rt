@@ -1,19 +1,19 @@
 // Readers that lean on no check. Records are read by number: the answer is Nothing where the trailer counts no such record, or it does not lie
-// inside the file. Code bytes are read by offset and length: an empty part where they are absent, or do not lie inside the file.
-use crate::block_record::addr;
-use crate::block_record::count;
-use crate::block_record::instrs_length;
-use crate::block_record::offset;
-use crate::block_record::present;
-use crate::block_record::thumb;
-use crate::decode::TimedInstr;
-use crate::decode::timed_instr;
-use crate::trailer::part_start;
-use crate::trailer::trailer_word;
+// inside the file. Code bytes are read by offset and length: an empty slice where they are absent, or do not lie inside the file.
+use instr_records::decode::TimedInstr;
+use instr_records::decode::timed_instr;
+use records::block_record::addr;
+use records::block_record::count;
+use records::block_record::instrs_length;
+use records::block_record::offset;
+use records::block_record::present;
+use records::block_record::thumb;
+use records::trailer::section_start;
+use records::trailer::trailer_word;
 ghost use mathlib.Core.Path.{_≡_};
 ghost use Prim.Native.Nat.{_+_, _≤_, _<_, _^_};
 ghost use lib.ListN.{length};
-ghost use Rattle.block_file.specs.Trailer.{blockCount};
+ghost use Rattle.records.specs.Trailer.{blockCount};
 ghost use Rattle.block_file.specs.Read.{recordAt, foundBlock, foundInstr, codeBytes};
 
 // The fields of a block record.
@@ -67,7 +67,7 @@ pub fn block_at(file: &[u8], i: usize) -> FoundBlock
     if trailer_word(file, 2) as usize <= i {
         return FoundBlock::Nothing;
     }
-    let at = part_start(file, 1) + 16 * i;
+    let at = section_start(file, 1) + 16 * i;
     if file.len() < at + 16 {
         return FoundBlock::Nothing;
     }
@@ -81,14 +81,14 @@ pub fn instr_at(file: &[u8], i: usize, address: u32, is_thumb: bool) -> FoundIns
     if trailer_word(file, 4) as usize <= i {
         return FoundInstr::Nothing;
     }
-    let at = part_start(file, 3) + 16 * i;
+    let at = section_start(file, 3) + 16 * i;
     if file.len() < at + 16 {
         return FoundInstr::Nothing;
     }
     FoundInstr::At(timed_instr(file, at, address, is_thumb))
 }
 
-// The part of the file at a block record's offset, of the block's length; empty where the bytes are absent or run past the file's end.
+// The slice of the file at a block record's offset, of the block's length; empty where the bytes are absent or run past the file's end.
 pub fn code_bytes(file: &[u8], block: BlockRecord) -> &[u8]
     ensures { λ r. ⌜ now r ≡ codeBytes (now (file .entry)) block ⌝ }
 {

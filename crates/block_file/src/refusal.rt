@@ -1,18 +1,18 @@
 // The check of a whole file: one pass over the blocks and one over the instructions.
-use crate::block_record::block_right;
-use crate::block_record::count;
-use crate::block_record::key;
-use crate::instr_record::all_rows;
-use crate::instr_record::instr_right;
-use crate::trailer::part_start;
-use crate::trailer::trailer_right;
-use crate::trailer::trailer_word;
-use crate::trailer::within_limits;
+use instr_records::instr_record::all_rows;
+use instr_records::instr_record::instr_right;
+use records::block_record::block_right;
+use records::block_record::count;
+use records::block_record::key;
+use records::trailer::section_start;
+use records::trailer::trailer_right;
+use records::trailer::trailer_word;
+use records::trailer::within_limits;
 ghost use mathlib.Core.Path.{_≡_};
 ghost use mathlib.Core.Bool.{true};
 ghost use mathlib.Core.List.{_∷_, [], _++_};
-ghost use Rattle.block_file.specs.Trailer.{blockCount, instrCount, trailerRight};
-ghost use Rattle.block_file.specs.InstrRecord.{rowsTo};
+ghost use Rattle.records.specs.Trailer.{blockCount, instrCount, trailerRight};
+ghost use Rattle.instr_records.specs.InstrRecord.{rowsTo};
 ghost use Rattle.block_file.specs.Refusal.{Row, blockRows, instrRows, firstBroken, found};
 ghost use Rattle.block_file.specs.Answer.{answerOf};
 ghost use Rattle.block_file.specs.Parse.{parse, checkAnswer};
@@ -36,7 +36,7 @@ fn check_blocks(file: &[u8]) -> Found
     requires { ⌜ trailerRight (now file) ≡ true ⌝ }
     ensures { λ r. ⌜ r ≡ found (firstBroken (now (file .entry)) (blockRows (blockCount (now (file .entry))) 0 ++ (Row.sum ∷ []))) ⌝ }
 {
-    let start = part_start(file, 1);
+    let start = section_start(file, 1);
     let blocks = trailer_word(file, 2) as usize;
     let mut least: u64 = 0;
     let mut sum: u64 = 0;
@@ -72,7 +72,7 @@ fn check_records(file: &[u8], rows: &[u8]) -> Found
     requires { ⌜ (trailerRight (now file) ≡ true) × (now rows ≡ rowsTo 30) ⌝ }
     ensures { λ r. ⌜ r ≡ found (firstBroken (now (file .entry)) (instrRows (instrCount (now (file .entry))) 0)) ⌝ }
 {
-    let start = part_start(file, 3);
+    let start = section_start(file, 3);
     let instrs = trailer_word(file, 4) as usize;
     let mut i = 0;
     while i < instrs {

@@ -12,8 +12,8 @@ use recomp::Exits;
 ghost use mathlib.Core.Path.{_≡_};
 ghost use Rattle.block_file.specs.Answer.{value};
 ghost use Rattle.block_file.specs.Parse.{parse};
-ghost use Rattle.plan.specs.Exits.{keysOf};
-ghost use Rattle.plan.specs.Calls.{exitsCall};
+ghost use Rattle.block_exits.specs.Exits.{keysOf};
+ghost use Rattle.block_exits.specs.Calls.{exitsCall};
 ghost use Rattle.cases.specs.Same.{sameNumbers};
 ghost use Rattle.cases.specs.ExitsCases.{exitsAnswer};
 

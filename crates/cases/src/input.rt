@@ -2,7 +2,7 @@
 use libc::STDIN_FILENO;
 ghost use mathlib.Core.Path.{_≡_};
 ghost use Prim.Native.Nat.{_<_};
-ghost use Rattle.block_file.specs.Bytes.{wordAt};
+ghost use Rattle.records.specs.Bytes.{wordAt};
 ghost use Rattle.cases.specs.Input.{Within};
 
 // The next number, of 32 bits, or that the input ends before its last byte.

@@ -11,14 +11,13 @@ use lib.ListN.{getD}
 use Rattle.armv4t.specs.Instr.{sizeOf}
 use Rattle.block_file.specs.declared.read.BlockRecord.{BlockRecord}
 use Rattle.block_file.specs.declared.read.FoundBlock.{FoundBlock}
-use Rattle.block_file.specs.Trailer.{blockStart}
-use Rattle.block_file.specs.BlockRecord.{countSum}
-use Rattle.block_file.specs.Parse.{blockAt}
-use Rattle.block_file.specs.Read.{recordAt, foundBlock, codeBytes}
+use Rattle.records.specs.Trailer.{blockStart}
+use Rattle.records.specs.BlockRecord.{countSum}
+use Rattle.block_file.specs.Parse.{blockAt, blocksOf}
+use Rattle.block_file.specs.Read.{recordAt, foundBlock, codeBytes, IsBlock}
 use Rattle.block_file.proofs.Accepted.{Reads, length-of, record-reads}
 use Rattle.fnv.specs.Fnv.{fnv64, hashMultiplier}
-use Rattle.plan.specs.Accepted.{blocksOf, IsBlock}
-use Rattle.plan.proofs.Accepted.{nth-block, block-inside, block-record}
+use Rattle.block_file.proofs.IsBlock.{nth-block, block-inside, block-record}
 use Rattle.plan.proofs.Listing.{map-at}
 use Rattle.text.specs.Wrote.{Wrote}
 use Rattle.text.proofs.Laws.{seq, said}

@@ -12,12 +12,12 @@ use lib.ListN.{drop}
 use Rattle.armv4t.specs.declared.Fused.{Fused}
 use Rattle.armv4t.specs.Fused.{fuse}
 use Rattle.armv4t.specs.Instr.{sizeOf}
-use Rattle.block_file.specs.declared.decode.TimedInstr.{TimedInstr}
+use Rattle.instr_records.specs.declared.decode.TimedInstr.{TimedInstr}
 use Rattle.block_file.specs.Parse.{instrsFrom}
-use Rattle.plan.proofs.Closing.{instrAt, later, at-first}
+use Rattle.block_exits.proofs.Closing.{instrAt, later, at-first}
 use Rattle.forms.specs.Forms.{Form}
 use Rattle.forms.specs.Block.{emitPair, emitInstr, fusedOr, before, emitInstrs}
-use Rattle.emit_block.specs.declared.records.Next.{Next}
+use Rattle.emit_block.specs.declared.instrs.Next.{Next}
 use Rattle.emit_instr.specs.Steps.{empty}
 use Rattle.emit_block.specs.Walk.{fusedNext, nextOf}
 

@@ -10,16 +10,16 @@ use native.Mathlib.Omega.{arith}
 use lib.ListN.{drop}
 use Rattle.armv4t.specs.declared.Instr.{Instr}
 use Rattle.armv4t.specs.Instr.{sizeOf}
-use Rattle.block_file.specs.declared.decode.TimedInstr.{TimedInstr}
+use Rattle.instr_records.specs.declared.decode.TimedInstr.{TimedInstr}
 use Rattle.block_file.specs.declared.read.BlockRecord.{BlockRecord}
 use Rattle.block_file.specs.declared.read.FoundInstr.{FoundInstr}
-use Rattle.block_file.specs.Decode.{timedAt}
+use Rattle.instr_records.specs.Decode.{timedAt}
 use Rattle.block_file.specs.Parse.{instrsFrom}
-use Rattle.plan.specs.Accepted.{IsBlock}
-use Rattle.plan.proofs.Closing.{instrAt, readInstr, read-as}
+use Rattle.block_file.specs.Read.{IsBlock}
+use Rattle.block_exits.proofs.Closing.{instrAt, readInstr, read-as}
 use Rattle.forms.specs.InlineBody.{apart}
 use Rattle.forms.specs.Block.{flushTicks, setWord, closing}
-use Rattle.emit_block.specs.declared.records.Next.{Next}
+use Rattle.emit_block.specs.declared.instrs.Next.{Next}
 use Rattle.emit_block.specs.Walk.{instrsOf, nextOf}
 use Rattle.emit_block.proofs.FormsFrom.{drop-instr, drop-all}
 

@@ -10,9 +10,10 @@ use lib.ListN.{length, drop}
 use Rattle.armv4t.specs.Instr.{sizeOf}
 use Rattle.block_file.specs.declared.read.BlockRecord.{BlockRecord}
 use Rattle.block_file.specs.Parse.{instrsFrom}
-use Rattle.plan.specs.Accepted.{IsBlock}
-use Rattle.plan.specs.Exits.{keyOf}
-use Rattle.plan.proofs.Accepted.{some-instr, key-plus}
+use Rattle.block_file.specs.Read.{IsBlock}
+use Rattle.block_exits.specs.Exits.{keyOf}
+use Rattle.block_file.proofs.IsBlock.{some-instr}
+use Rattle.block_exits.proofs.OwnKey.{key-plus}
 use Rattle.text.specs.Wrote.{Wrote, top}
 use Rattle.c_tree.specs.Stmt.{end}
 use Rattle.c_tree.specs.Print.{codeText}

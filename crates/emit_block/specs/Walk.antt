@@ -7,10 +7,10 @@ use lib.ListN.{length, drop}
 use Rattle.armv4t.specs.declared.Instr.{Instr}
 use Rattle.armv4t.specs.declared.Fused.{Fused}
 use Rattle.armv4t.specs.Fused.{fuse}
-use Rattle.block_file.specs.declared.decode.TimedInstr.{TimedInstr}
+use Rattle.instr_records.specs.declared.decode.TimedInstr.{TimedInstr}
 use Rattle.block_file.specs.declared.read.BlockRecord.{BlockRecord}
-use Rattle.block_file.specs.Parse.{instrsFrom}
-use Rattle.plan.specs.Accepted.{blocksOf, IsBlock}
+use Rattle.block_file.specs.Parse.{instrsFrom, blocksOf}
+use Rattle.block_file.specs.Read.{IsBlock}
 use Rattle.members.specs.Members.{membersOf, keysOf}
 use Rattle.members.specs.Prepared.{Ready}
 use Rattle.c_tree.specs.Stmt.{end}
@@ -18,7 +18,7 @@ use Rattle.forms.specs.Forms.{Form, Body}
 use Rattle.forms.specs.Block.{regionOf, emitInstrs, closing}
 use Rattle.lowering.specs.Block.{rest}
 use Rattle.emit_block.specs.declared.member.Member.{Member}
-use Rattle.emit_block.specs.declared.records.Next.{Next}
+use Rattle.emit_block.specs.declared.instrs.Next.{Next}
 use Rattle.emit_instr.specs.declared.step.Step.{Step}
 use Rattle.emit_instr.specs.Onward.{Onward}
 

@@ -1,7 +1,7 @@
 // The text of a block: the walk over its instructions, and the guard before them.
 mod block;
+mod instrs;
 mod member;
-mod records;
 mod walk;
 
 pub use block::emit_block;

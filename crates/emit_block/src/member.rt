@@ -4,7 +4,7 @@ ghost use mathlib.Core.Path.{_≡_};
 ghost use mathlib.Core.List.{List};
 ghost use Prim.Native.Nat.{ℕ, _*_, _≤_, _<_};
 ghost use lib.ListN.{length};
-ghost use Rattle.block_file.specs.Trailer.{blockCount};
+ghost use Rattle.records.specs.Trailer.{blockCount};
 ghost use Rattle.lowering.specs.Block.{has};
 ghost use Rattle.emit_block.specs.Walk.{Stands};
 

@@ -1,16 +1,16 @@
 // All records of a block, and the end of its code.
+use crate::instrs::emit_record;
 use crate::member::Member;
 use crate::member::is_inside;
-use crate::records::emit_record;
+use block_exits::instr_addr;
+use block_exits::key_of;
 use block_file::BlockRecord;
 use emit_flow::emit_closing;
-use plan::instr_addr;
-use plan::key_of;
 ghost use mathlib.Core.Path.{_≡_};
 ghost use mathlib.Core.List.{List, []};
 ghost use Prim.Native.Nat.{ℕ, _*_, _≤_, _<_};
 ghost use lib.ListN.{length};
-ghost use Rattle.block_file.specs.Trailer.{blockCount};
+ghost use Rattle.records.specs.Trailer.{blockCount};
 ghost use Rattle.text.specs.Wrote.{Wrote};
 ghost use Rattle.c_tree.specs.Stmt.{end};
 ghost use Rattle.c_tree.specs.Print.{codeText};

@@ -10,7 +10,7 @@ use Rattle.armv4t.proofs.Arms.{arm, others}
 use Rattle.armv4t.proofs.Op.{enum, the-type}
 use Rattle.armv4t.specs.declared.Instr.{Instr}
 use Rattle.armv4t.specs.declared.Op.{Op}
-use Rattle.block_file.specs.declared.decode.TimedInstr.{TimedInstr}
+use Rattle.instr_records.specs.declared.decode.TimedInstr.{TimedInstr}
 use Rattle.forms.specs.InlineBody.{opBody}
 use Rattle.forms.specs.Block.{emitStraight, emitOp}
 

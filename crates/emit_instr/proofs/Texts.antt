@@ -9,7 +9,7 @@ use Rattle.text.specs.Wrote.{Wrote}
 use Rattle.c_tree.specs.Expr.{Expr}
 use Rattle.c_tree.specs.Stmt.{Plain, Owner, common, retInterp, end, _⨾_}
 use Rattle.c_tree.specs.Print.{exprText, codeText}
-use Rattle.plan.specs.Exits.{keyOf, isAl}
+use Rattle.block_exits.specs.Exits.{keyOf, isAl}
 use Rattle.forms.specs.Forms.{Lines, Native, straight, holds, branch, jump, Form, shell, records, Body}
 use Rattle.forms.specs.Operands.{condExpr}
 use Rattle.forms.specs.InlineBody.{apart}

@@ -9,7 +9,7 @@ use Rattle.text.specs.Doc.{Doc, _▸_}
 use Rattle.c_tree.specs.Expr.{Expr}
 use Rattle.c_tree.specs.Stmt.{common, end}
 use Rattle.c_tree.specs.Print.{exprText, codeText}
-use Rattle.plan.specs.Exits.{keyOf}
+use Rattle.block_exits.specs.Exits.{keyOf}
 use Rattle.forms.specs.Forms.{Lines, Form, Body}
 use Rattle.lowering.specs.Block.{lines, has, rest}
 use Rattle.emit_flow.specs.Pieces.{straightOpen, straightEnd, beforeCondition, holdsOpen, holdsEnd}

@@ -1,15 +1,15 @@
 // Instructions left to the interpreter.
 use crate::step::Step;
 use armv4t::Instr;
+use block_exits::key_of;
 use emit_flow::emit_last_shell;
 use emit_flow::emit_shell;
-use plan::key_of;
 ghost use mathlib.Core.Path.{_≡_};
 ghost use mathlib.Core.Bool.{Bool, true, false, not, cond, _&&_};
 ghost use mathlib.Core.List.{List, _∷_};
 ghost use Prim.Native.Nat.{ℕ, _+_};
 ghost use Rattle.c_tree.specs.Stmt.{end};
-ghost use Rattle.plan.specs.Exits.{fallThrough};
+ghost use Rattle.block_exits.specs.Exits.{fallThrough};
 ghost use Rattle.forms.specs.Forms.{Form, Body};
 ghost use Rattle.forms.specs.Block.{emitShell};
 ghost use Rattle.lowering.specs.Block.{rest};

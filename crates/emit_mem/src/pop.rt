@@ -15,7 +15,7 @@ ghost use Prim.Native.Nat.{_+_, _*_};
 ghost use Rattle.text.specs.Doc.{text, _▸_};
 ghost use Rattle.text.specs.Wrote.{Wrote};
 ghost use Rattle.armv4t.specs.declared.Instr.{Instr};
-ghost use Rattle.plan.specs.Exits.{isAl};
+ghost use Rattle.block_exits.specs.Exits.{isAl};
 ghost use Rattle.c_tree.specs.Expr.{udec, x-addr, reg, add, lit, get, bin};
 ghost use Rattle.c_tree.specs.Stmt.{common, plain, end, _⨾_};
 ghost use Rattle.c_tree.specs.Print.{codeText};

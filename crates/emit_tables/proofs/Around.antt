@@ -10,8 +10,7 @@ use lib.Seq.{take-suc, take-all, length-take-le}
 use Rattle.text.specs.Doc.{Doc, nothing, text, _▸_, flat, each}
 use Rattle.text.specs.Wrote.{Wrote}
 use Rattle.text.proofs.Laws.{seq, said}
-use Rattle.block_file.specs.Parse.{Block}
-use Rattle.plan.specs.Plan.{blockKey}
+use Rattle.block_file.specs.Parse.{Block, blockKey}
 use Rattle.members.specs.Members.{keysOf}
 use Rattle.c_tree.specs.Stmt.{call, end, _⨾_, block, function, extern, count}
 use Rattle.c_tree.specs.Print.{casesText, rowText, topText, unitText}

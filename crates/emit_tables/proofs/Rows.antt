@@ -2,21 +2,20 @@
 use mathlib.Core.Path.{_≡_, refl, sym, ap, _∙_}
 use Prim.Native.Nat.{ℕ, _+_, _<_}
 use native.Mathlib.Omega.{arith}
-use mathlib.Core.Bool.{cond}
 use mathlib.Core.List.{List}
 use lib.ListN.{length, getD, length-map, List·getD-eq-default}
 use Rattle.block_file.specs.declared.read.BlockRecord.{BlockRecord}
 use Rattle.block_file.specs.declared.read.FoundBlock.{FoundBlock}
-use Rattle.block_file.specs.BlockRecord.{countSum}
-use Rattle.block_file.specs.Parse.{Block, blockAt}
-use Rattle.block_file.specs.Read.{foundBlock}
-use Rattle.block_file.specs.Trailer.{blockCount, blockStart}
+use Rattle.records.specs.BlockRecord.{countSum, keyPlus}
+use Rattle.block_file.specs.Parse.{Block, blockAt, blocksOf, Accepted, blockKey}
+use Rattle.block_file.specs.Read.{recordAt, foundBlock, IsBlock}
+use Rattle.records.specs.Trailer.{blockCount, blockStart}
 use Rattle.block_file.proofs.Accepted.{length-of}
-use Rattle.plan.specs.Accepted.{blocksOf, Accepted, IsBlock}
-use Rattle.plan.specs.Exits.{keyOf}
-use Rattle.plan.specs.Plan.{blockKey, groups}
-use Rattle.plan.proofs.Accepted.{missing, block-inside, block-record, key-plus}
-use Rattle.plan.proofs.Keys.{key-of-record, block-key}
+use Rattle.block_exits.specs.Exits.{keyOf}
+use Rattle.plan.specs.Plan.{groups}
+use Rattle.block_file.proofs.IsBlock.{missing, block-inside, block-record}
+use Rattle.block_exits.proofs.OwnKey.{key-plus}
+use Rattle.block_file.proofs.Keys.{block-key}
 use Rattle.plan.proofs.Listing.{map-at}
 use Rattle.members.specs.Members.{membersOf}
 use Rattle.members.proofs.Places.{start-next}
@@ -29,15 +28,15 @@ file-length f ok = length-map (blocksOf f) blockKey ∙ length-of f (blocksOf f)
 -- the key of a record that was found
 pub key-found : (f : List ℕ) (i : ℕ) (b : BlockRecord) (key : ℕ) → foundBlock f i ≡ FoundBlock.At b → key ≡ keyOf (b .addr) (b .thumb) → Accepted f
     → key ≡ getD (fileKeys f) i 0
+unfolding recordAt
 key-found f i b key found e ok =
     let is : IsBlock f i b (countSum f i) = record { accepted = ok; found = found; starts = refl } in
     let inside : i < blockCount f = block-inside is in
     let other : Block = blockAt f 0 0 in
     e
     ∙ key-plus is
-    ∙ ap (λ (r : BlockRecord). r .addr + cond (r .thumb) 1 0) (block-record is)
-    ∙ key-of-record f (blockStart f i)
-    ∙ sym (block-key f ok i other inside)
+    ∙ ap (λ (r : BlockRecord). keyPlus (r .addr) (r .thumb)) (block-record is)
+    ∙ sym (block-key f (blocksOf f) ok i other inside)
     ∙ sym (map-at blockKey (blocksOf f) i other 0 (omega (arith, inside, length-of f (blocksOf f) ok)))
 
 -- and that of none

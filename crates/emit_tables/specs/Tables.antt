@@ -2,8 +2,8 @@
 use Prim.Native.Nat.{ℕ, suc}
 use mathlib.Core.Path.{_≡_}
 use mathlib.Core.List.{List, map}
-use Rattle.plan.specs.Accepted.{blocksOf}
-use Rattle.plan.specs.Plan.{blockKey, groups}
+use Rattle.block_file.specs.Parse.{blocksOf, blockKey}
+use Rattle.plan.specs.Plan.{groups}
 use Rattle.members.specs.Members.{membersOf, keysOf, startOf}
 use Rattle.members.specs.Prepared.{Ready}
 use Rattle.forms.specs.Forms.{Body}

@@ -7,7 +7,7 @@ ghost use mathlib.Core.List.{List, _∷_, map};
 ghost use Prim.Native.Nat.{ℕ, _*_, _≤_, _<_};
 ghost use lib.ListN.{length};
 ghost use Rattle.text.specs.Wrote.{Wrote};
-ghost use Rattle.block_file.specs.Trailer.{blockCount};
+ghost use Rattle.records.specs.Trailer.{blockCount};
 ghost use Rattle.c_tree.specs.Print.{casesText, unitText};
 ghost use Rattle.forms.specs.Forms.{Body};
 ghost use Rattle.lowering.specs.Block.{bodyKey};

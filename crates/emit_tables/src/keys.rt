@@ -1,12 +1,12 @@
 // The keys of blocks, by their numbers and by the rows of a plan.
+use block_exits::key_of;
 use block_file::FoundBlock;
 use block_file::block_at;
 use members::row_block;
-use plan::key_of;
 ghost use mathlib.Core.Path.{_≡_};
 ghost use Prim.Native.Nat.{ℕ, _+_, _<_};
 ghost use lib.ListN.{length, getD};
-ghost use Rattle.plan.specs.Accepted.{blocksOf, Accepted};
+ghost use Rattle.block_file.specs.Parse.{blocksOf, Accepted};
 ghost use Rattle.plan.specs.Plan.{groups};
 ghost use Rattle.members.specs.Members.{membersOf, startOf};
 ghost use Rattle.members.specs.Prepared.{Ready};

@@ -9,10 +9,9 @@ use mathlib.Core.Option.{Option, none, some, Option·none-ne-some, Option·some-
 use lib.ListN.{length, drop, getElem?}
 use Rattle.fnv.specs.Fnv.{hashMultiplier}
 use Rattle.block_file.specs.Answer.{refusal, value}
-use Rattle.block_file.specs.Parse.{Block, Parsed}
-use Rattle.block_file.specs.Trailer.{blockCount}
+use Rattle.block_file.specs.Parse.{Block, Parsed, blocksOf, Accepted}
+use Rattle.records.specs.Trailer.{blockCount}
 use Rattle.block_file.proofs.Accepted.{length-of}
-use Rattle.plan.specs.Accepted.{blocksOf, Accepted}
 use Rattle.plan.specs.Calls.{cleared, Made, Outcome, handOver, callOnBlocks, callOnFile}
 use Rattle.lowering.specs.Units.{UnitAnswer, answerOf, unit, textOf, fileUnits}
 use Rattle.emit_units.specs.declared.extents.Extent.{Extent}

@@ -12,7 +12,7 @@ use lib.ListN.{length, length as ListN·length, getD, take, drop, getElem?, leng
 use lib.Seq.{take-suc, drop-cons, drop-length, getD-drop}
 use Rattle.text.specs.Wrote.{top}
 use Rattle.fnv.specs.Fnv.{hashMultiplier}
-use Rattle.plan.specs.Accepted.{blocksOf, Accepted}
+use Rattle.block_file.specs.Parse.{blocksOf, Accepted}
 use Rattle.plan.specs.Plan.{groups}
 use Rattle.members.specs.Members.{startOf}
 use Rattle.members.specs.Prepared.{Ready}

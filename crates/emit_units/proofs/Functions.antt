@@ -9,7 +9,7 @@ use Rattle.text.specs.Doc.{_▸_, flat, each}
 use Rattle.text.specs.Wrote.{Wrote}
 use Rattle.text.proofs.Laws.{seq, said}
 use Rattle.fnv.specs.Fnv.{hashMultiplier}
-use Rattle.plan.specs.Accepted.{blocksOf}
+use Rattle.block_file.specs.Parse.{blocksOf}
 use Rattle.plan.specs.Plan.{groups}
 use Rattle.plan.proofs.Listing.{map-at}
 use Rattle.c_tree.specs.Print.{casesText, codeText, unitText}

@@ -10,7 +10,7 @@ use lib.Seq.{getD-drop}
 use Rattle.text.specs.Doc.{_▸_, flat, each}
 use Rattle.text.specs.Wrote.{top, Wrote}
 use Rattle.text.proofs.Laws.{none, seq, said, each-append, each-more}
-use Rattle.plan.specs.Accepted.{blocksOf}
+use Rattle.block_file.specs.Parse.{blocksOf}
 use Rattle.plan.specs.Plan.{groups}
 use Rattle.members.specs.Members.{startOf}
 use Rattle.members.specs.Prepared.{Ready}

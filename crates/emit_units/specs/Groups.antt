@@ -5,7 +5,7 @@ use mathlib.Core.List.{List, [], map}
 use lib.ListN.{getD}
 use Rattle.text.specs.Doc.{Doc, _▸_}
 use Rattle.fnv.specs.Fnv.{hashMultiplier}
-use Rattle.plan.specs.Accepted.{blocksOf}
+use Rattle.block_file.specs.Parse.{blocksOf}
 use Rattle.c_tree.specs.Stmt.{label, end, _⨾_}
 use Rattle.c_tree.specs.Print.{codeText, unitText}
 use Rattle.forms.specs.Block.{bodyOf}

@@ -7,7 +7,7 @@ use mathlib.Core.Option.{none, some}
 use lib.ListN.{length, take, drop, getElem?}
 use Rattle.text.specs.Wrote.{top}
 use Rattle.fnv.specs.Fnv.{hashMultiplier}
-use Rattle.plan.specs.Accepted.{blocksOf}
+use Rattle.block_file.specs.Parse.{blocksOf}
 use Rattle.plan.specs.Plan.{groups}
 use Rattle.members.specs.Members.{startOf}
 use Rattle.c_tree.specs.Stmt.{Top}

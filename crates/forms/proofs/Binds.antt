@@ -22,9 +22,9 @@ use Rattle.armv4t.specs.declared.Op.the-variants.{Alu, Mul, MulLong, Swap, Bx, 
 use Rattle.armv4t.specs.declared.Instr.{Instr}
 use Rattle.armv4t.specs.AluOp.{isCompare}
 use Rattle.armv4t.specs.Bit0.{clearBit0}
-use Rattle.block_file.specs.declared.decode.TimedInstr.{TimedInstr}
+use Rattle.instr_records.specs.declared.decode.TimedInstr.{TimedInstr}
 use Rattle.block_file.specs.Parse.{Block}
-use Rattle.plan.specs.Exits.{isAl}
+use Rattle.block_exits.specs.Exits.{isAl}
 use Rattle.c_tree.specs.Expr.{Name, x-r, x-base, x-ob, x-addr, Place, reg, udec, Bin, operator, add, band, bxor, bor, Expr, lit, get, bin, un, compl}
 use Rattle.c_tree.specs.Stmt.{Plain}
 use Rattle.c_tree.specs.Preamble.{v32}

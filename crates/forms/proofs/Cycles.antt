@@ -13,9 +13,9 @@ use Rattle.armv4t.specs.declared.Instr.{Instr}
 use Rattle.armv4t.specs.Bit0.{clearBit0}
 use Rattle.armv4t.specs.Instr.{sizeOf}
 use Rattle.armv4t.specs.Fused.{fuse}
-use Rattle.block_file.specs.declared.decode.TimedInstr.{TimedInstr}
+use Rattle.instr_records.specs.declared.decode.TimedInstr.{TimedInstr}
 use Rattle.block_file.specs.Parse.{Block}
-use Rattle.plan.specs.Exits.{isAl}
+use Rattle.block_exits.specs.Exits.{isAl}
 use Rattle.c_tree.specs.Stmt.{Plain, registers, local, declare, adds, set, drop as discard, run, write, tick}
 use Rattle.forms.specs.Forms.{Lines, straight, holds, branch, jump, pair, bx, pop, Form, native, shell, weight}
 use Rattle.forms.specs.InlineBody.{apart, inlineBody}

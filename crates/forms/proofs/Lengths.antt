@@ -25,9 +25,9 @@ use Rattle.armv4t.specs.declared.Instr.{Instr}
 use Rattle.armv4t.specs.AluOp.{isCompare}
 use Rattle.armv4t.specs.Bit0.{clearBit0}
 use Rattle.armv4t.specs.Instr.{sizeOf}
-use Rattle.block_file.specs.declared.decode.TimedInstr.{TimedInstr}
+use Rattle.instr_records.specs.declared.decode.TimedInstr.{TimedInstr}
 use Rattle.block_file.specs.Parse.{Block}
-use Rattle.plan.specs.Exits.{isAl}
+use Rattle.block_exits.specs.Exits.{isAl}
 use Rattle.c_tree.specs.Expr.{x-ob, reg, udec, add, Expr, lit, get, bin}
 use Rattle.c_tree.specs.Stmt.{Plain}
 use Rattle.c_tree.specs.Preamble.{v32}

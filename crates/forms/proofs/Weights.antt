@@ -7,9 +7,9 @@ use mathlib.Core.List.{List, [], _∷_}
 use mathlib.Core.Option.{Option, none, some}
 use lib.ListN.{length}
 use Rattle.armv4t.specs.Fused.{fuse}
-use Rattle.block_file.specs.declared.decode.TimedInstr.{TimedInstr}
+use Rattle.instr_records.specs.declared.decode.TimedInstr.{TimedInstr}
 use Rattle.block_file.specs.Parse.{Block}
-use Rattle.plan.specs.Exits.{isAl}
+use Rattle.block_exits.specs.Exits.{isAl}
 use Rattle.forms.specs.Forms.{Lines, records, Form, weight, weights}
 use Rattle.forms.specs.InlineBody.{inlineBody}
 use Rattle.forms.specs.Block.{regionOf, emitLines, emitInstr, emitInstrs, bodyOf}

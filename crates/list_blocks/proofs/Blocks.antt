@@ -2,20 +2,20 @@
 -- Assumes nothing.
 use Prim.Native.Nat.{ℕ, zero, suc, _+_, _<_}
 use mathlib.Core.Path.{_≡_, sym, ap, ap₂, _∙_}
-use mathlib.Core.Bool.{cond}
 use mathlib.Core.List.{List, [], _∷_}
 use native.Mathlib.Nat.{zero-add}
 use native.Mathlib.Numerals.{add-one}
 use native.Mathlib.Omega.{arith}
 use lib.ListN.{length, getD, take}
 use Rattle.block_file.specs.declared.read.BlockRecord.{BlockRecord}
-use Rattle.block_file.specs.Trailer.{blockStart}
+use Rattle.records.specs.Trailer.{blockStart}
+use Rattle.records.specs.BlockRecord.{keyPlus}
 use Rattle.block_file.specs.Parse.{Block, blockAt}
-use Rattle.block_file.specs.Read.{recordAt}
+use Rattle.block_file.specs.Read.{recordAt, IsBlock}
 use Rattle.text.specs.Doc.{Doc, flat, _▸_}
-use Rattle.plan.specs.Accepted.{IsBlock}
-use Rattle.plan.specs.Exits.{keyOf, exits}
-use Rattle.plan.proofs.Accepted.{block-record, key-plus}
+use Rattle.block_exits.specs.Exits.{keyOf, exits}
+use Rattle.block_file.proofs.IsBlock.{block-record}
+use Rattle.block_exits.proofs.OwnKey.{key-plus}
 use Rattle.members.specs.Numbers.{groupOf}
 use Rattle.list_blocks.specs.Listing.{line, blockLine, linesFrom}
 
@@ -23,7 +23,7 @@ use Rattle.list_blocks.specs.Listing.{line, blockLine, linesFrom}
 pub block-line : {f : List ℕ} {i : ℕ} {b : BlockRecord} {first : ℕ} → IsBlock f i b first → (group key : ℕ) (keys : List ℕ) → key ≡ keyOf (b .addr) (b .thumb)
     → keys ≡ exits (blockAt f (blockStart f i) first) → line key group keys ≡ blockLine group (blockAt f (blockStart f i) first)
 unfolding blockLine blockAt recordAt
-block-line is group key keys e h = ap₂ (λ (k : ℕ) (l : List ℕ). line k group l) (e ∙ key-plus is ∙ ap (λ (r : BlockRecord). r .addr + cond (r .thumb) 1 0) (block-record is)) h
+block-line is group key keys e h = ap₂ (λ (k : ℕ) (l : List ℕ). line k group l) (e ∙ key-plus is ∙ ap (λ (r : BlockRecord). keyPlus (r .addr) (r .thumb)) (block-record is)) h
 
 -- the lines of one more block
 pub lines-more : (rows : List ℕ) (j : ℕ) (bs : List Block) (i : ℕ) (d : Block) (k : List ℕ) → i < length bs

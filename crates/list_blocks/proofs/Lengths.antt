@@ -5,13 +5,13 @@ use mathlib.Core.Path.{_≡_, refl, ap}
 use mathlib.Core.List.{List, [], _∷_}
 use native.Mathlib.Omega.{arith}
 use lib.ListN.{length}
-use Rattle.block_file.specs.Parse.{Block}
+use Rattle.block_file.specs.Parse.{Block, blockKey}
 use Rattle.text.specs.Doc.{text, print}
 use Rattle.text.specs.Wrote.{top}
 use Rattle.text.proofs.Lengths.{most, length-most}
-use Rattle.plan.specs.Exits.{exits}
-use Rattle.plan.specs.Plan.{blockKey, plan}
-use Rattle.plan.proofs.Edges.{exits-few}
+use Rattle.block_exits.specs.Exits.{exits}
+use Rattle.plan.specs.Plan.{plan}
+use Rattle.block_exits.proofs.Few.{exits-few}
 use Rattle.members.specs.Numbers.{groupOf}
 use Rattle.list_blocks.specs.Listing.{line, blockLine, linesFrom, listing}
 

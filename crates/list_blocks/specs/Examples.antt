@@ -7,10 +7,11 @@ use Rattle.block_file.specs.Parse.{Parsed}
 use Rattle.plan.specs.Calls.{partLimit, callOnBlocks, callOnFile}
 use Rattle.text.specs.Digits.{numeral, fixed}
 use Rattle.text.specs.Doc.{text, decimal, hexadecimal8, print}
-use Rattle.plan.specs.Examples.{armBlock, threeBlocks}
-use Rattle.plan.specs.Exits.{exits, instrExits}
-use Rattle.plan.specs.Forest.{follow}
-use Rattle.plan.specs.Plan.{target, joinExits, joinBlocks, parents, members, insert, sortByKey, parts, groupsFrom, groups, rowsFrom, plan}
+use Rattle.block_exits.specs.Examples.{armBlock, threeBlocks}
+use Rattle.block_exits.specs.Exits.{exits, instrExits}
+use Rattle.forest.specs.Forest.{follow}
+use Rattle.search.specs.Target.{target}
+use Rattle.plan.specs.Plan.{joinExits, joinBlocks, parents, members, insert, sortByKey, parts, groupsFrom, groups, rowsFrom, plan}
 use Rattle.list_blocks.specs.Calls.{listingCall}
 use Rattle.list_blocks.specs.Listing.{blockLine, linesFrom, listing}
 use Rattle.members.specs.Numbers.{groupOf}

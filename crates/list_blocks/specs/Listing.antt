@@ -1,10 +1,10 @@
 -- The listing of a file: a header, and one line for each block in file order.
 use Prim.Native.Nat.{ℕ, suc}
 use mathlib.Core.List.{List, [], _∷_}
-use Rattle.block_file.specs.Parse.{Block}
+use Rattle.block_file.specs.Parse.{Block, blockKey}
 use Rattle.text.specs.Doc.{Doc, nothing, text, dec, hex8, _▸_, each}
-use Rattle.plan.specs.Exits.{exits}
-use Rattle.plan.specs.Plan.{blockKey, plan}
+use Rattle.block_exits.specs.Exits.{exits}
+use Rattle.plan.specs.Plan.{plan}
 use Rattle.members.specs.Numbers.{groupOf}
 
 -- the exits of a line: each key with a space before it, or a space and `-` if there is none

@@ -1,20 +1,20 @@
 // The lines of a listing.
+use block_exits::Exits;
+use block_exits::exits_at;
+use block_exits::key_of;
 use block_file::BlockRecord;
 use block_file::FoundBlock;
 use block_file::block_at;
-use plan::Exits;
-use plan::exits_at;
-use plan::key_of;
 ghost use mathlib.Core.Path.{_≡_};
 ghost use Prim.Native.Nat.{ℕ, _+_, _*_, _≤_, _<_};
 ghost use lib.ListN.{length, getD};
-ghost use Rattle.block_file.specs.Trailer.{blockCount, blockStart};
-ghost use Rattle.block_file.specs.Parse.{blockAt};
+ghost use Rattle.records.specs.Trailer.{blockCount, blockStart};
+ghost use Rattle.block_file.specs.Parse.{blockAt, blocksOf, Accepted};
 ghost use Rattle.text.specs.Wrote.{Wrote};
-ghost use Rattle.plan.specs.Accepted.{blocksOf, Accepted, IsBlock};
+ghost use Rattle.block_file.specs.Read.{IsBlock};
 ghost use Rattle.plan.specs.Calls.{partLimit};
 ghost use Rattle.plan.specs.Plan.{plan};
-ghost use Rattle.plan.specs.Exits.{keysOf};
+ghost use Rattle.block_exits.specs.Exits.{keysOf};
 ghost use Rattle.list_blocks.specs.Listing.{exitsText, line, blockLine, listing};
 ghost use Rattle.members.specs.Numbers.{groupOf};
 
@@ -57,7 +57,7 @@ fn put_block(
     put_line(out, at, key_of(block.addr, block.thumb), group, exits)
 }
 
-// The header, and the lines of the n blocks of an accepted file, whose groups are in part 1 of the work numbers.
+// The header, and the lines of the n blocks of an accepted file, whose groups are in quarter 1 of the work numbers.
 pub(crate) fn put_listing(file: &[u8], work: &[u32], n: usize, out: &mut [u8]) -> usize
     requires { ⌜ (4 * n ≤ length (now work)) × (n ≤ 65536) × (n ≡ blockCount (now file)) ⌝ }
     requires { ⌜ Accepted (now file) × ((i : ℕ) → i < n → getD (now work) (n + i) 0 ≡ groupOf i (plan partLimit (blocksOf (now file)))) ⌝ }

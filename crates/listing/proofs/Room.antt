@@ -9,8 +9,8 @@ use lib.ListN.{length, take, drop, length-append}
 use lib.Seq.{take-at}
 use Rattle.block_file.specs.Answer.{Answer, refusal, value}
 use Rattle.block_file.specs.Parse.{Block, Parsed, parse}
-use Rattle.block_file.specs.Trailer.{blockCount}
-use Rattle.block_file.proofs.Accepted.{length-of, parts-of}
+use Rattle.records.specs.Trailer.{blockCount}
+use Rattle.block_file.proofs.Accepted.{length-of, sections-of}
 use Rattle.text.specs.Doc.{Doc, text, print}
 use Rattle.text.specs.Wrote.{Wrote}
 use Rattle.text.proofs.Laws.{whole}
@@ -44,7 +44,7 @@ line-shown {out₁} {out₂} {r} {d} w h = let put = whole w h in front (print d
 
 module _ (f : List ℕ) (short : length f ≤ longest) (work out : List ℕ) (numbers : 16384 ≤ length work) (bytes : room ≤ length out) where
   few : (bs : List Block) → parse f ≡ Parsed.accepted bs → 16 * length bs ≤ 65504
-  few bs is = omega (arith, length-of f bs is, parts-of f bs is .touch, parts-of f bs is .instrs)
+  few bs is = omega (arith, length-of f bs is, sections-of f bs is .touch, sections-of f bs is .instrs)
 
   call-is : (p : Parsed) → parse f ≡ p → listingCall p work out ≡ listed p work out
   unfolding callOnFile callOnBlocks

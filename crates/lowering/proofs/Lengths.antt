@@ -10,16 +10,16 @@ use native.Mathlib.Decide.{decLt}
 use lib.Dec.{leb, eqb}
 use lib.ListN.{length, getD, length-map}
 use Rattle.armv4t.specs.Bit0.{clearBit0}
-use Rattle.block_file.specs.Trailer.{blockCount, instrCount, blockStart}
-use Rattle.block_file.specs.BlockRecord.{addrAt, countAt, thumbAt, countSum}
+use Rattle.records.specs.Trailer.{blockCount, instrCount, blockStart}
+use Rattle.records.specs.BlockRecord.{addrAt, countAt, thumbAt, countSum}
 use Rattle.block_file.specs.Parse.{Block, Parsed, instrsFrom, blockAt, blocksFrom, parse, instrTotal}
 use Rattle.block_file.proofs.Accepted.{length-of, few-blocks, few-instrs, instrs-of}
-use Rattle.plan.specs.Forest.{range}
+use Rattle.forest.specs.Forest.{range}
 use Rattle.plan.specs.Plan.{groups}
 use Rattle.plan.proofs.Cutting.{instructions, instructions-append, instructions-within}
 use Rattle.plan.proofs.GroupLaws.{groups-once, groups-only, group-inside}
 use Rattle.plan.proofs.Listing.{count, counted, member-at, map-at}
-use Rattle.plan.proofs.Roots.{length-range, range-own}
+use Rattle.forest.proofs.Roots.{length-range, range-own}
 use Rattle.text.specs.Wrote.{top}
 use Rattle.text.specs.Digits.{fixed}
 use Rattle.text.specs.Doc.{hex8, text, _▸_, hexadecimal8, print, each}

@@ -12,11 +12,11 @@ use Rattle.armv4t.specs.declared.Cond.the-variants.{Eq, Al}
 use Rattle.armv4t.specs.declared.Op.{Op}
 use Rattle.armv4t.specs.declared.Op.the-variants.{Bx, Branch, ThumbBlHigh, ThumbBlLow, Swi}
 use Rattle.armv4t.specs.Fused.{fuse}
-use Rattle.block_file.specs.declared.decode.TimedInstr.{TimedInstr}
+use Rattle.instr_records.specs.declared.decode.TimedInstr.{TimedInstr}
 use Rattle.block_file.specs.Parse.{Block}
 use Rattle.plan.specs.Calls.{partLimit}
-use Rattle.plan.specs.Exits.{instrExits, exits}
-use Rattle.plan.specs.Forest.{follow}
+use Rattle.block_exits.specs.Exits.{instrExits, exits}
+use Rattle.forest.specs.Forest.{follow}
 use Rattle.text.specs.Digits.{numeral, fixed}
 use Rattle.text.specs.Doc.{text, decimal, hexadecimal, hexadecimal8, hexadecimal16, print}
 use Rattle.c_tree.specs.Print.{codeText}
@@ -25,7 +25,8 @@ use Rattle.forms.specs.Block.{emitInstr, emitInstrs, bodyOf}
 use Rattle.forms.specs.InlineBody.{inlineBody}
 use Rattle.lowering.specs.Block.{guarded, chain, transfer, closing, nativeText, rest, underGuard, blockCode}
 use Rattle.lowering.specs.Units.{declared, emitBlock, emitGroup, tail, textOf, cut, membersOf, unitsOf}
-use Rattle.plan.specs.Plan.{target, joinExits, joinBlocks, parents, members, insert, sortByKey, parts, groupsFrom, groups, rowsFrom, plan}
+use Rattle.search.specs.Target.{target}
+use Rattle.plan.specs.Plan.{joinExits, joinBlocks, parents, members, insert, sortByKey, parts, groupsFrom, groups, rowsFrom, plan}
 
 -- an instruction of one cycle
 timed : ℕ → Bool → Cond → Op → TimedInstr

@@ -14,14 +14,15 @@ use Rattle.armv4t.specs.declared.Operand2.{Operand2}
 use Rattle.armv4t.specs.declared.Shift.{Shift}
 use Rattle.armv4t.specs.declared.ShiftKind.the-variants.{Lsl}
 use Rattle.armv4t.specs.Fused.{fuse}
-use Rattle.block_file.specs.declared.decode.TimedInstr.{TimedInstr}
+use Rattle.instr_records.specs.declared.decode.TimedInstr.{TimedInstr}
 use Rattle.block_file.specs.Parse.{Block}
 use Rattle.text.specs.Digits.{numeral, fixed}
 use Rattle.text.specs.Doc.{text, decimal, hexadecimal, hexadecimal8, hexadecimal16, print}
 use Rattle.plan.specs.Calls.{partLimit}
-use Rattle.plan.specs.Exits.{exits, instrExits}
-use Rattle.plan.specs.Forest.{follow}
-use Rattle.plan.specs.Plan.{target, joinExits, joinBlocks, parents, members, insert, sortByKey, parts, groupsFrom, groups}
+use Rattle.block_exits.specs.Exits.{exits, instrExits}
+use Rattle.forest.specs.Forest.{follow}
+use Rattle.search.specs.Target.{target}
+use Rattle.plan.specs.Plan.{joinExits, joinBlocks, parents, members, insert, sortByKey, parts, groupsFrom, groups}
 use Rattle.fnv.specs.Fnv.{hashMultiplier, fnvFrom, fnv64}
 use Rattle.forms.specs.Block.{emitInstr, emitInstrs, bodyOf}
 use Rattle.forms.specs.InlineBody.{inlineBody}

@@ -10,13 +10,14 @@ use native.Mathlib.Omega.{arith}
 use borrow.Author.Tests.{eq-eqb, ne-eqb, eqb-true}
 use lib.Dec.{eqb}
 use lib.ListN.{length, getD}
-use Rattle.block_file.specs.Trailer.{blockCount, blockStart}
-use Rattle.block_file.specs.BlockRecord.{keyAt}
-use Rattle.block_file.specs.Parse.{Block}
-use Rattle.plan.specs.Accepted.{blocksOf}
-use Rattle.plan.specs.Plan.{blockKey, joinable, target, groups}
+use Rattle.records.specs.Trailer.{blockCount, blockStart}
+use Rattle.records.specs.BlockRecord.{keyAt}
+use Rattle.block_file.specs.Parse.{Block, blocksOf, blockKey}
+use Rattle.search.specs.Target.{joinable, target}
+use Rattle.plan.specs.Plan.{groups}
 use Rattle.plan.proofs.GroupLaws.{group-of, group-inside, group-joinable}
-use Rattle.plan.proofs.Keys.{block-key, keys-rise, target-some}
+use Rattle.block_file.proofs.Keys.{block-key, keys-rise}
+use Rattle.search.proofs.Searching.{target-some}
 use Rattle.plan.proofs.Listing.{map-at}
 use Rattle.members.specs.Members.{membersOf, keysOf, among}
 use Rattle.members.specs.Prepared.{Ready}
@@ -78,22 +79,22 @@ module _ {f : List ℕ} {n limit : ℕ} {work : List ℕ} (ready : Ready f n lim
   inside-of i h = omega (arith, blocks-all ready, ready .all)
 
   key-is : (i : ℕ) → i < length (blocksOf f) → keyOf bs i ≡ keyAt f (blockStart f i)
-  key-is i h = map-at blockKey bs i nowhere 0 h ∙ block-key f (ready .accepted) i nowhere (inside-of i h)
+  key-is i h = map-at blockKey bs i nowhere 0 h ∙ block-key f (blocksOf f) (ready .accepted) i nowhere (inside-of i h)
 
   -- blocks with the same key are one
   key-once : (i j : ℕ) → i < length (blocksOf f) → j < length (blocksOf f) → keyOf bs i ≡ keyOf bs j → i ≡ j
   key-once i j h k e =
       let same : keyAt f (blockStart f i) ≡ keyAt f (blockStart f j) = sym (key-is i h) ∙ e ∙ key-is j k in
       elim (decLt i j) [
-        | yes l ↦ absurd (omega (arith, keys-rise f (ready .accepted) i j l (inside-of j k)))
+        | yes l ↦ absurd (omega (arith, keys-rise f (blocksOf f) (ready .accepted) i j l (inside-of j k)))
         | no d ↦
             elim (decLt j i) [
-              | yes l ↦ absurd (omega (arith, keys-rise f (ready .accepted) j i l (inside-of i h)))
+              | yes l ↦ absurd (omega (arith, keys-rise f (blocksOf f) (ready .accepted) j i l (inside-of i h)))
               | no d′ ↦ omega arith
             ]
       ]
 
-  -- the group of a block in part 1
+  -- the group of a block in quarter 1
   number-is : (i g : ℕ) → i < length (blocksOf f) → List·Memᴰ i (membersOf limit (blocksOf f) g) → getD work (n + i) 0 ≡ g
   number-is i g h m = ready .groups i (omega (arith, blocks-all ready)) ∙ group-listed limit bs i g h m
 

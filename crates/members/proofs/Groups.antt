@@ -1,4 +1,4 @@
--- The group of each block in part 1, as the rows are gone through from the last to the first.
+-- The group of each block in quarter 1, as the rows are gone through from the last to the first.
 -- Assumes nothing.
 use Prim.Native.Nat.{ℕ, suc, _+_, _*_, _≤_, _<_}
 use mathlib.Core.Path.{_≡_, refl, sym, ap, ap₂, _∙_}
@@ -9,7 +9,7 @@ use native.Mathlib.Omega.{arith}
 use borrow.Author.Tests.{eq-eqb, ne-eqb}
 use lib.ListN.{length, getD, set, take, drop, length-set, length-take, length-drop, drop-of-length-le}
 use lib.Seq.{length-take-le, drop-cons, getD-take, getD-drop, getD-set-same, getD-set-other}
-use Rattle.plan.specs.Accepted.{blocksOf, Accepted}
+use Rattle.block_file.specs.Parse.{blocksOf, Accepted}
 use Rattle.plan.specs.Groups.{Grouped, interleave}
 use Rattle.plan.specs.Plan.{plan}
 use Rattle.members.specs.Numbers.{groupOf, rowsAt, GroupsFrom}
@@ -37,7 +37,7 @@ rows-next n work p h room =
     (getD-take n (drop (2 * n) work) p 0 h ∙ getD-drop (2 * n) work p 0)
     (getD-take n work p 0 h))
 
--- part 1 is 0 up to i, and no other number changed
+-- quarter 1 is 0 up to i, and no other number changed
 pub record Zeroed (n i : ℕ) (work work′ : List ℕ) : Type 0 where
   pub same : length work′ ≡ length work
   pub before : (k : ℕ) → k < n → getD work′ k 0 ≡ getD work k 0

@@ -9,7 +9,7 @@ use native.Mathlib.Omega.{arith}
 use lib.ListN.{length, getD, take, drop, length-append, length-drop}
 use lib.Seq.{length-take-le, getD-take, getD-drop}
 use Rattle.block_file.proofs.Accepted.{length-of}
-use Rattle.plan.specs.Accepted.{blocksOf}
+use Rattle.block_file.specs.Parse.{blocksOf}
 use Rattle.plan.specs.Groups.{interleave}
 use Rattle.plan.specs.Plan.{groups, groupRows, rowsFrom, plan}
 use Rattle.plan.proofs.GroupLaws.{group-some, group-inside}

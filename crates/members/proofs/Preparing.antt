@@ -1,4 +1,4 @@
--- The first instruction of each block in part 3, and the steps of filling the work numbers one after the other.
+-- The first instruction of each block in quarter 3, and the steps of filling the work numbers one after the other.
 -- Assumes nothing.
 use Prim.Native.Nat.{ℕ, _+_, _*_, _≤_, _<_}
 use mathlib.Core.Path.{_≡_, refl, sym, ap, ap₂, _∙_, subst}
@@ -8,9 +8,9 @@ use native.Mathlib.Decide.{ℕ-discrete}
 use native.Mathlib.Omega.{arith}
 use lib.ListN.{length, getD, set, take, drop, length-set, length-drop}
 use lib.Seq.{length-take-le, ext-getD, getD-take, getD-drop, getD-set-same, getD-set-other}
-use Rattle.block_file.specs.Trailer.{blockCount}
-use Rattle.block_file.specs.BlockRecord.{countSum}
-use Rattle.plan.specs.Accepted.{Accepted}
+use Rattle.records.specs.Trailer.{blockCount}
+use Rattle.records.specs.BlockRecord.{countSum}
+use Rattle.block_file.specs.Parse.{Accepted}
 use Rattle.plan.specs.Groups.{Grouped, interleave}
 use Rattle.members.specs.Numbers.{GroupsFrom}
 use Rattle.members.specs.Prepared.{FirstsTo, Prepared}
@@ -46,10 +46,10 @@ front-same n v w room e same =
     let long : length (take n w) ≡ n = length-take-le n w (omega arith) in
     ext-getD 0 (take n w) (take n v) (long ∙ sym (length-take-le n v room)) (λ k h. getD-take n w k 0 (omega arith) ∙ same k (omega arith) ∙ sym (getD-take n v k 0 (omega arith)))
 
--- parts with the same numbers
-part-same : (n at : ℕ) (v w : List ℕ) → at + n ≤ length v → length w ≡ length v → ((k : ℕ) → k < n → getD w (at + k) 0 ≡ getD v (at + k) 0)
+-- quarters with the same numbers
+quarter-same : (n at : ℕ) (v w : List ℕ) → at + n ≤ length v → length w ≡ length v → ((k : ℕ) → k < n → getD w (at + k) 0 ≡ getD v (at + k) 0)
     → take n (drop at w) ≡ take n (drop at v)
-part-same n at v w room e same =
+quarter-same n at v w room e same =
     front-same n (drop at v) (drop at w) (omega (arith, length-drop at v)) (omega (arith, length-drop at v, length-drop at w))
     (λ k h. getD-drop at w k 0 ∙ same k h ∙ sym (getD-drop at v k 0))
 
@@ -66,7 +66,7 @@ module _ {f : List ℕ} {n limit : ℕ} {work work₁ work₂ work₃ : List ℕ
   same-rows : interleave (take n (drop (2 * n) work₃)) (take n work₃) ≡ interleave (take n (drop (2 * n) work₁)) (take n work₁)
   same-rows =
       ap₂ interleave
-      (part-same n (2 * n) work₁ work₃ (omega (arith, grouped .same)) long (λ k h. kept (2 * n + k) (inr (omega arith, omega arith))))
+      (quarter-same n (2 * n) work₁ work₃ (omega (arith, grouped .same)) long (λ k h. kept (2 * n + k) (inr (omega arith, omega arith))))
       (front-same n work₁ work₃ (omega (arith, grouped .same)) long (λ k h. kept k (inl h)))
 
   pub prepared : Prepared f n limit work work₃

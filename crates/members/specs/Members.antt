@@ -4,8 +4,8 @@ use mathlib.Core.Bool.{Bool, false, _||_}
 use mathlib.Core.List.{List, [], _∷_, map}
 use lib.Dec.{eqb}
 use lib.ListN.{length, getD}
-use Rattle.block_file.specs.Parse.{Block}
-use Rattle.plan.specs.Plan.{blockKey, groups}
+use Rattle.block_file.specs.Parse.{Block, blockKey}
+use Rattle.plan.specs.Plan.{groups}
 
 -- the blocks of a group, by its number
 abbrev pub membersOf : ℕ → List Block → ℕ → List ℕ

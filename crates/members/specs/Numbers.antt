@@ -1,4 +1,4 @@
--- What the work numbers hold while part 1 gets the group of each block.
+-- What the work numbers hold while quarter 1 gets the group of each block.
 use Prim.Native.Nat.{ℕ, _+_, _*_, _≤_, _<_}
 use mathlib.Core.Path.{_≡_}
 use mathlib.Core.Bool.{cond}
@@ -13,11 +13,11 @@ groupOf i [] = 0
 groupOf i (g ∷ []) = 0
 groupOf i (g ∷ j ∷ rows) = cond (eqb j i) g (groupOf i rows)
 
--- the rows from row p on, in parts 2 and 0
+-- the rows from row p on, in quarters 2 and 0
 abbrev pub rowsAt : ℕ → List ℕ → ℕ → List ℕ
 rowsAt n work p = interleave (drop p (take n (drop (2 * n) work))) (drop p (take n work))
 
--- part 1 has the groups of the rows from row p on, and no other number changed
+-- quarter 1 has the groups of the rows from row p on, and no other number changed
 pub record GroupsFrom (n p : ℕ) (work work′ : List ℕ) : Type 0 where
   pub same : length work′ ≡ length work
   pub before : (k : ℕ) → k < n → getD work′ k 0 ≡ getD work k 0

@@ -1,11 +1,11 @@
 // Whether a key is that of a member of a group.
-use plan::Target;
-use plan::find_target;
+use search::Target;
+use search::find_target;
 ghost use mathlib.Core.Path.{_≡_};
 ghost use Prim.Native.Nat.{ℕ, _*_, _≤_, _<_};
 ghost use lib.ListN.{length};
-ghost use Rattle.block_file.specs.Trailer.{blockCount};
-ghost use Rattle.plan.specs.Accepted.{blocksOf};
+ghost use Rattle.records.specs.Trailer.{blockCount};
+ghost use Rattle.block_file.specs.Parse.{blocksOf};
 ghost use Rattle.members.specs.Members.{membersOf, keysOf, among};
 ghost use Rattle.members.specs.Prepared.{Ready};
 

@@ -11,9 +11,9 @@ use native.Mathlib.Omega.{arith}
 use borrow.Author.Tests.{eqb-true, eq-eqb, ne-eqb}
 use lib.ListN.{length, getD}
 use lib.Dec.{eqb}
-use Rattle.block_file.specs.Parse.{Block}
-use Rattle.plan.specs.Forest.{range, root}
-use Rattle.plan.specs.Plan.{blockKey, parents, members, sortByKey, parts, groupsFrom, groups}
+use Rattle.block_file.specs.Parse.{Block, blockKey}
+use Rattle.forest.specs.Forest.{range, root}
+use Rattle.plan.specs.Plan.{parents, members, sortByKey, parts, groupsFrom, groups}
 use Rattle.plan.proofs.Cutting.{NoFall, sort-count, sort-member, sort-sorted, parts-all}
 use Rattle.plan.proofs.Edges.{root-block}
 use Rattle.plan.proofs.Listing.{count, count-append, count-here, count-other, none-counted, flatten-append, InOrder, order-weaker}

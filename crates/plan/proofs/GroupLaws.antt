@@ -8,9 +8,10 @@ use native.Mathlib.Decide.{decLe, decLt}
 use native.Mathlib.Omega.{arith}
 use borrow.Author.Tests.{eqb-true}
 use lib.ListN.{length, getD}
-use Rattle.block_file.specs.Parse.{Block}
-use Rattle.plan.specs.Forest.{range, root}
-use Rattle.plan.specs.Plan.{blockKey, joinable, page, parents, groupsFrom, groups}
+use Rattle.block_file.specs.Parse.{Block, blockKey}
+use Rattle.forest.specs.Forest.{range, root}
+use Rattle.search.specs.Target.{joinable, page}
+use Rattle.plan.specs.Plan.{parents, groupsFrom, groups}
 use Rattle.plan.proofs.Components.{component, countsOf, component-member, component-rises, components-once, groups-flat, groups-part}
 use Rattle.plan.proofs.Cutting.{NoFall, sort-order, instructions, instructions-within, part-fits, part-piece}
 use Rattle.plan.proofs.Edges.{joinsAt, root-self, root-alone}

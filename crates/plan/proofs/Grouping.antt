@@ -12,23 +12,22 @@ use native.Mathlib.Decide.{ℕ-discrete}
 use borrow.Rule.Slice.PartMut.{putMid}
 use lib.ListN.{length, getD, set, take, drop, length-set, List·getD-map}
 use lib.Seq.{getD-set-same, getD-set-other, drop-cons, drop-length, getD-drop}
-use Rattle.block_file.specs.Trailer.{blockCount, blockStart}
-use Rattle.block_file.specs.BlockRecord.{countAt, countSum, keyAt}
-use Rattle.block_file.specs.Parse.{Block}
+use Rattle.records.specs.Trailer.{blockCount, blockStart}
+use Rattle.records.specs.BlockRecord.{countAt, countSum, keyAt}
+use Rattle.block_file.specs.Parse.{Block, blocksOf, Accepted, blockKey}
 use Rattle.block_file.proofs.Accepted.{few-instrs, instrs-inside, length-of, record-reads}
 use Rattle.block_file.specs.Read.{recordAt}
-use Rattle.plan.specs.Accepted.{blocksOf, Accepted}
-use Rattle.plan.specs.Forest.{Forest, SameRoots, range, root}
-use Rattle.plan.specs.Plan.{blockKey, joinBlocks, parents, plan}
-use Rattle.plan.specs.Groups.{interleave, part1, Joined, HasFirsts, Firsts, joinBlock, AllJoined, AllRooted, Grouped}
+use Rattle.forest.specs.Forest.{Forest, SameRoots, range, root}
+use Rattle.plan.specs.Plan.{joinBlocks, parents, plan}
+use Rattle.plan.specs.Groups.{interleave, quarter1, Joined, HasFirsts, Firsts, joinBlock, AllJoined, AllRooted, Grouped}
 use Rattle.plan.specs.Links.{HasRoots, Linked, Outside}
 use Rattle.plan.specs.Order.{HasCounts, Placed}
-use Rattle.plan.proofs.Keys.{block-key, keys-rise}
 use Rattle.plan.proofs.Components.{countsOf}
 use Rattle.plan.proofs.Numbering.{plan-is, order-all}
-use Rattle.plan.proofs.Accepted.{nth-block}
-use Rattle.plan.proofs.Lending.{part-length, back-length, back-part, back-after, back-before}
-use Rattle.plan.proofs.Roots.{forest-range, same-self, length-range}
+use Rattle.block_file.proofs.IsBlock.{nth-block}
+use Rattle.block_file.proofs.Keys.{block-key, keys-rise}
+use Rattle.plan.proofs.Lending.{quarter-length, back-length, back-quarter, back-after, back-before}
+use Rattle.forest.proofs.Roots.{forest-range, same-self, length-range}
 
 -- what the pass over the counts keeps
 pub record Counting (f : List ℕ) (n : ℕ) (work : List ℕ) (sum m : ℕ) (work′ : List ℕ) : Type 0 where
@@ -87,13 +86,13 @@ pub record Edges (f : List ℕ) (n i : ℕ) (work work′ : List ℕ) : Type 0 w
   pub same : length work′ ≡ length work
   pub before : (k : ℕ) → k < n → getD work′ k 0 ≡ getD work k 0
   pub after : (k : ℕ) → 2 * n ≤ k → getD work′ k 0 ≡ getD work k 0
-  pub forest : Forest (2 * i) (part1 n work′)
-  pub roots : Accepted f → (q : List ℕ) × SameRoots (2 * i) (part1 n work′) q × (parents (blocksOf f) ≡ joinBlocks (blocksOf f) q i (drop i (blocksOf f)))
+  pub forest : Forest (2 * i) (quarter1 n work′)
+  pub roots : Accepted f → (q : List ℕ) × SameRoots (2 * i) (quarter1 n work′) q × (parents (blocksOf f) ≡ joinBlocks (blocksOf f) q i (drop i (blocksOf f)))
 
--- each block its own root, in the part that was lent
-module _ (f : List ℕ) (n : ℕ) (w p′ : List ℕ) (room : 4 * n ≤ length w) (own : p′ ≡ range (length (part1 n w)) 0) where
+-- each block its own root, in the quarter that was lent
+module _ (f : List ℕ) (n : ℕ) (w p′ : List ℕ) (room : 4 * n ≤ length w) (own : p′ ≡ range (length (quarter1 n w)) 0) where
   own-n : p′ ≡ range n 0
-  own-n = own ∙ ap (λ (m : ℕ). range m 0) (part-length n w room)
+  own-n = own ∙ ap (λ (m : ℕ). range m 0) (quarter-length n w room)
 
   own-long : length p′ ≡ n
   own-long = ap length own-n ∙ length-range n 0
@@ -110,21 +109,21 @@ module _ (f : List ℕ) (n : ℕ) (w p′ : List ℕ) (room : 4 * n ≤ length w
   pub edges-none : n ≡ blockCount f → Edges f n 0 (putMid n (2 * n - n) w p′) (putMid n (2 * n - n) w p′)
   unfolding parents
   edges-none all =
-      let part-is : part1 n (putMid n (2 * n - n) w p′) ≡ range n 0 = back-part n w p′ room own-long ∙ own-n in
+      let quarter-is : quarter1 n (putMid n (2 * n - n) w p′) ≡ range n 0 = back-quarter n w p′ room own-long ∙ own-n in
       record {
         few = zero-le;
         same = refl;
         before = λ k h. refl;
         after = λ k h. refl;
-        forest = subst (Forest 0) (sym part-is) (forest-range n);
+        forest = subst (Forest 0) (sym quarter-is) (forest-range n);
         roots = λ a. (
           range n 0,
-          subst (λ (p : List ℕ). SameRoots 0 p (range n 0)) (sym part-is) (same-self (forest-range n)),
+          subst (λ (p : List ℕ). SameRoots 0 p (range n 0)) (sym quarter-is) (same-self (forest-range n)),
           ap (λ (m : ℕ). joinBlocks (blocksOf f) (range m 0) 0 (blocksOf f)) (length-of f (blocksOf f) a ∙ sym all),
         );
       }
 
-  -- all edges, from the numbers before the part was lent
+  -- all edges, from the numbers before the quarter was lent
   pub edges-from : (w′ : List ℕ) → AllJoined f n (putMid n (2 * n - n) w p′) w′ → AllJoined f n w w′
   edges-from w′ e =
       record {
@@ -159,11 +158,11 @@ edges-more f n i w w′ w″ h all e j =
       same = j .same ∙ e .same;
       before = λ k l. j .before k l ∙ e .before k l;
       after = λ k l. j .after k l ∙ e .after k l;
-      forest = subst (λ (d : ℕ). Forest d (part1 n w″)) twice (j .depth (2 * i) (e .forest));
+      forest = subst (λ (d : ℕ). Forest d (quarter1 n w″)) twice (j .depth (2 * i) (e .forest));
       roots = λ a.
           let t = e .roots a in (
             joinBlock f i (t .0),
-            subst (λ (d : ℕ). SameRoots d (part1 n w″) (joinBlock f i (t .0))) twice (j .roots a (2 * i) (t .0) (omega arith) (t .1)),
+            subst (λ (d : ℕ). SameRoots d (quarter1 n w″) (joinBlock f i (t .0))) twice (j .roots a (2 * i) (t .0) (omega arith) (t .1)),
             t .2 ∙ next-block f a i (subst (λ (k : ℕ). i < k) all h) (t .0),
           );
     }
@@ -177,7 +176,7 @@ edges-all f n w w′ room all e =
       forest = e .forest;
       roots = λ a k h.
           let t = e .roots a in
-          t .1 .roots k (omega (arith, part-length n w′ (let r : 4 * n ≤ length w′ = omega (arith, e .same) in r)))
+          t .1 .roots k (omega (arith, quarter-length n w′ (let r : 4 * n ≤ length w′ = omega (arith, e .same) in r)))
           ∙ ap (λ (q : List ℕ). root q k) (sym (t .2 ∙ last-block a (t .0)));
     }
   where
@@ -201,8 +200,8 @@ keys-rising : (f : List ℕ) → Accepted f → (i j : ℕ) → i < j → j < le
 unfolding nowhere
 keys-rising f a i j l h =
     let inside : j < blockCount f = subst (λ (m : ℕ). j < m) (length-of f (blocksOf f) a) h in
-    let key-of : (k : ℕ) → k < blockCount f → getD (map blockKey (blocksOf f)) k 0 ≡ keyAt f (blockStart f k) = λ k b. List·getD-map blockKey (blocksOf f) k nowhere ∙ block-key f a k nowhere b in
-    rw (key-of i (omega arith), key-of j inside) (le-of-lt (keys-rise f a i j l inside))
+    let key-of : (k : ℕ) → k < blockCount f → getD (map blockKey (blocksOf f)) k 0 ≡ keyAt f (blockStart f k) = λ k b. List·getD-map blockKey (blocksOf f) k nowhere ∙ block-key f (blocksOf f) a k nowhere b in
+    rw (key-of i (omega arith), key-of j inside) (le-of-lt (keys-rise f (blocksOf f) a i j l inside))
 
 -- the steps of grouping, one after the other
 module _ (f : List ℕ) (n limit : ℕ) (w w₂ w₃ w₄ : List ℕ) (few : n ≤ 65536) (all : n ≡ blockCount f) (room : 4 * n ≤ length w) (joined : AllJoined f n w w₂)
@@ -220,7 +219,7 @@ module _ (f : List ℕ) (n limit : ℕ) (w w₂ w₃ w₄ : List ℕ) (few : n �
   pub place-asks : ((n ≤ 65536) × (4 * n ≤ length w₄)) × Linked (drop (2 * n) w₄) n 0 w₄
   place-asks = ((few, room₄), links (drop (2 * n) w₄) roots-here)
 
-  root-at : (j : ℕ) → j < n → getD roots j 0 ≡ root (part1 n w₂) j
+  root-at : (j : ℕ) → j < n → getD roots j 0 ≡ root (quarter1 n w₂) j
   root-at j h = sym (roots-here j h) ∙ rooted .here j h
 
   root-small : (j : ℕ) → j < n → getD roots j 0 < n

@@ -9,10 +9,9 @@ use borrow.Author.Tests.{lt-ltb, le-ltb}
 use lib.ListN.{length, getD, drop, replicate, length-drop}
 use lib.Seq.{ext-getD, getD-drop}
 use Rattle.block_file.specs.Answer.{refusal, value}
-use Rattle.block_file.specs.Trailer.{blockCount}
-use Rattle.block_file.specs.Parse.{Block, Parsed}
+use Rattle.records.specs.Trailer.{blockCount}
+use Rattle.block_file.specs.Parse.{Block, Parsed, blocksOf, Accepted}
 use Rattle.block_file.proofs.Accepted.{length-of}
-use Rattle.plan.specs.Accepted.{blocksOf, Accepted}
 use Rattle.plan.specs.Calls.{cleared, Made, Outcome, handOver, callOnBlocks, callOnFile}
 
 -- numbers past m, where none of them changed

@@ -1,32 +1,30 @@
 -- Edges in the work numbers: one, those of a block, and those of all blocks.
 -- Assumes nothing.
 use mathlib.Core.Path.{_≡_, refl, sym, ap, _∙_, subst}
+use mathlib.Core.Bool.{true, false}
 use mathlib.Core.List.{List}
-use Prim.Native.Nat.{ℕ, _+_, _*_, _-_, _/_, _≤_, _<_, _^_}
+use Prim.Native.Nat.{ℕ, _+_, _*_, _-_, _≤_, _<_}
 use native.Mathlib.Nat.{add-assoc}
 use native.Mathlib.Omega.{arith}
 use borrow.Rule.Slice.PartMut.{putMid}
 use lib.ListN.{length}
-use borrow.Author.Tests.{eq-eqb, ne-eqb}
-use lib.Dec.{eqb}
 use Rattle.block_file.specs.declared.read.BlockRecord.{BlockRecord}
 use Rattle.block_file.specs.declared.read.FoundBlock.{FoundBlock}
-use Rattle.block_file.specs.Trailer.{blockCount, blockStart}
-use Rattle.block_file.specs.BlockRecord.{countSum}
-use Rattle.block_file.specs.Parse.{blockAt}
+use Rattle.records.specs.Trailer.{blockCount, blockStart}
+use Rattle.records.specs.BlockRecord.{countSum}
+use Rattle.block_file.specs.Parse.{blockAt, blocksOf, Accepted}
 use Rattle.block_file.specs.Read.{recordAt, foundBlock}
-use Rattle.plan.specs.declared.search.Target.{Target}
-use Rattle.plan.specs.Accepted.{blocksOf, Accepted}
-use Rattle.plan.specs.Forest.{Forest, SameRoots, Hung}
-use Rattle.plan.specs.declared.exits.Exits.{Exits}
-use Rattle.plan.specs.Exits.{keysOf, exits}
-use Rattle.plan.specs.Plan.{target, joinTo, joinExits, joinable}
-use Rattle.plan.specs.Search.{targetOf, TargetInside}
-use Rattle.plan.specs.Groups.{part1, Joined, joinBlock}
-use Rattle.plan.proofs.Accepted.{found-record}
-use Rattle.plan.proofs.Keys.{not-missing}
-use Rattle.plan.proofs.Lending.{part-length, back-length, back-part, back-after, back-before}
-use Rattle.plan.proofs.Roots.{deeper, same-deeper}
+use Rattle.search.specs.declared.Target.{Target}
+use Rattle.forest.specs.Forest.{Forest, SameRoots, Hung}
+use Rattle.block_exits.specs.declared.exits.Exits.{Exits}
+use Rattle.block_exits.specs.Exits.{keysOf, exits}
+use Rattle.search.specs.Target.{target, joinable, onPage8}
+use Rattle.plan.specs.Plan.{joinTo, joinExits}
+use Rattle.search.specs.Search.{targetOf, TargetInside}
+use Rattle.plan.specs.Groups.{quarter1, Joined, joinBlock}
+use Rattle.block_file.proofs.IsBlock.{missing, found-record}
+use Rattle.plan.proofs.Lending.{quarter-length, back-length, back-quarter, back-after, back-before}
+use Rattle.forest.proofs.Roots.{deeper, same-deeper}
 
 module _ (f w : List ℕ) (n i key : ℕ) (found : Target) (says : Accepted f → targetOf found ≡ target key (blocksOf f) 0) where
   abbrev joins : List ℕ → List ℕ
@@ -41,15 +39,15 @@ module _ (f w : List ℕ) (n i key : ℕ) (found : Target) (says : Accepted f �
         after = λ k h. refl;
         depth = λ d g. deeper g (d + 1) (omega arith);
         roots = λ a d q room g.
-            subst (SameRoots (d + 1) (part1 n w)) (ap (joinTo i q) (sym (ap targetOf e) ∙ says a)) (same-deeper g (d + 1) (omega arith));
+            subst (SameRoots (d + 1) (quarter1 n w)) (ap (joinTo i q) (sym (ap targetOf e) ∙ says a)) (same-deeper g (d + 1) (omega arith));
       }
 
   -- a block to join
-  pub join-at : (j : ℕ) (p′ : List ℕ) → 4 * n ≤ length w → found ≡ Target.At j → Hung (part1 n w) i j p′
+  pub join-at : (j : ℕ) (p′ : List ℕ) → 4 * n ≤ length w → found ≡ Target.At j → Hung (quarter1 n w) i j p′
       → Joined 1 n w (putMid n (2 * n - n) w p′) (λ q. joinTo i q (target key (blocksOf f) 0)) (Accepted f)
   join-at j p′ room e h =
-      let long : length p′ ≡ n = h .lengths ∙ part-length n w room in
-      let part-is : part1 n (putMid n (2 * n - n) w p′) ≡ p′ = back-part n w p′ room long in
+      let long : length p′ ≡ n = h .lengths ∙ quarter-length n w room in
+      let part-is : quarter1 n (putMid n (2 * n - n) w p′) ≡ p′ = back-quarter n w p′ room long in
       record {
         same = back-length n w p′ room long;
         before = back-before n w p′ room long;
@@ -57,7 +55,7 @@ module _ (f w : List ℕ) (n i key : ℕ) (found : Target) (says : Accepted f �
         depth = λ d g. subst (Forest (d + 1)) (sym part-is) (h .depth d g);
         roots = λ a d q few g.
             subst (λ (l : List ℕ). SameRoots (d + 1) l (joins q)) (sym part-is)
-            (subst (SameRoots (d + 1) p′) (ap (joinTo i q) (sym (ap targetOf e) ∙ says a)) (h .roots d q (omega (arith, part-length n w room)) g));
+            (subst (SameRoots (d + 1) p′) (ap (joinTo i q) (sym (ap targetOf e) ∙ says a)) (h .roots d q (omega (arith, quarter-length n w room)) g));
       }
 
 -- the block found is inside
@@ -83,9 +81,9 @@ joined-then {e₁} {e₂} {n} {w} {w₁} {w₂} {j₁} {j₂} a b =
       same = b .same ∙ a .same;
       before = λ k h. b .before k h ∙ a .before k h;
       after = λ k h. b .after k h ∙ a .after k h;
-      depth = λ d g. subst (λ (m : ℕ). Forest m (part1 n w₂)) (add-assoc d e₁ e₂) (b .depth (d + e₁) (a .depth d g));
+      depth = λ d g. subst (λ (m : ℕ). Forest m (quarter1 n w₂)) (add-assoc d e₁ e₂) (b .depth (d + e₁) (a .depth d g));
       roots = λ acc d q few g.
-          subst (λ (m : ℕ). SameRoots m (part1 n w₂) (j₂ (j₁ q))) (add-assoc d e₁ e₂) (b .roots acc (d + e₁) (j₁ q) (omega arith) (a .roots acc d q (omega arith) g));
+          subst (λ (m : ℕ). SameRoots m (quarter1 n w₂) (j₂ (j₁ q))) (add-assoc d e₁ e₂) (b .roots acc (d + e₁) (j₁ q) (omega arith) (a .roots acc d q (omega arith) g));
     }
 
 -- edges that make no way longer than more edges would
@@ -126,30 +124,30 @@ module _ (f : List ℕ) (i n : ℕ) (w : List ℕ) (found : FoundBlock) (reads :
         before = λ k h. refl;
         after = λ k h. refl;
         depth = λ d g. deeper g (d + 2) (omega arith);
-        roots = λ a. absurd (not-missing f a i (subst (λ (m : ℕ). i < m) all inside) (sym reads ∙ e));
+        roots = λ a. absurd (omega (arith, missing f a i (sym reads ∙ e)));
       }
 
   module _ (b : BlockRecord) (at : found ≡ FoundBlock.At b) where
     record-is : b ≡ recordAt f (blockStart f i)
     record-is = found-record f i b (sym reads ∙ at)
 
-    page-is : joinable (blockAt f (blockStart f i) (countSum f i)) ≡ eqb (b .addr / 2 ^ 24) 8
+    page-is : joinable (blockAt f (blockStart f i) (countSum f i)) ≡ onPage8 (b .addr)
     unfolding blockAt recordAt
-    page-is = ap (λ (r : BlockRecord). eqb (r .addr / 2 ^ 24) 8) (sym record-is)
+    page-is = ap (λ (r : BlockRecord). onPage8 (r .addr)) (sym record-is)
 
     -- a block of another page makes no edge
-    pub block-apart : (b .addr / 2 ^ 24 ≡ 8 → ⊥) → Joined 2 n w w (joinBlock f i) (Accepted f)
-    block-apart ne =
+    pub block-apart : onPage8 (b .addr) ≡ false → Joined 2 n w w (joinBlock f i) (Accepted f)
+    block-apart off =
         record {
           same = refl;
           before = λ k h. refl;
           after = λ k h. refl;
           depth = λ d g. deeper g (d + 2) (omega arith);
-          roots = λ a d q few g. subst (SameRoots (d + 2) (part1 n w)) (sym (rw (page-is, ne-eqb _ _ ne))) (same-deeper g (d + 2) (omega arith));
+          roots = λ a d q few g. subst (SameRoots (d + 2) (quarter1 n w)) (sym (rw (page-is, off))) (same-deeper g (d + 2) (omega arith));
         }
 
     -- a block of page 8 makes those of its exits
-    pub block-joins : b .addr / 2 ^ 24 ≡ 8 → (x : Exits) (w₁ : List ℕ)
+    pub block-joins : onPage8 (b .addr) ≡ true → (x : Exits) (w₁ : List ℕ)
         → (Accepted f → keysOf x ≡ exits (blockAt f (blockStart f i) (countSum f i)))
         → Joined 2 n w w₁ (λ q. joinExits (blocksOf f) i q (keysOf x)) (Accepted f) → Joined 2 n w w₁ (joinBlock f i) (Accepted f)
     block-joins e x w₁ keys j =
@@ -159,5 +157,5 @@ module _ (f : List ℕ) (i n : ℕ) (w : List ℕ) (found : FoundBlock) (reads :
           after = j .after;
           depth = j .depth;
           roots = λ a d q few g.
-              subst (SameRoots (d + 2) (part1 n w₁)) (ap (joinExits (blocksOf f) i q) (keys a) ∙ sym (rw (page-is, eq-eqb _ _ e))) (j .roots a d q few g);
+              subst (SameRoots (d + 2) (quarter1 n w₁)) (ap (joinExits (blocksOf f) i q) (keys a) ∙ sym (rw (page-is, e))) (j .roots a d q few g);
         }

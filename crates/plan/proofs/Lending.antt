@@ -1,4 +1,4 @@
--- The parents, part 1 of the work numbers, lent and given back.
+-- The parents, quarter 1 of the work numbers, lent and given back.
 -- Assumes nothing.
 use mathlib.Core.Path.{_≡_, refl, sym, ap, _∙_, subst}
 use mathlib.Core.List.{List, _++_}
@@ -9,19 +9,19 @@ use native.Mathlib.Decide.{ℕ-discrete}
 use borrow.Rule.Slice.PartMut.{putMid, postOf, same-len-mid, mid-len, take-put, drop-put}
 use lib.ListN.{length, getD, set, take, drop, length-set}
 use lib.Seq.{take-at, drop-at, length-take-le, getD-take, getD-drop, getD-set-same, getD-set-other, take-set-le, drop-set-add}
-use Rattle.plan.specs.Forest.{Forest, Flatter, Found, root}
-use Rattle.plan.specs.Groups.{part1, Rooted, AllRooted}
-use Rattle.plan.proofs.Roots.{flatter-trans}
+use Rattle.forest.specs.Forest.{Forest, Flatter, Found, root}
+use Rattle.plan.specs.Groups.{quarter1, Rooted, AllRooted}
+use Rattle.forest.proofs.Roots.{flatter-trans}
 
 twice : (n : ℕ) → 2 * n - n ≡ n
 twice n = omega arith
 
--- the part that is lent is part 1
-pub lent-is : (n : ℕ) (w : List ℕ) → take (2 * n - n) (drop n w) ≡ part1 n w
+-- the quarter that is lent is quarter 1
+pub lent-is : (n : ℕ) (w : List ℕ) → take (2 * n - n) (drop n w) ≡ quarter1 n w
 lent-is n w = ap (λ (k : ℕ). take k (drop n w)) (twice n)
 
-pub part-length : (n : ℕ) (w : List ℕ) → 4 * n ≤ length w → length (part1 n w) ≡ n
-part-length n w room = ap length (sym (lent-is n w)) ∙ mid-len n (2 * n) w (omega arith) ∙ twice n
+pub quarter-length : (n : ℕ) (w : List ℕ) → 4 * n ≤ length w → length (quarter1 n w) ≡ n
+quarter-length n w room = ap length (sym (lent-is n w)) ∙ mid-len n (2 * n) w (omega arith) ∙ twice n
 
 module _ (n : ℕ) (w ys : List ℕ) (room : 4 * n ≤ length w) (long : length ys ≡ n) where
   abbrev back : List ℕ
@@ -30,9 +30,9 @@ module _ (n : ℕ) (w ys : List ℕ) (room : 4 * n ≤ length w) (long : length 
   pub back-length : length back ≡ length w
   back-length = same-len-mid n (2 * n - n) w ys (long ∙ sym (twice n) ∙ sym (mid-len n (2 * n) w (omega arith)))
 
-  -- part 1 is what came back
-  pub back-part : part1 n back ≡ ys
-  back-part =
+  -- quarter 1 is what came back
+  pub back-quarter : quarter1 n back ≡ ys
+  back-quarter =
       ap (take n) (drop-at (take n w) (ys ++ postOf n (2 * n - n) w) n (length-take-le n w (omega arith)))
       ∙ take-at ys (postOf n (2 * n - n) w) n long
 
@@ -49,23 +49,23 @@ module _ (n : ℕ) (w ys : List ℕ) (room : 4 * n ≤ length w) (long : length 
   back-before k h =
       sym (getD-take n back k 0 h) ∙ ap (λ (l : List ℕ). getD l k 0) (take-put n (2 * n - n) w ys (omega arith)) ∙ getD-take n w k 0 h
 
--- a store past part 1 leaves it as it is
-pub part-set : (n : ℕ) (w : List ℕ) (k v : ℕ) → 2 * n ≤ k → part1 n (set w k v) ≡ part1 n w
-part-set n w k v h =
+-- a store past quarter 1 leaves it as it is
+pub quarter-set : (n : ℕ) (w : List ℕ) (k v : ℕ) → 2 * n ≤ k → quarter1 n (set w k v) ≡ quarter1 n w
+quarter-set n w k v h =
     let split : n + (k - n) ≡ k = omega arith in
     ap (λ (m : ℕ). take n (drop n (set w m v))) (sym split)
     ∙ ap (take n) (drop-set-add n w (k - n) v)
     ∙ take-set-le n (drop n w) (k - n) v (omega arith)
 
--- what finding a root in the lent part makes of the work numbers
-pub rooted : (n i : ℕ) (w p′ : List ℕ) (r : ℕ) → 4 * n ≤ length w → i < n → Found (part1 n w) i r p′
+-- what finding a root in the lent quarter makes of the work numbers
+pub rooted : (n i : ℕ) (w p′ : List ℕ) (r : ℕ) → 4 * n ≤ length w → i < n → Found (quarter1 n w) i r p′
     → Rooted n i w (set (putMid n (2 * n - n) w p′) (2 * n + i) r)
 rooted n i w p′ r room h e =
-    let long : length p′ ≡ n = e .kept .lengths ∙ part-length n w room in
+    let long : length p′ ≡ n = e .kept .lengths ∙ quarter-length n w room in
     let at : getD (set (putMid n (2 * n - n) w p′) (2 * n + i) r) (2 * n + i) 0 ≡ r = getD-set-same (putMid n (2 * n - n) w p′) (2 * n + i) r 0 (omega (arith, back-length n w p′ room long)) in
     record {
       same = length-set (putMid n (2 * n - n) w p′) (2 * n + i) r ∙ back-length n w p′ room long;
-      flatter = subst (Flatter (part1 n w)) (sym (part-set n (putMid n (2 * n - n) w p′) (2 * n + i) r (omega arith) ∙ back-part n w p′ room long)) (e .kept);
+      flatter = subst (Flatter (quarter1 n w)) (sym (quarter-set n (putMid n (2 * n - n) w p′) (2 * n + i) r (omega arith) ∙ back-quarter n w p′ room long)) (e .kept);
       here = at ∙ e .is;
       small = subst (λ (m : ℕ). m < n) (sym at) (subst (λ (m : ℕ). r < m) long (e .inside));
       other = λ k l ne. getD-set-other (putMid n (2 * n - n) w p′) (2 * n + i) k r 0 ne ∙ back-after n w p′ room long k l;
@@ -78,7 +78,7 @@ pub rooted-none : (n : ℕ) (w : List ℕ) → AllRooted n 0 w w
 rooted-none n w =
     record {
       same = refl;
-      flatter = flatter-self (part1 n w);
+      flatter = flatter-self (quarter1 n w);
       here = λ j h. absurd (not-suc-le-zero h);
       small = λ j h. absurd (not-suc-le-zero h);
       after = λ k h. refl;
@@ -86,13 +86,13 @@ rooted-none n w =
 
 pub rooted-more : (n m : ℕ) (w w₁ w₂ : List ℕ) → 4 * n ≤ length w → m < n → AllRooted n m w w₁ → Rooted n m w₁ w₂ → AllRooted n (m + 1) w w₂
 rooted-more n m w w₁ w₂ room h a e =
-    let root-is : root (part1 n w₁) m ≡ root (part1 n w) m = a .flatter .roots m (omega (arith, part-length n w room)) in
+    let root-is : root (quarter1 n w₁) m ≡ root (quarter1 n w) m = a .flatter .roots m (omega (arith, quarter-length n w room)) in
     record {
       same = e .same ∙ a .same;
       flatter = flatter-trans (a .flatter) (e .flatter);
       here = λ j l.
           elim (ℕ-discrete j m) [
-            | yes g ↦ subst (λ (k : ℕ). getD w₂ (2 * n + k) 0 ≡ root (part1 n w) k) (sym g) (e .here ∙ root-is)
+            | yes g ↦ subst (λ (k : ℕ). getD w₂ (2 * n + k) 0 ≡ root (quarter1 n w) k) (sym g) (e .here ∙ root-is)
             | no g ↦ e .other (2 * n + j) (omega arith) (omega arith) ∙ a .here j (omega arith)
           ];
       small = λ j l.
@@ -104,5 +104,5 @@ rooted-more n m w w₁ w₂ room h a e =
     }
 
 -- the forest is still one
-pub rooted-forest : (n m : ℕ) (w w₁ : List ℕ) → AllRooted n m w w₁ → Forest (2 * n) (part1 n w) → Forest (2 * n) (part1 n w₁)
+pub rooted-forest : (n m : ℕ) (w w₁ : List ℕ) → AllRooted n m w w₁ → Forest (2 * n) (quarter1 n w) → Forest (2 * n) (quarter1 n w₁)
 rooted-forest n m w w₁ a f = a .flatter .depth (2 * n) f

@@ -1,7 +1,4 @@
 -- The laws that the functions' proofs share.
-pub mod Accepted
-pub mod Answers
-pub mod Closing
 pub mod Components
 pub mod Cutting
 pub mod Edges
@@ -9,13 +6,10 @@ pub mod GroupLaws
 mod Grouping
 pub mod HandOver
 mod Joining
-pub mod Keys
 mod Lending
 mod Linking
 pub mod Listing
 mod Numbering
 mod Ordering
 pub mod PlanLength
-pub mod Roots
 mod Rows
-pub mod Ways

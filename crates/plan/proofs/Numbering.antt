@@ -13,10 +13,10 @@ use borrow.Author.Tests.{le-leb, eq-eqb, ne-eqb}
 use native.Mathlib.Decide.{ℕ-discrete}
 use lib.ListN.{length, getD, length-append}
 use lib.Dec.{eqb}
-use Rattle.block_file.specs.Parse.{Block}
-use Rattle.plan.specs.Forest.{root}
+use Rattle.block_file.specs.Parse.{Block, blockKey}
+use Rattle.forest.specs.Forest.{root}
 use Rattle.plan.specs.Order.{chain, orderFrom, closes, numbersOf, nextGroup, numbersFrom}
-use Rattle.plan.specs.Plan.{members, insert, sortByKey, isEmpty, parts, groupsFrom, groups, groupRows, rowsFrom, plan, parents, blockKey}
+use Rattle.plan.specs.Plan.{members, insert, sortByKey, isEmpty, parts, groupsFrom, groups, groupRows, rowsFrom, plan, parents}
 use Rattle.plan.specs.Groups.{interleave}
 
 -- the members of a component, by a list of roots

@@ -11,9 +11,9 @@ use borrow.Author.Tests.{eqb-true, lt-ltb, le-ltb}
 use lib.ListN.{length, getD, set, take, drop, length-set, length-append, length-drop}
 use lib.Seq.{getD-set-other, take-suc-set, take-set-le, drop-set-lt, drop-set-add, length-take-le}
 use lib.Dec.{eqb, ltb}
-use Rattle.block_file.specs.Trailer.{blockCount}
+use Rattle.records.specs.Trailer.{blockCount}
 use Rattle.plan.specs.declared.order.Part.{Part}
-use Rattle.plan.specs.Accepted.{Accepted}
+use Rattle.block_file.specs.Parse.{Accepted}
 use Rattle.plan.specs.Links.{seek, Linked}
 use Rattle.plan.specs.Order.{chain, rest, orderFrom, closes, numbersOf, nextGroup, numbersFrom, HasCounts, Placed}
 

@@ -8,15 +8,15 @@ use native.Mathlib.Nat.{zero-add}
 use native.Mathlib.Omega.{arith}
 use lib.Dec.{leb}
 use lib.ListN.{length, getD, length-append}
-use Rattle.block_file.specs.Parse.{Block}
-use Rattle.plan.specs.Forest.{range, root}
+use Rattle.block_file.specs.Parse.{Block, blockKey}
+use Rattle.forest.specs.Forest.{range, root}
 use Rattle.plan.specs.Order.{chain, orderFrom}
-use Rattle.plan.specs.Plan.{parents, members, insert, sortByKey, blockKey, groups, groupRows, rowsFrom, plan}
+use Rattle.plan.specs.Plan.{parents, members, insert, sortByKey, groups, groupRows, rowsFrom, plan}
 use Rattle.plan.proofs.Components.{component, groups-flat}
 use Rattle.plan.proofs.Edges.{root-block}
 use Rattle.plan.proofs.Listing.{map-at}
 use Rattle.plan.proofs.Numbering.{members-chain, order-all}
-use Rattle.plan.proofs.Roots.{length-range, range-own}
+use Rattle.forest.proofs.Roots.{length-range, range-own}
 
 group-rows-length : (g : ℕ) (is : List ℕ) → length (groupRows g is) ≡ 2 * length is
 group-rows-length g [] = refl

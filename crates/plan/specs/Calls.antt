@@ -1,15 +1,13 @@
--- The public calls for exits and plan: what each answers, and what every lent buffer holds afterwards.
+-- Public calls that group blocks, and the one for the plan: what each answers, and what every lent buffer holds afterwards.
 use Prim.Native.Nat.{ℕ, _*_}
 use mathlib.Core.Bool.{cond}
-use mathlib.Core.List.{List, _++_, map}
+use mathlib.Core.List.{List, _++_}
 use mathlib.Core.Option.{Option, none, some}
-use lib.ListN.{length, drop, replicate, getElem?}
+use lib.ListN.{length, drop, replicate}
 use lib.Dec.{ltb}
 use Rattle.block_file.specs.Answer.{Answer, refusal, value}
 use Rattle.block_file.specs.Parse.{Block, Parsed}
 use Rattle.plan.specs.declared.calls.Planned.{Planned}
-use Rattle.plan.specs.declared.calls.Exiting.{Exiting}
-use Rattle.plan.specs.Exits.{exits, keysOf}
 use Rattle.plan.specs.Plan.{plan}
 
 -- the most instructions of a part that holds several blocks
@@ -60,18 +58,3 @@ madePlan limit bs = some (record { values = length bs; content = plan limit bs }
 -- the call for the plan of a file
 abbrev pub planCall : Parsed → List ℕ → List ℕ → Outcome ℕ
 planCall = callOnFile (madePlan partLimit)
-
--- what the cases of Exiting stand for: the keys of the exits, or a refusal
-unfoldable pub exitingOf : Exiting → Answer (List ℕ)
-exitingOf (Exiting.Exits e) = value (keysOf e)
-exitingOf (Exiting.Refused n i) = refusal n i
-
--- the keys of a block that there is, or refusal 9
-abbrev pub foundOr9 : Option (List ℕ) → Answer (List ℕ)
-foundOr9 none = refusal 9 0
-foundOr9 (some ks) = value ks
-
--- the call for the exits of block k
-unfoldable pub exitsCall : Parsed → ℕ → Answer (List ℕ)
-exitsCall (Parsed.refused n i) k = refusal n i
-exitsCall (Parsed.accepted bs) k = foundOr9 (getElem? (map exits bs) k)

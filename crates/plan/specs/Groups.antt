@@ -4,13 +4,13 @@ use mathlib.Core.Path.{_≡_}
 use mathlib.Core.List.{List, [], _∷_}
 use lib.ListN.{length, getD, take, drop}
 use mathlib.Core.Bool.{cond}
-use Rattle.block_file.specs.Trailer.{blockCount, blockStart}
-use Rattle.block_file.specs.BlockRecord.{countSum}
-use Rattle.block_file.specs.Parse.{blockAt}
-use Rattle.plan.specs.Accepted.{blocksOf, Accepted}
-use Rattle.plan.specs.Exits.{exits}
-use Rattle.plan.specs.Plan.{joinable, joinExits, parents, plan}
-use Rattle.plan.specs.Forest.{Flatter, Forest, SameRoots, root}
+use Rattle.records.specs.Trailer.{blockCount, blockStart}
+use Rattle.records.specs.BlockRecord.{countSum}
+use Rattle.block_file.specs.Parse.{blockAt, blocksOf, Accepted}
+use Rattle.block_exits.specs.Exits.{exits}
+use Rattle.search.specs.Target.{joinable}
+use Rattle.plan.specs.Plan.{joinExits, parents, plan}
+use Rattle.forest.specs.Forest.{Flatter, Forest, SameRoots, root}
 
 -- two lists as one, number by number in turn, up to the end of the shorter
 unfoldable pub interleave : List ℕ → List ℕ → List ℕ
@@ -18,23 +18,23 @@ interleave [] ys = []
 interleave (x ∷ xs) [] = []
 interleave (x ∷ xs) (y ∷ ys) = x ∷ y ∷ interleave xs ys
 
--- part 1 of the work numbers: the parents
-abbrev pub part1 : ℕ → List ℕ → List ℕ
-part1 n work = take n (drop n work)
+-- quarter 1 of the work numbers: the parents
+abbrev pub quarter1 : ℕ → List ℕ → List ℕ
+quarter1 n work = take n (drop n work)
 
--- part 2 has the root of block i, its other numbers and those behind it are as they were, and no root changed; part 0 is not spoken of
+-- quarter 2 has the root of block i, its other numbers and those behind it are as they were, and no root changed; quarter 0 is not spoken of
 pub record Rooted (n i : ℕ) (work work′ : List ℕ) : Type 0 where
   pub same : length work′ ≡ length work
-  pub flatter : Flatter (part1 n work) (part1 n work′)
-  pub here : getD work′ (2 * n + i) 0 ≡ root (part1 n work) i
+  pub flatter : Flatter (quarter1 n work) (quarter1 n work′)
+  pub here : getD work′ (2 * n + i) 0 ≡ root (quarter1 n work) i
   pub small : getD work′ (2 * n + i) 0 < n
   pub other : (k : ℕ) → 2 * n ≤ k → (k ≡ 2 * n + i → ⊥) → getD work′ k 0 ≡ getD work k 0
 
--- part 2 has the roots of the first m blocks
+-- quarter 2 has the roots of the first m blocks
 pub record AllRooted (n m : ℕ) (work work′ : List ℕ) : Type 0 where
   pub same : length work′ ≡ length work
-  pub flatter : Flatter (part1 n work) (part1 n work′)
-  pub here : (j : ℕ) → j < m → getD work′ (2 * n + j) 0 ≡ root (part1 n work) j
+  pub flatter : Flatter (quarter1 n work) (quarter1 n work′)
+  pub here : (j : ℕ) → j < m → getD work′ (2 * n + j) 0 ≡ root (quarter1 n work) j
   pub small : (j : ℕ) → j < m → getD work′ (2 * n + j) 0 < n
   pub after : (k : ℕ) → 3 * n ≤ k → getD work′ k 0 ≡ getD work k 0
 
@@ -44,14 +44,14 @@ pub record Joined (edges n : ℕ) (work work′ : List ℕ) (joins : List ℕ �
   pub same : length work′ ≡ length work
   pub before : (k : ℕ) → k < n → getD work′ k 0 ≡ getD work k 0
   pub after : (k : ℕ) → 2 * n ≤ k → getD work′ k 0 ≡ getD work k 0
-  pub depth : (d : ℕ) → Forest d (part1 n work) → Forest (d + edges) (part1 n work′)
-  pub roots : accepted → (d : ℕ) (q : List ℕ) → d + edges ≤ 2 * n → SameRoots d (part1 n work) q → SameRoots (d + edges) (part1 n work′) (joins q)
+  pub depth : (d : ℕ) → Forest d (quarter1 n work) → Forest (d + edges) (quarter1 n work′)
+  pub roots : accepted → (d : ℕ) (q : List ℕ) → d + edges ≤ 2 * n → SameRoots d (quarter1 n work) q → SameRoots (d + edges) (quarter1 n work′) (joins q)
 
--- part 0 has the number of each block's first instruction
+-- quarter 0 has the number of each block's first instruction
 abbrev pub HasFirsts : List ℕ → ℕ → List ℕ → Type 0
 HasFirsts f n work = (i : ℕ) → i < n → getD work i 0 ≡ countSum f i
 
--- part 0 was filled, and no other number changed
+-- quarter 0 was filled, and no other number changed
 pub record Firsts (f : List ℕ) (n : ℕ) (work work′ : List ℕ) : Type 0 where
   pub same : length work′ ≡ length work
   pub after : (k : ℕ) → n ≤ k → getD work′ k 0 ≡ getD work k 0
@@ -62,14 +62,14 @@ abbrev pub joinBlock : List ℕ → ℕ → List ℕ → List ℕ
 joinBlock f i q =
     cond (joinable (blockAt f (blockStart f i) (countSum f i))) (joinExits (blocksOf f) i q (exits (blockAt f (blockStart f i) (countSum f i)))) q
 
--- part 1 has parents with the roots of the definition
+-- quarter 1 has parents with the roots of the definition
 pub record AllJoined (f : List ℕ) (n : ℕ) (work work′ : List ℕ) : Type 0 where
   pub same : length work′ ≡ length work
   pub after : (k : ℕ) → 2 * n ≤ k → getD work′ k 0 ≡ getD work k 0
-  pub forest : Forest (2 * n) (part1 n work′)
-  pub roots : Accepted f → (k : ℕ) → k < n → root (part1 n work′) k ≡ root (parents (blocksOf f)) k
+  pub forest : Forest (2 * n) (quarter1 n work′)
+  pub roots : Accepted f → (k : ℕ) → k < n → root (quarter1 n work′) k ≡ root (parents (blocksOf f)) k
 
--- what grouping makes of the work numbers: parts 0 and 2 have the blocks in emission order and their group numbers, and nothing past the four parts changed
+-- what grouping makes of the work numbers: quarters 0 and 2 have the blocks in emission order and their group numbers, and nothing past the four quarters changed
 pub record Grouped (f : List ℕ) (n limit : ℕ) (work work′ : List ℕ) : Type 0 where
   pub same : length work′ ≡ length work
   pub after : (k : ℕ) → 4 * n ≤ k → getD work′ k 0 ≡ getD work k 0

@@ -11,7 +11,7 @@ unfoldable pub seek : List ℕ → ℕ → ℕ → ℕ → ℕ
 seek roots r zero k = k
 seek roots r (suc left) k = cond (eqb (getD roots k 0) r) k (seek roots r left (suc k))
 
--- the first m numbers of part 3 are n, and no other number changed
+-- the first m numbers of quarter 3 are n, and no other number changed
 pub record Filled (n m : ℕ) (work work′ : List ℕ) : Type 0 where
   pub same : length work′ ≡ length work
   pub full : (r : ℕ) → r < m → getD work′ (3 * n + r) 0 ≡ n
@@ -23,16 +23,16 @@ abbrev pub linkOne : ℕ → ℕ → List ℕ → List ℕ
 linkOne n i work =
     set (set work (n + i) (getD work (3 * n + getD work (2 * n + i) 0) 0)) (3 * n + getD work (2 * n + i) 0) i
 
--- part 2 has these roots
+-- quarter 2 has these roots
 abbrev pub HasRoots : ℕ → List ℕ → List ℕ → Type 0
 HasRoots n roots work = (i : ℕ) → i < n → getD work (2 * n + i) 0 ≡ getD roots i 0
 
--- for the blocks from block i on, part 1 has each one's next member and part 3 each component's first
+-- for the blocks from block i on, quarter 1 has each one's next member and quarter 3 each component's first
 pub record Linked (roots : List ℕ) (n i : ℕ) (work : List ℕ) : Type 0 where
   pub next : (j : ℕ) → i ≤ j → j < n → getD work (n + j) 0 ≡ seek roots (getD roots j 0) (n - suc j) (suc j)
   pub first : (r : ℕ) → r < n → getD work (3 * n + r) 0 ≡ seek roots r (n - i) i
 
--- no number outside parts 1 and 3 changed
+-- no number outside quarters 1 and 3 changed
 pub record Outside (n : ℕ) (work work′ : List ℕ) : Type 0 where
   pub same : length work′ ≡ length work
   pub before : (k : ℕ) → k < n → getD work′ k 0 ≡ getD work k 0

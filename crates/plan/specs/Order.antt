@@ -5,9 +5,9 @@ use mathlib.Core.Bool.{Bool, true, false, cond, _&&_}
 use mathlib.Core.List.{List, [], _∷_, _++_}
 use lib.ListN.{length, getD, take, drop}
 use lib.Dec.{ltb, eqb}
-use Rattle.block_file.specs.Trailer.{blockCount, blockStart}
-use Rattle.block_file.specs.BlockRecord.{countAt}
-use Rattle.plan.specs.Accepted.{Accepted}
+use Rattle.records.specs.Trailer.{blockCount, blockStart}
+use Rattle.records.specs.BlockRecord.{countAt}
+use Rattle.block_file.specs.Parse.{Accepted}
 
 -- of `left` blocks from block k on those whose root is r
 unfoldable pub chain : List ℕ → ℕ → ℕ → ℕ → List ℕ
@@ -52,7 +52,7 @@ numbersFrom limit counts roots n g (suc left) r =
 abbrev pub HasCounts : List ℕ → List ℕ → Type 0
 HasCounts f counts = (i : ℕ) → i < blockCount f → getD counts i 0 ≡ countAt f (blockStart f i)
 
--- what placing the blocks makes of the work numbers, where every block is in one component: part 0 has the emission order, part 2 the group numbers, and nothing past the four parts changed
+-- what placing the blocks makes of the work numbers, where every block is in one component: quarter 0 has the emission order, quarter 2 the group numbers, and nothing past the four quarters changed
 pub record Placed (f : List ℕ) (n limit : ℕ) (work work′ : List ℕ) : Type 0 where
   pub same : length work′ ≡ length work
   pub after : (k : ℕ) → 4 * n ≤ k → getD work′ k 0 ≡ getD work k 0

@@ -1,30 +1,14 @@
 -- The plan: which blocks share a group, and the order in which groups and blocks are emitted.
-use Prim.Native.Nat.{ℕ, zero, suc, _+_, _/_, _^_}
+use Prim.Native.Nat.{ℕ, zero, suc, _+_}
 use mathlib.Core.Bool.{Bool, true, false, not, cond, _&&_}
 use mathlib.Core.List.{List, [], _∷_, _++_, map}
 use mathlib.Core.Option.{Option, none, some}
 use lib.ListN.{length, getD}
 use lib.Dec.{leb, ltb, eqb}
-use Rattle.block_file.specs.Parse.{Block}
-use Rattle.plan.specs.Exits.{exits}
-use Rattle.plan.specs.Forest.{range, root, hang}
-
--- the key of a block: its address plus the Thumb bit
-abbrev pub blockKey : Block → ℕ
-blockKey b = b .addr + cond (b .thumb) 1 0
-
--- the page of an address
-abbrev pub page : ℕ → ℕ
-page addr = addr / 2 ^ 24
-
--- the blocks that edges join: those whose page is exactly 8
-abbrev pub joinable : Block → Bool
-joinable b = eqb (page (b .addr)) 8
-
--- the number of the joinable block with a key, among blocks counted from i
-unfoldable pub target : ℕ → List Block → ℕ → Option ℕ
-target k [] i = none
-target k (b ∷ bs) i = cond (eqb (blockKey b) k && joinable b) (some i) (target k bs (suc i))
+use Rattle.block_file.specs.Parse.{Block, blockKey}
+use Rattle.block_exits.specs.Exits.{exits}
+use Rattle.forest.specs.Forest.{range, root, hang}
+use Rattle.search.specs.Target.{joinable, target}
 
 -- the edge from block i to the block that was found for a key, if there is one
 abbrev pub joinTo : ℕ → List ℕ → Option ℕ → List ℕ

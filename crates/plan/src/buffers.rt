@@ -18,7 +18,7 @@ pub fn clear(work: &mut [u32], m: usize)
     }
 }
 
-// The rows of n blocks: the group numbers of part 2 and the blocks of part 0 in turn.
+// The rows of n blocks: the group numbers of quarter 2 and the blocks of quarter 0 in turn.
 pub(crate) fn put_rows(work: &[u32], n: usize, plan: &mut [u32])
     requires { ⌜ (3 * n ≤ length (now work)) × (2 * n ≤ length (now plan)) ⌝ }
     ensures { λ _. ⌜ now (plan .exit) ≡ interleave (take n (drop (2 * n) (now (work .entry)))) (take n (now (work .entry))) ++ drop (2 * n) (now (plan .entry)) ⌝ }

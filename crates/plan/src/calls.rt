@@ -1,20 +1,13 @@
-// The public calls for exits and plan. Each checks its file and its lent buffers itself.
+// The public call for the plan. It checks its file and its lent buffers itself.
 use crate::buffers::clear;
 use crate::buffers::put_rows;
-use crate::exits::Exits;
-use crate::exits::FoundExits;
-use crate::exits::block_exits;
 use crate::groups::group_blocks;
 use block_file::Checked;
 use block_file::check;
 ghost use mathlib.Core.Path.{_≡_};
-ghost use mathlib.Core.List.{map};
-ghost use lib.ListN.{getElem?};
-ghost use Rattle.block_file.specs.Trailer.{blockCount};
-ghost use Rattle.block_file.specs.Parse.{Parsed, parse};
-ghost use Rattle.plan.specs.Accepted.{blocksOf, Accepted};
-ghost use Rattle.plan.specs.Calls.{plannedOf, planCall, exitingOf, foundOr9, exitsCall};
-ghost use Rattle.plan.specs.Exits.{exits};
+ghost use Rattle.records.specs.Trailer.{blockCount};
+ghost use Rattle.block_file.specs.Parse.{Parsed, parse, blocksOf, Accepted};
+ghost use Rattle.plan.specs.Calls.{plannedOf, planCall};
 
 // The most instructions of a part that holds several blocks.
 pub const PART_LIMIT: u64 = 8192;
@@ -23,13 +16,6 @@ pub const PART_LIMIT: u64 = 8192;
 pub enum Planned {
     // How many blocks the file has; the plan has two numbers for each.
     Blocks(u64),
-    // The number of the refusal, and i or 0.
-    Refused { number: u32, at: u64 },
-}
-
-// The answer of the call for the exits of a block.
-pub enum Exiting {
-    Exits(Exits),
     // The number of the refusal, and i or 0.
     Refused { number: u32, at: u64 },
 }
@@ -60,26 +46,5 @@ pub fn plan_of(file: &[u8], work: &mut [u32], result: &mut [u32]) -> Planned
     match check(file) {
         Checked::Accepted { blocks, .. } => plan_blocks(file, work, result, blocks as u32),
         Checked::Refused { number, at } => Planned::Refused { number, at },
-    }
-}
-
-// The exits of a block of an accepted file.
-fn found_or_9(file: &[u8], block: usize) -> Exiting
-    requires { ⌜ Accepted (now file) ⌝ }
-    ensures { λ r. ⌜ exitingOf r ≡ foundOr9 (getElem? (map exits (blocksOf (now (file .entry)))) block) ⌝ }
-{
-    match block_exits(file, block) {
-        FoundExits::Exits(e) => Exiting::Exits(e),
-        FoundExits::Nothing => Exiting::Refused { number: 9, at: 0 },
-    }
-}
-
-// The exits of a block by its number, or refusal 9 where there is no such block.
-pub fn exits_of(file: &[u8], block: u64) -> Exiting
-    ensures { λ r. ⌜ exitingOf r ≡ exitsCall (parse (now (file .entry))) block ⌝ }
-{
-    match check(file) {
-        Checked::Accepted { .. } => found_or_9(file, block as usize),
-        Checked::Refused { number, at } => Exiting::Refused { number, at },
     }
 }

@@ -1,31 +1,33 @@
-// The groups of an accepted file in the work numbers, four parts of n numbers each.
-use crate::exits::Exits;
-use crate::exits::exits_at;
-use crate::forest::find;
-use crate::forest::hang_under;
-use crate::forest::own_roots;
+// The groups of an accepted file in the work numbers, four quarters of n numbers each.
 use crate::links::link_members;
 use crate::links::wide;
 use crate::order::count_of;
 use crate::order::place_blocks;
-use crate::search::Target;
-use crate::search::find_target;
+use block_exits::Exits;
+use block_exits::exits_at;
 use block_file::FoundBlock;
 use block_file::block_at;
+use forest::find;
+use forest::hang_under;
+use forest::own_roots;
+use search::Target;
+use search::find_target;
+use search::on_page_8;
 ghost use mathlib.Core.Path.{_≡_};
 ghost use Prim.Native.Nat.{_*_, _≤_, _<_};
 ghost use lib.ListN.{length};
-ghost use Rattle.block_file.specs.Trailer.{blockCount};
-ghost use Rattle.plan.specs.Accepted.{Accepted, blocksOf};
-ghost use Rattle.plan.specs.Exits.{keysOf};
-ghost use Rattle.plan.specs.Forest.{Forest};
-ghost use Rattle.plan.specs.Plan.{joinTo, joinExits, target};
-ghost use Rattle.plan.specs.Groups.{part1, Joined, HasFirsts, Firsts, joinBlock, AllJoined, Rooted, AllRooted, Grouped};
+ghost use Rattle.records.specs.Trailer.{blockCount};
+ghost use Rattle.block_file.specs.Parse.{Accepted, blocksOf};
+ghost use Rattle.block_exits.specs.Exits.{keysOf};
+ghost use Rattle.forest.specs.Forest.{Forest};
+ghost use Rattle.plan.specs.Plan.{joinTo, joinExits};
+ghost use Rattle.search.specs.Target.{target};
+ghost use Rattle.plan.specs.Groups.{quarter1, Joined, HasFirsts, Firsts, joinBlock, AllJoined, Rooted, AllRooted, Grouped};
 
 // The edge from block i to a key, if there is a block of page 8 with that key.
 fn join_key(file: &[u8], work: &mut [u32], n: usize, i: usize, key: u32)
     requires { ⌜ (4 * n ≤ length (now work)) × (n ≤ 65536) × (i < n) × (n ≡ blockCount (now file)) ⌝ }
-    requires { ⌜ Forest (2 * n) (part1 n (now work)) ⌝ }
+    requires { ⌜ Forest (2 * n) (quarter1 n (now work)) ⌝ }
     ensures { λ _. ⌜ Joined 1 n (now (work .entry)) (now (work .exit)) (λ q. joinTo i q (target key (blocksOf (now (file .entry))) 0)) (Accepted (now (file .entry))) ⌝ }
 {
     let Target::At(j) = find_target(file, key, i) else {
@@ -38,7 +40,7 @@ fn join_key(file: &[u8], work: &mut [u32], n: usize, i: usize, key: u32)
 // The edges from block i, in the order of its exits.
 fn join_exits(file: &[u8], work: &mut [u32], n: usize, i: usize, exits: Exits)
     requires { ⌜ (4 * n ≤ length (now work)) × (n ≤ 65536) × (i < n) × (n ≡ blockCount (now file)) ⌝ }
-    requires { ⌜ Forest (2 * i) (part1 n (now work)) ⌝ }
+    requires { ⌜ Forest (2 * i) (quarter1 n (now work)) ⌝ }
     ensures { λ _. ⌜ Joined 2 n (now (work .entry)) (now (work .exit)) (λ q. joinExits (blocksOf (now (file .entry))) i q (keysOf exits)) (Accepted (now (file .entry))) ⌝ }
 {
     match exits {
@@ -54,14 +56,14 @@ fn join_exits(file: &[u8], work: &mut [u32], n: usize, i: usize, exits: Exits)
 // The edges from block i, if it is one of page 8.
 fn join_block(file: &[u8], work: &mut [u32], n: usize, i: usize)
     requires { ⌜ (4 * n ≤ length (now work)) × (n ≤ 65536) × (i < n) × (n ≡ blockCount (now file)) ⌝ }
-    requires { ⌜ Forest (2 * i) (part1 n (now work)) ⌝ }
+    requires { ⌜ Forest (2 * i) (quarter1 n (now work)) ⌝ }
     requires { ⌜ (Accepted (now file) → HasFirsts (now file) n (now work)) ⌝ }
     ensures { λ _. ⌜ Joined 2 n (now (work .entry)) (now (work .exit)) (joinBlock (now (file .entry)) i) (Accepted (now (file .entry))) ⌝ }
 {
     let FoundBlock::At(block) = block_at(file, i) else {
         return;
     };
-    if block.addr / 16777216 != 8 {
+    if !on_page_8(block.addr) {
         return;
     }
     let first = wide(work[i]);
@@ -84,7 +86,7 @@ fn join_blocks(file: &[u8], work: &mut [u32], n: usize)
     }
 }
 
-// Puts the number of each block's first instruction into part 0. In an accepted file it fits.
+// Puts the number of each block's first instruction into quarter 0. In an accepted file it fits.
 fn first_instrs(file: &[u8], work: &mut [u32], n: usize)
     requires { ⌜ (4 * n ≤ length (now work)) × (n ≤ 65536) ⌝ }
     ensures { λ _. ⌜ Firsts (now (file .entry)) n (now (work .entry)) (now (work .exit)) ⌝ }
@@ -98,10 +100,10 @@ fn first_instrs(file: &[u8], work: &mut [u32], n: usize)
     }
 }
 
-// Puts the root of block i, by the parents in part 1, into part 2.
+// Puts the root of block i, by the parents in quarter 1, into quarter 2.
 fn put_root(work: &mut [u32], n: usize, i: usize)
     requires { ⌜ (4 * n ≤ length (now work)) × (n ≤ 65536) × (i < n) ⌝ }
-    requires { ⌜ Forest (2 * n) (part1 n (now work)) ⌝ }
+    requires { ⌜ Forest (2 * n) (quarter1 n (now work)) ⌝ }
     ensures { λ _. ⌜ Rooted n i (now (work .entry)) (now (work .exit)) ⌝ }
 {
     let end = 2 * n;
@@ -109,10 +111,10 @@ fn put_root(work: &mut [u32], n: usize, i: usize)
     work[end + i] = r as u32;
 }
 
-// Puts the roots of all blocks into part 2.
+// Puts the roots of all blocks into quarter 2.
 fn put_roots(work: &mut [u32], n: usize)
     requires { ⌜ (4 * n ≤ length (now work)) × (n ≤ 65536) ⌝ }
-    requires { ⌜ Forest (2 * n) (part1 n (now work)) ⌝ }
+    requires { ⌜ Forest (2 * n) (quarter1 n (now work)) ⌝ }
     ensures { λ _. ⌜ AllRooted n n (now (work .entry)) (now (work .exit)) ⌝ }
 {
     let mut i = 0;
@@ -122,7 +124,7 @@ fn put_roots(work: &mut [u32], n: usize)
     }
 }
 
-// Groups the blocks of a file: parts 0 and 2 get the blocks in emission order and the number of the group of each.
+// Groups the blocks of a file: quarters 0 and 2 get the blocks in emission order and the number of the group of each.
 pub fn group_blocks(file: &[u8], work: &mut [u32], n: u32, limit: u64)
     requires { ⌜ (4 * n ≤ length (now work)) × (n ≤ 65536) × (n ≡ blockCount (now file)) ⌝ }
     ensures { λ _. ⌜ Grouped (now (file .entry)) n limit (now (work .entry)) (now (work .exit)) ⌝ }

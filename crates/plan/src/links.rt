@@ -1,11 +1,11 @@
-// Lists of members in the work numbers. Of four parts of n numbers each, part 2 has the roots; part 1 gets each block's next member, part 3 each component's first.
+// Lists of members in the work numbers. Of four quarters of n numbers each, quarter 2 has the roots; quarter 1 gets each block's next member, quarter 3 each component's first.
 ghost use mathlib.Core.Path.{_≡_};
 ghost use Prim.Native.Nat.{ℕ, _+_, _*_, _≤_, _<_};
 ghost use lib.ListN.{length, getD};
 ghost use mathlib.Core.List.{List};
 ghost use Rattle.plan.specs.Links.{Filled, linkOne, HasRoots, Linked, Outside};
 
-// Part 3 with n in each place: no component has a member yet.
+// Quarter 3 with n in each place: no component has a member yet.
 fn no_members(work: &mut [u32], n: u32)
     requires { ⌜ 4 * n ≤ length (now work) ⌝ }
     ensures { λ _. ⌜ Filled n n (now (work .entry)) (now (work .exit)) ⌝ }

@@ -1,13 +1,13 @@
-// The emission order in the work numbers: part 0 gets the blocks in order, part 2 the number of the group of each.
+// The emission order in the work numbers: quarter 0 gets the blocks in order, quarter 2 the number of the group of each.
 use block_file::FoundBlock;
 use block_file::block_at;
 ghost use mathlib.Core.Path.{_≡_};
 ghost use mathlib.Core.Bool.{cond};
 ghost use Prim.Native.Nat.{_+_, _*_, _≤_, _<_, _^_};
 ghost use lib.ListN.{length, set, drop};
-ghost use Rattle.block_file.specs.Trailer.{blockCount, blockStart};
-ghost use Rattle.block_file.specs.BlockRecord.{countAt};
-ghost use Rattle.plan.specs.Accepted.{Accepted};
+ghost use Rattle.records.specs.Trailer.{blockCount, blockStart};
+ghost use Rattle.records.specs.BlockRecord.{countAt};
+ghost use Rattle.block_file.specs.Parse.{Accepted};
 ghost use Rattle.plan.specs.Links.{Linked};
 ghost use Rattle.plan.specs.Order.{closes, Placed};
 

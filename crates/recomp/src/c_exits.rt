@@ -3,15 +3,15 @@ use crate::Exiting;
 use crate::Exits;
 use crate::exits_of;
 ghost use mathlib.Core.Path.{_≡_};
-ghost use lib.ListN.{length, getD};
+ghost use Rattle.block_file.specs.Answer.{value};
 ghost use Rattle.block_file.specs.Parse.{parse};
-ghost use Rattle.plan.specs.Exits.{keysOf};
-ghost use Rattle.plan.specs.Calls.{exitsCall};
-ghost use Rattle.recomp.specs.Answer.{exitsNumbers};
+ghost use Rattle.block_exits.specs.Exits.{keysOf};
+ghost use Rattle.block_exits.specs.Calls.{exitsCall};
+ghost use Rattle.recomp.specs.Answer.{ExitsNumbers, exitsNumbers};
 
-// The keys of exits as three numbers.
+// The numbers of exits: how many keys, and the keys.
 fn put_exits(exits: Exits, count: &mut u64, first: &mut u64, second: &mut u64)
-    ensures { λ _. ⌜ (now (count .exit) ≡ length (keysOf exits)) × (now (first .exit) ≡ getD (keysOf exits) 0 0) × (now (second .exit) ≡ getD (keysOf exits) 1 0) ⌝ }
+    ensures { λ _. ⌜ record { number = 0; at = 0; count = now (count .exit); first = now (first .exit); second = now (second .exit) } ≡ exitsNumbers (value (keysOf exits)) ⌝ }
 {
     match exits {
         Exits::None => {

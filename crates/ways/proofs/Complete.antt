@@ -6,8 +6,8 @@ use mathlib.Core.Option.{Option}
 use native.Mathlib.Omega.{arith}
 use native.Mathlib.Decide.{ℕ-discrete}
 use lib.ListN.{length, getD}
-use Rattle.block_file.specs.Parse.{Block}
-use Rattle.plan.specs.Plan.{blockKey, groups}
+use Rattle.block_file.specs.Parse.{Block, blockKey}
+use Rattle.plan.specs.Plan.{groups}
 use Rattle.plan.proofs.GroupLaws.{groups-once, group-inside, group-of}
 use Rattle.plan.proofs.Listing.{count, count-append, count-here, count-other, map-at}
 use Rattle.c_tree.specs.Stmt.{block, function}

@@ -6,8 +6,8 @@ use mathlib.Core.List.{List, [], _∷_, map, List·Memᴰ, Memᴰ·map, Memᴰ·
 use mathlib.Core.Option.{Option, none}
 use native.Mathlib.Omega.{arith}
 use lib.ListN.{length, getD}
-use Rattle.block_file.specs.Parse.{Block, Parsed, parse}
-use Rattle.plan.specs.Plan.{blockKey, groups}
+use Rattle.block_file.specs.Parse.{Block, Parsed, parse, blockKey}
+use Rattle.plan.specs.Plan.{groups}
 use Rattle.plan.proofs.Components.{countsOf}
 use Rattle.plan.proofs.Cutting.{instructions}
 use Rattle.plan.proofs.GroupLaws.{group-limit, group-inside}

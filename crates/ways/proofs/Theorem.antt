@@ -10,8 +10,8 @@ use lib.Dec.{T, eqb}
 use lib.ListN.{length, getD}
 use Rattle.armv4t.specs.Bit0.{clearBit0}
 use Rattle.armv4t.specs.Instr.{sizeOf}
-use Rattle.block_file.specs.Parse.{Block}
-use Rattle.plan.specs.Plan.{blockKey, groups}
+use Rattle.block_file.specs.Parse.{Block, blockKey}
+use Rattle.plan.specs.Plan.{groups}
 use Rattle.plan.proofs.GroupLaws.{group-same}
 use Rattle.c_tree.specs.Stmt.{guard, Code, block, group, Top, function}
 use Rattle.forms.specs.Forms.{Body}

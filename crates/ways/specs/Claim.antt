@@ -7,8 +7,9 @@ use mathlib.Core.Option.{Option, some}
 use lib.Dec.{T, leb, ltb, eqb}
 use lib.ListN.{length, getElem?}
 use Rattle.armv4t.specs.Instr.{sizeOf}
-use Rattle.block_file.specs.Parse.{Block, Parsed, parse}
-use Rattle.plan.specs.Plan.{blockKey, page, groups}
+use Rattle.block_file.specs.Parse.{Block, Parsed, parse, blockKey}
+use Rattle.search.specs.Target.{page}
+use Rattle.plan.specs.Plan.{groups}
 use Rattle.c_tree.specs.Stmt.{Test, guard, gate, other, native, common, Code, block, Top, function}
 use Rattle.forms.specs.Forms.{Body}
 use Rattle.lowering.specs.Units.{TranslationUnit, unitsFor}

@@ -6,8 +6,8 @@ use mathlib.Core.List.{List, [], _∷_, _++_, map, List·Memᴰ}
 use mathlib.Core.Option.{some}
 use lib.Dec.{eqb}
 use lib.ListN.{getElem?}
-use Rattle.block_file.specs.Parse.{Block, Parsed, parse}
-use Rattle.plan.specs.Plan.{blockKey, groups}
+use Rattle.block_file.specs.Parse.{Block, Parsed, parse, blockKey}
+use Rattle.plan.specs.Plan.{groups}
 use Rattle.c_tree.specs.Stmt.{Code, helper, block, group, Top, opening, function, blank, extern, table, count}
 use Rattle.forms.specs.Forms.{Body}
 use Rattle.lowering.specs.Units.{TranslationUnit, emitGroup, membersOf, unitsFor}

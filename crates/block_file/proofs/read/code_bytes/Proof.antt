@@ -1,6 +1,6 @@
--- `code_bytes` gives the part of the file at a record's offset. The definition's three cases: absent, inside the file, past its end.
+-- `code_bytes` gives the slice of the file at a record's offset. The definition's three cases: absent, inside the file, past its end.
 use borrow.Author.Tests.{not-true, not-false}
-use Rattle.block_file.proofs.Rules as rules
+use Rattle.block_file.proofs.Reading as reading
 use borrow.Author.Needs.{needs}
 use Rattle.block_file.proofs.read.code_bytes.Statement.{statement}
 use Rattle.block_file.proofs.read.code_bytes.Tie as tie
@@ -18,7 +18,7 @@ slice-aggregate-result : tie.Need-slice-aggregate-result
 slice-aggregate-result c = search needs
 
 returns : tie.Need-returns
-returns c = rules.no-code _ _ _ (c .before .before .before .instrs-length .ensures .0) (not-true _ (c .before .if1 .taken))
+returns c = reading.no-code _ _ _ (c .before .before .before .instrs-length .ensures .0) (not-true _ (c .before .if1 .taken))
 
 sub-result : tie.Need-sub-result
 sub-result c = search needs
@@ -33,10 +33,10 @@ slice-aggregate-result-2 : tie.Need-slice-aggregate-result-2
 slice-aggregate-result-2 c = search needs
 
 returns-2 : tie.Need-returns-2
-returns-2 c = rules.code-there _ _ _ (c .before .before .before .before .instrs-length .ensures .0) (not-false _ (c .before .before .if1 .left)) (c .before .if2 .taken)
+returns-2 c = reading.code-there _ _ _ (c .before .before .before .before .instrs-length .ensures .0) (not-false _ (c .before .before .if1 .left)) (c .before .if2 .taken)
 
 returns-3 : tie.Need-returns-3
-returns-3 c = rules.code-past _ _ _ (c .before .before .before .before .instrs-length .ensures .0) (not-false _ (c .before .before .if1 .left)) (c .before .if2 .left)
+returns-3 c = reading.code-past _ _ _ (c .before .before .before .before .instrs-length .ensures .0) (not-false _ (c .before .before .if1 .left)) (c .before .if2 .left)
 
 pub code-bytes-spec : {M : Type 1} → statement M
 code-bytes-spec =

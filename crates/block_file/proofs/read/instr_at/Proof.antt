@@ -1,6 +1,6 @@
 -- `instr_at` finds instruction record i, or nothing: past the count, past the file's end, and there are the three cases of the definition.
 use Rattle.block_file.specs.declared.read.FoundInstr.{FoundInstr}
-use Rattle.block_file.proofs.Rules as rules
+use Rattle.block_file.proofs.Reading as reading
 use mathlib.Core.Path.{_∙_, ap}
 use native.Mathlib.Omega.{arith}
 use borrow.Author.Needs.{needs}
@@ -14,10 +14,10 @@ cast-if1 : tie.Need-cast-if1
 cast-if1 c = search needs
 
 returns : tie.Need-returns
-returns c = rules.no-instr _ _ 0 _ _ (omega arith)
+returns c = reading.no-instr _ _ 0 _ _ (omega arith)
 
-part-start-requires : tie.Need-part-start-requires
-part-start-requires c κs = search needs
+section-start-requires : tie.Need-section-start-requires
+section-start-requires c κs = search needs
 
 mul-at : tie.Need-mul-at
 mul-at c = search needs
@@ -29,13 +29,13 @@ add-if2 : tie.Need-add-if2
 add-if2 c = search needs
 
 returns-2 : tie.Need-returns-2
-returns-2 c = rules.instr-past _ _ _ _ _ (c .before .part-start .ensures) (c .if2 .taken)
+returns-2 c = reading.instr-past _ _ _ _ _ (c .before .section-start .ensures) (c .if2 .taken)
 
 timed-instr-requires : tie.Need-timed-instr-requires
 timed-instr-requires c κs = search needs
 
 returns-3 : tie.Need-returns-3
-returns-3 c = ap FoundInstr.At (c .timed-instr .ensures) ∙ rules.instr-there _ _ _ _ _ (omega arith) (c .before .before .part-start .ensures) (c .before .if2 .left)
+returns-3 c = ap FoundInstr.At (c .timed-instr .ensures) ∙ reading.instr-there _ _ _ _ _ (omega arith) (c .before .before .section-start .ensures) (c .before .if2 .left)
 
 pub instr-at-spec : {M : Type 1} → statement M
 instr-at-spec =
@@ -44,7 +44,7 @@ instr-at-spec =
     trailer-word-requires
     cast-if1
     returns
-    part-start-requires
+    section-start-requires
     mul-at
     add-at
     add-if2

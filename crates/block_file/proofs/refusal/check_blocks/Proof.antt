@@ -3,7 +3,7 @@ use borrow.Author.Tests.{not-true, not-false}
 use Prim.Native.Nat.{ℕ, _+_, _-_}
 use mathlib.Core.Path.{ap₂, _∙_, ap, sym}
 use Rattle.block_file.specs.Refusal.{found}
-use Rattle.block_file.proofs.Parts.{parts}
+use Rattle.records.proofs.Sections.{sections}
 use Rattle.block_file.proofs.Passes as passes
 use borrow.Author.Needs.{needs}
 use native.Mathlib.Omega.{arith}
@@ -16,8 +16,8 @@ Inv-loop file start blocks least₀ sum₀ i₀ least sum i = passes.Blocks file
 abbrev μ-loop : tie.MeasureT-loop
 μ-loop file start blocks least₀ sum₀ i₀ least sum i = blocks - i
 
-part-start-requires : tie.Need-part-start-requires Inv-loop μ-loop
-part-start-requires c κs = search needs
+section-start-requires : tie.Need-section-start-requires Inv-loop μ-loop
+section-start-requires c κs = search needs
 
 trailer-word-requires : tie.Need-trailer-word-requires Inv-loop μ-loop
 trailer-word-requires c κs = search needs
@@ -32,33 +32,33 @@ mul-at : tie.Need-mul-at Inv-loop μ-loop
 mul-at c = search needs
 
 add-at : tie.Need-add-at Inv-loop μ-loop
-add-at c = omega (arith, parts _ (c .before .before .before .before .before .pre))
+add-at c = omega (arith, sections _ (c .before .before .before .before .before .pre))
 
 block-right-requires : tie.Need-block-right-requires Inv-loop μ-loop
-block-right-requires c κs = omega (arith, parts _ (c .before .before .before .before .before .pre))
+block-right-requires c κs = omega (arith, sections _ (c .before .before .before .before .before .pre))
 
 returns : tie.Need-returns Inv-loop μ-loop
 returns c = ap found
     (sym
     (c .before .before .before .loop .inv .kept
-    ∙ passes.block-broken _ _ _ _ _ (c .before .before .before .before .before .part-start .ensures) (c .before .before .loop-test .taken)
+    ∙ passes.block-broken _ _ _ _ _ (c .before .before .before .before .before .section-start .ensures) (c .before .before .loop-test .taken)
     (sym (c .before .block-right .ensures) ∙ not-true _ (c .if1 .taken))))
 
 key-requires : tie.Need-key-requires Inv-loop μ-loop
-key-requires c κs = omega (arith, parts _ (c .before .before .before .before .before .before .before .pre))
+key-requires c κs = omega (arith, sections _ (c .before .before .before .before .before .before .before .pre))
 
 returns-2 : tie.Need-returns-2 Inv-loop μ-loop
 returns-2 c = ap found
     (sym
     (c .before .before .before .before .before .loop .inv .kept
-    ∙ passes.order-broken _ _ _ _ _ (c .before .before .before .before .before .before .before .part-start .ensures) (c .before .before .before .before .loop-test .taken)
+    ∙ passes.order-broken _ _ _ _ _ (c .before .before .before .before .before .before .before .section-start .ensures) (c .before .before .before .before .loop-test .taken)
     (sym (c .before .before .before .block-right .ensures) ∙ not-false _ (c .before .before .if1 .left)) (omega arith)))
 
 add-least : tie.Need-add-least Inv-loop μ-loop
 add-least c = omega arith
 
 count-requires : tie.Need-count-requires Inv-loop μ-loop
-count-requires c κs = omega (arith, parts _ (c .before .before .before .before .before .before .before .before .before .pre))
+count-requires c κs = omega (arith, sections _ (c .before .before .before .before .before .before .before .before .before .pre))
 
 cast-sum : tie.Need-cast-sum Inv-loop μ-loop
 cast-sum c = search needs
@@ -73,7 +73,7 @@ loop-less : tie.Need-loop-less Inv-loop μ-loop
 loop-less c = omega arith
 
 loop-again : tie.Need-loop-again Inv-loop μ-loop
-loop-again c = let starts = c .before .before .before .before .before .before .before .before .part-start .ensures in
+loop-again c = let starts = c .before .before .before .before .before .before .before .before .section-start .ensures in
     let right = sym (c .before .before .before .before .block-right .ensures) ∙ not-false _ (c .before .before .before .if1 .left) in
     record {
       inside = omega arith;
@@ -109,7 +109,7 @@ check-blocks-spec =
     (tie.spec
     Inv-loop
     μ-loop
-    part-start-requires
+    section-start-requires
     trailer-word-requires
     cast-blocks
     loop-holds

@@ -1,8 +1,8 @@
 -- `block_file::refusal::check_records` meets its contract: the first broken rule is that of the records still to come.
 -- Assumes nothing.
-use Rattle.block_file.specs.Trailer.{instrCount}
+use Rattle.records.specs.Trailer.{instrCount}
 use Rattle.block_file.specs.Refusal.{found, firstBroken, instrRows}
-use Rattle.block_file.proofs.Parts.{parts}
+use Rattle.records.proofs.Sections.{sections}
 use Rattle.block_file.proofs.Passes as passes
 use Prim.Native.Nat.{_-_, _≤_}
 use borrow.Author.Tests.{not-true, not-false}
@@ -19,8 +19,8 @@ Inv-loop file rows start instrs i₀ i = (i ≤ instrs) × (firstBroken file (in
 abbrev μ-loop : tie.MeasureT-loop
 μ-loop file rows start instrs i₀ i = instrs - i
 
-part-start-requires : tie.Need-part-start-requires Inv-loop μ-loop
-part-start-requires c κs = search needs
+section-start-requires : tie.Need-section-start-requires Inv-loop μ-loop
+section-start-requires c κs = search needs
 
 trailer-word-requires : tie.Need-trailer-word-requires Inv-loop μ-loop
 trailer-word-requires c κs = search needs
@@ -35,18 +35,18 @@ mul-instr-right : tie.Need-mul-instr-right Inv-loop μ-loop
 mul-instr-right c = search needs
 
 add-instr-right : tie.Need-add-instr-right Inv-loop μ-loop
-add-instr-right c = omega (arith, parts _ (c .before .before .before .before .before .before .pre .0))
+add-instr-right c = omega (arith, sections _ (c .before .before .before .before .before .before .pre .0))
 
 instr-right-requires : tie.Need-instr-right-requires Inv-loop μ-loop
 instr-right-requires c κs =
     let pre = c .before .before .before .before .before .before .pre in
-    (omega (arith, parts _ (pre .0)), pre .1)
+    (omega (arith, sections _ (pre .0)), pre .1)
 
 returns : tie.Need-returns Inv-loop μ-loop
 returns c = ap found
     (sym
     (c .before .before .before .loop .inv .1
-    ∙ passes.instr-broken _ _ _ _ (c .before .before .before .before .before .part-start .ensures) (c .before .before .loop-test .taken)
+    ∙ passes.instr-broken _ _ _ _ (c .before .before .before .before .before .section-start .ensures) (c .before .before .loop-test .taken)
     (sym (c .before .instr-right .ensures) ∙ not-true _ (c .if1 .taken))))
 
 add-i : tie.Need-add-i Inv-loop μ-loop
@@ -59,7 +59,7 @@ loop-again : tie.Need-loop-again Inv-loop μ-loop
 loop-again c = (
   omega arith,
   c .before .before .before .loop .inv .1
-      ∙ passes.instr-kept _ _ _ _ (c .before .before .before .before .before .part-start .ensures) (c .before .before .loop-test .taken)
+      ∙ passes.instr-kept _ _ _ _ (c .before .before .before .before .before .section-start .ensures) (c .before .before .loop-test .taken)
       (sym (c .before .instr-right .ensures) ∙ not-false _ (c .if1 .left)),
 )
 
@@ -72,7 +72,7 @@ check-records-spec =
     (tie.spec
     Inv-loop
     μ-loop
-    part-start-requires
+    section-start-requires
     trailer-word-requires
     cast-instrs
     loop-holds

@@ -1,6 +1,6 @@
 -- `cases::exits_cases::answer` meets its contract: the numbers are those of the variant that the call answers.
 use borrow.Author.Needs.{needs}
-use Rattle.plan.specs.Calls.{exitingOf}
+use Rattle.block_exits.specs.Calls.{exitingOf}
 use Rattle.cases.proofs.exits_cases.answer.Statement.{statement}
 use Rattle.cases.proofs.exits_cases.answer.Tie as tie
 

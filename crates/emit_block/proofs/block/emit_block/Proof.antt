@@ -6,8 +6,8 @@ use mathlib.Core.Option.{some}
 use native.Mathlib.Omega.{arith}
 use borrow.Author.Tests.{not-true, not-false}
 use denote.Ref.{now}
-use Rattle.plan.specs.Accepted.{IsBlock}
-use Rattle.plan.proofs.Accepted.{missing}
+use Rattle.block_file.specs.Read.{IsBlock}
+use Rattle.block_file.proofs.IsBlock.{missing}
 use Rattle.emit_block.proofs.Bodies.{bodyHere, is-body, hash-there, hash-absent, guarded-by, length-by, block-here, code-bare, code-deferred, code-guarded}
 use borrow.Author.Needs.{needs}
 use Rattle.emit_block.proofs.block.emit_block.Statement.{statement}

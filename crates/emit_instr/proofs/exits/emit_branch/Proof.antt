@@ -8,7 +8,7 @@ use Rattle.forms.specs.Forms.{Form}
 use Rattle.forms.specs.Operands.{condExpr}
 use Rattle.forms.specs.InlineBody.{apart}
 use Rattle.forms.specs.Block.{flushTicks}
-use Rattle.plan.specs.Exits.{isAl}
+use Rattle.block_exits.specs.Exits.{isAl}
 use Rattle.lowering.specs.Block.{bodyKey, has, rest}
 use Rattle.emit_flow.specs.Pieces.{branchRegs}
 use Rattle.emit_instr.proofs.Texts.{jump-step, branch-step, branch-form}

@@ -6,7 +6,7 @@ use Rattle.text.specs.Doc.{flat}
 use Rattle.text.proofs.Laws.{said}
 use Rattle.c_tree.specs.Stmt.{common, end}
 use Rattle.c_tree.specs.Print.{codeText}
-use Rattle.plan.specs.Exits.{fallThrough}
+use Rattle.block_exits.specs.Exits.{fallThrough}
 use Rattle.forms.specs.Forms.{Lines}
 use Rattle.forms.specs.InlineBody.{apart}
 use Rattle.forms.specs.Block.{flushTicks, setWord}

@@ -8,7 +8,7 @@ use mathlib.Core.Path.{_≡_, refl, _∙_}
 use native.Mathlib.Omega.{arith}
 use Rattle.c_tree.specs.Print.{casesText}
 use Rattle.members.specs.Members.{membersOf}
-use Rattle.plan.specs.Accepted.{blocksOf}
+use Rattle.block_file.specs.Parse.{blocksOf}
 use Rattle.text.proofs.Laws.{none, said, kept}
 use Rattle.text.specs.Doc.{Doc}
 use Rattle.text.specs.Wrote.{Wrote}

@@ -7,7 +7,7 @@ use mathlib.Core.List.{[]}
 use mathlib.Core.Path.{_≡_, refl, _∙_}
 use native.Mathlib.Omega.{arith}
 use Rattle.members.specs.Members.{membersOf}
-use Rattle.plan.specs.Accepted.{blocksOf}
+use Rattle.block_file.specs.Parse.{blocksOf}
 use Rattle.text.proofs.Laws.{none, seq, said, kept}
 use Rattle.text.specs.Wrote.{Wrote}
 use Rattle.emit_tables.proofs.Around.{numbered, numbered-more, entry, forwarders-keys}

@@ -6,11 +6,10 @@ use mathlib.Core.List.{List}
 use mathlib.Core.Path.{ap, _∙_}
 use native.Mathlib.Omega.{arith}
 use Rattle.block_file.proofs.Accepted.{few-blocks}
-use Rattle.block_file.specs.Parse.{Block}
+use Rattle.block_file.specs.Parse.{Block, blocksOf}
 use Rattle.fnv.specs.Fnv.{hashMultiplier}
 use Rattle.lowering.specs.Units.{unit}
 use Rattle.plan.proofs.HandOver.{cleared-same, refused-8}
-use Rattle.plan.specs.Accepted.{blocksOf}
 use Rattle.plan.specs.Calls.{partLimit, handOver}
 use Rattle.emit_units.specs.Calls.{translatedOf, madeUnit}
 use Rattle.emit_units.proofs.Answers.{cleared-call}

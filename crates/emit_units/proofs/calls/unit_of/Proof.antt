@@ -5,7 +5,7 @@ use mathlib.Core.Path.{sym, ap, _∙_}
 use native.Mathlib.Omega.{arith}
 use Rattle.block_file.proofs.Accepted.{few-blocks}
 use Rattle.block_file.specs.Parse.{Parsed}
-use Rattle.plan.proofs.Answers.{refused-file, accepted-file, accepted-blocks}
+use Rattle.block_file.proofs.Answers.{refused-file, accepted-file, accepted-blocks}
 use Rattle.plan.specs.Calls.{callOnFile}
 use Rattle.emit_units.specs.Calls.{translatedOf, unitCall}
 use Rattle.emit_units.proofs.calls.unit_of.Statement.{statement}

@@ -7,7 +7,7 @@ use mathlib.Core.Path.{_≡_}
 use native.Mathlib.Omega.{arith}
 use Rattle.members.specs.Members.{startOf}
 use Rattle.members.specs.Prepared.{Ready}
-use Rattle.plan.specs.Accepted.{blocksOf}
+use Rattle.block_file.specs.Parse.{blocksOf}
 use Rattle.plan.specs.Plan.{groups}
 use Rattle.emit_units.proofs.Cuts.{Walked, walked-none, walked-more, walked-handed, walked-end}
 use Rattle.emit_units.proofs.extents.measure_unit.Statement.{statement}

@@ -8,7 +8,7 @@ use mathlib.Core.Path.{sym, ap, subst}
 use native.Mathlib.Omega.{arith}
 use Rattle.members.proofs.Places.{row-block-inside}
 use Rattle.members.specs.Members.{membersOf}
-use Rattle.plan.specs.Accepted.{blocksOf}
+use Rattle.block_file.specs.Parse.{blocksOf}
 use Rattle.text.proofs.Laws.{said}
 use Rattle.text.specs.Doc.{flat}
 use Rattle.emit_units.specs.Groups.{memberText, keysWithin}

@@ -10,7 +10,7 @@ use Rattle.emit_tables.proofs.Rows.{group-size}
 use Rattle.emit_tables.specs.Tables.{groupKeys}
 use Rattle.fnv.specs.Fnv.{hashMultiplier}
 use Rattle.members.specs.Members.{membersOf}
-use Rattle.plan.specs.Accepted.{blocksOf}
+use Rattle.block_file.specs.Parse.{blocksOf}
 use Rattle.emit_units.proofs.Functions.{lone-wrote}
 use Rattle.emit_units.proofs.groups.put_lone.Statement.{statement}
 use Rattle.emit_units.proofs.groups.put_lone.Tie as tie

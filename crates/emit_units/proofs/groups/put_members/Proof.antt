@@ -9,7 +9,7 @@ use native.Mathlib.Omega.{arith}
 use Rattle.emit_tables.proofs.Rows.{group-size}
 use Rattle.emit_tables.specs.Tables.{groupKeys, IsGroup}
 use Rattle.members.specs.Members.{membersOf}
-use Rattle.plan.specs.Accepted.{blocksOf}
+use Rattle.block_file.specs.Parse.{blocksOf}
 use Rattle.text.proofs.Laws.{none, said, each-more, each-all}
 use Rattle.text.specs.Doc.{each}
 use Rattle.text.specs.Wrote.{Wrote}

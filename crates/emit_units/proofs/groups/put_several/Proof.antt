@@ -9,7 +9,7 @@ use Rattle.fnv.specs.Fnv.{hashMultiplier}
 use Rattle.lowering.specs.Measured.{seen}
 use Rattle.lowering.specs.Units.{membersOf as Units·membersOf}
 use Rattle.members.specs.Members.{membersOf}
-use Rattle.plan.specs.Accepted.{blocksOf}
+use Rattle.block_file.specs.Parse.{blocksOf}
 use Rattle.emit_units.specs.Groups.{bodiesOf}
 use Rattle.emit_units.proofs.Functions.{members-count, several-wrote}
 use Rattle.emit_units.proofs.groups.put_several.Statement.{statement}

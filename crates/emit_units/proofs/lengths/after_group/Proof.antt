@@ -6,7 +6,7 @@ use mathlib.Core.Path.{ap, _∙_}
 use Rattle.lowering.proofs.Measured.{measured-length}
 use Rattle.lowering.specs.Units.{membersOf as Units·membersOf, textOf}
 use Rattle.members.specs.Members.{membersOf}
-use Rattle.plan.specs.Accepted.{blocksOf}
+use Rattle.block_file.specs.Parse.{blocksOf}
 use Rattle.text.specs.Wrote.{top}
 use Rattle.emit_units.specs.Groups.{bodiesOf}
 use Rattle.emit_units.proofs.lengths.after_group.Statement.{statement}

@@ -4,7 +4,7 @@ use borrow.Author.Needs.{needs}
 use Rattle.emit_tables.proofs.Around.{body-keys}
 use Rattle.fnv.specs.Fnv.{hashMultiplier}
 use Rattle.lowering.specs.Units.{textOf}
-use Rattle.plan.specs.Accepted.{blocksOf}
+use Rattle.block_file.specs.Parse.{blocksOf}
 use Rattle.emit_units.specs.Groups.{bodiesOf}
 use Rattle.emit_units.proofs.lengths.after_tail.Statement.{statement}
 use Rattle.emit_units.proofs.lengths.after_tail.Tie as tie

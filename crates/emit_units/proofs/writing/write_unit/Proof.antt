@@ -3,7 +3,7 @@
 use borrow.Author.Needs.{needs}
 use Rattle.emit_tables.proofs.Around.{body-keys}
 use Rattle.fnv.specs.Fnv.{hashMultiplier}
-use Rattle.plan.specs.Accepted.{blocksOf}
+use Rattle.block_file.specs.Parse.{blocksOf}
 use Rattle.emit_units.specs.Groups.{bodiesOf}
 use Rattle.emit_units.proofs.Written.{unit-handed, unit-last}
 use Rattle.emit_units.proofs.writing.write_unit.Statement.{statement}

@@ -9,7 +9,7 @@ use Rattle.list_blocks.proofs.calls.list_blocks.Tie as tie
 use Rattle.list_blocks.specs.Calls.{listedOf, madeListing}
 use Rattle.list_blocks.specs.Listing.{listing}
 use Rattle.plan.proofs.HandOver.{cleared-same, refused-8, refused-10, handed-over}
-use Rattle.plan.specs.Accepted.{blocksOf}
+use Rattle.block_file.specs.Parse.{blocksOf}
 use Rattle.text.proofs.Laws.{whole}
 use Rattle.text.specs.Doc.{print}
 use borrow.Author.Needs.{needs}

@@ -6,7 +6,7 @@ use Rattle.list_blocks.proofs.Lengths.{listing-short}
 use Rattle.list_blocks.proofs.calls.listing_length.Statement.{statement}
 use Rattle.list_blocks.proofs.calls.listing_length.Tie as tie
 use Rattle.plan.specs.Calls.{partLimit}
-use Rattle.plan.specs.Accepted.{blocksOf}
+use Rattle.block_file.specs.Parse.{blocksOf}
 use Rattle.text.proofs.Laws.{exact, counted}
 use Rattle.text.specs.Wrote.{top}
 use borrow.Author.Needs.{needs}

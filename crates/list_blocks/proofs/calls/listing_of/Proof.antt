@@ -4,7 +4,7 @@ use Rattle.block_file.proofs.Accepted.{few-blocks}
 use Rattle.list_blocks.proofs.calls.listing_of.Statement.{statement}
 use Rattle.list_blocks.proofs.calls.listing_of.Tie as tie
 use Rattle.list_blocks.specs.Calls.{listedOf, listingCall}
-use Rattle.plan.proofs.Answers.{refused-file, accepted-file, accepted-blocks}
+use Rattle.block_file.proofs.Answers.{refused-file, accepted-file, accepted-blocks}
 use Rattle.plan.specs.Calls.{callOnFile}
 use borrow.Author.Needs.{needs}
 use denote.Ref.{now}

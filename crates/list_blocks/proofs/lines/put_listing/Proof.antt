@@ -8,15 +8,15 @@ use mathlib.Core.List.{List, []}
 use mathlib.Core.Path.{_≡_, refl, sym, ap, _∙_}
 use native.Mathlib.Omega.{arith}
 use Rattle.block_file.proofs.Accepted.{length-of}
-use Rattle.block_file.specs.BlockRecord.{countSum}
-use Rattle.block_file.specs.Parse.{Block, blockAt}
-use Rattle.block_file.specs.Trailer.{blockCount, blockStart}
+use Rattle.records.specs.BlockRecord.{countSum}
+use Rattle.block_file.specs.Parse.{Block, blockAt, blocksOf}
+use Rattle.records.specs.Trailer.{blockCount, blockStart}
 use Rattle.list_blocks.proofs.Blocks.{lines-next}
 use Rattle.list_blocks.proofs.lines.put_listing.Statement.{statement}
 use Rattle.list_blocks.proofs.lines.put_listing.Tie as tie
 use Rattle.list_blocks.specs.Listing.{linesFrom, listing}
-use Rattle.plan.proofs.Accepted.{missing, sum-next, nth-block}
-use Rattle.plan.specs.Accepted.{blocksOf, IsBlock}
+use Rattle.block_file.proofs.IsBlock.{missing, sum-next, nth-block}
+use Rattle.block_file.specs.Read.{IsBlock}
 use Rattle.plan.specs.Calls.{partLimit}
 use Rattle.plan.specs.Plan.{plan}
 use Rattle.text.proofs.Laws.{seq, said, kept}

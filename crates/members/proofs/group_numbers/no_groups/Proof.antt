@@ -1,4 +1,4 @@
--- `no_groups` clears part 1. The loop's invariant: it is 0 up to i.
+-- `no_groups` clears quarter 1. The loop's invariant: it is 0 up to i.
 -- Assumes nothing.
 use Prim.Native.Nat.{_*_, _-_, _≤_}
 use lib.ListN.{length}

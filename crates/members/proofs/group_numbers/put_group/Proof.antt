@@ -1,4 +1,4 @@
--- `put_group` takes one row more into part 1.
+-- `put_group` takes one row more into quarter 1.
 -- Assumes nothing.
 use borrow.Author.Needs.{needs}
 use mathlib.Core.Path.{refl}

@@ -1,4 +1,4 @@
--- `put_groups` gives each block the group of its first row. The loop's invariant: part 1 has the groups of the rows from row p on.
+-- `put_groups` gives each block the group of its first row. The loop's invariant: quarter 1 has the groups of the rows from row p on.
 -- Assumes nothing.
 use Prim.Native.Nat.{ℕ, _*_, _≤_}
 use borrow.Author.Needs.{needs}

@@ -6,7 +6,7 @@ use native.Mathlib.Omega.{arith}
 use Rattle.members.proofs.Among.{among-missing, among-found}
 use Rattle.members.proofs.lookup.in_group.Statement.{statement}
 use Rattle.members.proofs.lookup.in_group.Tie as tie
-use Rattle.plan.specs.Search.{targetOf, TargetInside}
+use Rattle.search.specs.Search.{targetOf, TargetInside}
 
 find-target-requires : tie.Need-find-target-requires
 find-target-requires c κs = search needs

@@ -1,4 +1,4 @@
--- `put_firsts` stores the number of each block's first instruction. The loop's invariant: `first` is the sum of the counts passed, and part 3 has those sums for the blocks passed.
+-- `put_firsts` stores the number of each block's first instruction. The loop's invariant: `first` is the sum of the counts passed, and quarter 3 has those sums for the blocks passed.
 -- Assumes nothing.
 use Prim.Native.Nat.{_*_, _-_, _≤_}
 use borrow.Author.Needs.{needs}
@@ -6,13 +6,13 @@ use lib.ListN.{length}
 use mathlib.Core.Path.{_≡_, refl, sym, _∙_}
 use native.Mathlib.Omega.{arith}
 use Rattle.block_file.proofs.Accepted.{few-instrs}
-use Rattle.block_file.specs.BlockRecord.{countSum}
+use Rattle.records.specs.BlockRecord.{countSum}
 use Rattle.members.proofs.Preparing.{firsts-none, firsts-more, firsts-all}
 use Rattle.members.proofs.numbers.put_firsts.Statement.{statement}
 use Rattle.members.proofs.numbers.put_firsts.Tie as tie
 use Rattle.members.specs.Prepared.{FirstsTo}
-use Rattle.plan.proofs.Accepted.{missing, among, sum-next}
-use Rattle.plan.specs.Accepted.{IsBlock}
+use Rattle.block_file.proofs.IsBlock.{missing, among, sum-next}
+use Rattle.block_file.specs.Read.{IsBlock}
 
 abbrev Inv-loop : tie.InvT-loop
 Inv-loop file work₀ n first₀ i₀ work first i = (i ≤ n) × (4 * n ≤ length work₀) × (first ≡ countSum file i) × FirstsTo file n i work₀ work

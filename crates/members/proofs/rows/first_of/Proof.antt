@@ -1,4 +1,4 @@
--- `first_of` reads part 3.
+-- `first_of` reads quarter 3.
 -- Assumes nothing.
 use borrow.Author.Needs.{needs}
 use native.Mathlib.Omega.{arith}

@@ -1,4 +1,4 @@
--- `row_block` reads part 0.
+-- `row_block` reads quarter 0.
 -- Assumes nothing.
 use borrow.Author.Needs.{needs}
 use mathlib.Core.Path.{refl}

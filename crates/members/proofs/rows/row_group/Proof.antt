@@ -1,4 +1,4 @@
--- `row_group` reads part 2.
+-- `row_group` reads quarter 2.
 -- Assumes nothing.
 use borrow.Author.Needs.{needs}
 use mathlib.Core.Path.{refl}

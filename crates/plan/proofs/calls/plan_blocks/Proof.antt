@@ -6,7 +6,7 @@ use Prim.Native.Nat.{ℕ, _*_}
 use mathlib.Core.List.{List, _++_}
 use mathlib.Core.Path.{refl, sym, ap, ap₂, _∙_}
 use lib.ListN.{drop}
-use Rattle.plan.specs.Accepted.{blocksOf}
+use Rattle.block_file.specs.Parse.{blocksOf}
 use Rattle.block_file.proofs.Accepted.{few-blocks, length-of}
 use Rattle.plan.proofs.HandOver.{cleared-same, refused-8, refused-10, handed-over}
 use Rattle.plan.proofs.PlanLength.{plan-length}

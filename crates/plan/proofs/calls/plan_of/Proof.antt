@@ -5,7 +5,7 @@ use denote.Ref.{now}
 use mathlib.Core.Path.{sym, ap, _∙_}
 use native.Mathlib.Omega.{arith}
 use Rattle.block_file.proofs.Accepted.{few-blocks}
-use Rattle.plan.proofs.Answers.{refused-file, accepted-file, accepted-blocks}
+use Rattle.block_file.proofs.Answers.{refused-file, accepted-file, accepted-blocks}
 use Rattle.plan.proofs.calls.plan_of.Statement.{statement}
 use Rattle.plan.proofs.calls.plan_of.Tie as tie
 use Rattle.plan.specs.Calls.{plannedOf, callOnFile, planCall}

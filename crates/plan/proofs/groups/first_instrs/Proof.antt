@@ -1,4 +1,4 @@
--- `first_instrs` stores the number of each block's first instruction. The loop's invariant: `sum` is the sum of the counts passed, and part 0 has those sums for the blocks passed.
+-- `first_instrs` stores the number of each block's first instruction. The loop's invariant: `sum` is the sum of the counts passed, and quarter 0 has those sums for the blocks passed.
 use Rattle.plan.proofs.Grouping as grouping
 use denote.Ref.{now}
 use Prim.Native.Nat.{ℕ, _-_}

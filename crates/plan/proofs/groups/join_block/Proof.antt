@@ -1,12 +1,13 @@
--- `join_block` makes the edges of a block: none if it is not of page 8, else those of its exits, which begin at the instruction that part 0 has for it.
+-- `join_block` makes the edges of a block: none if it is not of page 8, else those of its exits, which begin at the instruction that quarter 0 has for it.
 use denote.Ref.{now}
-use Rattle.plan.specs.Exits.{exits}
+use Rattle.block_exits.specs.Exits.{exits}
 use Rattle.block_file.specs.Parse.{blockAt}
-use Rattle.block_file.specs.Trailer.{blockStart}
+use Rattle.records.specs.Trailer.{blockStart}
 use Prim.Native.Nat.{ℕ}
 use mathlib.Core.Path.{ap, sym, _∙_}
 use Rattle.plan.proofs.Joining as joining
 use borrow.Author.Needs.{needs}
+use borrow.Author.Tests.{not-true, not-false}
 use Rattle.plan.proofs.groups.join_block.Statement.{statement}
 use Rattle.plan.proofs.groups.join_block.Tie as tie
 
@@ -22,8 +23,15 @@ enum-told c = search needs
 returns : tie.Need-returns
 returns c = joining.block-missing _ _ _ _ _ (c .before .before .block-at .ensures) (c .before .before .before .before .before .pre .0 .2) (c .before .before .before .before .before .pre .0 .3) (c .enum-told .given .1)
 
+on-page-8-requires : tie.Need-on-page-8-requires
+on-page-8-requires c κs = search needs
+
 returns-2 : tie.Need-returns-2
-returns-2 c = joining.block-apart _ _ _ _ _ (c .before .before .before .before .before .block-at .ensures) (c .before .before .before .before .before .before .before .before .pre .0 .2) (c .before .before .before .before .before .before .before .before .pre .0 .3) _ (c .before .before .before .block .given .1) (c .if1 .taken)
+returns-2 c =
+    let known = c .before .before .before in
+    let pre = known .before .before .before .before .before .pre in
+    joining.block-apart _ _ _ _ _ (known .before .before .block-at .ensures) (pre .0 .2) (pre .0 .3) _ (known .block .given .1)
+    (sym (c .before .on-page-8 .ensures) ∙ not-true _ (c .if1 .taken))
 
 mul-wide : tie.Need-mul-wide
 mul-wide c = search needs
@@ -48,7 +56,7 @@ returns-3 c = let args = c .before .before .before .before .before .before .befo
     let pre = c .before .before .before .before .before .before .before .before .before .before .before .before .before .before .before .pre in
     let found = c .before .before .before .before .before .before .before .before .before .before .block .given .1 in
     let reads = c .before .before .before .before .before .before .before .before .before .before .before .before .block-at .ensures in
-    joining.block-joins _ _ _ _ _ reads (pre .0 .2) (pre .0 .3) _ found (c .before .before .before .before .before .before .before .if1 .left) (c .before .before .before .before .exits-at .result) _
+    joining.block-joins _ _ _ _ _ reads (pre .0 .2) (pre .0 .3) _ found (sym (c .before .before .before .before .before .before .before .before .on-page-8 .ensures) ∙ not-false _ (c .before .before .before .before .before .before .before .if1 .left)) (c .before .before .before .before .exits-at .result) _
     (λ a.
     let starts = c .before .before .before .before .before .wide .ensures ∙ pre .1 .1 a _ (pre .0 .2) in
     c .before .before .before .before .exits-at .ensures _ (record { accepted = a; found = sym reads ∙ found; starts = starts })
@@ -63,6 +71,7 @@ join-block-spec =
     enum-known-block
     enum-told
     returns
+    on-page-8-requires
     returns-2
     mul-wide
     slice-read-wide

@@ -33,7 +33,7 @@ part-own-roots-end c = search needs
 own-roots-requires : tie.Need-own-roots-requires Inv-loop μ-loop
 own-roots-requires c κs = let w = now (c .before .before .before .args .work) in
     let n = c .before .before .before .args .n in
-    rw (lending.lent-is n w, lending.part-length n w (c .before .before .before .pre .0 .0)) (omega arith)
+    rw (lending.lent-is n w, lending.quarter-length n w (c .before .before .before .pre .0 .0)) (omega arith)
 
 loop-holds : tie.Need-loop-holds Inv-loop μ-loop
 loop-holds c = grouping.edges-none _ _ _ _ (c .before .before .before .before .before .before .pre .0 .0) (rw lending.lent-is at (c .before .before .own-roots .ensures)) (c .before .before .before .before .before .before .pre .0 .2)

@@ -1,6 +1,6 @@
 -- `join_exits` makes the edges of an exit list, the first before the second. Each makes a way at most one step longer.
 use Rattle.plan.proofs.Joining as joining
-use Rattle.plan.proofs.Roots.{deeper}
+use Rattle.forest.proofs.Roots.{deeper}
 use native.Mathlib.Omega.{arith}
 use borrow.Author.Needs.{needs}
 use Rattle.plan.proofs.groups.join_exits.Statement.{statement}

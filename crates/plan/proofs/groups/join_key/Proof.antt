@@ -1,4 +1,4 @@
--- `join_key` makes the edge from a block to a key, or none where no block of page 8 has the key. The lent part of the work numbers is the parents.
+-- `join_key` makes the edge from a block to a key, or none where no block of page 8 has the key. The lent quarter of the work numbers is the parents.
 use Rattle.plan.proofs.Joining as joining
 use Rattle.plan.proofs.Lending as lending
 use denote.Ref.{now}
@@ -37,7 +37,7 @@ hang-under-requires : tie.Need-hang-under-requires
 hang-under-requires c κs = let w = now (c .before .before .before .before .before .before .before .args .work) in
     let n = c .before .before .before .before .before .before .before .args .n in
     let pre = c .before .before .before .before .before .before .before .pre .0 in
-    rw (lending.lent-is n w, lending.part-length n w (pre .0)) (c .before .before .before .before .before .before .before .pre .1, (pre .2, joining.target-inside _ _ _ _ (c .before .before .before .before .find-target .ensures .0) (c .before .before .j .given .1) (pre .3)))
+    rw (lending.lent-is n w, lending.quarter-length n w (pre .0)) (c .before .before .before .before .before .before .before .pre .1, (pre .2, joining.target-inside _ _ _ _ (c .before .before .before .before .find-target .ensures .0) (c .before .before .j .given .1) (pre .3)))
 
 same-length : tie.Need-same-length
 same-length c = search needs

@@ -1,4 +1,4 @@
--- `put_root` stores the root of a block in part 2, past the parents, so that the store leaves those as the search left them.
+-- `put_root` stores the root of a block in quarter 2, past the parents, so that the store leaves those as the search left them.
 use Rattle.plan.proofs.Lending as lending
 use denote.Ref.{now}
 use borrow.Author.Needs.{needs}
@@ -23,7 +23,7 @@ part-find-end c = search needs
 find-requires : tie.Need-find-requires
 find-requires c κs = let w = now (c .before .before .args .work) in
     let n = c .before .before .args .n in
-    rw (lending.lent-is n w, lending.part-length n w (c .before .before .pre .0 .0)) (c .before .before .pre .1, c .before .before .pre .0 .2)
+    rw (lending.lent-is n w, lending.quarter-length n w (c .before .before .pre .0 .0)) (c .before .before .pre .1, c .before .before .pre .0 .2)
 
 cast-work : tie.Need-cast-work
 cast-work c = search needs

@@ -1,7 +1,7 @@
--- `put_roots` stores the roots of all blocks. The loop's invariant: part 2 has the roots of the first i blocks, and the searches kept every root.
+-- `put_roots` stores the roots of all blocks. The loop's invariant: quarter 2 has the roots of the first i blocks, and the searches kept every root.
 use Rattle.plan.proofs.Lending as lending
-use Rattle.plan.specs.Groups.{part1, AllRooted}
-use Rattle.plan.specs.Forest.{Forest}
+use Rattle.plan.specs.Groups.{quarter1, AllRooted}
+use Rattle.forest.specs.Forest.{Forest}
 use denote.Ref.{now}
 use lib.ListN.{length}
 use Prim.Native.Nat.{ℕ, _*_, _-_, _≤_}
@@ -11,7 +11,7 @@ use Rattle.plan.proofs.groups.put_roots.Statement.{statement}
 use Rattle.plan.proofs.groups.put_roots.Tie as tie
 
 abbrev Inv-loop : tie.InvT-loop
-Inv-loop work₀ n i₀ work i = (i ≤ n) × (4 * n ≤ length work₀) × (n ≤ 65536) × Forest (2 * n) (part1 n work₀) × AllRooted n i work₀ work
+Inv-loop work₀ n i₀ work i = (i ≤ n) × (4 * n ≤ length work₀) × (n ≤ 65536) × Forest (2 * n) (quarter1 n work₀) × AllRooted n i work₀ work
 
 abbrev μ-loop : tie.MeasureT-loop
 μ-loop work₀ n i₀ work i = n - i

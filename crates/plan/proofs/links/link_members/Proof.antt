@@ -1,4 +1,4 @@
--- `link_members` links the members of each component. The loop's invariant: the blocks from `left` on are linked, and only parts 1 and 3 changed.
+-- `link_members` links the members of each component. The loop's invariant: the blocks from `left` on are linked, and only quarters 1 and 3 changed.
 use Rattle.plan.specs.Links.{Linked}
 use Prim.Native.Nat.{ℕ}
 use mathlib.Core.Path.{subst, _≡_, _∙_}

@@ -1,4 +1,4 @@
--- `link_one` puts a block in front of its component. Its root is below n, so every place read or written is inside the four parts.
+-- `link_one` puts a block in front of its component. Its root is below n, so every place read or written is inside the four quarters.
 use lib.ListN.{length-set}
 use native.Mathlib.Omega.{arith}
 use borrow.Author.Needs.{needs}

@@ -1,4 +1,4 @@
--- `no_members` fills part 3 with n. The loop's invariant: its first r numbers are n and no other number changed.
+-- `no_members` fills quarter 3 with n. The loop's invariant: its first r numbers are n and no other number changed.
 use denote.Ref.{now}
 use Prim.Native.Nat.{ℕ, _-_, _≤_}
 use mathlib.Core.Path.{subst, _≡_}

@@ -1,8 +1,9 @@
 -- `count_of` gives a block's instruction count. Of an accepted file every block is found, so the answer 0 is for other files.
 use Rattle.block_file.specs.Read.{recordAt}
 use Rattle.block_file.specs.declared.read.BlockRecord.{BlockRecord}
-use Rattle.plan.proofs.Keys as keys
+use Rattle.block_file.proofs.IsBlock.{missing, found-record}
 use mathlib.Core.Path.{sym, _∙_, ap}
+use native.Mathlib.Omega.{arith}
 use borrow.Author.Needs.{needs}
 use Rattle.plan.proofs.order.count_of.Statement.{statement}
 use Rattle.plan.proofs.order.count_of.Tie as tie
@@ -18,14 +19,14 @@ enum-told c = search needs
 
 returns : tie.Need-returns
 unfolding recordAt
-returns c = (search needs, λ a h. absurd (keys.not-missing _ a _ h (sym (c .before .before .block-at .ensures) ∙ c .enum-told .given .1)))
+returns c = (search needs, λ a h. absurd (omega (arith, missing _ a _ (sym (c .before .before .block-at .ensures) ∙ c .enum-told .given .1))))
 
 cast-result : tie.Need-cast-result
 cast-result c = search needs
 
 returns-2 : tie.Need-returns-2
 unfolding recordAt
-returns-2 c = (search needs, λ a h. ap (λ (r : BlockRecord). r .count) (keys.record-found _ a _ _ h (sym (c .before .before .before .before .block-at .ensures) ∙ c .before .before .block .given .1)))
+returns-2 c = (search needs, λ a h. ap (λ (r : BlockRecord). r .count) (found-record _ _ _ (sym (c .before .before .before .before .block-at .ensures) ∙ c .before .before .block .given .1)))
 
 pub count-of-spec : {M : Type 1} → statement M
 count-of-spec =

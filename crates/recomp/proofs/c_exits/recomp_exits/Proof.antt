@@ -1,6 +1,6 @@
 -- `recomp::c_exits::recomp_exits` meets its contract: each case hands over the numbers of its answer.
 -- Assumes nothing.
-use Rattle.plan.specs.Calls.{exitingOf}
+use Rattle.block_exits.specs.Calls.{exitingOf}
 use borrow.Author.Needs.{needs}
 use Rattle.recomp.proofs.c_exits.recomp_exits.Statement.{statement}
 use Rattle.recomp.proofs.c_exits.recomp_exits.Tie as tie
@@ -19,7 +19,7 @@ enum-known-number c = search needs
 
 returns : tie.Need-returns
 unfolding exitingOf
-returns c = rw (← c .before .before .before .before .before .before .before .exits-of .ensures, c .before .before .before .before .before .exits .given .1, c .put-exits .ensures .0, c .put-exits .ensures .1, c .put-exits .ensures .2)
+returns c = rw (← c .before .before .before .before .before .before .before .exits-of .ensures, c .before .before .before .before .before .exits .given .1) (c .put-exits .ensures)
 
 returns-2 : tie.Need-returns-2
 unfolding exitingOf

@@ -1,0 +1,20 @@
+-- `block_exits::exits::fall_through` meets its contract: its calls one after the other are the definition's.
+-- Assumes nothing.
+use borrow.Author.Needs.{needs}
+use Rattle.block_exits.proofs.exits.fall_through.Statement.{statement}
+use Rattle.block_exits.proofs.exits.fall_through.Tie as tie
+
+size-requires : tie.Need-size-requires
+size-requires c κs = search needs
+
+wrapping-add-u32-requires : tie.Need-wrapping-add-u32-requires
+wrapping-add-u32-requires c κs = search needs
+
+key-of-requires : tie.Need-key-of-requires
+key-of-requires c κs = search needs
+
+returns : tie.Need-returns
+returns c = rw (c .key-of .ensures, c .before .wrapping-add-u32 .ensures, c .before .before .size .ensures)
+
+pub fall-through-spec : {M : Type 1} → statement M
+fall-through-spec = tie.close (tie.spec size-requires wrapping-add-u32-requires key-of-requires returns)

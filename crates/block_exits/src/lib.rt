@@ -1,0 +1,11 @@
+// The exit list of a block, and the call for it.
+mod calls;
+mod exits;
+
+pub use calls::Exiting;
+pub use calls::exits_of;
+pub use exits::Exits;
+pub use exits::exits_at;
+pub use exits::instr_addr;
+pub use exits::instr_of;
+pub use exits::key_of;

@@ -1,0 +1,38 @@
+-- `emit_fused` writes a pair, and drops what would stand behind it.
+-- Assumes nothing.
+use Prim.Native.Nat.{ℕ, _+_}
+use mathlib.Core.Path.{sym, ap, _∙_, subst}
+use denote.Ref.{now}
+use Rattle.c_tree.specs.Stmt.{Owner, end}
+use Rattle.forms.specs.Block.{emitPair}
+use Rattle.lowering.specs.Block.{bodyKey, has, nativeText, rest}
+use Rattle.emit_flow.proofs.Blocks.{rest-native}
+use Rattle.emit_instr.specs.Onward.{Onward}
+use Rattle.emit_instr.proofs.Onward.{same-from, start}
+use borrow.Author.Needs.{needs}
+use Rattle.emit_block.proofs.instrs.emit_fused.Statement.{statement}
+use Rattle.emit_block.proofs.instrs.emit_fused.Tie as tie
+
+set-bit0-requires : tie.Need-set-bit0-requires
+set-bit0-requires c κs = search needs
+
+is-inside-requires : tie.Need-is-inside-requires
+is-inside-requires c κs = search needs
+
+emit-pair-requires : tie.Need-emit-pair-requires
+emit-pair-requires c κs = search needs
+
+same-length : tie.Need-same-length
+same-length c = search needs
+
+returns : tie.Need-returns
+returns c = let v = c .before .before .before .before .before .before .before .before .before .args in
+    λ ks b j fs s e.
+    same-from _ (rest-native ks b j (emitPair (v .cycles) (v .target) (v .ret)) fs)
+    (subst (λ (a : ℕ). Onward (now (v .out)) (v .at) (nativeText ks a (Owner.native (bodyKey b)) (emitPair (v .cycles) (v .target) (v .ret)) (rest ks b (j + 2) fs)) end (c .before .before .emit-pair .last .0) (c .before .before .emit-pair .result)) (sym e)
+    (start (c .before .before .emit-pair .ensures ks (Owner.native (bodyKey b)) (rest ks b (j + 2) fs) (ap (λ (k : ℕ). has k ks) (sym (c .before .before .before .before .before .set-bit0 .ensures)) ∙ c .before .before .before .before .is-inside .ensures ks s))))
+
+pub emit-fused-spec : {M : Type 1} → statement M
+emit-fused-spec =
+    tie.close
+    (tie.spec set-bit0-requires is-inside-requires emit-pair-requires same-length returns)

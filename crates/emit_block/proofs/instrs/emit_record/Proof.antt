@@ -1,0 +1,104 @@
+-- `emit_record` reads a record, and writes it alone or with the one that it makes a pair with.
+-- Assumes nothing.
+use Prim.Native.Nat.{ℕ}
+use mathlib.Core.Path.{refl, sym, _∙_, subst}
+use mathlib.Core.List.{_∷_}
+use native.Mathlib.Omega.{arith}
+use denote.Ref.{now}
+use Rattle.c_tree.specs.Stmt.{end}
+use Rattle.forms.specs.Forms.{Form}
+use Rattle.forms.specs.Block.{emitPair}
+use Rattle.lowering.specs.Block.{rest}
+use Rattle.block_exits.proofs.Closing.{not-missing}
+use Rattle.emit_instr.specs.Onward.{Onward}
+use Rattle.emit_block.proofs.Reading.{here-read}
+use Rattle.emit_block.proofs.Recording.{pair-sum, pair-recorded}
+use borrow.Author.Needs.{needs}
+use Rattle.emit_block.proofs.instrs.emit_record.Statement.{statement}
+use Rattle.emit_block.proofs.instrs.emit_record.Tie as tie
+
+instr-of-requires : tie.Need-instr-of-requires
+instr-of-requires c κs = search needs
+
+enum-known-x : tie.Need-enum-known-x
+enum-known-x c = search needs
+
+enum-told : tie.Need-enum-told
+enum-told c = search needs
+
+returns : tie.Need-returns
+returns c = λ ks b here few. absurd (not-missing (here .is) _ _ (c .before .before .before .before .before .before .pre .4) (c .before .before .instr-of .ensures) (c .enum-told .given .1))
+
+cast-own : tie.Need-cast-own
+cast-own c = search needs
+
+next-of-requires : tie.Need-next-of-requires
+next-of-requires c κs = search needs
+
+enum-told-2 : tie.Need-enum-told-2
+enum-told-2 c = search needs
+
+emit-alone-requires : tie.Need-emit-alone-requires
+emit-alone-requires c κs = search needs
+
+enum-known-target : tie.Need-enum-known-target
+enum-known-target c = search needs
+
+cast-wrapping-add-u64 : tie.Need-cast-wrapping-add-u64
+cast-wrapping-add-u64 c = search needs
+
+add-wrapping-add-u64 : tie.Need-add-wrapping-add-u64
+add-wrapping-add-u64 c = search needs
+
+wrapping-add-u64-requires : tie.Need-wrapping-add-u64-requires
+wrapping-add-u64-requires c κs = search needs
+
+emit-fused-requires : tie.Need-emit-fused-requires
+emit-fused-requires c κs = search needs
+
+same-length : tie.Need-same-length
+same-length c = search needs
+
+returns-2 : tie.Need-returns-2
+returns-2 c = let v = c .before .before .before .before .before .before .before .before .before .before .before .before .before .before .before .args in
+    λ ks b here few.
+    c .before .before .emit-alone .ensures ks b (v .first) here
+    (here-read (here .is) (v .j) (c .before .before .before .before .before .before .before .before .before .before .before .before .before .before .before .pre .4) _ _ (c .before .before .before .before .before .before .before .before .before .before .before .instr-of .ensures) (c .before .before .before .before .before .before .before .before .before .x .given .1))
+    (sym (c .before .before .before .before .before .before .next-of .ensures _ (here .is)) ∙ c .before .before .before .before .enum-told2 .given .1)
+    (omega (arith, c .before .before .before .before .before .before .before .struct-known .given))
+    few
+
+same-length-2 : tie.Need-same-length-2
+same-length-2 c = search needs
+
+returns-3 : tie.Need-returns-3
+returns-3 c = let v = c .before .before .before .before .before .before .before .before .before .before .before .before .before .before .before .before .before .args in
+    λ ks b here few.
+    pair-recorded (now (v .file)) (v .block) (v .first) ks b (v .j) (v .cycles) _ (now (v .out)) (v .at) (c .before .before .emit-fused .last .0) _
+    (here-read (here .is) (v .j) (c .before .before .before .before .before .before .before .before .before .before .before .before .before .before .before .before .before .pre .4) _ _ (c .before .before .before .before .before .before .before .before .before .before .before .before .before .instr-of .ensures) (c .before .before .before .before .before .before .before .before .before .before .before .x .given .1))
+    _ _ _ (sym (c .before .before .before .before .before .before .before .before .next-of .ensures _ (here .is)) ∙ c .before .before .before .before .before .before .target .given .1) refl refl
+    (λ fs. subst (λ (n : ℕ). Onward (now (v .out)) (v .at) (rest ks b (v .j) (Form.native (emitPair n (c .before .before .before .before .before .before .target .given .0 .0) (c .before .before .before .before .before .before .target .given .0 .1 .0)) ∷ fs)) end (c .before .before .emit-fused .last .0) (c .before .before .emit-fused .result))
+    (pair-sum (v .cycles) _ _ (v .j) _ (c .before .before .before .before .wrapping-add-u64 .ensures) few (omega (arith, c .before .before .before .before .before .before .before .before .before .before .before .before .before .before .before .before .before .fits .j)) (omega (arith, c .before .before .before .before .before .before .before .before .before .struct-known .given)) (omega (arith, c .before .before .before .before .before .known-told2 .given)))
+    (c .before .before .emit-fused .ensures ks b (v .j) fs (here .stands) (here .body .addr)))
+
+pub emit-record-spec : {M : Type 1} → statement M
+emit-record-spec =
+    tie.close
+    (tie.spec
+    instr-of-requires
+    enum-known-x
+    enum-told
+    returns
+    cast-own
+    next-of-requires
+    enum-told-2
+    emit-alone-requires
+    enum-known-target
+    cast-wrapping-add-u64
+    add-wrapping-add-u64
+    wrapping-add-u64-requires
+    emit-fused-requires
+    same-length
+    returns-2
+    same-length-2
+    returns-3)

@@ -1,0 +1,180 @@
+// One record of a block, or the fused pair that begins with it.
+use crate::member::Member;
+use crate::member::is_inside;
+use armv4t::Fused;
+use armv4t::Instr;
+use armv4t::Op;
+use armv4t::fuse_thumb_bl;
+use armv4t::set_bit0;
+use block_exits::instr_of;
+use block_exits::key_of;
+use block_file::BlockRecord;
+use block_file::FoundInstr;
+use block_file::TimedInstr;
+use emit_flow::emit_pair;
+use emit_instr::Step;
+use emit_instr::emit_instr;
+ghost use mathlib.Core.Path.{_≡_};
+ghost use mathlib.Core.Bool.{false};
+ghost use mathlib.Core.List.{List, [], _∷_};
+ghost use Prim.Native.Nat.{ℕ, suc, _*_, _≤_, _<_};
+ghost use lib.ListN.{length, drop};
+ghost use Rattle.instr_records.specs.declared.decode.TimedInstr.{TimedInstr};
+ghost use Rattle.records.specs.Trailer.{blockCount};
+ghost use Rattle.c_tree.specs.Stmt.{end};
+ghost use Rattle.forms.specs.Forms.{Form, Body};
+ghost use Rattle.forms.specs.Block.{emitPair};
+ghost use Rattle.block_file.specs.Read.{IsBlock};
+ghost use Rattle.lowering.specs.Block.{rest};
+ghost use Rattle.emit_block.specs.declared.instrs.Next.{Next};
+ghost use Rattle.emit_instr.specs.Onward.{Onward};
+ghost use Rattle.emit_instr.specs.Steps.{Reaches};
+ghost use Rattle.emit_block.specs.Walk.{instrsOf, Stands, Here, nextOf, Recorded};
+
+// What an instruction makes with the one behind it.
+pub(crate) enum Next {
+    // A fused pair; the cost is that of the second half.
+    Pair { target: u32, ret: u32, cost: u16 },
+    Alone,
+}
+
+// What two instructions make.
+fn fused_next(x: Instr, y: TimedInstr) -> Next
+    ensures { λ r. ⌜ r ≡ nextOf x (y ∷ []) ⌝ }
+{
+    match fuse_thumb_bl(x, y.instr) {
+        Fused::Pair { target, ret } => Next::Pair {
+            target,
+            ret,
+            cost: y.cost,
+        },
+        Fused::Nothing => Next::Alone,
+    }
+}
+
+// Whether an instruction is the first half of a Thumb BL; any other makes no pair with the one behind it.
+fn begins_bl(x: Instr) -> bool
+    ensures { λ r. ⌜ (r ≡ false → (ys : List TimedInstr) → nextOf x ys ≡ Next.Alone) ⌝ }
+{
+    let op = x.op;
+    match op {
+        Op::ThumbBlHigh { .. } => true,
+        _ => false,
+    }
+}
+
+// What instruction j of a block makes with the one behind it. Where it cannot make a pair, that one is not read.
+fn next_of(file: &[u8], block: BlockRecord, first: usize, j: u32, x: Instr) -> Next
+    requires { ⌜ j < block .count ⌝ }
+    ensures { λ r. ⌜ ((i : ℕ) → IsBlock (now (file .entry)) i block first → r ≡ nextOf x (drop (suc j) (instrsOf (now (file .entry)) block first))) ⌝ }
+{
+    if !begins_bl(x) {
+        return Next::Alone;
+    }
+    if j + 1 == block.count {
+        return Next::Alone;
+    }
+    let FoundInstr::At(y) = instr_of(file, block, first, j + 1) else {
+        return Next::Alone;
+    };
+    fused_next(x, y)
+}
+
+// Whether a branch goes to a block of the same group; the answer for other operations is of no use.
+fn branch_inside(file: &[u8], work: &[u32], m: Member, thumb: bool, op: Op) -> bool
+    requires { ⌜ (4 * m .blocks ≤ length (now work)) × (m .blocks ≤ 65536) × (m .blocks ≡ blockCount (now file)) × (m .index < m .blocks) ⌝ }
+    ensures { λ r. ⌜ ((ks : List ℕ) → Stands (now (file .entry)) (now (work .entry)) m ks → Reaches ks thumb r op) ⌝ }
+{
+    match op {
+        Op::Branch { target, .. } => is_inside(file, work, m, key_of(target, thumb)),
+        _ => false,
+    }
+}
+
+// A fused pair; the cycles are those pending with its own.
+fn emit_fused(
+    out: &mut [u8],
+    at: usize,
+    file: &[u8],
+    work: &[u32],
+    m: Member,
+    src: u32,
+    cycles: u64,
+    target: u32,
+    ret: u32,
+) -> usize
+    requires { ⌜ (4 * m .blocks ≤ length (now work)) × (m .blocks ≤ 65536) × (m .blocks ≡ blockCount (now file)) × (m .index < m .blocks) ⌝ }
+    ensures { λ r. ⌜ ((ks : List ℕ) (b : Body) (j : ℕ) (fs : List Form) → Stands (now (file .entry)) (now (work .entry)) m ks → b .addr ≡ src → Onward (now (out .entry)) at (rest ks b j (Form.native (emitPair cycles target ret) ∷ fs)) end (now (out .exit)) r) ⌝ }
+{
+    let inside = is_inside(file, work, m, set_bit0(target));
+    emit_pair(out, at, cycles, target, ret, inside, src)
+}
+
+// An instruction that makes no pair, with index j.
+fn emit_alone(
+    out: &mut [u8],
+    at: usize,
+    file: &[u8],
+    work: &[u32],
+    m: Member,
+    block: BlockRecord,
+    cycles: u64,
+    x: TimedInstr,
+    j: u32,
+) -> Step
+    requires { ⌜ (4 * m .blocks ≤ length (now work)) × (m .blocks ≤ 65536) × (m .blocks ≡ blockCount (now file)) × (m .index < m .blocks) × (j < block .count) ⌝ }
+    ensures { λ r. ⌜ ((ks : List ℕ) (b : Body) (first : ℕ) → Here (now (file .entry)) (now (work .entry)) m block first ks b → drop j (instrsOf (now (file .entry)) block first) ≡ x ∷ drop (suc j) (instrsOf (now (file .entry)) block first) → nextOf (x .instr) (drop (suc j) (instrsOf (now (file .entry)) block first)) ≡ Next.Alone → x .cost ≤ 65535 → cycles ≤ 65535 * j → Recorded (now (file .entry)) block first ks b j cycles (now (out .entry)) at (now (out .exit)) r) ⌝ }
+{
+    let instr = x.instr;
+    let op = instr.op;
+    let inside = branch_inside(file, work, m, block.thumb, op);
+    let last = j + 1 == block.count;
+    let region = block.addr / 16777216 % 16;
+    emit_instr(
+        out,
+        at,
+        block.thumb,
+        region,
+        cycles,
+        x,
+        last,
+        inside,
+        block.addr,
+    )
+}
+
+// The record with index j, or the pair that begins there, with cycles pending before it.
+pub(crate) fn emit_record(
+    out: &mut [u8],
+    at: usize,
+    file: &[u8],
+    work: &[u32],
+    m: Member,
+    block: BlockRecord,
+    first: usize,
+    cycles: u64,
+    j: u32,
+) -> Step
+    requires { ⌜ (4 * m .blocks ≤ length (now work)) × (m .blocks ≤ 65536) × (m .blocks ≡ blockCount (now file)) × (m .index < m .blocks) × (j < block .count) ⌝ }
+    ensures { λ r. ⌜ ((ks : List ℕ) (b : Body) → Here (now (file .entry)) (now (work .entry)) m block first ks b → cycles ≤ 65535 * j → Recorded (now (file .entry)) block first ks b j cycles (now (out .entry)) at (now (out .exit)) r) ⌝ }
+{
+    let FoundInstr::At(x) = instr_of(file, block, first, j) else {
+        return Step {
+            at,
+            cycles,
+            done: true,
+        };
+    };
+    let own = x.cost as u64;
+    match next_of(file, block, first, j, x.instr) {
+        Next::Alone => emit_alone(out, at, file, work, m, block, cycles, x, j),
+        Next::Pair { target, ret, cost } => {
+            let all = std::num::wrapping_add_u64(cycles, own + cost as u64);
+            Step {
+                at: emit_fused(out, at, file, work, m, block.addr, all, target, ret),
+                cycles: 0,
+                done: true,
+            }
+        }
+    }
+}

@@ -1,0 +1,3 @@
+-- The laws that the functions' proofs, and those of the crates above, share.
+pub mod Roots
+pub mod Ways

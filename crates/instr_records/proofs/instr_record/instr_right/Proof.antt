@@ -1,0 +1,65 @@
+-- `instr_records::instr_record::instr_right` meets its contract: the row that the code compares with is the one of the kind and the form.
+-- Assumes nothing.
+use mathlib.Core.Path.{sym, ap, _∙_}
+use native.Mathlib.Omega.{arith}
+use denote.Ref.{now}
+use borrow.Author.Needs.{needs}
+use borrow.Author.Tests.{not-true, not-false}
+use Rattle.instr_records.specs.InstrRecord.{within as row-within}
+use Rattle.instr_records.proofs.Rows.{all-long, row-of, out-of-range, in-range}
+use Rattle.instr_records.proofs.instr_record.instr_right.Statement.{statement}
+use Rattle.instr_records.proofs.instr_record.instr_right.Tie as tie
+
+shared-slice-read-row-number : tie.Need-shared-slice-read-row-number
+shared-slice-read-row-number c = search needs
+
+add-row-number : tie.Need-add-row-number
+add-row-number c = search needs
+
+shared-slice-read-row-number-2 : tie.Need-shared-slice-read-row-number-2
+shared-slice-read-row-number-2 c = search needs
+
+row-number-requires : tie.Need-row-number-requires
+row-number-requires c κs = search needs
+
+mul-within : tie.Need-mul-within
+mul-within c = search needs
+
+within-requires : tie.Need-within-requires
+within-requires c κs =
+    let pre = c .before .before .before .before .before .pre in
+    (pre .0, rw (pre .1, all-long) (omega (arith, c .row-number .ensures .0)))
+
+returns : tie.Need-returns
+returns c =
+    let start = c .before .before .before .before .before .before .before in
+    let number = c .before .before .row-number in
+    let row = row-of (now (start .args .rows)) (number .result) _ _ (start .pre .1) (number .ensures .0) (number .ensures .1) in
+    out-of-range _ _
+    (ap (row-within (now (start .args .file)) (start .args .at)) (sym row) ∙ sym (c .before .within .ensures) ∙ not-true _ (c .if1 .taken))
+
+even-fields-requires : tie.Need-even-fields-requires
+even-fields-requires c κs = search needs
+
+returns-2 : tie.Need-returns-2
+returns-2 c =
+    let start = c .before .before .before .before .before .before .before .before in
+    let number = c .before .before .before .row-number in
+    let row = row-of (now (start .args .rows)) (number .result) _ _ (start .pre .1) (number .ensures .0) (number .ensures .1) in
+    c .even-fields .ensures
+    ∙ in-range _ _
+    (ap (row-within (now (start .args .file)) (start .args .at)) (sym row) ∙ sym (c .before .before .within .ensures) ∙ not-false _ (c .before .if1 .left))
+
+pub instr-right-spec : {M : Type 1} → statement M
+instr-right-spec =
+    tie.close
+    (tie.spec
+    shared-slice-read-row-number
+    add-row-number
+    shared-slice-read-row-number-2
+    row-number-requires
+    mul-within
+    within-requires
+    returns
+    even-fields-requires
+    returns-2)

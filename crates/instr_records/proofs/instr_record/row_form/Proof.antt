@@ -1,0 +1,14 @@
+-- `row_form` gives a form below 3 with the same row of largest values: a form that does not exist has the row of form 0.
+use borrow.Author.Needs.{needs}
+use Rattle.instr_records.proofs.Rows.{no-form}
+use Rattle.instr_records.proofs.instr_record.row_form.Statement.{statement}
+use Rattle.instr_records.proofs.instr_record.row_form.Tie as tie
+
+returns : tie.Need-returns
+returns c = search needs
+
+returns-2 : tie.Need-returns-2
+returns-2 c = (search needs, λ kind. no-form kind (c .before .args .form) (c .if1 .left))
+
+pub row-form-spec : {M : Type 1} → statement M
+row-form-spec = tie.close (tie.spec returns returns-2)

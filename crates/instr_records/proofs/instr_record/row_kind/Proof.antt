@@ -1,0 +1,14 @@
+-- `row_kind` gives a kind below 10 with the same row of largest values: kinds from 10 on leave all free, as Swap does.
+use borrow.Author.Needs.{needs}
+use Rattle.instr_records.proofs.Rows.{free-kind}
+use Rattle.instr_records.proofs.instr_record.row_kind.Statement.{statement}
+use Rattle.instr_records.proofs.instr_record.row_kind.Tie as tie
+
+returns : tie.Need-returns
+returns c = search needs
+
+returns-2 : tie.Need-returns-2
+returns-2 c = (search needs, λ form. free-kind (c .before .args .kind) form (c .if1 .left))
+
+pub row-kind-spec : {M : Type 1} → statement M
+row-kind-spec = tie.close (tie.spec returns returns-2)

@@ -1,0 +1,25 @@
+-- `aligned` tells whether a block's address suits its instruction set: the Thumb bit chooses the divisor in code and definition alike.
+use Rattle.records.specs.BlockRecord.{aligned}
+use lib.Dec.{eqb}
+use Prim.Native.Nat.{ℕ, _%_}
+use mathlib.Core.Path.{ap}
+use borrow.Author.Needs.{needs}
+use Rattle.records.proofs.block_record.aligned.Statement.{statement}
+use Rattle.records.proofs.block_record.aligned.Tie as tie
+
+addr-requires : tie.Need-addr-requires
+addr-requires c κs = search needs
+
+thumb-requires : tie.Need-thumb-requires
+thumb-requires c κs = search needs
+
+returns : tie.Need-returns
+unfolding aligned
+returns c = rw (← c .before .thumb .ensures, c .if1 .taken) (ap (λ (n : ℕ). eqb (n % 2) 0) (c .before .before .addr .ensures))
+
+returns-2 : tie.Need-returns-2
+unfolding aligned
+returns-2 c = rw (← c .before .thumb .ensures, c .if1 .left) (ap (λ (n : ℕ). eqb (n % 4) 0) (c .before .before .addr .ensures))
+
+pub aligned-spec : {M : Type 1} → statement M
+aligned-spec = tie.close (tie.spec addr-requires thumb-requires returns returns-2)

@@ -1,0 +1,24 @@
+-- `byte_length` gives a block's length in bytes: its count times the size of its instructions, both as the record has them.
+use Rattle.armv4t.specs.Instr.{sizeOf}
+use mathlib.Core.Bool.{Bool}
+use Prim.Native.Nat.{ℕ, _*_}
+use mathlib.Core.Path.{_∙_, ap₂}
+use borrow.Author.Needs.{needs}
+use Rattle.records.proofs.block_record.byte_length.Statement.{statement}
+use Rattle.records.proofs.block_record.byte_length.Tie as tie
+
+count-requires : tie.Need-count-requires
+count-requires c κs = search needs
+
+thumb-requires : tie.Need-thumb-requires
+thumb-requires c κs = search needs
+
+instrs-length-requires : tie.Need-instrs-length-requires
+instrs-length-requires c κs = search needs
+
+returns : tie.Need-returns
+returns c = (c .instrs-length .ensures .0 ∙ ap₂ (λ (n : ℕ) (t : Bool). n * sizeOf t) (c .before .before .count .ensures) (c .before .thumb .ensures), c .instrs-length .ensures .1)
+
+pub byte-length-spec : {M : Type 1} → statement M
+byte-length-spec =
+    tie.close (tie.spec count-requires thumb-requires instrs-length-requires returns)

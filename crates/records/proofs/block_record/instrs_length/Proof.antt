@@ -1,0 +1,20 @@
+-- `instrs_length` gives the bytes of n instructions, 2 or 4 each, below 2^35 as n is a `u32`.
+use native.Mathlib.Omega.{arith}
+use borrow.Author.Needs.{needs}
+use Rattle.records.proofs.block_record.instrs_length.Statement.{statement}
+use Rattle.records.proofs.block_record.instrs_length.Tie as tie
+
+mul-result : tie.Need-mul-result
+mul-result c = search needs
+
+mul-result-2 : tie.Need-mul-result-2
+mul-result-2 c = search needs
+
+returns : tie.Need-returns
+returns c = rw (c .if1 .taken) (omega arith)
+
+returns-2 : tie.Need-returns-2
+returns-2 c = rw (c .if1 .left) (omega arith)
+
+pub instrs-length-spec : {M : Type 1} → statement M
+instrs-length-spec = tie.close (tie.spec mul-result mul-result-2 returns returns-2)

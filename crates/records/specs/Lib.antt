@@ -1,0 +1,4 @@
+-- The definitions that the crate's promises name, in the order of document 01.
+pub mod Bytes
+pub mod Trailer
+pub mod BlockRecord

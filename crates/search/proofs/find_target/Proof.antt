@@ -1,0 +1,60 @@
+-- `find_target` finds the block that an edge to a key leads to: if any block has the key it is the first one not below it, and it must be of page 8.
+use Rattle.block_file.proofs.IsBlock.{found-inside}
+use Rattle.search.proofs.Searching as searching
+use mathlib.Core.Path.{sym, _∙_}
+use borrow.Author.Needs.{needs}
+use Rattle.search.proofs.find_target.Statement.{statement}
+use Rattle.search.proofs.find_target.Tie as tie
+
+first-from-requires : tie.Need-first-from-requires
+first-from-requires c κs = search needs
+
+block-at-requires : tie.Need-block-at-requires
+block-at-requires c κs = search needs
+
+enum-known-block : tie.Need-enum-known-block
+enum-known-block c = search needs
+
+enum-told : tie.Need-enum-told
+enum-told c = search needs
+
+returns : tie.Need-returns
+returns c = (tt, λ a. searching.search-missing _ _ _ a (c .before .before .before .first-from .ensures a) (sym (c .before .before .block-at .ensures) ∙ c .enum-told .given .1))
+
+key-plus-requires : tie.Need-key-plus-requires
+key-plus-requires c κs = search needs
+
+returns-2 : tie.Need-returns-2
+returns-2 c = (tt, λ a. searching.search-other _ _ _ a (c .before .before .before .before .before .before .first-from .ensures a) _ (sym (c .before .before .before .before .before .block-at .ensures) ∙ c .before .before .before .block .given .1) (λ e. c .if1 .taken (c .before .key-plus .ensures .0 ∙ e)))
+
+on-page-8-requires : tie.Need-on-page-8-requires
+on-page-8-requires c κs = search needs
+
+returns-3 : tie.Need-returns-3
+returns-3 c =
+    let known = c .before .before .before .before .before in
+    let there = sym (known .before .before .block-at .ensures) ∙ known .block .given .1 in (
+      found-inside _ _ _ there,
+      λ a. searching.search-there _ _ _ a (known .before .before .before .first-from .ensures a) _ there (sym (c .before .before .before .key-plus .ensures .0) ∙ c .before .before .if1 .left) (sym (c .before .on-page-8 .ensures) ∙ c .if2 .taken),
+    )
+
+returns-4 : tie.Need-returns-4
+returns-4 c =
+    let known = c .before .before .before .before .before in
+    let there = sym (known .before .before .block-at .ensures) ∙ known .block .given .1 in
+    (tt, λ a. searching.search-apart _ _ _ a (known .before .before .before .first-from .ensures a) _ there (sym (c .before .on-page-8 .ensures) ∙ c .if2 .left))
+
+pub find-target-spec : {M : Type 1} → statement M
+find-target-spec =
+    tie.close
+    (tie.spec
+    first-from-requires
+    block-at-requires
+    enum-known-block
+    enum-told
+    returns
+    key-plus-requires
+    returns-2
+    on-page-8-requires
+    returns-3
+    returns-4)
