@@ -1,4 +1,4 @@
-//! Block files in plain Rust: a builder, a check, exits, plan and listing, a generator, damage and the stored vectors.
+//! Block files in plain Rust: a builder, a check, exits, plan, listing and the answers for units, a generator, damage and the stored vectors.
 
 pub mod check;
 pub mod damage;
@@ -11,4 +11,5 @@ pub mod record;
 pub mod rng;
 pub mod samples;
 pub mod trials;
+pub mod units;
 pub mod vectors;

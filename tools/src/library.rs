@@ -6,6 +6,7 @@
 use recomp_tools::check::Numbers;
 use recomp_tools::listing::ListingNumbers;
 use recomp_tools::model::{ExitNumbers, PlanNumbers};
+use recomp_tools::units::UnitNumbers;
 
 extern "C" {
     fn recomp_check(
@@ -46,6 +47,21 @@ extern "C" {
         text_len: usize,
         at: *mut u64,
         length: *mut u64,
+    ) -> u32;
+
+    fn recomp_unit(
+        file: *const u8,
+        file_len: usize,
+        max_bytes: u64,
+        unit: u64,
+        work: *mut u32,
+        work_len: usize,
+        text: *mut u8,
+        text_len: usize,
+        at: *mut u64,
+        length: *mut u64,
+        done: *mut u64,
+        last: *mut u64,
     ) -> u32;
 }
 
@@ -131,4 +147,40 @@ pub fn listing(file: &[u8], work: &mut [u32], text: &mut [u8]) -> ListingNumbers
         )
     };
     ListingNumbers { number, at, length }
+}
+
+/// Unit `unit` of those that are handed on from `max_bytes` bytes on.
+pub fn unit(
+    file: &[u8],
+    max_bytes: u64,
+    unit: u64,
+    work: &mut [u32],
+    text: &mut [u8],
+) -> UnitNumbers {
+    let [mut at, mut length, mut done, mut last] = [UNWRITTEN; 4];
+    // SAFETY: the three slices and the four numbers are apart and outlive the call, which keeps none
+    // of them.
+    let number = unsafe {
+        recomp_unit(
+            file.as_ptr(),
+            file.len(),
+            max_bytes,
+            unit,
+            work.as_mut_ptr(),
+            work.len(),
+            text.as_mut_ptr(),
+            text.len(),
+            &mut at,
+            &mut length,
+            &mut done,
+            &mut last,
+        )
+    };
+    UnitNumbers {
+        number,
+        at,
+        length,
+        done,
+        last,
+    }
 }
