@@ -41,6 +41,13 @@ pub fn damaged(rng: &mut Rng, file: &File, faults: usize) -> Vec<u8> {
     copy.bytes
 }
 
+/// A damaged copy of a file, the same on every run; most are refused.
+pub fn damaged_copy(file: &File) -> Vec<u8> {
+    let rng = &mut Rng::new(file.bytes.len() as u64);
+    let faults = rng.between(1, 4);
+    damaged(rng, file, faults)
+}
+
 /// Offset of a record or of the trailer's half, the ends of each part more often than the middle.
 fn record_at(rng: &mut Rng, file: &File) -> usize {
     match rng.below(8) {

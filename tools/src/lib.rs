@@ -4,6 +4,7 @@ pub mod check;
 pub mod damage;
 pub mod file;
 pub mod generate;
+pub mod lent;
 pub mod listing;
 pub mod model;
 pub mod original;

@@ -1,7 +1,10 @@
 //! The original Rust, run on a file by the program `oracle` in the directory that `RECOMP_ORACLE`
-//! names.
+//! names, or by programs of our own that are built against its libraries there.
+
+pub mod units;
 
 use crate::listing::{self, Row};
+use crate::units::Unit;
 use std::path::{Path, PathBuf};
 use std::process::Command;
 
@@ -28,8 +31,25 @@ impl Original {
         Ok(Original { directory, file })
     }
 
-    pub fn directory(&self) -> &Path {
-        &self.directory
+    /// Builds `original/NAME.rs` against the original's libraries.
+    pub fn build(&self, name: &str) -> Result<Program, String> {
+        let source = format!("original/{name}.rs");
+        let source = Path::new(env!("CARGO_MANIFEST_DIR")).join(source);
+        let file = format!("recomp-tools-{name}-{}", std::process::id());
+        let program = Program(std::env::temp_dir().join(file));
+        let mut rustc = Command::new("rustc");
+        rustc.args(["--edition", "2021", "-C", "opt-level=3", "-L"]);
+        rustc.arg(&self.directory);
+        for library in ["armv4t", "gba_core", "recomp_core"] {
+            let path = self.directory.join(format!("lib{library}.rlib"));
+            rustc.args(["--extern", &format!("{library}={}", path.display())]);
+        }
+        let status = rustc.arg("-o").arg(&program.0).arg(source).status();
+        match status {
+            Ok(status) if status.success() => Ok(program),
+            Ok(status) => Err(format!("rustc: {status}")),
+            Err(error) => Err(format!("rustc did not start: {error}")),
+        }
     }
 
     /// Lays down the file for the program, until the next one.
@@ -53,14 +73,9 @@ impl Original {
 
     /// Group and block index, in emission order.
     pub fn plan(&self, file: &[u8]) -> Vec<[u32; 2]> {
-        let pair = |line: &str| {
-            let (group, block) = line.split_once(' ')?;
-            Some([group.parse().ok()?, block.parse().ok()?])
-        };
         let text = self.run("plan", file, &[]);
-        text.lines()
-            .map(|line| pair(line).expect("two numbers"))
-            .collect()
+        let pair = |line| numbers(line).map(|n| n as u32);
+        text.lines().map(pair).collect()
     }
 
     /// Key and exit list of every block.
@@ -86,11 +101,54 @@ impl Original {
     pub fn listing(&self, file: &[u8]) -> String {
         listing::text(&self.rows(file), &self.plan(file))
     }
+
+    /// The units that the program writes at this size.
+    pub fn units(&self, file: &[u8], max_bytes: u64) -> Vec<Unit> {
+        let directory = self.file.with_extension("units");
+        std::fs::create_dir_all(&directory).expect("a directory for the units");
+        let unit = |line: &str| {
+            let [k, length, done, _] = numbers(line);
+            let text = std::fs::read(directory.join(format!("unit_{k}.c"))).expect("a unit");
+            assert_eq!(text.len() as u64, length);
+            Unit { text, done }
+        };
+        let wish = max_bytes.to_string();
+        let place = directory.to_str().expect("a path in UTF-8");
+        let said = self.run("units", file, &[&wish, place]);
+        let units = said.lines().map(unit).collect();
+        std::fs::remove_dir_all(&directory).expect("the directory made above");
+        units
+    }
+}
+
+/// The numbers of a line, as many as are asked for.
+fn numbers<const N: usize>(line: &str) -> [u64; N] {
+    let numbers: Vec<u64> = line
+        .split(' ')
+        .map(|word| word.parse().expect("a number"))
+        .collect();
+    numbers.try_into().expect("as many numbers")
 }
 
 impl Drop for Original {
     fn drop(&mut self) {
         // It may never have been laid down.
         let _ = std::fs::remove_file(&self.file);
+    }
+}
+
+/// A program built against the original's libraries, which goes when this does.
+pub struct Program(PathBuf);
+
+impl Program {
+    pub fn path(&self) -> &Path {
+        &self.0
+    }
+}
+
+impl Drop for Program {
+    fn drop(&mut self) {
+        // It may never have been built.
+        let _ = std::fs::remove_file(&self.0);
     }
 }

@@ -2,8 +2,8 @@
 
 use crate::file::File;
 use crate::generate::closings::{self, Closings};
-use crate::generate::linked::Linked;
-use crate::generate::{self, Params};
+use crate::generate::linked::{Graph, Linked};
+use crate::generate::{self, Lengths, Params};
 
 /// What a file is made from; printed, it names the file.
 #[derive(Clone, Copy, Debug)]
@@ -53,4 +53,27 @@ pub fn largest(first: u64) -> impl Iterator<Item = Trial> {
     let regions = seeds(4).map(|s| Trial::Scattered(Params::largest(s)));
     let linked = seeds(32).map(|s| Trial::Linked(Linked::large(s)));
     chains.chain(regions).chain(linked)
+}
+
+/// The largest files that calls are timed on, by name.
+pub fn timed() -> [(&'static str, Trial); 5] {
+    let linked = |graph, lengths| {
+        Trial::Linked(Linked {
+            lengths,
+            ..Linked::most(0, graph)
+        })
+    };
+    let short = Lengths::Between(1, 2);
+    // As many instructions as the most blocks may have together.
+    let mean = Lengths::Mean(16);
+    [
+        ("all regions", Trial::Scattered(Params::largest(1))),
+        (
+            "rising chain, most instructions",
+            linked(Graph::Rising, mean),
+        ),
+        ("rising chain", linked(Graph::Rising, short)),
+        ("falling chain", linked(Graph::Falling, short)),
+        ("first block again and again", linked(Graph::First, short)),
+    ]
 }

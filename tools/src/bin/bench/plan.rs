@@ -6,43 +6,18 @@
 
 use crate::{in_order, library, ROUNDS, WARM_UP};
 use recomp_tools::file::File;
-use recomp_tools::generate::linked::{Graph, Linked};
-use recomp_tools::generate::{Lengths, Params};
-use recomp_tools::original::Original;
-use recomp_tools::trials::Trial;
+use recomp_tools::original::{Original, Program};
+use recomp_tools::trials;
 use std::hint::black_box;
 use std::io::{BufRead, BufReader, Write};
-use std::path::{Path, PathBuf};
+use std::path::Path;
 use std::process::{Child, Command, Stdio};
 use std::time::Instant;
 
-/// As many instructions as the most blocks may have together.
-const MEAN: Lengths = Lengths::Mean(16);
-
-fn files() -> [(&'static str, Trial); 5] {
-    let linked = |graph, lengths| {
-        Trial::Linked(Linked {
-            lengths,
-            ..Linked::most(0, graph)
-        })
-    };
-    let short = Lengths::Between(1, 2);
-    [
-        ("all regions", Trial::Scattered(Params::largest(1))),
-        (
-            "rising chain, most instructions",
-            linked(Graph::Rising, MEAN),
-        ),
-        ("rising chain", linked(Graph::Rising, short)),
-        ("falling chain", linked(Graph::Falling, short)),
-        ("first block again and again", linked(Graph::First, short)),
-    ]
-}
-
 pub fn run() -> Result<(), String> {
     let original = Original::new()?;
-    let program = Program::build(original.directory())?;
-    for (name, trial) in files() {
+    let program = original.build("groups")?;
+    for (name, trial) in trials::timed() {
         let file = trial.file();
         println!(
             "{name}: {} blocks, {} instructions, {} bytes in all",
@@ -106,42 +81,7 @@ fn report(times: [Vec<f64>; 3]) {
     );
 }
 
-/// The program of `original/groups.rs`, which goes when this does.
-struct Program(PathBuf);
-
-impl Program {
-    fn build(libraries: &Path) -> Result<Program, String> {
-        let source = Path::new(env!("CARGO_MANIFEST_DIR")).join("original/groups.rs");
-        let name = format!("recomp-tools-groups-{}", std::process::id());
-        let program = Program(std::env::temp_dir().join(name));
-        let external = |name: &str| {
-            let library = libraries.join(format!("lib{name}.rlib"));
-            format!("{name}={}", library.display())
-        };
-        let status = Command::new("rustc")
-            .args(["--edition", "2021", "-C", "opt-level=3", "-L"])
-            .arg(libraries)
-            .args(["--extern", &external("armv4t")])
-            .args(["--extern", &external("recomp_core"), "-o"])
-            .arg(&program.0)
-            .arg(source)
-            .status()
-            .map_err(|error| format!("rustc did not start: {error}"))?;
-        if status.success() {
-            Ok(program)
-        } else {
-            Err(format!("rustc: {status}"))
-        }
-    }
-}
-
-impl Drop for Program {
-    fn drop(&mut self) {
-        let _ = std::fs::remove_file(&self.0);
-    }
-}
-
-/// The program at work on a file.
+/// The program of `original/groups.rs` at work on a file.
 struct Groups {
     child: Child,
     lines: std::io::Lines<BufReader<std::process::ChildStdout>>,
@@ -149,7 +89,7 @@ struct Groups {
 
 impl Groups {
     fn start(program: &Program, file: &Path) -> Result<Groups, String> {
-        let mut child = Command::new(&program.0)
+        let mut child = Command::new(program.path())
             .arg(file)
             .stdin(Stdio::piped())
             .stdout(Stdio::piped())

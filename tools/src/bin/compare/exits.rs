@@ -1,6 +1,7 @@
 //! `compare exits`: the exits of blocks of generated files against the original's.
 
-use crate::{damaged_copy, library, trial_words};
+use crate::{library, trial_words};
+use recomp_tools::damage::damaged_copy;
 use recomp_tools::model::{exit_numbers, ExitNumbers};
 use recomp_tools::original::Original;
 use recomp_tools::rng::Rng;

@@ -1,8 +1,10 @@
 //! `compare listing`: the listing of generated files against the text that follows from the
 //! original's plan and exits, and every byte and number lent.
 
-use crate::{damaged_copy, library, trial_words};
+use crate::{library, trial_words};
 use recomp_tools::check::{check, Accepted, Refused};
+use recomp_tools::damage::damaged_copy;
+use recomp_tools::lent;
 use recomp_tools::listing::outcome;
 use recomp_tools::original::Original;
 use recomp_tools::trials::{self, Trial};
@@ -10,16 +12,6 @@ use recomp_tools::trials::{self, Trial};
 /// Numbers and bytes lent beyond those that the call needs.
 const SPARE_WORK: usize = 3;
 const SPARE_TEXT: usize = 5;
-
-/// What work number `n` holds before a call: not 0, and no two are alike.
-fn unwritten_number(n: usize) -> u32 {
-    !(n as u32)
-}
-
-/// What byte `n` of the text holds before a call: no byte of a listing, and unlike its neighbours.
-fn unwritten_byte(n: usize) -> u8 {
-    0x80 | (n % 127) as u8
-}
 
 /// A file with the answer of the check and, if it is accepted, its text.
 struct Listed<'a> {
@@ -59,20 +51,11 @@ struct Tally {
 impl Tally {
     /// One call with so many numbers and bytes lent, and all that it leaves.
     fn call(&mut self, trial: &Trial, file: &Listed, lent: [usize; 2]) {
-        let mut work: Vec<u32> = (0..lent[0]).map(unwritten_number).collect();
-        let mut text: Vec<u8> = (0..lent[1]).map(unwritten_byte).collect();
+        let (mut work, mut text) = (lent::work(lent[0]), lent::text(lent[1]));
         let answer = library::listing(file.bytes, &mut work, &mut text);
         let expected = outcome(file.checked, file.text.as_bytes(), lent);
-        let number = |n| match n {
-            n if n < expected.cleared => 0,
-            n => unwritten_number(n),
-        };
-        let byte = |n| match expected.front.get(n) {
-            Some(&byte) => byte,
-            None => unwritten_byte(n),
-        };
-        let wrong_number = (0..work.len()).find(|&n| work[n] != number(n));
-        let wrong_byte = (0..text.len()).find(|&n| text[n] != byte(n));
+        let wrong_number = lent::wrong_number(&work, expected.cleared);
+        let wrong_byte = lent::wrong_byte(&text, expected.front);
         self.answers[expected.numbers.number as usize] += 1;
         if answer == expected.numbers && wrong_number.is_none() && wrong_byte.is_none() {
             return;

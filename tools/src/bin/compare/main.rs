@@ -7,10 +7,7 @@ mod library;
 mod listing;
 mod plan;
 
-use recomp_tools::damage::damaged;
-use recomp_tools::file::File;
 use recomp_tools::original::Original;
-use recomp_tools::rng::Rng;
 use recomp_tools::trials;
 use std::process::ExitCode;
 
@@ -30,13 +27,6 @@ fn trial_words(words: &[String]) -> Option<(u64, u64, Original)> {
     let number = |n: usize, usual: u64| words.get(n).map_or(Some(usual), |w| w.parse().ok());
     let original = Original::new().map_err(|reason| eprintln!("{reason}"));
     Some((number(0, trials::FILES)?, number(1, 0)?, original.ok()?))
-}
-
-/// A damaged copy of a file, the same on every run; most are refused.
-fn damaged_copy(file: &File) -> Vec<u8> {
-    let rng = &mut Rng::new(file.bytes.len() as u64);
-    let faults = rng.between(1, 4);
-    damaged(rng, file, faults)
 }
 
 fn main() -> ExitCode {

@@ -1,6 +1,7 @@
 //! `compare plan`: the plan of generated files against the original's, and every number lent.
 
-use crate::{damaged_copy, library, trial_words};
+use crate::{library, trial_words};
+use recomp_tools::damage::damaged_copy;
 use recomp_tools::model::{self, plan_numbers, PlanNumbers};
 use recomp_tools::original::Original;
 use recomp_tools::trials::{self, Trial};
