@@ -4,7 +4,7 @@ use std::path::{Path, PathBuf};
 use std::process::Command;
 
 /// The programs that call the library; all others build without it.
-const CALLERS: [&str; 3] = ["bench", "check", "compare"];
+const CALLERS: [&str; 4] = ["bench", "check", "compare", "compare-units"];
 
 /// Names a static library to link in place of the repository's own.
 const OVERRIDE: &str = "RECOMP_LIBRARY";
@@ -35,7 +35,9 @@ fn link(library: &Path) {
 
 /// Ends the build. Cargo prints an error of one line for each of these.
 fn fail(reason: &str) {
-    println!("cargo::error=bench, check and compare link librecomp.a, which could not be had");
+    println!(
+        "cargo::error=the programs that call the library link librecomp.a, which could not be had"
+    );
     for line in reason.lines() {
         println!("cargo::error={line}");
     }

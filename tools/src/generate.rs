@@ -2,6 +2,7 @@
 
 mod closing;
 pub mod closings;
+pub mod forms;
 mod instructions;
 mod layout;
 pub mod linked;

@@ -1,7 +1,8 @@
-//! The generated files that exits, plan and listing are compared on.
+//! The generated files that exits, plan, listing and units are compared on.
 
 use crate::file::File;
 use crate::generate::closings::{self, Closings};
+use crate::generate::forms::Forms;
 use crate::generate::linked::{Graph, Linked};
 use crate::generate::{self, Lengths, Params};
 
@@ -11,6 +12,7 @@ pub enum Trial {
     Scattered(Params),
     Linked(Linked),
     Closings(Closings),
+    Forms(Forms),
 }
 
 impl Trial {
@@ -19,6 +21,7 @@ impl Trial {
             Trial::Scattered(params) => generate::file(params),
             Trial::Linked(linked) => linked.file(),
             Trial::Closings(closings) => closings.file(),
+            Trial::Forms(forms) => forms.file(),
         }
     }
 }
@@ -44,6 +47,15 @@ pub fn large(first: u64) -> impl Iterator<Item = Trial> {
     let long = seeds(20).map(|s| Trial::Scattered(Params::long(s)));
     let limit = seeds(60).map(|s| Trial::Linked(Linked::limit(s)));
     parts.chain(long).chain(limit).chain(largest(first))
+}
+
+/// `files` files with components at the limit of a part, some with longer blocks.
+pub fn limits(files: u64, first: u64) -> impl Iterator<Item = Trial> {
+    (first..first + files).map(|seed| match seed % 5 {
+        0 | 1 => Trial::Scattered(Params::components(seed)),
+        2 => Trial::Scattered(Params::long(seed)),
+        _ => Trial::Linked(Linked::limit(seed)),
+    })
 }
 
 /// Files with as many blocks as there may be.

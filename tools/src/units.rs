@@ -11,6 +11,23 @@ pub struct Unit {
     pub done: u64,
 }
 
+/// The lengths that a unit of the whole file reaches after each of its groups, from its units at
+/// size 0, which hold a group each but for the last, and the one unit at the largest size.
+pub fn reached(each: &[Unit], whole: &Unit) -> Vec<usize> {
+    let groups = each.len() - 1;
+    let all: usize = each.iter().map(|unit| unit.text.len()).sum();
+    // What every unit begins with: it stands in each of them, and in the whole once.
+    let Some(front) = (all - whole.text.len()).checked_div(groups) else {
+        return vec![];
+    };
+    let mut length = front;
+    let reached = each[..groups].iter().map(|unit| {
+        length += unit.text.len() - front;
+        length
+    });
+    reached.collect()
+}
+
 /// The answer for a unit as the C interface gives it, the text itself apart.
 #[derive(Clone, Copy, Debug, Default, PartialEq, Eq)]
 pub struct UnitNumbers {

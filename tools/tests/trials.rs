@@ -1,9 +1,9 @@
-//! The files that exits, plan and listing are compared on: all are accepted, and what they are for occurs.
+//! The files that exits, plan, listing and units are compared on: all are accepted, and what they are for occurs.
 
 use recomp_tools::check::check;
 use recomp_tools::generate::linked::{Graph, Linked};
-use recomp_tools::model::{exits, plan};
-use recomp_tools::trials::{large, largest, small};
+use recomp_tools::model::{blocks, exits, plan};
+use recomp_tools::trials::{large, largest, limits, small};
 
 /// The sizes of a plan's groups.
 fn group_sizes(plan: &[[u32; 2]]) -> Vec<usize> {
@@ -26,11 +26,41 @@ fn small_files() {
     assert!(moved > 200 && grouped > 200, "{moved:?} {grouped:?}");
 }
 
+/// Gotos within a group: ahead, and back to the block itself or to one before, through the gate.
+#[test]
+fn gotos() {
+    let mut files = [0; 2];
+    for trial in small(1_000, 0) {
+        let file = trial.file().bytes;
+        let blocks = blocks(&file);
+        let mut group = vec![0; blocks.len()];
+        plan(&file).iter().for_each(|&[g, i]| group[i as usize] = g);
+        let mut gotos = [0; 2];
+        for (i, block) in blocks.iter().enumerate() {
+            for key in block.exits() {
+                let to = blocks.iter().position(|b| b.key() == key);
+                if to.is_some_and(|j| group[i] == group[j] && members(&group, i) > 1) {
+                    gotos[(key & !1 <= block.address) as usize] += 1;
+                }
+            }
+        }
+        for (files, gotos) in files.iter_mut().zip(gotos) {
+            *files += (gotos > 0) as usize;
+        }
+    }
+    assert!(files.iter().all(|&n| n > 200), "{files:?}");
+}
+
+/// How many blocks share the group of block `i`.
+fn members(group: &[u32], i: usize) -> usize {
+    group.iter().filter(|&&g| g == group[i]).count()
+}
+
 /// Parts that reach the limit exactly, and components that go over it.
 #[test]
 fn large_files() {
     let [mut full, mut over] = [0; 2];
-    let smaller = large(0).take(120);
+    let smaller = large(0).take(120).chain(limits(100, 1_000));
     for trial in smaller {
         let file = trial.file();
         assert!(check(&file.bytes).is_ok(), "{trial:?}");

@@ -1,7 +1,7 @@
 //! What a call for a unit answers and leaves, against document 01.
 
 use recomp_tools::check::{check, Refused};
-use recomp_tools::units::{outcome, Outcome, Unit, UnitNumbers};
+use recomp_tools::units::{outcome, reached, Outcome, Unit, UnitNumbers};
 
 /// Three blocks, so 12 work numbers.
 const SAMPLE: &[u8] = include_bytes!("../../samples/three_blocks.blk");
@@ -79,4 +79,17 @@ fn refused_file() {
     assert_eq!(outcome(third, &[], 0, [0, 0]), refused(3, 0, 0));
     let seventh = Err(Refused { number: 7, at: 2 });
     assert_eq!(outcome(seventh, &[], 5, [12, 62]), refused(7, 2, 0));
+}
+
+/// Two groups behind a front of three bytes, and the end.
+#[test]
+fn lengths_reached() {
+    let unit = |text: &str| Unit {
+        text: text.into(),
+        done: 0,
+    };
+    let each = ["## one group ", "## another ", "## end"].map(unit);
+    let whole = unit("## one group another end");
+    assert_eq!(reached(&each, &whole), [13, 21]);
+    assert_eq!(reached(&[unit("## end")], &unit("## end")), []);
 }

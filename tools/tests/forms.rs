@@ -1,0 +1,80 @@
+//! The files with every kind and form: all are accepted and short, and what they are for occurs.
+
+use recomp_tools::check::check;
+use recomp_tools::file::Block;
+use recomp_tools::generate::forms::{all, parts, Forms};
+use std::collections::HashSet;
+
+/// As long as a stored vector's file may be.
+const LONGEST: usize = 4_096;
+
+#[test]
+fn accepted() {
+    for forms in all(20) {
+        let file = forms.file();
+        assert!(check(&file.bytes).is_ok(), "{forms:?}");
+        assert!(file.bytes.len() <= LONGEST, "{}", file.bytes.len());
+    }
+}
+
+/// The blocks of one turn with one instruction set.
+fn blocks(thumb: bool, conditional: bool, turn: usize) -> Vec<Block> {
+    let part = |part| Forms {
+        part,
+        thumb,
+        conditional,
+        turn,
+    };
+    (0..parts()).flat_map(|n| part(n).blocks()).collect()
+}
+
+#[test]
+fn kinds_and_forms() {
+    for (thumb, conditional) in [(false, false), (true, false), (false, true), (true, true)] {
+        let blocks = blocks(thumb, conditional, 0);
+        let records: Vec<[u8; 16]> = blocks
+            .iter()
+            .flat_map(|b| &b.records)
+            .map(|r| r.0)
+            .collect();
+        let count = |of: &dyn Fn(&[u8; 16]) -> Vec<u8>| {
+            let different: HashSet<_> = records.iter().map(of).collect();
+            different.len()
+        };
+        let kind = |r: &[u8; 16], kind| r[0] == kind;
+        assert_eq!(count(&|r| vec![r[0]]), 15);
+        // Operation, s, form, shift kind, and whether the amount or the rotation is 0.
+        let alu = |r: &[u8; 16]| match r[8] {
+            _ if !kind(r, 0) => vec![],
+            0 => vec![r[4], r[5], 0, (r[9] == 0) as u8],
+            1 => vec![r[4], r[5], 1, r[10], (r[11] == 0) as u8],
+            _ => vec![r[4], r[5], 2],
+        };
+        assert_eq!(count(&alu), 1 + 16 * 2 * (2 + 8 + 1));
+        let mem = |r: &[u8; 16]| match r[8] {
+            _ if !kind(r, 8) => vec![],
+            form => vec![r[4], r[5], (form == 0) as u8],
+        };
+        assert!(count(&mem) > 1 + 32 * 3);
+        let block_mem = |r: &[u8; 16]| match r[0] {
+            9 => vec![r[4]],
+            _ => vec![],
+        };
+        assert_eq!(count(&block_mem), 1 + 32);
+        let conditions = count(&|r| vec![r[1]]);
+        assert!(conditions == 16 || !conditional, "{conditions}");
+    }
+}
+
+#[test]
+fn regions_and_code() {
+    for thumb in [false, true] {
+        let blocks = blocks(thumb, false, 0);
+        for page in [0, 2, 3, 8, 9] {
+            for present in [false, true] {
+                let of = |b: &&Block| b.address >> 24 == page && b.code.is_some() == present;
+                assert!(blocks.iter().filter(of).count() >= 2, "{page} {present}");
+            }
+        }
+    }
+}
