@@ -6,6 +6,7 @@ mod instructions;
 mod long;
 mod order;
 mod trailer;
+pub mod units;
 
 use crate::check::{check, Accepted, Numbers, Refused};
 use crate::file::{Block, File};

@@ -1,7 +1,9 @@
 //! The stored vectors: enough of each number, in the sizes that their reader has room for.
 
 use recomp_tools::check::check;
+use recomp_tools::units::UnitNumbers;
 use recomp_tools::vectors::grouping::{encode_exits, encode_plans, exits, plans, PlanVector};
+use recomp_tools::vectors::units::{encode_units, UnitVector};
 use recomp_tools::vectors::{all, encode};
 
 #[test]
@@ -69,4 +71,29 @@ fn beyond(v: &PlanVector) -> [i64; 2] {
         v.work_len as i64 - 4 * blocks,
         v.plan_len as i64 - 2 * blocks,
     ]
+}
+
+/// The original, which makes the texts of the stored vectors, is not at hand here.
+#[test]
+fn encoded_units() {
+    let vector = UnitVector {
+        max_bytes: u64::MAX - 1,
+        unit: (3 << 32) + 2,
+        work_len: 4,
+        text_len: 5,
+        cleared: 6,
+        expected: UnitNumbers {
+            number: 7,
+            at: 8,
+            length: 3,
+            done: 9,
+            last: 1,
+        },
+        text: b"abc".to_vec(),
+        file: vec![0xff, 0xfe],
+    };
+    let numbers: [u32; 14] = [1, 0xffff_fffe, 0xffff_ffff, 2, 3, 4, 5, 6, 7, 8, 3, 9, 1, 2];
+    let mut expected: Vec<u8> = numbers.iter().flat_map(|n| n.to_le_bytes()).collect();
+    expected.extend_from_slice(&[0xff, 0xfe, b'a', b'b', b'c']);
+    assert_eq!(encode_units(&[vector]), expected);
 }

@@ -1,31 +1,40 @@
 //! Writes sections of stored vectors to the path given, in the order given, and prints how many
 //! vectors there are for each answer.
 
+use recomp_tools::original::Original;
 use recomp_tools::vectors::grouping::{encode_exits, encode_plans, exits, plans};
+use recomp_tools::vectors::units::{encode_units, units};
 use recomp_tools::vectors::{all, encode};
 use std::process::ExitCode;
 
 /// A section's bytes, and the number of the answer of each of its vectors.
 type Section = (Vec<u8>, Vec<u32>);
 
-fn section(name: &str) -> Option<Section> {
+const USAGE: &str = "usage: vectors PATH [check | exits | plan | units]...";
+
+fn section(name: &str) -> Result<Section, String> {
     match name {
         "check" => {
             let vectors = all();
             let numbers = vectors.iter().map(|v| v.expected.number).collect();
-            Some((encode(&vectors), numbers))
+            Ok((encode(&vectors), numbers))
         }
         "exits" => {
             let vectors = exits();
             let numbers = vectors.iter().map(|v| v.expected.number).collect();
-            Some((encode_exits(&vectors), numbers))
+            Ok((encode_exits(&vectors), numbers))
         }
         "plan" => {
             let vectors = plans();
             let numbers = vectors.iter().map(|v| v.expected.number).collect();
-            Some((encode_plans(&vectors), numbers))
+            Ok((encode_plans(&vectors), numbers))
         }
-        _ => None,
+        "units" => {
+            let vectors = units(&Original::new()?.build("units")?);
+            let numbers = vectors.iter().map(|v| v.expected.number).collect();
+            Ok((encode_units(&vectors), numbers))
+        }
+        _ => Err(USAGE.to_string()),
     }
 }
 
@@ -42,12 +51,9 @@ fn print(name: &str, bytes: &[u8], numbers: &[u32]) {
 
 fn main() -> ExitCode {
     let words: Vec<String> = std::env::args().skip(1).collect();
-    let usage = || {
-        eprintln!("usage: vectors PATH [check | exits | plan]...");
-        ExitCode::from(2)
-    };
     let Some((path, names)) = words.split_first() else {
-        return usage();
+        eprintln!("{USAGE}");
+        return ExitCode::from(2);
     };
     let names = match names {
         [] => &["check".to_string()],
@@ -55,8 +61,12 @@ fn main() -> ExitCode {
     };
     let mut out = vec![];
     for name in names {
-        let Some((bytes, numbers)) = section(name) else {
-            return usage();
+        let (bytes, numbers) = match section(name) {
+            Ok(section) => section,
+            Err(reason) => {
+                eprintln!("{reason}");
+                return ExitCode::from(2);
+            }
         };
         print(name, &bytes, &numbers);
         out.extend_from_slice(&bytes);

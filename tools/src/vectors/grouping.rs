@@ -38,7 +38,7 @@ pub struct PlanVector {
     pub file: Vec<u8>,
 }
 
-fn arm(address: u32, records: &[Record]) -> Block {
+pub(super) fn arm(address: u32, records: &[Record]) -> Block {
     Block {
         address,
         thumb: false,
@@ -62,7 +62,7 @@ fn named_exits() -> Vec<(Block, &'static [u32])> {
 }
 
 /// The listing example of document 01, and no blocks.
-fn named_files() -> Vec<File> {
+pub(super) fn named_files() -> Vec<File> {
     let listing = [
         arm(0x0800_0000, &[Record::branch(false, 0x0800_0008)]),
         arm(0x0800_0004, &[Record::bx(14)]),
@@ -72,7 +72,7 @@ fn named_files() -> Vec<File> {
 }
 
 /// Generated files that are short.
-fn short_files() -> impl Iterator<Item = File> {
+pub(super) fn short_files() -> impl Iterator<Item = File> {
     let scattered = (0..).map(|seed| generate::file(&Params::small(seed)));
     let linked = (0..).map(|seed| Linked::small(seed).file());
     let short = |file: &File| file.bytes.len() <= SHORT;
@@ -81,7 +81,7 @@ fn short_files() -> impl Iterator<Item = File> {
 }
 
 /// Damaged copies of short files, most of them refused.
-fn damaged_files() -> impl Iterator<Item = Vec<u8>> {
+pub(super) fn damaged_files() -> impl Iterator<Item = Vec<u8>> {
     short_files()
         .take(COPIES as usize)
         .zip(0..)
@@ -93,7 +93,7 @@ fn damaged_files() -> impl Iterator<Item = Vec<u8>> {
 }
 
 /// Ends of a file that are too short for a trailer.
-fn cut_files() -> impl Iterator<Item = Vec<u8>> {
+pub(super) fn cut_files() -> impl Iterator<Item = Vec<u8>> {
     let whole = named_files().remove(0).bytes;
     [0, 1, 16, 30, 31]
         .into_iter()
