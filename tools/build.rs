@@ -4,7 +4,13 @@ use std::path::{Path, PathBuf};
 use std::process::Command;
 
 /// The programs that call the library; all others build without it.
-const CALLERS: [&str; 4] = ["bench", "check", "compare", "compare-units"];
+const CALLERS: [&str; 5] = [
+    "bench",
+    "check",
+    "compare",
+    "compare-units",
+    "compile-units",
+];
 
 /// Names a static library to link in place of the repository's own.
 const OVERRIDE: &str = "RECOMP_LIBRARY";

@@ -1,0 +1,57 @@
+//! Where units come from: the library, or the original.
+
+use recomp_tools::original::units::Emitter;
+use recomp_tools::original::{Original, Program};
+use recomp_tools::units::Unit;
+
+pub enum Source {
+    Original(Program),
+    #[cfg(feature = "library")]
+    Library,
+}
+
+impl Source {
+    pub fn named(name: &str) -> Result<Source, String> {
+        match name {
+            "original" => Ok(Source::Original(Original::new()?.build("units")?)),
+            #[cfg(feature = "library")]
+            "library" => Ok(Source::Library),
+            #[cfg(not(feature = "library"))]
+            "library" => Err("this program was built without the feature `library`".to_string()),
+            _ => Err(format!("library or original, not {name}")),
+        }
+    }
+
+    /// All units of an accepted file.
+    pub fn units(&self, file: &[u8], max_bytes: u64) -> Vec<Unit> {
+        match self {
+            Source::Original(program) => Emitter::start(program, &[file]).units(0, max_bytes),
+            #[cfg(feature = "library")]
+            Source::Library => library_units(file, max_bytes),
+        }
+    }
+}
+
+/// One call for each unit, and another where the text was too short.
+#[cfg(feature = "library")]
+fn library_units(file: &[u8], max_bytes: u64) -> Vec<Unit> {
+    use crate::library;
+    let blocks = library::check(file).blocks as usize;
+    let (mut work, mut text) = (vec![0; 4 * blocks], vec![0; 1 << 16]);
+    let mut units = vec![];
+    loop {
+        let named = units.len() as u64;
+        let answer = library::unit(file, max_bytes, named, &mut work, &mut text);
+        match answer.number {
+            0 => units.push(Unit {
+                text: text[..answer.length as usize].to_vec(),
+                done: answer.done,
+            }),
+            10 => text.resize(2 * text.len(), 0),
+            _ => panic!("unit {named}: {answer:?}"),
+        }
+        if answer.last == 1 {
+            return units;
+        }
+    }
+}
