@@ -4,8 +4,9 @@ use std::path::{Path, PathBuf};
 use std::process::Command;
 
 /// The programs that call the library; all others build without it.
-const CALLERS: [&str; 5] = [
+const CALLERS: [&str; 6] = [
     "bench",
+    "bench-units",
     "check",
     "compare",
     "compare-units",

@@ -11,6 +11,7 @@ pub mod original;
 pub mod record;
 pub mod rng;
 pub mod samples;
+pub mod timing;
 pub mod trials;
 pub mod units;
 pub mod vectors;

@@ -1,8 +1,9 @@
 //! `bench check`: the check of the largest file, the proved library against plain Rust.
 
-use crate::{in_order, library, ROUNDS, WARM_UP};
+use crate::{library, ROUNDS, WARM_UP};
 use recomp_tools::check::{check, Numbers};
 use recomp_tools::generate::{file, Params};
+use recomp_tools::timing::median_and_best;
 use std::hint::black_box;
 use std::time::Instant;
 
@@ -31,7 +32,7 @@ pub fn run() {
     report(measure(&file.bytes, expected), file.bytes.len());
 }
 
-/// Seconds of each side in rising order.
+/// Seconds of each side.
 fn measure(bytes: &[u8], expected: Numbers) -> [Vec<f64>; 2] {
     let mut times = [vec![], vec![]];
     for round in 0..WARM_UP + ROUNDS {
@@ -46,11 +47,11 @@ fn measure(bytes: &[u8], expected: Numbers) -> [Vec<f64>; 2] {
             }
         }
     }
-    times.map(in_order)
+    times
 }
 
 fn report(times: [Vec<f64>; 2], bytes: usize) {
-    let medians_and_bests = times.map(|times| [times[times.len() / 2], times[0]]);
+    let medians_and_bests = times.map(median_and_best);
     for ((name, _), both) in SIDES.iter().zip(&medians_and_bests) {
         let [median, best] = both.map(|seconds| {
             let rate = bytes as f64 / seconds / 1e6;

@@ -11,12 +11,6 @@ use std::process::ExitCode;
 const WARM_UP: usize = 3;
 const ROUNDS: usize = 31;
 
-/// Times in rising order.
-fn in_order(mut times: Vec<f64>) -> Vec<f64> {
-    times.sort_by(f64::total_cmp);
-    times
-}
-
 fn main() -> ExitCode {
     let words: Vec<String> = std::env::args().skip(1).collect();
     let words: Vec<&str> = words.iter().map(String::as_str).collect();

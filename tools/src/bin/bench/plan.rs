@@ -4,9 +4,10 @@
 //! original's libraries: it gets decoded blocks, where the library gets the file and checks it
 //! first. So the check alone is timed as well.
 
-use crate::{in_order, library, ROUNDS, WARM_UP};
+use crate::{library, ROUNDS, WARM_UP};
 use recomp_tools::file::File;
 use recomp_tools::original::{Original, Program};
+use recomp_tools::timing::median_and_best;
 use recomp_tools::trials;
 use std::hint::black_box;
 use std::io::{BufRead, BufReader, Write};
@@ -62,10 +63,8 @@ fn measure(original: &Original, program: &Program, file: &File) -> Result<(), St
 }
 
 fn report(times: [Vec<f64>; 3]) {
-    let [library, check, original] = times.map(in_order).map(|times| {
-        let milliseconds = 1e3;
-        [times[times.len() / 2], times[0]].map(|time| time * milliseconds)
-    });
+    let milliseconds = |seconds: f64| 1e3 * seconds;
+    let [library, check, original] = times.map(|times| median_and_best(times).map(milliseconds));
     for (name, [median, best]) in [
         ("library, plan", library),
         ("library, check alone", check),

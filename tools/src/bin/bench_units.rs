@@ -1,0 +1,180 @@
+//! Times the call for a unit on the largest files against the original's emitter, in one run.
+//!
+//! The original hands on one unit after the other, so a unit of it costs all those before it: it is
+//! timed up to the unit that the library is asked for, and as a whole. It gets decoded blocks, where
+//! the library gets the file, checks it and groups its blocks in every call.
+
+#[path = "../library.rs"]
+mod library;
+
+use recomp_tools::file::File;
+use recomp_tools::original::units::{Emitter, Timed};
+use recomp_tools::original::Original;
+use recomp_tools::timing::median_and_best;
+use recomp_tools::trials;
+use std::hint::black_box;
+use std::process::ExitCode;
+use std::time::Instant;
+
+const MIB: u64 = 1 << 20;
+const SIZES: [u64; 2] = [MIB, 4 * MIB];
+
+const COLUMNS: &str = concat!(
+    "  unit         bytes |  library ms   best   MB/s |",
+    " original ms   best   MB/s |  ratio   best  whole"
+);
+
+/// Rounds unless told otherwise: for single units, and for all units of a file.
+const ROUNDS: u64 = 11;
+const ROUNDS_OF_ALL: u64 = 3;
+
+/// The library with all that it is lent.
+struct Library<'a> {
+    file: &'a [u8],
+    work: Vec<u32>,
+    text: Vec<u8>,
+}
+
+impl Library<'_> {
+    fn new(file: &File) -> Library<'_> {
+        Library {
+            file: &file.bytes,
+            work: vec![0; 4 * file.blocks],
+            // A group is added whole, and the last unit has a line or two for each block.
+            text: vec![0; 32 << 20],
+        }
+    }
+
+    /// Seconds and length of one unit.
+    fn unit(&mut self, size: u64, unit: u64) -> (f64, u64) {
+        let start = Instant::now();
+        let file = black_box(self.file);
+        let answer = library::unit(file, size, unit, &mut self.work, &mut self.text);
+        let seconds = start.elapsed().as_secs_f64();
+        assert_eq!(answer.number, 0, "unit {unit} at {size}");
+        (seconds, answer.length)
+    }
+
+    /// Seconds and length of all units, one call each.
+    fn all(&mut self, size: u64, units: u64) -> (f64, u64) {
+        let each = (0..units).map(|unit| self.unit(size, unit));
+        each.fold((0.0, 0), |(seconds, bytes), (s, b)| {
+            (seconds + s, bytes + b)
+        })
+    }
+}
+
+/// Seconds of either side, and the bytes that they made.
+#[derive(Default)]
+struct Times {
+    library: Vec<f64>,
+    original: Vec<f64>,
+    bytes: u64,
+    original_bytes: u64,
+}
+
+impl Times {
+    fn add(&mut self, (library, bytes): (f64, u64), original: Timed) {
+        self.library.push(library);
+        self.original.push(original.seconds);
+        (self.bytes, self.original_bytes) = (bytes, original.bytes);
+    }
+
+    fn print(self, name: &str, whole: f64) {
+        let [library, best] = median_and_best(self.library);
+        let [original, original_best] = median_and_best(self.original);
+        let rate = |bytes: u64, seconds: f64| bytes as f64 / seconds / 1e6;
+        let sides = [
+            (library, best, rate(self.bytes, library)),
+            (original, original_best, rate(self.original_bytes, original)),
+        ];
+        let [library_column, original_column] = sides.map(|(median, best, rate)| {
+            let [median, best] = [median, best].map(|seconds| 1e3 * seconds);
+            format!("{median:9.2} {best:9.2} {rate:6.0}")
+        });
+        println!(
+            "  {name:7} {:10} | {library_column} | {original_column} | {:6.2} {:6.2} {:6.2}",
+            self.bytes,
+            library / original,
+            best / original_best,
+            library / whole
+        );
+    }
+}
+
+/// Single units and all of them, at one size. The sides take turns, so that a slow spell of the
+/// machine falls on both.
+fn measure(library: &mut Library, emitter: &mut Emitter, size: u64, [rounds, of_all]: [u64; 2]) {
+    let whole = emitter.time(0, size, u64::MAX);
+    let units = whole.units;
+    println!(
+        "  at {} MiB: {units} units, {} bytes",
+        size / MIB,
+        whole.bytes
+    );
+    println!("{COLUMNS}");
+    let places = [("first", 0), ("middle", units / 2), ("last", units - 1)];
+    let mut single = places.map(|_| Times::default());
+    for _ in 0..rounds {
+        for (times, (_, unit)) in single.iter_mut().zip(places) {
+            let library = library.unit(size, unit);
+            times.add(library, emitter.time(0, size, unit + 1));
+        }
+    }
+    let mut all = Times::default();
+    for _ in 0..of_all {
+        let library = library.all(size, units);
+        all.add(library, emitter.time(0, size, u64::MAX));
+    }
+    assert_eq!(all.bytes, all.original_bytes, "bytes of all units");
+    // Up to the last unit is the whole.
+    let [whole, _] = median_and_best(single[2].original.clone());
+    for (times, (name, _)) in single.into_iter().zip(places) {
+        times.print(name, whole);
+    }
+    all.print("all", whole);
+}
+
+/// Ratios are library / original: of medians, of best rounds, and the library's median against the
+/// original's for the whole file.
+fn run(original: &Original, rounds: [u64; 2]) -> Result<(), String> {
+    let program = original.build("units")?;
+    println!(
+        "{} rounds for single units, {} for all",
+        rounds[0], rounds[1]
+    );
+    for (name, trial) in trials::timed() {
+        let file = trial.file();
+        println!(
+            "{name}: {} blocks, {} instructions, {} bytes",
+            file.blocks,
+            file.instructions,
+            file.bytes.len()
+        );
+        let mut emitter = Emitter::start(&program, &[&file.bytes]);
+        let mut library = Library::new(&file);
+        for size in SIZES {
+            measure(&mut library, &mut emitter, size, rounds);
+            let whole = original.run("bench", &file.bytes, &[&size.to_string()]);
+            println!("  original by its own program: {}", whole.trim());
+        }
+    }
+    Ok(())
+}
+
+fn main() -> ExitCode {
+    let words: Vec<String> = std::env::args().skip(1).collect();
+    let number = |n: usize, usual: u64| words.get(n).map_or(Some(usual), |w| w.parse().ok());
+    let rounds = [number(0, ROUNDS), number(1, ROUNDS_OF_ALL)];
+    let [Some(rounds @ 1..), Some(of_all @ 1..)] = rounds else {
+        eprintln!("usage: bench-units [ROUNDS] [ROUNDS_OF_ALL]");
+        return ExitCode::from(2);
+    };
+    match Original::new().and_then(|original| run(&original, [rounds, of_all])) {
+        Ok(()) => ExitCode::SUCCESS,
+        Err(reason) => {
+            eprintln!("{reason}");
+            ExitCode::FAILURE
+        }
+    }
+}
