@@ -94,7 +94,7 @@ impl Forms {
             code: None,
             records: records.collect(),
         };
-        if (n + self.part + self.turn) % 5 != 0 {
+        if !(n + self.part + self.turn).is_multiple_of(5) {
             let code = (0..block.byte_len()).map(|m| (31 * m + 7 * n + self.turn) as u8);
             block.code = Some(code.collect());
         }
