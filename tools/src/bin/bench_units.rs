@@ -55,6 +55,18 @@ impl Library<'_> {
         (seconds, answer.length)
     }
 
+    /// Seconds of a call that is lent a byte too few: it checks, groups and measures, and writes
+    /// nothing.
+    fn refused(&mut self, size: u64, unit: u64, length: u64) -> f64 {
+        let short = &mut self.text[..length as usize - 1];
+        let start = Instant::now();
+        let file = black_box(self.file);
+        let answer = library::unit(file, size, unit, &mut self.work, short);
+        let seconds = start.elapsed().as_secs_f64();
+        assert_eq!(answer.number, 10, "unit {unit} at {size}, a byte short");
+        seconds
+    }
+
     /// Seconds and length of all units, one call each.
     fn all(&mut self, size: u64, units: u64) -> (f64, u64) {
         let each = (0..units).map(|unit| self.unit(size, unit));
@@ -135,6 +147,35 @@ fn measure(library: &mut Library, emitter: &mut Emitter, size: u64, [rounds, of_
     all.print("all", whole);
 }
 
+/// The writing alone, of the whole file as one unit: how much longer the call takes than one that is
+/// refused for want of a byte. The original's rate is that of its whole run.
+fn measure_writing(library: &mut Library, emitter: &mut Emitter, rounds: u64) {
+    let whole = emitter.time(0, u64::MAX, u64::MAX);
+    library.text.resize(whole.bytes as usize, 0);
+    let mut written = Vec::new();
+    let mut refused = Vec::new();
+    let mut original = Vec::new();
+    for _ in 0..rounds {
+        let (seconds, length) = library.unit(u64::MAX, 0);
+        assert_eq!(length, whole.bytes, "bytes of the file as one unit");
+        written.push(seconds);
+        refused.push(library.refused(u64::MAX, 0, length));
+        original.push(emitter.time(0, u64::MAX, u64::MAX).seconds);
+    }
+    let [[written, _], [refused, _], [original, _]] =
+        [written, refused, original].map(median_and_best);
+    let rate = |seconds: f64| whole.bytes as f64 / seconds / 1e6;
+    println!(
+        "  as one unit of {} bytes: library {:.2} ms, {:.2} ms without writing; writing alone {:.0} MB/s, original {:.0} MB/s, ratio {:.2}",
+        whole.bytes,
+        1e3 * written,
+        1e3 * refused,
+        rate(written - refused),
+        rate(original),
+        rate(written - refused) / rate(original)
+    );
+}
+
 /// Ratios are library / original: of medians, of best rounds, and the library's median against the
 /// original's for the whole file.
 fn run(original: &Original, rounds: [u64; 2]) -> Result<(), String> {
@@ -158,6 +199,7 @@ fn run(original: &Original, rounds: [u64; 2]) -> Result<(), String> {
             let whole = original.run("bench", &file.bytes, &[&size.to_string()]);
             println!("  original by its own program: {}", whole.trim());
         }
+        measure_writing(&mut library, &mut emitter, rounds[0]);
     }
     Ok(())
 }
