@@ -1,3 +1,4 @@
 -- The laws that proofs cite.
+pub mod Compared
 pub mod Gathered
 pub mod Same

@@ -4,3 +4,4 @@ pub mod ExitsCases
 pub mod Input
 pub mod PlanCases
 pub mod Same
+pub mod UnitCases

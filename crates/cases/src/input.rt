@@ -40,7 +40,7 @@ fn word(b: &[u8; 4]) -> u64
 }
 
 // Fills `out` with the next bytes, and answers whether there were as many.
-fn bytes(out: &mut [u8]) -> bool {
+pub(crate) fn bytes(out: &mut [u8]) -> bool {
     io::read_full(STDIN_FILENO, out) == out.len()
 }
 

@@ -6,6 +6,7 @@ mod input;
 mod plan_cases;
 mod report;
 mod sections;
+mod unit_cases;
 
 use sections::Section;
 
@@ -19,6 +20,9 @@ fn main() {
         return;
     }
     if !sections::replay(Section::Plan) {
+        return;
+    }
+    if !sections::replay(Section::Units) {
         return;
     }
     if !input::at_end() {

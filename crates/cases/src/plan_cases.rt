@@ -4,6 +4,7 @@ use crate::compare;
 use crate::input;
 use crate::input::Filled;
 use crate::report;
+use crate::sections;
 use crate::sections::Outcome;
 use crate::sections::Section;
 use recomp::Planned;
@@ -111,16 +112,6 @@ fn clear(list: &mut [u64]) {
     }
 }
 
-fn ended(k: u64) -> Outcome {
-    report::ends_early(k);
-    Outcome::Broken
-}
-
-fn too_long(k: u64) -> Outcome {
-    report::too_long(k);
-    Outcome::Broken
-}
-
 // Reads the expected plan of vector `k` into the front of the expected result, and tries the vector.
 fn replay_plan(
     k: u64,
@@ -134,12 +125,12 @@ fn replay_plan(
     let n = expected.len();
     let blocks = expected[2] as usize;
     if result.len() / 2 < blocks {
-        return too_long(k);
+        return sections::too_long(k);
     }
     let start = 3 + work.len();
     let end = start + 2 * blocks;
     if !input::numbers(&mut expected[start..end]) {
-        return ended(k);
+        return sections::ended(k);
     }
     let mut got = [0u64; MOST];
     if is_right(k, expected, &mut got[..n], file, work, result) {
@@ -164,15 +155,15 @@ fn replay_file(
     lend(work, expected, 3);
     lend(result, expected, 3 + work.len());
     if !input::numbers(&mut expected[..3]) {
-        return ended(k);
+        return sections::ended(k);
     }
     let end = 3 + cleared;
     clear(&mut expected[3..end]);
     let mut buffer = [0u8; LONGEST];
     match input::file(&mut buffer) {
         Filled::To(n) => replay_plan(k, expected, &buffer[..n], work, result),
-        Filled::Ended => ended(k),
-        Filled::TooLong => too_long(k),
+        Filled::Ended => sections::ended(k),
+        Filled::TooLong => sections::too_long(k),
     }
 }
 
@@ -180,19 +171,19 @@ fn replay_file(
 pub(crate) fn replay_one(k: u64) -> Outcome {
     let mut lent = [0u64; 3];
     if !input::numbers(&mut lent) {
-        return ended(k);
+        return sections::ended(k);
     }
     let work_length = lent[0] as usize;
     let result_length = lent[1] as usize;
     let cleared = lent[2] as usize;
     if MOST_WORK < work_length {
-        return too_long(k);
+        return sections::too_long(k);
     }
     if MOST_RESULT < result_length {
-        return too_long(k);
+        return sections::too_long(k);
     }
     if work_length < cleared {
-        return too_long(k);
+        return sections::too_long(k);
     }
     let mut expected = [0u64; MOST];
     let mut work = [0u32; MOST_WORK];

@@ -21,6 +21,9 @@ fn name(section: Section) {
         Section::Plan => {
             text(b"plan");
         }
+        Section::Units => {
+            text(b"units");
+        }
     }
 }
 
@@ -35,14 +38,42 @@ fn numbers(list: &[u64]) {
 }
 
 pub(crate) fn mismatch(section: Section, k: u64, expected: &[u64], got: &[u64]) {
-    name(section);
-    text(b" ");
-    number(k);
-    text(b": expected");
+    vector(section, k);
+    text(b"expected");
     numbers(expected);
     text(b", got");
     numbers(got);
     text(b"\n");
+}
+
+// The start of a line on a vector.
+fn vector(section: Section, k: u64) {
+    name(section);
+    text(b" ");
+    number(k);
+    text(b": ");
+}
+
+// A place at which a vector of the units expects another number than stands there.
+fn place_differs(i: u64, expected: u64, got: u64) {
+    number(i);
+    text(b": expected ");
+    number(expected);
+    text(b", got ");
+    number(got);
+    text(b"\n");
+}
+
+pub(crate) fn work_differs(k: u64, i: u64, expected: u32, got: u32) {
+    vector(Section::Units, k);
+    text(b"work number ");
+    place_differs(i, expected as u64, got as u64);
+}
+
+pub(crate) fn text_differs(k: u64, i: u64, expected: u8, got: u8) {
+    vector(Section::Units, k);
+    text(b"byte ");
+    place_differs(i, expected as u64, got as u64);
 }
 
 pub(crate) fn total(section: Section, cases: u64, mismatches: u64) {

@@ -5,11 +5,13 @@ use crate::input;
 use crate::input::Read;
 use crate::plan_cases;
 use crate::report;
+use crate::unit_cases;
 
 pub(crate) enum Section {
     Check,
     Exits,
     Plan,
+    Units,
 }
 
 // What became of a vector.
@@ -20,11 +22,24 @@ pub(crate) enum Outcome {
     Broken,
 }
 
+// The outcome of a vector in which the input ends.
+pub(crate) fn ended(k: u64) -> Outcome {
+    report::ends_early(k);
+    Outcome::Broken
+}
+
+// The outcome of a vector that the buffers do not hold.
+pub(crate) fn too_long(k: u64) -> Outcome {
+    report::too_long(k);
+    Outcome::Broken
+}
+
 fn replay_one(section: Section, k: u64) -> Outcome {
     match section {
         Section::Check => check_cases::replay_one(k),
         Section::Exits => exits_cases::replay_one(k),
         Section::Plan => plan_cases::replay_one(k),
+        Section::Units => unit_cases::replay_one(k),
     }
 }
 
