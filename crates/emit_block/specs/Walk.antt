@@ -30,7 +30,7 @@ instrsOf f r first = instrsFrom f (r .count) first (r .addr) (r .thumb)
 abbrev pub formsFrom : List ℕ → BlockRecord → ℕ → ℕ → ℕ → List Form × ℕ
 formsFrom f r first j cycles = emitInstrs (r .thumb) (regionOf (r .addr)) cycles (drop j (instrsOf f r first))
 
--- a body is that of a block, whatever its hash: what is measured has no hash
+-- a body is that of a block, whatever its hash: what is measured has 0 in its place
 pub record IsBody (f : List ℕ) (r : BlockRecord) (first : ℕ) (b : Body) : Type 0 where
   pub addr : b .addr ≡ r .addr
   pub thumb : b .thumb ≡ r .thumb

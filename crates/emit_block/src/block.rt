@@ -50,7 +50,7 @@ fn length_of(block: BlockRecord) -> u64
     if block.thumb { n * 2 } else { n * 4 }
 }
 
-// The hash of a block's code bytes. Where the text is measured only, any number will do.
+// The hash of a block's code bytes, or 0 where the text is only measured.
 fn guard_hash(file: &[u8], block: BlockRecord, hashing: bool) -> u64
     ensures { λ r. ⌜ r ≡ cond hashing (fnv64 hashMultiplier (codeBytes (now (file .entry)) block)) 0 ⌝ }
 {

@@ -44,7 +44,7 @@ Reaches ks thumb inside (MsrImm spsr fields value) = Unit
 Reaches ks thumb inside (Swi imm) = Unit
 Reaches ks thumb inside (Undefined raw) = Unit
 
--- the text of lines in braces, behind a condition or not; whether it always holds
+-- the text of lines in braces, behind the condition e unless it always holds (true)
 abbrev pub lowered : Bool → Expr → Lines → Doc
 lowered true e l = straightOpen ▸ codeText (lines common 8 l end) ▸ straightEnd
 lowered false e l = beforeCondition ▸ exprText e ▸ holdsOpen ▸ codeText (lines common 8 l end) ▸ holdsEnd

@@ -62,6 +62,7 @@ fn put_holds(out: &mut [u8], at: usize, thumb: bool, i: Instr) -> usize
     close_holds(out, t)
 }
 
+// The lines of an instruction, behind its condition unless it always holds.
 fn put_lowered(out: &mut [u8], at: usize, thumb: bool, i: Instr) -> usize
     ensures { λ r. ⌜ ((body : Lines) → inlineBody thumb i ≡ some body → Wrote (now (out .entry)) at (lowered (isAl (i .cond)) (condExpr (i .cond)) body) (now (out .exit)) r) ⌝ }
 {

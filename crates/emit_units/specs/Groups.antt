@@ -23,7 +23,7 @@ bodiesOf f = map (bodyOf hashMultiplier) (blocksOf f)
 abbrev pub memberText : Bool → List ℕ → List ℕ → ℕ → Doc
 memberText written f ks i = codeText (blockCode ks (seen written (getD (bodiesOf f) i nobody)))
 
--- the same with its label before it
+-- the same with its label before it and a line end behind
 abbrev pub labelledText : Bool → List ℕ → List ℕ → ℕ → Doc
 labelledText written f ks i =
     codeText (label (bodyKey (getD (bodiesOf f) i nobody)) ⨾ nl ⨾ end) ▸ memberText written f ks i ▸ codeText (nl ⨾ end)
