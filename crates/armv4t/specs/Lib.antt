@@ -2,6 +2,7 @@
 pub mod Cond
 pub mod AluOp
 pub mod Shift
+pub mod RegisterList
 pub mod Instr
 pub mod Bit0
 pub mod Fused

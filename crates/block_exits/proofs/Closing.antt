@@ -13,6 +13,7 @@ use Rattle.armv4t.specs.declared.Fused.{Fused}
 use Rattle.armv4t.specs.declared.Instr.{Instr}
 use Rattle.armv4t.specs.Fused.{fuse}
 use Rattle.instr_records.specs.declared.decode.TimedInstr.{TimedInstr}
+use Rattle.records.specs.BlockRecord.{lengthOf}
 use Rattle.block_file.specs.declared.read.BlockRecord.{BlockRecord}
 use Rattle.block_file.specs.declared.read.FoundInstr.{FoundInstr}
 use Rattle.records.specs.Trailer.{blockCount, blockStart, instrStart}
@@ -62,7 +63,7 @@ module _ (f : List ℕ) (thumb : Bool) where
       rw last (sym (by-two (n - 2) k addr) ∙ ap (λ (m : ℕ). instrExits thumb (instrsFrom f m k addr thumb)) all)
 
 -- the address of an instruction of a block that ends by 2^32
-addr-below : (addr count j : ℕ) (thumb : Bool) → j < count → addr + count * sizeOf thumb ≤ 2 ^ 32 → addr + sizeOf thumb * j < 2 ^ 32
+addr-below : (addr count j : ℕ) (thumb : Bool) → j < count → addr + lengthOf count thumb ≤ 2 ^ 32 → addr + sizeOf thumb * j < 2 ^ 32
 addr-below addr count j true h e = omega arith
 addr-below addr count j false h e = omega arith
 

@@ -1,10 +1,9 @@
 -- The exit list of a block (document 01), by its last instruction, or by its last two where they fuse.
-use Prim.Native.Nat.{ℕ, _+_, _/_, _%_, _^_}
+use Prim.Native.Nat.{ℕ, _+_, _%_, _^_}
 use mathlib.Core.Bool.{Bool, true, false, cond, _&&_}
 use mathlib.Core.List.{List, [], _∷_}
 use lib.Dec.{eqb}
 use Rattle.armv4t.specs.declared.Cond.{Cond}
-use Rattle.armv4t.specs.declared.Cond.the-variants.{Eq, Ne, Cs, Cc, Mi, Pl, Vs, Vc, Hi, Ls, Ge, Lt, Gt, Le, Al, Nv}
 use Rattle.armv4t.specs.declared.Op.{Op}
 use Rattle.armv4t.specs.declared.Op.the-variants.{Alu, Mul, MulLong, Swap, Bx, Branch, ThumbBlHigh, ThumbBlLow, Mem, BlockMem, Mrs, MsrReg, MsrImm, Swi, Undefined}
 use Rattle.armv4t.specs.declared.Instr.{Instr}
@@ -12,6 +11,8 @@ use Rattle.armv4t.specs.declared.Fused.{Fused}
 use Rattle.armv4t.specs.declared.Fused.the-variants.{Pair, Nothing}
 use Rattle.armv4t.specs.Bit0.{setBit0}
 use Rattle.armv4t.specs.Instr.{sizeOf}
+use Rattle.armv4t.specs.Cond.{isAl}
+use Rattle.armv4t.specs.RegisterList.{names}
 use Rattle.armv4t.specs.Fused.{fuse}
 use Rattle.instr_records.specs.declared.decode.TimedInstr.{TimedInstr}
 use Rattle.block_file.specs.Parse.{Block}
@@ -22,32 +23,9 @@ abbrev pub keyOf : ℕ → Bool → ℕ
 keyOf addr true = setBit0 addr
 keyOf addr false = addr
 
--- the address after an instruction, with the block's Thumb bit
+-- the fall-through (document 01): the address after an instruction, with the block's Thumb bit
 abbrev pub fallThrough : Bool → Instr → ℕ
 fallThrough thumb i = keyOf ((i .addr + sizeOf (i .thumb)) % 2 ^ 32) thumb
-
--- whether a register list names PC
-abbrev pub listsPc : ℕ → Bool
-listsPc rlist = eqb (rlist / 2 ^ 15 % 2) 1
-
--- whether a condition is Al
-abbrev pub isAl : Cond → Bool
-isAl Eq = false
-isAl Ne = false
-isAl Cs = false
-isAl Cc = false
-isAl Mi = false
-isAl Pl = false
-isAl Vs = false
-isAl Vc = false
-isAl Hi = false
-isAl Ls = false
-isAl Ge = false
-isAl Lt = false
-isAl Gt = false
-isAl Le = false
-isAl Al = true
-isAl Nv = false
 
 -- the exits of a branch to a key: a condition other than Al adds the fall-through
 abbrev pub branchExits : Cond → ℕ → ℕ → List ℕ
@@ -65,7 +43,7 @@ opExits (Branch link target) c thumb fall = branchExits c (keyOf target thumb) f
 opExits (ThumbBlHigh lr) c thumb fall = fall ∷ []
 opExits (ThumbBlLow off) c thumb fall = []
 opExits (Mem load width signed rd rn offset pre up writeback) c thumb fall = cond (load && eqb rd 15) [] (fall ∷ [])
-opExits (BlockMem load rn rlist pre up s-bit writeback) c thumb fall = cond (load && listsPc rlist) [] (fall ∷ [])
+opExits (BlockMem load rn rlist pre up s-bit writeback) c thumb fall = cond (load && names rlist 15) [] (fall ∷ [])
 opExits (Mrs spsr rd) c thumb fall = fall ∷ []
 opExits (MsrReg spsr fields rm) c thumb fall = fall ∷ []
 opExits (MsrImm spsr fields value) c thumb fall = fall ∷ []

@@ -1,6 +1,6 @@
 -- What a pass over the records of an accepted file has of a block.
 -- Assumes nothing.
-use Prim.Native.Nat.{ℕ, _+_, _*_, _%_, _≤_, _<_, _^_}
+use Prim.Native.Nat.{ℕ, _+_, _%_, _≤_, _<_, _^_}
 use mathlib.Core.Path.{_≡_, refl, _∙_}
 use mathlib.Core.Bool.{Bool, true, false, cond, _&&_}
 use mathlib.Core.List.{List}
@@ -10,11 +10,10 @@ use native.Mathlib.Omega.{arith}
 use borrow.Author.Tests.{ltb-true}
 use lib.ListN.{length, getD}
 use lib.Dec.{leb, ltb}
-use Rattle.armv4t.specs.Instr.{sizeOf}
 use Rattle.block_file.specs.declared.read.BlockRecord.{BlockRecord}
 use Rattle.block_file.specs.declared.read.FoundBlock.{FoundBlock}
 use Rattle.records.specs.Trailer.{blockCount, instrCount, blockStart}
-use Rattle.records.specs.BlockRecord.{countSum}
+use Rattle.records.specs.BlockRecord.{lengthOf, countSum}
 use Rattle.block_file.specs.Parse.{Block, blockAt, blocksOf, Accepted}
 use Rattle.block_file.specs.Read.{recordAt, foundBlock, IsBlock}
 use Rattle.block_file.proofs.Accepted.{block-of, length-of, block-found, few-instrs, has-instr, ends-inside, instrs-inside}
@@ -59,7 +58,7 @@ module _ {f : List ℕ} {i : ℕ} {b : BlockRecord} {first : ℕ} (is : IsBlock 
   unfolding recordAt
   some-instr = rw block-record (has-instr f (blocksOf f) (is .accepted) i block-inside)
 
-  pub ends : b .addr + b .count * sizeOf (b .thumb) ≤ 2 ^ 32
+  pub ends : b .addr + lengthOf (b .count) (b .thumb) ≤ 2 ^ 32
   unfolding recordAt
   ends = rw block-record (ends-inside f (blocksOf f) (is .accepted) i block-inside)
 

@@ -7,9 +7,9 @@ use Prim.Native.Nat.{ℕ, _+_, _*_, _-_, _≤_, _<_}
 use native.Mathlib.Nat.{add-sub-cancel-left}
 use lib.ListN.{length, take, drop}
 use borrow.Author.Tests.{le-ltb, lt-ltb, le-leb, lt-leb}
-use Rattle.armv4t.specs.Instr.{sizeOf}
 use Rattle.records.specs.Trailer.{blocksBack, blockCount, instrsBack, instrCount}
 use Rattle.instr_records.specs.Decode.{timedAt}
+use Rattle.records.specs.BlockRecord.{lengthOf}
 use Rattle.block_file.specs.declared.read.BlockRecord.{BlockRecord}
 use Rattle.block_file.specs.declared.read.FoundBlock.{FoundBlock}
 use Rattle.block_file.specs.declared.read.FoundInstr.{FoundInstr}
@@ -45,7 +45,7 @@ module _ (f : List ℕ) (i start : ℕ) where
   instr-there addr thumb b e h = rw (lt-ltb _ _ b, ← e, le-leb _ _ h)
 
 -- the code bytes of a record, whose length the code computed
-module _ (f : List ℕ) (b : BlockRecord) (n : ℕ) (long : n ≡ b .count * sizeOf (b .thumb)) where
+module _ (f : List ℕ) (b : BlockRecord) (n : ℕ) (long : n ≡ lengthOf (b .count) (b .thumb)) where
   pub no-code : b .present ≡ false → [] ≡ codeBytes f b
   unfolding codeBytes
   no-code e = rw e

@@ -3,4 +3,5 @@ pub mod Answer
 pub mod Refusal
 pub mod Parse
 pub mod Read
+pub mod Address
 pub mod Examples

@@ -20,6 +20,7 @@ pub record Block : Type 0 where
   pub code : Option (List ℕ)
   pub instrs : List TimedInstr
 
+-- its key
 abbrev pub blockKey : Block → ℕ
 blockKey b = keyPlus (b .addr) (b .thumb)
 
@@ -69,7 +70,7 @@ parsed f (some r) = refused (number r) (place r)
 unfoldable pub parse : List ℕ → Parsed
 parse f = parsed f (firstBroken f (rows f))
 
--- none of the refusals 1 to 7 applies
+-- a file is accepted (document 01): none of 1 to 7 applies
 abbrev pub Accepted : List ℕ → Type 0
 Accepted f = parse f ≡ accepted (blocksOf f)
 

@@ -1,17 +1,16 @@
 -- Single records by number, and code bytes by offset and length, whether or not the file is accepted. A record that the trailer does not count, or
 -- that does not lie inside the file, is Nothing; code bytes that are absent, or do not lie inside it, are the empty list.
-use Prim.Native.Nat.{ℕ, _+_, _*_}
+use Prim.Native.Nat.{ℕ, _+_}
 use mathlib.Core.Path.{_≡_}
 use mathlib.Core.Bool.{Bool, cond, _&&_}
 use mathlib.Core.List.{List, []}
 use lib.ListN.{length}
 use lib.Dec.{leb, ltb}
-use Rattle.armv4t.specs.Instr.{sizeOf}
 use Rattle.block_file.specs.declared.read.BlockRecord.{BlockRecord}
 use Rattle.block_file.specs.declared.read.FoundBlock.{FoundBlock}
 use Rattle.block_file.specs.declared.read.FoundInstr.{FoundInstr}
 use Rattle.records.specs.Trailer.{blockCount, instrCount, blockStart, instrStart}
-use Rattle.records.specs.BlockRecord.{addrAt, countAt, codeOffsetAt, thumbAt, presentAt, countSum}
+use Rattle.records.specs.BlockRecord.{addrAt, countAt, codeOffsetAt, thumbAt, presentAt, lengthOf, countSum}
 use Rattle.instr_records.specs.Decode.{timedAt}
 use Rattle.block_file.specs.Parse.{slice, Accepted}
 
@@ -43,7 +42,7 @@ foundInstr f i addr thumb =
 unfoldable pub codeBytes : List ℕ → BlockRecord → List ℕ
 codeBytes f b =
     cond (b .present)
-    (cond (leb (b .offset + b .count * sizeOf (b .thumb)) (length f)) (slice f (b .offset) (b .count * sizeOf (b .thumb))) [])
+    (cond (leb (b .offset + lengthOf (b .count) (b .thumb)) (length f)) (slice f (b .offset) (lengthOf (b .count) (b .thumb))) [])
     []
 
 -- block i of an accepted file, as a pass over the records has it: its record, and the number of its first instruction

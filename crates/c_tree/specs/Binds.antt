@@ -6,7 +6,7 @@ use mathlib.Core.Bool.{Bool, true, false, _&&_}
 use mathlib.Core.List.{List, [], _∷_}
 use lib.Dec.{leb}
 use Rattle.c_tree.specs.Expr.{Name, operator, Expr, lit, get, par, un, bin, orLine, cast, pick, ror, read}
-use Rattle.c_tree.specs.Stmt.{Plain, registers, local, declare, adds, set, drop, run, write, tick, Test, guard, gate, other, Simple, gap, begin, plain, label, goto, ret, retIf, interp, retInterp, call, switch, Code, end, _⨾_, when, braces}
+use Rattle.c_tree.specs.Stmt.{Plain, registers, local, declare, adds, set, drop, run, write, tick, Test, guard, gate, other, Simple, gap, begin, plain, label, goto, ret, retIf, interp, retInterp, call, switch, Code, end, _⨾_, when, braces, helper, block, group, Top, opening, function, blank, extern, table, count}
 
 -- the level of an expression in the grammar: 14 primary and postfix, 13 unary and cast, 12 to 3 binary, 2 conditional
 unfoldable pub level : Expr → ℕ
@@ -84,3 +84,19 @@ codeBinds l end = true
 codeBinds l (s ⨾ c) = simpleBinds l s && codeBinds l c
 codeBinds l (when o n t b c) = testBinds l n t && codeBinds l b && codeBinds l c
 codeBinds l (braces b c) = codeBinds l b && codeBinds l c
+
+-- of a part of a unit: line ends in expressions are PREAMBLE's only
+abbrev pub topBinds : Top → Bool
+topBinds opening = true
+topBinds (function (helper h) c) = codeBinds true c
+topBinds (function (block k) c) = codeBinds false c
+topBinds (function (group k) c) = codeBinds false c
+topBinds blank = true
+topBinds (extern k) = true
+topBinds (table ks) = true
+topBinds (count n) = true
+
+-- of a unit
+abbrev pub treeBinds : List Top → Bool
+treeBinds [] = true
+treeBinds (t ∷ ts) = topBinds t && treeBinds ts

@@ -108,7 +108,7 @@ lone-text : print (unitText lone)
 unfolding print decimal numeral hexadecimal8 hexadecimal16 fixed
 lone-text = refl
 
--- a group of two, the second in Thumb, with a gated goto, and the tail of the last unit
+-- a group of two, the second in Thumb, with a gated goto, and the end of the last unit
 abbrev pair : List Top
 pair =
     function (group 0x08000100)

@@ -17,7 +17,7 @@ pub data Proc : Type 0 where
 pub data Plain : Type 0 where
   registers : Plain  -- uint32_t* c = (uint32_t*)m: emit_block, emit_group
   local : Var → Plain  -- uint32_t pc: emit_block, emit_group
-  declare : Var → Expr → List (Name × Expr) → Plain  -- uint32_t cn = e, cz = e: inline_body, emit_block. The type is for all
+  declare : Var → Expr → List (Name × Expr) → Plain  -- uint32_t cn = e, cz = e: inline_body, emit_block, PREAMBLE. The names behind the first have its type
   adds : Name → Expr → Expr → Expr → Plain  -- uint32_t r = op_adds(c, e, e, e): inline_body
   set : Place → Set → Expr → Plain  -- c[15] = e: all over
   drop : Var → Plain  -- (void)r: inline_body, emit_block, emit_group
@@ -36,14 +36,14 @@ pub data Owner : Type 0 where
   native : ℕ → Owner
   common : Owner
 
--- a statement without braces, white space, or a mark
+-- a statement that holds no other code, or white space, or a mark that prints nothing
 pub data Simple : Type 0 where
   gap : Bool → ℕ → Simple  -- white space: a line end if true, then so many spaces
   begin : ℕ → ℕ → ℕ → Simple  -- a mark: here starts the text of native records of a block: key, index of the first record, how many
   plain : Owner → Plain → Simple
   label : ℕ → Simple  -- L_08000000_a:; : emit_block
   goto : Owner → ℕ → Simple  -- goto L_08000000_a;: transfer
-  ret : Owner → Expr → Simple  -- return e;: transfer, Bx and pop of emit_block
+  ret : Owner → Expr → Simple  -- return e;: PREAMBLE, transfer, and Bx and pop of PC in emit_block
   retIf : Owner → Test → Expr → Simple  -- if (test) return e;: transfer, emit_shell
   interp : ℕ → ℕ → Simple  -- pc = a->interp_one(m);: emit_shell. Marked with key and index of the record that it carries out
   retInterp : ℕ → ℕ → Simple  -- return a->interp_one(m);: emit_shell, emit_block. Marked likewise

@@ -15,10 +15,10 @@ use Rattle.c_tree.specs.Expr.{Expr}
 use Rattle.c_tree.specs.Stmt.{Plain, Owner, common, Code}
 use Rattle.c_tree.specs.Print.{codeText}
 use Rattle.forms.specs.Forms.{Lines}
-use Rattle.forms.specs.Operands.{regExpr, op2Exprs}
+use Rattle.forms.specs.Operands.{regExpr, op2Exprs, regOf}
 use Rattle.forms.specs.InlineBody.{apart, alu, aluBody, mulBody, opBody}
 use Rattle.lowering.specs.Block.{lines}
-use Rattle.emit_operands.specs.Operands.{regOf, operandOf, isSome}
+use Rattle.emit_operands.specs.Operands.{operandOf, isSome}
 use Rattle.emit_operands.proofs.Operands.{operand-of}
 use Rattle.emit_operands.proofs.Lines.{lines-owner, lines-behind}
 use Rattle.emit_alu.specs.Rows.{rows}

@@ -14,7 +14,8 @@ ghost use Rattle.armv4t.specs.declared.Instr.{Instr};
 ghost use Rattle.armv4t.specs.declared.Op.the-variants.{Alu};
 ghost use Rattle.text.specs.Wrote.{Wrote};
 ghost use Rattle.forms.specs.InlineBody.{alu, opBody};
-ghost use Rattle.emit_operands.specs.Operands.{regOf, operandOf, isSome};
+ghost use Rattle.emit_operands.specs.Operands.{operandOf, isSome};
+ghost use Rattle.forms.specs.Operands.{regOf};
 ghost use Rattle.emit_alu.specs.Rows.{rows};
 
 // Whether data processing is lowered to lines.

@@ -15,7 +15,8 @@ ghost use Rattle.c_tree.specs.Stmt.{f-nz, run};
 ghost use Rattle.c_tree.specs.Preamble.{v32};
 ghost use Rattle.c_tree.specs.Print.{exprText};
 ghost use Rattle.forms.specs.InlineBody.{result, logicalC};
-ghost use Rattle.emit_operands.specs.Operands.{regOf, operandOf};
+ghost use Rattle.emit_operands.specs.Operands.{operandOf};
+ghost use Rattle.forms.specs.Operands.{regOf};
 ghost use Rattle.emit_alu.specs.Rows.{rows};
 
 // The last line of data processing.

@@ -13,7 +13,8 @@ ghost use Rattle.text.specs.Wrote.{Wrote};
 ghost use Rattle.c_tree.specs.Expr.{compl, Expr, un};
 ghost use Rattle.c_tree.specs.Print.{exprText};
 ghost use Rattle.forms.specs.InlineBody.{result, sum};
-ghost use Rattle.emit_operands.specs.Operands.{regOf, operandOf};
+ghost use Rattle.emit_operands.specs.Operands.{operandOf};
+ghost use Rattle.forms.specs.Operands.{regOf};
 ghost use Rattle.emit_alu.specs.Rows.{rows, before, between, behind};
 
 fn put_before(out: &mut [u8], at: usize, s: bool) -> usize

@@ -1,18 +1,16 @@
 -- The body of a block of an accepted file, by its record, and its code by what stands before its records.
 -- Assumes nothing.
-use Prim.Native.Nat.{ℕ, _*_}
+use Prim.Native.Nat.{ℕ}
 use mathlib.Core.Path.{_≡_, refl, sym, ap, _∙_, subst}
-use mathlib.Core.Bool.{Bool, true, false, cond, not, _||_}
+use mathlib.Core.Bool.{Bool, true, false, cond}
 use mathlib.Core.List.{List, [], map}
-use mathlib.Core.Option.{Option, none, some}
+use mathlib.Core.Option.{Option, none, some, Option·map}
 use package.native.Mathlib.Omega.{arith}
-use lib.Dec.{eqb}
 use lib.ListN.{getD}
-use Rattle.armv4t.specs.Instr.{sizeOf}
 use Rattle.block_file.specs.declared.read.BlockRecord.{BlockRecord}
 use Rattle.block_file.specs.declared.read.FoundBlock.{FoundBlock}
 use Rattle.records.specs.Trailer.{blockStart}
-use Rattle.records.specs.BlockRecord.{countSum}
+use Rattle.records.specs.BlockRecord.{lengthOf, countSum}
 use Rattle.block_file.specs.Parse.{blockAt, blocksOf}
 use Rattle.block_file.specs.Read.{recordAt, foundBlock, codeBytes, IsBlock}
 use Rattle.block_file.proofs.Accepted.{Reads, length-of, record-reads}
@@ -24,9 +22,10 @@ use Rattle.text.proofs.Laws.{seq, said}
 use Rattle.c_tree.specs.Stmt.{guard, common, Code, end, _⨾_, when}
 use Rattle.c_tree.specs.Print.{codeText}
 use Rattle.forms.specs.Forms.{Body}
-use Rattle.forms.specs.Block.{regionOf, hashOf, bodyOf}
-use Rattle.lowering.specs.Block.{bodyLength, guarded, nl, sp, rest, defer, underGuard, blockCode}
-use Rattle.lowering.specs.Units.{nobody}
+use Rattle.forms.specs.Block.{bodyOf}
+use Rattle.lowering.specs.Block.{bodyLength, nl, sp, rest, defer, underGuard, blockCode}
+use Rattle.block_file.specs.Address.{outsideRomBios}
+use Rattle.lowering.specs.Units.{defaultBody}
 use Rattle.lowering.specs.Measured.{seenHash, seen}
 use Rattle.emit_flow.proofs.Blocks.{guard-behind}
 use Rattle.members.specs.Prepared.{Ready}
@@ -36,16 +35,16 @@ use Rattle.emit_block.specs.Walk.{IsBody, Stands}
 module _ {f : List ℕ} {i : ℕ} {r : BlockRecord} {first : ℕ} (is : IsBlock f i r first) (hashing : Bool) where
   -- the body of block i, as it is written or measured
   abbrev pub bodyHere : Body
-  bodyHere = seen hashing (getD (map (bodyOf hashMultiplier) (blocksOf f)) i nobody)
+  bodyHere = seen hashing (getD (map (bodyOf hashMultiplier) (blocksOf f)) i defaultBody)
 
   -- its record has its fields
   reads : Reads f (blockAt f (blockStart f i) first) r
   reads = rw (block-record is, is .starts) (record-reads f (blocksOf f) (is .accepted) i (block-inside is))
 
   -- it is made from them
-  body-made : getD (map (bodyOf hashMultiplier) (blocksOf f)) i nobody ≡ bodyOf hashMultiplier (blockAt f (blockStart f i) first)
+  body-made : getD (map (bodyOf hashMultiplier) (blocksOf f)) i defaultBody ≡ bodyOf hashMultiplier (blockAt f (blockStart f i) first)
   body-made =
-      map-at (bodyOf hashMultiplier) (blocksOf f) i (blockAt f 0 0) nobody (omega (arith, block-inside is, length-of f (blocksOf f) (is .accepted)))
+      map-at (bodyOf hashMultiplier) (blocksOf f) i (blockAt f 0 0) defaultBody (omega (arith, block-inside is, length-of f (blocksOf f) (is .accepted)))
       ∙ ap (bodyOf hashMultiplier) (nth-block f i (blockAt f 0 0) (block-inside is) ∙ ap (blockAt f (blockStart f i)) (sym (is .starts)))
 
   made : IsBody f (recordAt f (blockStart f i)) first (seen hashing (bodyOf hashMultiplier (blockAt f (blockStart f i) first)))
@@ -56,7 +55,7 @@ module _ {f : List ℕ} {i : ℕ} {r : BlockRecord} {first : ℕ} (is : IsBlock 
         thumb = refl;
         count = sym (reads .count) ∙ ap (λ (x : BlockRecord). x .count) (block-record is);
         forms = refl;
-        last = refl;
+        closing = refl;
       }
 
   pub is-body : IsBody f r first bodyHere
@@ -64,26 +63,25 @@ module _ {f : List ℕ} {i : ℕ} {r : BlockRecord} {first : ℕ} (is : IsBlock 
       subst (λ (b : Body). IsBody f r first (seen hashing b)) (sym body-made)
       (subst (λ (x : BlockRecord). IsBody f x first (seen hashing (bodyOf hashMultiplier (blockAt f (blockStart f i) first)))) (sym (block-record is)) made)
 
-  hash-law : bodyHere .hash ≡ seenHash hashing (hashOf hashMultiplier (cond (r .present) (some (codeBytes f r)) none))
+  hash-law : bodyHere .hash ≡ seenHash hashing (Option·map (fnv64 hashMultiplier) (cond (r .present) (some (codeBytes f r)) none))
   unfolding bodyOf
   hash-law =
       ap (λ (b : Body). seenHash hashing (b .hash)) body-made
-      ∙ ap (λ (c : Option (List ℕ)). seenHash hashing (hashOf hashMultiplier c)) (reads .code)
+      ∙ ap (λ (c : Option (List ℕ)). seenHash hashing (Option·map (fnv64 hashMultiplier) c)) (reads .code)
 
   -- its hash, if there are code bytes
   pub hash-there : r .present ≡ true → bodyHere .hash ≡ some (cond hashing (fnv64 hashMultiplier (codeBytes f r)) 0)
-  hash-there e = hash-law ∙ ap (λ (p : Bool). seenHash hashing (hashOf hashMultiplier (cond p (some (codeBytes f r)) none))) e
+  hash-there e = hash-law ∙ ap (λ (p : Bool). seenHash hashing (Option·map (fnv64 hashMultiplier) (cond p (some (codeBytes f r)) none))) e
 
   pub hash-absent : r .present ≡ false → bodyHere .hash ≡ none
-  hash-absent e = hash-law ∙ ap (λ (p : Bool). seenHash hashing (hashOf hashMultiplier (cond p (some (codeBytes f r)) none))) e
+  hash-absent e = hash-law ∙ ap (λ (p : Bool). seenHash hashing (Option·map (fnv64 hashMultiplier) (cond p (some (codeBytes f r)) none))) e
 
 -- whether a body has a guard, and its length, by its record
 module _ {f : List ℕ} {r : BlockRecord} {first : ℕ} {b : Body} (body : IsBody f r first b) where
-  pub guarded-by : (g : Bool) → g ≡ not (eqb (regionOf (r .addr)) 8 || eqb (regionOf (r .addr)) 0) → guarded b ≡ g
-  unfolding guarded
-  guarded-by g e = ap (λ (a : ℕ). not (eqb (regionOf a) 8 || eqb (regionOf a) 0)) (body .addr) ∙ sym e
+  pub guarded-by : (g : Bool) → g ≡ outsideRomBios (r .addr) → outsideRomBios (b .addr) ≡ g
+  guarded-by g e = ap outsideRomBios (body .addr) ∙ sym e
 
-  pub length-by : (n : ℕ) → n ≡ r .count * sizeOf (r .thumb) → bodyLength b ≡ n
+  pub length-by : (n : ℕ) → n ≡ lengthOf (r .count) (r .thumb) → bodyLength b ≡ n
   length-by n e = rw (body .count, body .thumb) (sym e)
 
 -- a block of the plan, as the walk has it
@@ -92,22 +90,22 @@ pub block-here : {f work : List ℕ} {m : Member} {ks : List ℕ} {r : BlockReco
     → ((g : List ℕ) (limit : ℕ) → Ready g (m .blocks) limit work → first ≡ countSum g (m .index)) → IsBlock f (m .index) r first
 block-here {f} q s e g starts = record { accepted = s .ready .accepted; found = sym e ∙ g; starts = starts f (s .limit) (s .ready) }
 
-guarded-code : (ks : List ℕ) (b : Body) → guarded b ≡ true → (h : Option ℕ) → b .hash ≡ h → blockCode ks b ≡ underGuard ks b h
+guarded-code : (ks : List ℕ) (b : Body) → outsideRomBios (b .addr) ≡ true → (h : Option ℕ) → b .hash ≡ h → blockCode ks b ≡ underGuard ks b h
 unfolding blockCode
 guarded-code ks b e h s = ap (λ (g : Bool). cond g (underGuard ks b (b .hash)) (rest ks b 0 (b .forms))) e ∙ ap (underGuard ks b) s
 
 module _ {o o₁ : List ℕ} {at p : ℕ} (ks : List ℕ) (b : Body) where
   -- in BIOS and ROM there is nothing before the records
-  pub code-bare : guarded b ≡ false → Wrote o at (codeText (rest ks b 0 (b .forms))) o₁ p → Wrote o at (codeText (blockCode ks b)) o₁ p
+  pub code-bare : outsideRomBios (b .addr) ≡ false → Wrote o at (codeText (rest ks b 0 (b .forms))) o₁ p → Wrote o at (codeText (blockCode ks b)) o₁ p
   unfolding blockCode
   code-bare e w = rw e w
 
   -- without code bytes the interpreter has the block
-  pub code-deferred : guarded b ≡ true → b .hash ≡ none → Wrote o at (codeText (underGuard ks b none)) o₁ p → Wrote o at (codeText (blockCode ks b)) o₁ p
+  pub code-deferred : outsideRomBios (b .addr) ≡ true → b .hash ≡ none → Wrote o at (codeText (underGuard ks b none)) o₁ p → Wrote o at (codeText (blockCode ks b)) o₁ p
   code-deferred e h w = subst (λ (c : Code). Wrote o at (codeText c) o₁ p) (sym (guarded-code ks b e none h)) w
 
   -- the guard, and the records behind it
-  pub code-guarded : {o₂ : List ℕ} {q : ℕ} (n h : ℕ) → guarded b ≡ true → bodyLength b ≡ n → b .hash ≡ some h
+  pub code-guarded : {o₂ : List ℕ} {q : ℕ} (n h : ℕ) → outsideRomBios (b .addr) ≡ true → bodyLength b ≡ n → b .hash ≡ some h
       → Wrote o at (codeText (sp 4 ⨾ when common true (guard (b .addr) n h) (sp 1 ⨾ defer b (sp 1 ⨾ end)) (nl ⨾ end))) o₁ p
       → Wrote o₁ p (codeText (rest ks b 0 (b .forms))) o₂ q
       → Wrote o at (codeText (blockCode ks b)) o₂ q

@@ -16,7 +16,7 @@ use Rattle.instr_records.specs.declared.decode.TimedInstr.{TimedInstr}
 use Rattle.block_file.specs.Parse.{instrsFrom}
 use Rattle.block_exits.proofs.Closing.{instrAt, later, at-first}
 use Rattle.forms.specs.Forms.{Form}
-use Rattle.forms.specs.Block.{emitPair, emitInstr, fusedOr, before, emitInstrs}
+use Rattle.forms.specs.Block.{emitPair, emitInstr, fusedOr, consForm, emitInstrs}
 use Rattle.emit_block.specs.declared.instrs.Next.{Next}
 use Rattle.emit_instr.specs.Steps.{empty}
 use Rattle.emit_block.specs.Walk.{fusedNext, nextOf}
@@ -38,15 +38,15 @@ drop-all f thumb (suc n) k addr = drop-all f thumb n (suc k) (addr + sizeOf thum
 module _ (thumb : Bool) (region cycles : ℕ) (x : TimedInstr) where
   -- an instruction that makes no pair
   pub instrs-alone : (ys : List TimedInstr) → nextOf (x .instr) ys ≡ Next.Alone
-      → emitInstrs thumb region cycles (x ∷ ys) ≡ before (emitInstr thumb region cycles x .0) (emitInstrs thumb region (emitInstr thumb region cycles x .1) ys)
+      → emitInstrs thumb region cycles (x ∷ ys) ≡ consForm (emitInstr thumb region cycles x .0) (emitInstrs thumb region (emitInstr thumb region cycles x .1) ys)
   unfolding emitInstrs
   instrs-alone [] e = refl
   instrs-alone (y ∷ ys) e = by (fuse (x .instr) (y .instr)) e
     where
       by : (o : Fused) → fusedNext o (y .cost) ≡ Next.Alone
-          → fusedOr o (before (emitInstr thumb region cycles x .0) (emitInstrs thumb region (emitInstr thumb region cycles x .1) (y ∷ ys)))
-          (λ target ret. before (Form.native (emitPair (cycles + (x .cost + y .cost)) target ret)) (emitInstrs thumb region 0 ys))
-          ≡ before (emitInstr thumb region cycles x .0) (emitInstrs thumb region (emitInstr thumb region cycles x .1) (y ∷ ys))
+          → fusedOr o (consForm (emitInstr thumb region cycles x .0) (emitInstrs thumb region (emitInstr thumb region cycles x .1) (y ∷ ys)))
+          (λ target ret. consForm (Form.native (emitPair (cycles + (x .cost + y .cost)) target ret)) (emitInstrs thumb region 0 ys))
+          ≡ consForm (emitInstr thumb region cycles x .0) (emitInstrs thumb region (emitInstr thumb region cycles x .1) (y ∷ ys))
       by Fused.Nothing e = refl
       by (Fused.Pair target ret) e = absurd (let z : _≡_ {A = ℕ} 0 1 = cc in omega arith)
 
@@ -59,8 +59,8 @@ module _ (thumb : Bool) (region cycles : ℕ) (x : TimedInstr) where
     where
       by : (o : Fused) → fusedNext o (y .cost) ≡ Next.Pair target ret cost
           → (fs : List Form)
-          × (fusedOr o (before (emitInstr thumb region cycles x .0) (emitInstrs thumb region (emitInstr thumb region cycles x .1) (y ∷ ys)))
-          (λ target ret. before (Form.native (emitPair (cycles + (x .cost + y .cost)) target ret)) (emitInstrs thumb region 0 ys)) .0
+          × (fusedOr o (consForm (emitInstr thumb region cycles x .0) (emitInstrs thumb region (emitInstr thumb region cycles x .1) (y ∷ ys)))
+          (λ target ret. consForm (Form.native (emitPair (cycles + (x .cost + y .cost)) target ret)) (emitInstrs thumb region 0 ys)) .0
           ≡ Form.native (emitPair (cycles + (x .cost + cost)) target ret) ∷ fs)
       by Fused.Nothing e = absurd (let z : _≡_ {A = ℕ} 0 1 = cc in omega arith)
       by (Fused.Pair t r) e = (emitInstrs thumb region 0 ys .0, cc)
@@ -71,8 +71,8 @@ unfolding emitInstrs
 empty-forms thumb region cycles x [] = refl
 empty-forms thumb region cycles x (y ∷ ys) = by (fuse (x .instr) (y .instr))
   where
-    by : (o : Fused) → empty (fusedOr o (before (emitInstr thumb region cycles x .0) (emitInstrs thumb region (emitInstr thumb region cycles x .1) (y ∷ ys)))
-        (λ target ret. before (Form.native (emitPair (cycles + (x .cost + y .cost)) target ret)) (emitInstrs thumb region 0 ys)) .0) ≡ false
+    by : (o : Fused) → empty (fusedOr o (consForm (emitInstr thumb region cycles x .0) (emitInstrs thumb region (emitInstr thumb region cycles x .1) (y ∷ ys)))
+        (λ target ret. consForm (Form.native (emitPair (cycles + (x .cost + y .cost)) target ret)) (emitInstrs thumb region 0 ys)) .0) ≡ false
     by Fused.Nothing = refl
     by (Fused.Pair t r) = refl
 

@@ -1,15 +1,14 @@
 -- Whether a transfer is a goto, by the group of its block.
 -- Assumes nothing.
 use Prim.Native.Nat.{ℕ, _≤_}
-use mathlib.Core.Path.{_≡_, refl, sym, ap, _∙_}
+use mathlib.Core.Path.{_≡_, sym, ap, _∙_}
 use mathlib.Core.Bool.{Bool, true, false}
 use mathlib.Core.List.{List}
 use lib.ListN.{length}
 use Rattle.block_file.specs.Parse.{blocksOf}
-use Rattle.members.specs.Members.{membersOf, keysOf, among}
+use Rattle.members.specs.Members.{membersOf, keysOf}
+use Rattle.block_file.specs.Address.{among}
 use Rattle.members.specs.Prepared.{Ready}
-use Rattle.members.proofs.Among.{among-only}
-use Rattle.lowering.specs.Block.{has}
 use Rattle.emit_block.specs.declared.member.Member.{Member}
 use Rattle.emit_block.specs.Walk.{Stands}
 
@@ -17,14 +16,13 @@ module _ {f work : List ℕ} {m : Member} {ks : List ℕ} (s : Stands f work m k
   -- a block with others in its group
   pub inside-group : (r : Bool) → m .several ≡ true
       → ((limit : ℕ) → Ready f (m .blocks) limit work → 2 ≤ length (membersOf limit (blocksOf f) (m .group)) → r ≡ among key (keysOf (blocksOf f) (membersOf limit (blocksOf f) (m .group))))
-      → has key ks ≡ r
+      → among key ks ≡ r
   inside-group r e found =
       let all : List ℕ = keysOf (blocksOf f) (membersOf (s .limit) (blocksOf f) (m .group)) in
       let same : ks ≡ all = rw e at (s .keys) in
-      ap (has key) same
-      ∙ among-only has (λ k. refl) (λ k j js. refl) key all
+      ap (among key) same
       ∙ sym (found (s .limit) (s .ready) (s .several e))
 
   -- a lone block
-  pub inside-lone : m .several ≡ false → has key ks ≡ false
-  inside-lone e = ap (has key) (rw e at (s .keys))
+  pub inside-lone : m .several ≡ false → among key ks ≡ false
+  inside-lone e = ap (among key) (rw e at (s .keys))

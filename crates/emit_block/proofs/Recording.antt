@@ -12,7 +12,8 @@ use Rattle.instr_records.specs.declared.decode.TimedInstr.{TimedInstr}
 use Rattle.block_file.specs.declared.read.BlockRecord.{BlockRecord}
 use Rattle.c_tree.specs.Stmt.{end}
 use Rattle.forms.specs.Forms.{Form, native, shell, Body}
-use Rattle.forms.specs.Block.{regionOf, emitPair, emitInstr, before, emitInstrs}
+use Rattle.forms.specs.Block.{emitPair, emitInstr, consForm, emitInstrs}
+use Rattle.block_file.specs.Address.{region}
 use Rattle.forms.proofs.Cycles.{own, instr-cycles}
 use Rattle.lowering.specs.Block.{rest}
 use Rattle.emit_block.specs.declared.instrs.Next.{Next}
@@ -38,24 +39,24 @@ module _ (f : List ℕ) (r : BlockRecord) (first : ℕ) (ks : List ℕ) (b : Bod
     (here : drop j (instrsOf f r first) ≡ x ∷ drop (suc j) (instrsOf f r first)) where
   -- an instruction that makes no pair
   pub alone-recorded : nextOf (x .instr) (drop (suc j) (instrsOf f r first)) ≡ Next.Alone → x .cost ≤ 65535
-      → s .cycles ≡ emitInstr (r .thumb) (regionOf (r .addr)) cycles x .1
-      → Onward out at (rest ks b j (emitInstr (r .thumb) (regionOf (r .addr)) cycles x .0 ∷ formsFrom f r first (suc j) (s .cycles) .0))
+      → s .cycles ≡ emitInstr (r .thumb) (region (r .addr)) cycles x .1
+      → Onward out at (rest ks b j (emitInstr (r .thumb) (region (r .addr)) cycles x .0 ∷ formsFrom f r first (suc j) (s .cycles) .0))
       (cond (s .done) end (rest ks b (j + 1) (formsFrom f r first (suc j) (s .cycles) .0))) out′ (s .at)
       → Recorded f r first ks b j cycles out at out′ s
   alone-recorded alone small pending onward =
-      let form : Form = emitInstr (r .thumb) (regionOf (r .addr)) cycles x .0 in
+      let form : Form = emitInstr (r .thumb) (region (r .addr)) cycles x .0 in
       let ys : List TimedInstr = drop (suc j) (instrsOf f r first) in
-      let all : formsFrom f r first j cycles ≡ before form (formsFrom f r first (suc j) (s .cycles)) =
-      ap (emitInstrs (r .thumb) (regionOf (r .addr)) cycles) here
-      ∙ instrs-alone (r .thumb) (regionOf (r .addr)) cycles x ys alone
-      ∙ ap (λ (n : ℕ). before form (emitInstrs (r .thumb) (regionOf (r .addr)) n ys)) (sym pending) in
+      let all : formsFrom f r first j cycles ≡ consForm form (formsFrom f r first (suc j) (s .cycles)) =
+      ap (emitInstrs (r .thumb) (region (r .addr)) cycles) here
+      ∙ instrs-alone (r .thumb) (region (r .addr)) cycles x ys alone
+      ∙ ap (λ (n : ℕ). consForm form (emitInstrs (r .thumb) (region (r .addr)) n ys)) (sym pending) in
       record {
         onward =
             subst (λ (p : List Form × ℕ). Onward out at (rest ks b j (p .0)) (cond (s .done) end (rest ks b (suc j) (formsFrom f r first (suc j) (s .cycles) .0))) out′ (s .at))
             (sym all)
             (subst (λ (n : ℕ). Onward out at (rest ks b j (form ∷ formsFrom f r first (suc j) (s .cycles) .0)) (cond (s .done) end (rest ks b n (formsFrom f r first (suc j) (s .cycles) .0))) out′ (s .at)) (add-one j) onward);
         same = λ _. ap (λ (p : List Form × ℕ). p .1) all;
-        few = omega (arith, pending-most (r .thumb) (regionOf (r .addr)) cycles x, pending, small);
+        few = omega (arith, pending-most (r .thumb) (region (r .addr)) cycles x, pending, small);
       }
 
   -- a fused pair: nothing stands behind it
@@ -63,9 +64,9 @@ module _ (f : List ℕ) (r : BlockRecord) (first : ℕ) (ks : List ℕ) (b : Bod
       → ((fs : List Form) → Onward out at (rest ks b j (Form.native (emitPair (cycles + (x .cost + cost)) target ret) ∷ fs)) end out′ (s .at))
       → Recorded f r first ks b j cycles out at out′ s
   pair-recorded target ret cost next done none onward =
-      let forms = instrs-pair (r .thumb) (regionOf (r .addr)) cycles x (drop (suc j) (instrsOf f r first)) target ret cost next in
+      let forms = instrs-pair (r .thumb) (region (r .addr)) cycles x (drop (suc j) (instrsOf f r first)) target ret cost next in
       let all : formsFrom f r first j cycles .0 ≡ Form.native (emitPair (cycles + (x .cost + cost)) target ret) ∷ forms .0 =
-      ap (λ (ys : List TimedInstr). emitInstrs (r .thumb) (regionOf (r .addr)) cycles ys .0) here ∙ forms .1 in
+      ap (λ (ys : List TimedInstr). emitInstrs (r .thumb) (region (r .addr)) cycles ys .0) here ∙ forms .1 in
       record {
         onward =
             subst (λ (d : Bool). Onward out at (rest ks b j (formsFrom f r first j cycles .0)) (cond d end (rest ks b (suc j) (formsFrom f r first (suc j) (s .cycles) .0))) out′ (s .at)) (sym done)

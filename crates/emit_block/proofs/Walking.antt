@@ -8,6 +8,7 @@ use package.native.Mathlib.Numerals.{add-one}
 use package.native.Mathlib.Omega.{arith}
 use lib.ListN.{length, drop}
 use Rattle.armv4t.specs.Instr.{sizeOf}
+use Rattle.records.specs.BlockRecord.{lengthOf, keyPlus}
 use Rattle.block_file.specs.declared.read.BlockRecord.{BlockRecord}
 use Rattle.block_file.specs.Parse.{instrsFrom}
 use Rattle.block_file.specs.Read.{IsBlock}
@@ -19,7 +20,8 @@ use Rattle.c_tree.specs.Stmt.{end}
 use Rattle.c_tree.specs.Print.{codeText}
 use Rattle.forms.specs.Forms.{Form, Body}
 use Rattle.forms.specs.InlineBody.{apart}
-use Rattle.forms.specs.Block.{regionOf, flushTicks, setWord, emitInstrs, closing}
+use Rattle.forms.specs.Block.{flushTicks, setWord, emitInstrs, closingLines}
+use Rattle.block_file.specs.Address.{region}
 use Rattle.lowering.specs.Block.{bodyEnd, rest}
 use Rattle.emit_instr.specs.declared.step.Step.{Step}
 use Rattle.emit_instr.specs.Onward.{Onward}
@@ -60,7 +62,7 @@ module _ {f : List ℕ} {r : BlockRecord} {first : ℕ} {ks : List ℕ} {b : Bod
     nothing-left : j ≡ r .count → formsFrom f r first j cycles ≡ ([], cycles)
     unfolding emitInstrs
     nothing-left e =
-        ap (emitInstrs (r .thumb) (regionOf (r .addr)) cycles)
+        ap (emitInstrs (r .thumb) (region (r .addr)) cycles)
         (ap (λ (n : ℕ). drop n (instrsOf f r first)) e ∙ drop-all f (r .thumb) (r .count) first (r .addr))
 
     pub walked-cycles : j ≡ r .count → cycles ≡ formsFrom f r first 0 0 .1
@@ -75,24 +77,24 @@ module _ {f : List ℕ} {r : BlockRecord} {first : ℕ} {ks : List ℕ} {b : Bod
 module _ {f : List ℕ} {i : ℕ} {r : BlockRecord} {first : ℕ} {b : Body} (is : IsBlock f i r first) (body : IsBody f r first b) where
   -- the lines before it set PC to the address behind the block
   pub end-lines : (cycles next : ℕ) → cycles ≡ formsFrom f r first 0 0 .1 → next ≡ (r .addr + sizeOf (r .thumb) * r .count) % 2 ^ 32
-      → b .last ≡ flushTicks cycles ++ apart (setWord 15 next ∷ [])
+      → b .closing ≡ flushTicks cycles ++ apart (setWord 15 next ∷ [])
   end-lines cycles next pending e =
       let some : r .count ≡ suc (r .count - 1) = omega (arith, some-instr is) in
-      body .last
-      ∙ ap (λ (n : ℕ). closing n (instrsOf f r first)) (sym pending)
-      ∙ ap (λ (n : ℕ). closing cycles (instrsFrom f n first (r .addr) (r .thumb))) some
+      body .closing
+      ∙ ap (λ (n : ℕ). closingLines n (instrsOf f r first)) (sym pending)
+      ∙ ap (λ (n : ℕ). closingLines cycles (instrsFrom f n first (r .addr) (r .thumb))) some
       ∙ closing-address f (r .thumb) (r .count - 1) first (r .addr) cycles
       ∙ ap (λ (n : ℕ). flushTicks cycles ++ apart (setWord 15 ((r .addr + sizeOf (r .thumb) * n) % 2 ^ 32) ∷ [])) (sym some)
       ∙ ap (λ (n : ℕ). flushTicks cycles ++ apart (setWord 15 n ∷ [])) (sym e)
 
-  end-even : (thumb : Bool) (addr count : ℕ) → keyOf addr thumb ≡ addr + cond thumb 1 0
-      → (addr + count * sizeOf thumb) % 2 ^ 32 + cond thumb 1 0 ≡ keyOf ((addr + sizeOf thumb * count) % 2 ^ 32) thumb
+  end-even : (thumb : Bool) (addr count : ℕ) → keyOf addr thumb ≡ keyPlus addr thumb
+      → keyPlus ((addr + lengthOf count thumb) % 2 ^ 32) thumb ≡ keyOf ((addr + sizeOf thumb * count) % 2 ^ 32) thumb
   end-even true addr count e = omega (arith, e)
   end-even false addr count e = omega (arith, e)
 
   -- its target is the key of that address
   pub end-key : (next key : ℕ) → next ≡ (r .addr + sizeOf (r .thumb) * r .count) % 2 ^ 32 → key ≡ keyOf next (r .thumb)
-      → bodyEnd b + cond (b .thumb) 1 0 ≡ key
+      → keyPlus (bodyEnd b) (b .thumb) ≡ key
   end-key next key e k =
       rw (body .addr, body .thumb, body .count)
       (end-even (r .thumb) (r .addr) (r .count) (key-plus is) ∙ ap (λ (n : ℕ). keyOf n (r .thumb)) (sym e) ∙ sym k)

@@ -15,7 +15,8 @@ use Rattle.members.specs.Members.{membersOf, keysOf}
 use Rattle.members.specs.Prepared.{Ready}
 use Rattle.c_tree.specs.Stmt.{end}
 use Rattle.forms.specs.Forms.{Form, Body}
-use Rattle.forms.specs.Block.{regionOf, emitInstrs, closing}
+use Rattle.forms.specs.Block.{emitInstrs, closingLines}
+use Rattle.block_file.specs.Address.{region}
 use Rattle.lowering.specs.Block.{rest}
 use Rattle.emit_block.specs.declared.member.Member.{Member}
 use Rattle.emit_block.specs.declared.instrs.Next.{Next}
@@ -28,7 +29,7 @@ instrsOf f r first = instrsFrom f (r .count) first (r .addr) (r .thumb)
 
 -- the forms of its instructions from index j on with cycles pending before them, and the cycles pending behind them
 abbrev pub formsFrom : List ℕ → BlockRecord → ℕ → ℕ → ℕ → List Form × ℕ
-formsFrom f r first j cycles = emitInstrs (r .thumb) (regionOf (r .addr)) cycles (drop j (instrsOf f r first))
+formsFrom f r first j cycles = emitInstrs (r .thumb) (region (r .addr)) cycles (drop j (instrsOf f r first))
 
 -- a body is that of a block, whatever its hash: what is measured has 0 in its place
 pub record IsBody (f : List ℕ) (r : BlockRecord) (first : ℕ) (b : Body) : Type 0 where
@@ -36,7 +37,7 @@ pub record IsBody (f : List ℕ) (r : BlockRecord) (first : ℕ) (b : Body) : Ty
   pub thumb : b .thumb ≡ r .thumb
   pub count : b .count ≡ r .count
   pub forms : b .forms ≡ formsFrom f r first 0 0 .0
-  pub last : b .last ≡ closing (formsFrom f r first 0 0 .1) (instrsOf f r first)
+  pub closing : b .closing ≡ closingLines (formsFrom f r first 0 0 .1) (instrsOf f r first)
 
 -- where a block stands in the plan that the work numbers have: ks are the keys that a transfer goes to by a goto, those of its group if it has several blocks
 pub record Stands (f work : List ℕ) (m : Member) (ks : List ℕ) : Type 0 where

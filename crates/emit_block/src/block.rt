@@ -10,21 +10,21 @@ use emit_flow::emit_guard;
 use fnv::hash;
 use members::first_of;
 ghost use mathlib.Core.Path.{_≡_};
-ghost use mathlib.Core.Bool.{cond, not, _||_};
+ghost use mathlib.Core.Bool.{cond};
 ghost use mathlib.Core.List.{List, map};
 ghost use Prim.Native.Nat.{ℕ, _*_, _≤_, _<_};
-ghost use lib.Dec.{eqb};
 ghost use lib.ListN.{length, getD};
-ghost use Rattle.armv4t.specs.Instr.{sizeOf};
 ghost use Rattle.block_file.specs.Read.{codeBytes};
 ghost use Rattle.records.specs.Trailer.{blockCount};
+ghost use Rattle.records.specs.BlockRecord.{lengthOf};
 ghost use Rattle.fnv.specs.Fnv.{hashMultiplier, fnv64};
 ghost use Rattle.block_file.specs.Parse.{blocksOf};
 ghost use Rattle.text.specs.Wrote.{Wrote};
 ghost use Rattle.c_tree.specs.Print.{codeText};
-ghost use Rattle.forms.specs.Block.{regionOf, bodyOf};
+ghost use Rattle.forms.specs.Block.{bodyOf};
+ghost use Rattle.block_file.specs.Address.{outsideRomBios};
 ghost use Rattle.lowering.specs.Block.{blockCode};
-ghost use Rattle.lowering.specs.Units.{nobody};
+ghost use Rattle.lowering.specs.Units.{defaultBody};
 ghost use Rattle.lowering.specs.Measured.{seen};
 ghost use Rattle.emit_block.specs.Walk.{Stands};
 
@@ -33,7 +33,7 @@ const MULTIPLIER: u64 = 4294967731;
 
 // Whether a block's code has a guard before it: its code bytes can change, outside BIOS and ROM.
 fn is_guarded(addr: u32) -> bool
-    ensures { λ r. ⌜ r ≡ not (eqb (regionOf addr) 8 || eqb (regionOf addr) 0) ⌝ }
+    ensures { λ r. ⌜ r ≡ outsideRomBios addr ⌝ }
 {
     let region = addr / 16777216 % 16;
     if region == 8 {
@@ -44,7 +44,7 @@ fn is_guarded(addr: u32) -> bool
 
 // The length of a block in bytes.
 fn length_of(block: BlockRecord) -> u64
-    ensures { λ r. ⌜ r ≡ block .count * sizeOf (block .thumb) ⌝ }
+    ensures { λ r. ⌜ r ≡ lengthOf (block .count) (block .thumb) ⌝ }
 {
     let n = block.count as u64;
     if block.thumb { n * 2 } else { n * 4 }
@@ -72,7 +72,7 @@ pub fn emit_block(
     hashing: bool,
 ) -> usize
     requires { ⌜ (4 * m .blocks ≤ length (now work)) × (m .blocks ≤ 65536) × (m .blocks ≡ blockCount (now file)) × (m .index < m .blocks) ⌝ }
-    ensures { λ r. ⌜ ((ks : List ℕ) → Stands (now (file .entry)) (now (work .entry)) m ks → Wrote (now (out .entry)) at (codeText (blockCode ks (seen hashing (getD (map (bodyOf hashMultiplier) (blocksOf (now (file .entry)))) (m .index) nobody)))) (now (out .exit)) r) ⌝ }
+    ensures { λ r. ⌜ ((ks : List ℕ) → Stands (now (file .entry)) (now (work .entry)) m ks → Wrote (now (out .entry)) at (codeText (blockCode ks (seen hashing (getD (map (bodyOf hashMultiplier) (blocksOf (now (file .entry)))) (m .index) defaultBody)))) (now (out .exit)) r) ⌝ }
 {
     let FoundBlock::At(block) = block_at(file, m.index) else {
         return at;

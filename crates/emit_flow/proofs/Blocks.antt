@@ -11,7 +11,8 @@ use Rattle.c_tree.specs.Print.{exprText, plainText, codeText}
 use Rattle.forms.specs.Forms.{Lines, Native, straight, holds, branch, pop, Form, shell, records, Body}
 use Rattle.forms.specs.InlineBody.{apart}
 use Rattle.forms.specs.Block.{flushTicks, setWord}
-use Rattle.lowering.specs.Block.{bodyKey, bodyLength, bodyEnd, nl, sp, line, lines, transfer, closing, conditional, leave, nativeText, emitShell, rest, defer, underGuard}
+use Rattle.records.specs.BlockRecord.{keyPlus}
+use Rattle.lowering.specs.Block.{bodyKey, bodyLength, bodyEnd, nl, sp, line, lines, transfer, closing, conditional, leave, nativeText, shellCode, rest, defer, underGuard}
 use Rattle.emit_flow.specs.Pieces.{straightOpen, straightEnd, beforeCondition, behindCondition, behindConditional, holdsOpen, holdsEnd}
 use Rattle.emit_flow.proofs.Pieces.{lines-behind}
 
@@ -52,9 +53,9 @@ pop-text ks a o t p l q e c k =
 
 -- a shell, and the code behind it
 pub shell-behind : (b : Body) (i key : ℕ) (t : Lines) (c : Code) (k : List ℕ)
-    → flat (codeText (lines common 4 t (emitShell b i key c))) k ≡ flat (codeText (lines common 4 t (emitShell b i key end)) ▸ codeText c) k
+    → flat (codeText (lines common 4 t (shellCode b i key c))) k ≡ flat (codeText (lines common 4 t (shellCode b i key end)) ▸ codeText c) k
 shell-behind b i key t c k =
-    lines-behind common common 4 t (emitShell b i key c) k ∙ sym (lines-behind common common 4 t (emitShell b i key end) (flat (codeText c) k))
+    lines-behind common common 4 t (shellCode b i key c) k ∙ sym (lines-behind common common 4 t (shellCode b i key end) (flat (codeText c) k))
 
 -- the guard, and the code behind it
 pub guard-behind : (ks : List ℕ) (b : Body) (h : ℕ) (k : List ℕ)
@@ -73,7 +74,7 @@ rest-native ks b i r rs k = refl
 -- from a shell on that has others behind it
 pub rest-shell : (ks : List ℕ) (b : Body) (i : ℕ) (h : Bool) (t : Lines) (key : ℕ) (r : Form) (rs : List Form) (k : List ℕ)
     → flat (codeText (rest ks b i (shell h t key ∷ r ∷ rs))) k
-    ≡ flat (codeText (lines common 4 t (emitShell b i key end)) ▸ codeText (rest ks b (i + 1) (r ∷ rs))) k
+    ≡ flat (codeText (lines common 4 t (shellCode b i key end)) ▸ codeText (rest ks b (i + 1) (r ∷ rs))) k
 unfolding rest
 rest-shell ks b i h t key r rs k = shell-behind b i key t (rest ks b (i + 1) (r ∷ rs)) k
 
@@ -87,10 +88,10 @@ rest-last ks b i h t key k =
     ∙ sym (lines-behind common common 4 t (sp 4 ⨾ retInterp (bodyKey b) i ⨾ nl ⨾ end) (flat (codeText (cond h (closing ks b) end)) k))
 
 -- the end of a block, by the cycles pending there and where it goes on
-pub closing-text : (ks : List ℕ) (b : Body) (cycles next key : ℕ) (k : List ℕ) → b .last ≡ flushTicks cycles ++ apart (setWord 15 next ∷ [])
-    → bodyEnd b + cond (b .thumb) 1 0 ≡ key
+pub closing-text : (ks : List ℕ) (b : Body) (cycles next key : ℕ) (k : List ℕ) → b .closing ≡ flushTicks cycles ++ apart (setWord 15 next ∷ [])
+    → keyPlus (bodyEnd b) (b .thumb) ≡ key
     → flat (codeText (closing ks b)) k ≡ flat (codeText (lines common 4 (flushTicks cycles ++ apart (setWord 15 next ∷ [])) (transfer ks (b .addr) common 4 key end))) k
 unfolding closing
 closing-text ks b cycles next key k e f =
-    ap (λ (l : Lines). flat (codeText (lines common 4 l (transfer ks (b .addr) common 4 (bodyEnd b + cond (b .thumb) 1 0) end))) k) e
+    ap (λ (l : Lines). flat (codeText (lines common 4 l (transfer ks (b .addr) common 4 (keyPlus (bodyEnd b) (b .thumb)) end))) k) e
     ∙ ap (λ (n : ℕ). flat (codeText (lines common 4 (flushTicks cycles ++ apart (setWord 15 next ∷ [])) (transfer ks (b .addr) common 4 n end))) k) f

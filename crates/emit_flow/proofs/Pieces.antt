@@ -17,10 +17,11 @@ use Rattle.c_tree.specs.Preamble.{preamble}
 use Rattle.c_tree.proofs.Preamble.{helpersText, preamble-text}
 use Rattle.forms.specs.Forms.{Lines, jump, bx, Body}
 use Rattle.forms.specs.InlineBody.{only, apart}
-use Rattle.forms.specs.Block.{flushTicks, setWord, emitPair}
-use Rattle.lowering.specs.Block.{nl, sp, line, lines, has, chain, transfer, conditional, nativeText, defer, underGuard}
-use Rattle.lowering.specs.Units.{opened}
-use Rattle.emit_flow.specs.Pieces.{branchRegs, beforeCondition, behindCondition, behindConditional}
+use Rattle.forms.specs.Block.{flushTicks, setWord, emitPair, branchRegs}
+use Rattle.lowering.specs.Block.{nl, sp, line, lines, chain, transfer, conditional, nativeText, defer, underGuard}
+use Rattle.block_file.specs.Address.{among}
+use Rattle.lowering.specs.Units.{unitHead}
+use Rattle.emit_flow.specs.Pieces.{beforeCondition, behindCondition, behindConditional}
 
 -- a line, and the code behind it
 pub line-behind : (o p : Owner) (l : List Plain) (c : Code) (k : List ℕ)
@@ -64,21 +65,21 @@ transfer-by true true o p n key c k = refl
 pub transfer-behind : (ks : List ℕ) (a : ℕ) (o p : Owner) (n key : ℕ) (c : Code) (k : List ℕ)
     → flat (codeText (transfer ks a o n key c)) k ≡ flat (codeText (transfer ks a p n key end)) (flat (codeText c) k)
 unfolding transfer
-transfer-behind ks a o p n key c k = transfer-by (has key ks) (leb (clearBit0 key) a) o p n key c k
+transfer-behind ks a o p n key c k = transfer-by (among key ks) (leb (clearBit0 key) a) o p n key c k
 
 -- the three transfers: out of the group, gated, and not gated
-pub returned : (ks : List ℕ) (a : ℕ) (o : Owner) (n key : ℕ) → has key ks ≡ false
+pub returned : (ks : List ℕ) (a : ℕ) (o : Owner) (n key : ℕ) → among key ks ≡ false
     → flat (codeText (sp n ⨾ ret common (lit word key) ⨾ nl ⨾ end)) [] ≡ flat (codeText (transfer ks a o n key end)) []
 unfolding transfer
 returned ks a o n key e = rw e refl
 
-pub gated : (ks : List ℕ) (a : ℕ) (o : Owner) (n key : ℕ) → has key ks ≡ true → leb (clearBit0 key) a ≡ true
+pub gated : (ks : List ℕ) (a : ℕ) (o : Owner) (n key : ℕ) → among key ks ≡ true → leb (clearBit0 key) a ≡ true
     → flat (codeText (sp n ⨾ retIf common gate (lit word key) ⨾ nl ⨾ end) ▸ codeText (chain false common n key end)) []
     ≡ flat (codeText (transfer ks a o n key end)) []
 unfolding transfer chain
 gated ks a o n key e f = rw (e, f) refl
 
-pub ungated : (ks : List ℕ) (a : ℕ) (o : Owner) (n key : ℕ) → has key ks ≡ true → leb (clearBit0 key) a ≡ false
+pub ungated : (ks : List ℕ) (a : ℕ) (o : Owner) (n key : ℕ) → among key ks ≡ true → leb (clearBit0 key) a ≡ false
     → flat (codeText (chain false common n key end)) [] ≡ flat (codeText (transfer ks a o n key end)) []
 unfolding transfer chain
 ungated ks a o n key e f = rw (e, f) refl
@@ -166,5 +167,5 @@ unfolding underGuard
 alone ks b a e = ap (flat (text "    ")) (deferred b a (flat (text "\n") []) e)
 
 -- PREAMBLE and a line end
-pub opened-text : flat (openingText ▸ helpersText ▸ text "\n") [] ≡ flat (unitText opened) []
-opened-text = sym (preamble-text (flat (text "\n") [])) ∙ each-append topText preamble (blank ∷ []) []
+pub head-text : flat (openingText ▸ helpersText ▸ text "\n") [] ≡ flat (unitText unitHead) []
+head-text = sym (preamble-text (flat (text "\n") [])) ∙ each-append topText preamble (blank ∷ []) []

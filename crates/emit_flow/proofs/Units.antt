@@ -11,19 +11,19 @@ use Rattle.c_tree.specs.Print.{keyText, casesText, codeText, rowText, topText, 
 use Rattle.c_tree.proofs.Laws.{flat-append}
 use Rattle.forms.specs.Forms.{Body}
 use Rattle.lowering.specs.Block.{bodyKey, nl, sp, blockCode}
-use Rattle.lowering.specs.Units.{declared, emitBlock, labelled, groupCode, forwarders, emitGroup, tail}
+use Rattle.lowering.specs.Units.{withLocals, emitBlock, labelled, groupCode, forwarders, emitGroup, lastUnitEnd}
 use Rattle.emit_flow.specs.Pieces.{blockOpen, functionEnd, groupOpen, switchEnd, tableOpen, tableEnd}
 
 -- a lone block's function
 pub block-text : (b : Body) (k : List ℕ) → flat (unitText (emitBlock b)) k ≡ flat (blockOpen (bodyKey b) ▸ codeText (blockCode [] b) ▸ functionEnd) k
-unfolding emitBlock declared
+unfolding emitBlock withLocals
 block-text b k = refl
 
 -- the functions of a group
 pub group-text : (b c : Body) (bs : List Body) (k : List ℕ)
     → flat (unitText (emitGroup (b ∷ c ∷ bs))) k
     ≡ flat (groupOpen (bodyKey b) ▸ casesText 0 (map bodyKey (b ∷ c ∷ bs)) ▸ switchEnd ▸ codeText (labelled (map bodyKey (b ∷ c ∷ bs)) (b ∷ c ∷ bs)) ▸ functionEnd ▸ unitText (forwarders (bodyKey b) 0 (b ∷ c ∷ bs))) k
-unfolding emitGroup groupCode declared
+unfolding emitGroup groupCode withLocals
 group-text b c bs k = refl
 
 -- cases, and those behind them
@@ -75,11 +75,11 @@ each-map f g [] k = refl
 each-map f g (x ∷ xs) k = ap (flat (f (g x))) (each-map f g xs k)
 
 -- the end of the last unit
-pub tail-text : (bs : List Body) (k : List ℕ)
-    → flat (unitText (tail bs)) k
+pub end-text : (bs : List Body) (k : List ℕ)
+    → flat (unitText (lastUnitEnd bs)) k
     ≡ flat (each (λ (b : Body). topText (extern (bodyKey b))) bs ▸ tableOpen ▸ each (λ (b : Body). rowText (bodyKey b)) bs ▸ tableEnd ▸ topText (count (length bs))) k
-unfolding tail
-tail-text bs k =
+unfolding lastUnitEnd
+end-text bs k =
     let last : List Top = table (map bodyKey bs) ∷ count (length bs) ∷ [] in
     sym (each-append topText (map (λ (b : Body). extern (bodyKey b)) bs) last k)
     ∙ each-map topText (λ (b : Body). extern (bodyKey b)) bs (flat (unitText last) k)

@@ -1,28 +1,16 @@
 -- Parts of a tree's text that no tree prints alone: what stands before and behind what another function writes.
 use Prim.Native.Nat.{ℕ}
 use mathlib.Core.Bool.{Bool, true, cond}
-use mathlib.Core.List.{List, [], _∷_, _++_}
-use lib.Dec.{eqb}
+use mathlib.Core.List.{[]}
 use Rattle.text.specs.Doc.{Doc, text, _▸_}
-use Rattle.c_tree.specs.Expr.{word, reg, Expr, lit, get}
-use Rattle.c_tree.specs.Stmt.{Plain, common, gap, end, _⨾_, block, group, blank}
+use Rattle.c_tree.specs.Stmt.{common, gap, end, _⨾_, block, group, blank}
 use Rattle.c_tree.specs.Print.{codeText, headText, topText}
-use Rattle.forms.specs.InlineBody.{only}
-use Rattle.forms.specs.Block.{setWord}
 use Rattle.lowering.specs.Block.{nl, sp, line, flags}
-use Rattle.lowering.specs.Units.{declared}
+use Rattle.lowering.specs.Units.{withLocals}
 
 -- the indent of a transfer: 8 where it is conditional
 abbrev pub indent : Bool → ℕ
 indent deep = cond deep 8 4
-
--- the registers that a branch sets
-abbrev pub branchRegs : Bool → ℕ → ℕ → List Plain
-branchRegs link ret target = only link (setWord 14 ret) ++ (setWord 15 target ∷ [])
-
--- a register, or the value of PC in its place
-abbrev pub regOr : ℕ → ℕ → Expr
-regOr pc r = cond (eqb r 15) (lit word pc) (get (reg r))
 
 -- the braces around lines that have no condition
 abbrev pub straightOpen : Doc
@@ -52,7 +40,7 @@ holdsEnd = codeText (sp 6 ⨾ end) ▸ behindConditional
 
 -- the head of a block's function, with c and pc
 abbrev pub blockOpen : ℕ → Doc
-blockOpen key = headText (block key) ▸ text " {" ▸ codeText (declared end)
+blockOpen key = headText (block key) ▸ text " {" ▸ codeText (withLocals end)
 
 -- the end of a function of a block or a group
 abbrev pub functionEnd : Doc
@@ -60,7 +48,7 @@ functionEnd = text "}\n" ▸ topText blank
 
 -- the head of a group's function up to its first case
 abbrev pub groupOpen : ℕ → Doc
-groupOpen key = headText (group key) ▸ text " {" ▸ codeText (declared (sp 4 ⨾ end)) ▸ text "switch (entry) {\n"
+groupOpen key = headText (group key) ▸ text " {" ▸ codeText (withLocals (sp 4 ⨾ end)) ▸ text "switch (entry) {\n"
 
 -- the end of the switch
 abbrev pub switchEnd : Doc

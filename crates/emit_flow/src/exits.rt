@@ -15,9 +15,11 @@ ghost use Rattle.c_tree.specs.Stmt.{Owner, common, Code, end, _⨾_};
 ghost use Rattle.c_tree.specs.Print.{exprText, codeText};
 ghost use Rattle.forms.specs.Forms.{jump, bx};
 ghost use Rattle.forms.specs.InlineBody.{only, apart};
-ghost use Rattle.forms.specs.Block.{flushTicks, setWord, emitPair};
-ghost use Rattle.lowering.specs.Block.{nl, sp, line, lines, has, transfer as Block·transfer, nativeText};
-ghost use Rattle.emit_flow.specs.Pieces.{branchRegs, regOr, behindCondition, behindConditional};
+ghost use Rattle.forms.specs.Block.{flushTicks, setWord, emitPair, branchRegs};
+ghost use Rattle.lowering.specs.Block.{nl, sp, line, lines, transfer as Block·transfer, nativeText};
+ghost use Rattle.block_file.specs.Address.{among};
+ghost use Rattle.emit_flow.specs.Pieces.{behindCondition, behindConditional};
+ghost use Rattle.forms.specs.Operands.{regOf};
 
 // The registers of a branch, behind its condition.
 fn put_taken(out: &mut [u8], at: usize, link: bool, ret: u32, target: u32) -> usize
@@ -44,7 +46,7 @@ pub fn branch_taken(
     src: u32,
     key: u32,
 ) -> usize
-    ensures { λ r. ⌜ ((ks : List ℕ) (o : Owner) → has key ks ≡ inside → Wrote (now (out .entry)) at (behindCondition ▸ codeText (sp 1 ⨾ line o (branchRegs link ret target) (nl ⨾ Block·transfer ks src o 8 key (sp 6 ⨾ end))) ▸ behindConditional) (now (out .exit)) r) ⌝ }
+    ensures { λ r. ⌜ ((ks : List ℕ) (o : Owner) → among key ks ≡ inside → Wrote (now (out .entry)) at (behindCondition ▸ codeText (sp 1 ⨾ line o (branchRegs link ret target) (nl ⨾ Block·transfer ks src o 8 key (sp 6 ⨾ end))) ▸ behindConditional) (now (out .exit)) r) ⌝ }
 {
     let p = put_taken(out, at, link, ret, target);
     let q = transfer(out, p, inside, src, key, true);
@@ -70,7 +72,7 @@ pub fn branch_always(
     src: u32,
     key: u32,
 ) -> usize
-    ensures { λ r. ⌜ ((ks : List ℕ) (o : Owner) (c : Code) → has key ks ≡ inside → Wrote (now (out .entry)) at (codeText (nativeText ks src o (jump (flushTicks cycles ++ apart (branchRegs link ret target)) key) c)) (now (out .exit)) r) ⌝ }
+    ensures { λ r. ⌜ ((ks : List ℕ) (o : Owner) (c : Code) → among key ks ≡ inside → Wrote (now (out .entry)) at (codeText (nativeText ks src o (jump (flushTicks cycles ++ apart (branchRegs link ret target)) key) c)) (now (out .exit)) r) ⌝ }
 {
     let p = flush_ticks(out, at, cycles);
     let q = set_link(out, p, link, ret);
@@ -88,7 +90,7 @@ pub fn emit_pair(
     inside: bool,
     src: u32,
 ) -> usize
-    ensures { λ r. ⌜ ((ks : List ℕ) (o : Owner) (c : Code) → has (setBit0 target) ks ≡ inside → Wrote (now (out .entry)) at (codeText (nativeText ks src o (emitPair cycles target ret) c)) (now (out .exit)) r) ⌝ }
+    ensures { λ r. ⌜ ((ks : List ℕ) (o : Owner) (c : Code) → among (setBit0 target) ks ≡ inside → Wrote (now (out .entry)) at (codeText (nativeText ks src o (emitPair cycles target ret) c)) (now (out .exit)) r) ⌝ }
 {
     let p = flush_ticks(out, at, cycles);
     let q = set_lr(out, p, ret);
@@ -98,7 +100,7 @@ pub fn emit_pair(
 
 // A register, or the value of PC in its place.
 pub fn put_reg(out: &mut [u8], at: usize, r: u8, pc: u32) -> usize
-    ensures { λ n. ⌜ Wrote (now (out .entry)) at (exprText (regOr pc r)) (now (out .exit)) n ⌝ }
+    ensures { λ n. ⌜ Wrote (now (out .entry)) at (exprText (regOf pc r)) (now (out .exit)) n ⌝ }
 {
     if r == 15 {
         let p = text::put_then_hex8(out, at, b"0x", pc);
@@ -111,7 +113,7 @@ pub fn put_reg(out: &mut [u8], at: usize, r: u8, pc: u32) -> usize
 
 // A Bx.
 pub fn emit_bx(out: &mut [u8], at: usize, cycles: u64, r: u8, pc: u32) -> usize
-    ensures { λ n. ⌜ ((ks : List ℕ) (a : ℕ) (o : Owner) (c : Code) → Wrote (now (out .entry)) at (codeText (nativeText ks a o (bx (flushTicks cycles) (regOr pc r)) c)) (now (out .exit)) n) ⌝ }
+    ensures { λ n. ⌜ ((ks : List ℕ) (a : ℕ) (o : Owner) (c : Code) → Wrote (now (out .entry)) at (codeText (nativeText ks a o (bx (flushTicks cycles) (regOf pc r)) c)) (now (out .exit)) n) ⌝ }
 {
     let p = flush_ticks(out, at, cycles);
     let q = text::put(out, p, b"    { uint32_t t = ");
@@ -133,7 +135,7 @@ pub fn emit_closing(
     src: u32,
     key: u32,
 ) -> usize
-    ensures { λ r. ⌜ ((ks : List ℕ) → has key ks ≡ inside → Wrote (now (out .entry)) at (codeText (lines common 4 (flushTicks cycles ++ apart (setWord 15 next ∷ [])) (Block·transfer ks src common 4 key end))) (now (out .exit)) r) ⌝ }
+    ensures { λ r. ⌜ ((ks : List ℕ) → among key ks ≡ inside → Wrote (now (out .entry)) at (codeText (lines common 4 (flushTicks cycles ++ apart (setWord 15 next ∷ [])) (Block·transfer ks src common 4 key end))) (now (out .exit)) r) ⌝ }
 {
     let p = flush_ticks(out, at, cycles);
     let q = set_pc(out, p, next);

@@ -11,7 +11,8 @@ ghost use Rattle.c_tree.specs.Stmt.{gate, Owner, common, ret, retIf, end, _⨾_
 ghost use Rattle.c_tree.specs.Print.{codeText};
 ghost use Rattle.forms.specs.InlineBody.{apart};
 ghost use Rattle.forms.specs.Block.{flushTicks, setWord};
-ghost use Rattle.lowering.specs.Block.{nl, sp, lines, has, chain, transfer};
+ghost use Rattle.lowering.specs.Block.{nl, sp, lines, chain, transfer};
+ghost use Rattle.block_file.specs.Address.{among};
 ghost use Rattle.emit_flow.specs.Pieces.{indent};
 
 // The cycles pending, if there are any.
@@ -81,7 +82,7 @@ fn put_return(out: &mut [u8], at: usize, key: u32, deep: bool) -> usize
 
 // From the block at src to a key: a goto within the group, gated if it does not go up, or else a return.
 pub fn transfer(out: &mut [u8], at: usize, inside: bool, src: u32, key: u32, deep: bool) -> usize
-    ensures { λ r. ⌜ ((ks : List ℕ) (o : Owner) → has key ks ≡ inside → Wrote (now (out .entry)) at (codeText (transfer ks src o (indent deep) key end)) (now (out .exit)) r) ⌝ }
+    ensures { λ r. ⌜ ((ks : List ℕ) (o : Owner) → among key ks ≡ inside → Wrote (now (out .entry)) at (codeText (transfer ks src o (indent deep) key end)) (now (out .exit)) r) ⌝ }
 {
     if !inside {
         return put_return(out, at, key, deep);

@@ -1,11 +1,11 @@
 // PREAMBLE, at the head of each unit.
 ghost use Rattle.text.specs.Wrote.{Wrote};
 ghost use Rattle.c_tree.specs.Print.{unitText};
-ghost use Rattle.lowering.specs.Units.{opened};
+ghost use Rattle.lowering.specs.Units.{unitHead};
 
 // PREAMBLE and an empty line.
 pub fn put_preamble(out: &mut [u8], at: usize) -> usize
-    ensures { λ r. ⌜ Wrote (now (out .entry)) at (unitText opened) (now (out .exit)) r ⌝ }
+    ensures { λ r. ⌜ Wrote (now (out .entry)) at (unitText unitHead) (now (out .exit)) r ⌝ }
 {
     text::put(
         out,

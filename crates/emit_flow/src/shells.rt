@@ -9,11 +9,11 @@ ghost use Rattle.c_tree.specs.Print.{codeText};
 ghost use Rattle.forms.specs.Forms.{Body};
 ghost use Rattle.forms.specs.InlineBody.{apart};
 ghost use Rattle.forms.specs.Block.{flushTicks, setWord};
-ghost use Rattle.lowering.specs.Block.{nl, sp, lines, emitShell};
+ghost use Rattle.lowering.specs.Block.{nl, sp, lines, shellCode};
 
 // One that has others behind it: on to them if the interpreter comes to their key.
 pub fn emit_shell(out: &mut [u8], at: usize, cycles: u64, addr: u32, expect: u32) -> usize
-    ensures { λ r. ⌜ ((b : Body) (i : ℕ) → Wrote (now (out .entry)) at (codeText (lines common 4 (flushTicks cycles ++ apart (setWord 15 addr ∷ [])) (emitShell b i expect end))) (now (out .exit)) r) ⌝ }
+    ensures { λ r. ⌜ ((b : Body) (i : ℕ) → Wrote (now (out .entry)) at (codeText (lines common 4 (flushTicks cycles ++ apart (setWord 15 addr ∷ [])) (shellCode b i expect end))) (now (out .exit)) r) ⌝ }
 {
     let p = flush_ticks(out, at, cycles);
     let q = set_pc(out, p, addr);

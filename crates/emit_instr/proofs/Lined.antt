@@ -18,7 +18,8 @@ use Rattle.c_tree.specs.Print.{codeText}
 use Rattle.forms.specs.Forms.{Lines}
 use Rattle.forms.specs.InlineBody.{apart, alu, opBody, inlineBody}
 use Rattle.lowering.specs.Block.{lines}
-use Rattle.emit_operands.specs.Operands.{regOf, operandOf}
+use Rattle.emit_operands.specs.Operands.{operandOf}
+use Rattle.forms.specs.Operands.{regOf}
 use Rattle.emit_alu.proofs.Bodies.{alu-lines}
 
 -- equal lines have one text

@@ -9,13 +9,15 @@ use Rattle.text.specs.Wrote.{Wrote}
 use Rattle.c_tree.specs.Expr.{Expr}
 use Rattle.c_tree.specs.Stmt.{Plain, Owner, common, retInterp, end, _⨾_}
 use Rattle.c_tree.specs.Print.{exprText, codeText}
-use Rattle.block_exits.specs.Exits.{keyOf, isAl}
+use Rattle.block_exits.specs.Exits.{keyOf}
+use Rattle.armv4t.specs.Cond.{isAl}
 use Rattle.forms.specs.Forms.{Lines, Native, straight, holds, branch, jump, Form, shell, records, Body}
 use Rattle.forms.specs.Operands.{condExpr}
 use Rattle.forms.specs.InlineBody.{apart}
-use Rattle.forms.specs.Block.{flushTicks, setWord, emitBranch}
-use Rattle.lowering.specs.Block.{bodyKey, bodyEnd, nl, sp, line, lines, transfer, nativeText, emitShell, rest}
-use Rattle.emit_flow.specs.Pieces.{branchRegs, beforeCondition, behindCondition, behindConditional}
+use Rattle.forms.specs.Block.{flushTicks, setWord, emitBranch, branchRegs}
+use Rattle.records.specs.BlockRecord.{keyPlus}
+use Rattle.lowering.specs.Block.{bodyKey, bodyEnd, nl, sp, line, lines, transfer, nativeText, shellCode, rest}
+use Rattle.emit_flow.specs.Pieces.{beforeCondition, behindCondition, behindConditional}
 use Rattle.emit_flow.proofs.Blocks.{straight-text, holds-text, branch-text, rest-native, rest-shell, rest-last, closing-text}
 use Rattle.emit_instr.specs.Onward.{Onward}
 use Rattle.emit_instr.specs.Steps.{empty, lowered}
@@ -61,7 +63,7 @@ module _ {o o′ : List ℕ} {at r : ℕ} (ks : List ℕ) (b : Body) (j : ℕ) w
 
   -- a shell that has others behind it
   pub shell-step : (high last : Bool) (t : Lines) (key : ℕ) (fs : List Form) → last ≡ empty fs → last ≡ false
-      → Wrote o at (codeText (lines common 4 t (emitShell b j key end))) o′ r
+      → Wrote o at (codeText (lines common 4 t (shellCode b j key end))) o′ r
       → Onward o at (rest ks b j (shell high t key ∷ fs)) (cond (not high && last) end (rest ks b (j + 1) fs)) o′ r
   shell-step high last t key [] p q w = absurd (true≢false (sym p ∙ q))
   shell-step high true t key (f ∷ fs) p q w = absurd (true≢false q)
@@ -79,8 +81,8 @@ module _ {o o′ : List ℕ} {at r : ℕ} (ks : List ℕ) (b : Body) (j : ℕ) w
   last-step false true t key [] p q w = by _ _ w (λ k. rest-last ks b j false t key k)
 
   -- the end of a block, by the cycles pending there and where it goes on
-  pub closing-step : (cycles next key src : ℕ) → b .last ≡ flushTicks cycles ++ apart (setWord 15 next ∷ [])
-      → bodyEnd b + cond (b .thumb) 1 0 ≡ key → b .addr ≡ src
+  pub closing-step : (cycles next key src : ℕ) → b .closing ≡ flushTicks cycles ++ apart (setWord 15 next ∷ [])
+      → keyPlus (bodyEnd b) (b .thumb) ≡ key → b .addr ≡ src
       → Wrote o at (codeText (lines common 4 (flushTicks cycles ++ apart (setWord 15 next ∷ [])) (transfer ks src common 4 key end))) o′ r
       → Onward o at (rest ks b j []) end o′ r
   unfolding rest

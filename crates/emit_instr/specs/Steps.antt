@@ -11,7 +11,8 @@ use Rattle.c_tree.specs.Stmt.{common, end}
 use Rattle.c_tree.specs.Print.{exprText, codeText}
 use Rattle.block_exits.specs.Exits.{keyOf}
 use Rattle.forms.specs.Forms.{Lines, Form, Body}
-use Rattle.lowering.specs.Block.{lines, has, rest}
+use Rattle.lowering.specs.Block.{lines, rest}
+use Rattle.block_file.specs.Address.{among}
 use Rattle.emit_flow.specs.Pieces.{straightOpen, straightEnd, beforeCondition, holdsOpen, holdsEnd}
 use Rattle.emit_instr.specs.declared.step.Step.{Step}
 use Rattle.emit_instr.specs.Onward.{Onward}
@@ -33,7 +34,7 @@ Reaches ks thumb inside (Mul acc s rd rn rs rm) = Unit
 Reaches ks thumb inside (MulLong signed acc s hi lo rs rm) = Unit
 Reaches ks thumb inside (Swap byte rd rm rn) = Unit
 Reaches ks thumb inside (Bx rm) = Unit
-Reaches ks thumb inside (Branch link target) = has (keyOf target thumb) ks ≡ inside
+Reaches ks thumb inside (Branch link target) = among (keyOf target thumb) ks ≡ inside
 Reaches ks thumb inside (ThumbBlHigh lr) = Unit
 Reaches ks thumb inside (ThumbBlLow off) = Unit
 Reaches ks thumb inside (Mem load width signed rd rn offset pre up writeback) = Unit

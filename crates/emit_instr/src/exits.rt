@@ -22,8 +22,9 @@ ghost use Rattle.block_exits.specs.Exits.{keyOf};
 ghost use Rattle.forms.specs.Forms.{bx, Form, native, Body};
 ghost use Rattle.forms.specs.Operands.{condExpr, regExpr};
 ghost use Rattle.forms.specs.InlineBody.{listed};
-ghost use Rattle.forms.specs.Block.{flushTicks, emitBranch, isBx, emitPop};
-ghost use Rattle.lowering.specs.Block.{lines, has};
+ghost use Rattle.forms.specs.Block.{flushTicks, emitBranch, nativeExit, emitPop};
+ghost use Rattle.lowering.specs.Block.{lines};
+ghost use Rattle.block_file.specs.Address.{among};
 ghost use Rattle.emit_flow.specs.Pieces.{beforeCondition};
 ghost use Rattle.emit_instr.specs.Steps.{Steps};
 
@@ -48,7 +49,7 @@ pub(crate) fn emit_branch(
     inside: bool,
     src: u32,
 ) -> Step
-    ensures { λ r. ⌜ ((ks : List ℕ) (b : Body) (j : ℕ) (fs : List Form) → has (keyOf target thumb) ks ≡ inside → b .addr ≡ src → Steps (now (out .entry)) at ks b j (native (emitBranch thumb cycles i link target), 0) fs (now (out .exit)) r) ⌝ }
+    ensures { λ r. ⌜ ((ks : List ℕ) (b : Body) (j : ℕ) (fs : List Form) → among (keyOf target thumb) ks ≡ inside → b .addr ≡ src → Steps (now (out .entry)) at ks b j (native (emitBranch thumb cycles i link target), 0) fs (now (out .exit)) r) ⌝ }
 {
     let ret = std::num::wrapping_add_u32(i.addr, 4);
     let key = key_of(target, thumb);
@@ -72,7 +73,7 @@ pub(crate) fn emit_branch(
 
 // Whether a Bx is carried out here, in a block of a region.
 pub(crate) fn is_bx(region: u32, i: Instr) -> bool
-    ensures { λ r. ⌜ r ≡ isBx region i ⌝ }
+    ensures { λ r. ⌜ r ≡ nativeExit region i ⌝ }
 {
     let condition = i.cond;
     if is_al(condition) {

@@ -22,7 +22,7 @@ ghost use Prim.Native.Nat.{ℕ, _+_, _^_, _<_};
 ghost use Rattle.text.specs.Wrote.{Wrote};
 ghost use Rattle.c_tree.specs.Stmt.{common, end};
 ghost use Rattle.c_tree.specs.Print.{codeText};
-ghost use Rattle.block_exits.specs.Exits.{isAl};
+ghost use Rattle.armv4t.specs.Cond.{isAl};
 ghost use Rattle.forms.specs.Forms.{Lines, Form, Body};
 ghost use Rattle.forms.specs.Operands.{condExpr};
 ghost use Rattle.forms.specs.InlineBody.{inlineBody};

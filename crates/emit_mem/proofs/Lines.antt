@@ -9,7 +9,8 @@ use Rattle.c_tree.specs.Print.{codeText}
 use Rattle.emit_operands.proofs.Lines.{lines-behind}
 use Rattle.forms.specs.Forms.{Lines}
 use Rattle.emit_mem.proofs.Listed.{listed-suc}
-use Rattle.forms.specs.InlineBody.{only, apart, setReg, aligned, names, listed, advance, loads, stores}
+use Rattle.forms.specs.InlineBody.{only, apart, setReg, aligned, listed, advance, loads, stores}
+use Rattle.armv4t.specs.RegisterList.{names}
 use Rattle.lowering.specs.Block.{nl, sp, line, lines}
 
 -- lines behind lines

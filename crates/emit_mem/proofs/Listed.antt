@@ -1,14 +1,15 @@
 -- The registers of a register list: whether one is named, how many are, and which is the lowest.
-use Prim.Native.Nat.{ℕ, zero, suc, _+_, _-_, _*_, _/_, _%_, _^_, _≤_, _<_}
+use Prim.Native.Nat.{ℕ, zero, suc, _+_, _-_, _*_, _/_, _^_, _≤_, _<_}
 use native.Mathlib.Omega.{arith}
 use native.Mathlib.Numerals.{add-one}
 use mathlib.Core.Path.{_≡_, refl, sym, ap, _∙_}
-use mathlib.Core.Bool.{Bool, true, false}
+use mathlib.Core.Bool.{true, false}
 use mathlib.Core.List.{List, [], _∷_, _++_}
 use lib.ListN.{length, getD, length-append}
 use lib.Arith.{digits-div}
 use lib.Pow.{pow-mono}
-use Rattle.forms.specs.InlineBody.{only, names, listed}
+use Rattle.forms.specs.InlineBody.{only, listed}
+use Rattle.armv4t.specs.RegisterList.{names}
 
 -- one register more
 pub listed-suc : (rlist n : ℕ) → listed rlist (n + 1) ≡ listed rlist n ++ only (names rlist n) n

@@ -17,7 +17,8 @@ use Rattle.armv4t.specs.Instr.{pcValue}
 use Rattle.c_tree.specs.Expr.{Expr}
 use Rattle.c_tree.specs.Stmt.{Plain}
 use Rattle.forms.specs.Forms.{Lines}
-use Rattle.forms.specs.InlineBody.{baseExpr, shiftedOffset, offsetExpr, access, memBody, names, listed, blockMemBody, opBody}
+use Rattle.forms.specs.InlineBody.{baseExpr, shiftedOffset, offsetExpr, access, memBody, listed, blockMemBody, opBody}
+use Rattle.armv4t.specs.RegisterList.{names}
 use Rattle.emit_operands.specs.Operands.{isSome}
 use Rattle.emit_mem.specs.Mem.{offsetOf, memLines}
 

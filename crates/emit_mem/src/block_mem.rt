@@ -17,7 +17,8 @@ ghost use Rattle.text.specs.Wrote.{Wrote};
 ghost use Rattle.c_tree.specs.Stmt.{common, end};
 ghost use Rattle.c_tree.specs.Expr.{x-base, x-addr, get, reg};
 ghost use Rattle.c_tree.specs.Print.{exprText, codeText};
-ghost use Rattle.forms.specs.InlineBody.{only, apart, let32, setReg, names, listed, movedBase, start, transfers, blockMemBody};
+ghost use Rattle.forms.specs.InlineBody.{only, apart, let32, setReg, listed, movedBase, start, transfers, blockMemBody};
+ghost use Rattle.armv4t.specs.RegisterList.{names};
 ghost use Rattle.lowering.specs.Block.{lines};
 
 // The lowest address, where the registers take total bytes downwards.

@@ -15,11 +15,12 @@ ghost use Prim.Native.Nat.{_+_, _*_};
 ghost use Rattle.text.specs.Doc.{text, _▸_};
 ghost use Rattle.text.specs.Wrote.{Wrote};
 ghost use Rattle.armv4t.specs.declared.Instr.{Instr};
-ghost use Rattle.block_exits.specs.Exits.{isAl};
+ghost use Rattle.armv4t.specs.Cond.{isAl};
 ghost use Rattle.c_tree.specs.Expr.{udec, x-addr, reg, add, lit, get, bin};
 ghost use Rattle.c_tree.specs.Stmt.{common, plain, end, _⨾_};
 ghost use Rattle.c_tree.specs.Print.{codeText};
-ghost use Rattle.forms.specs.InlineBody.{apart, let32, setReg, names, listed, loads};
+ghost use Rattle.forms.specs.InlineBody.{apart, let32, setReg, listed, loads};
+ghost use Rattle.armv4t.specs.RegisterList.{names};
 ghost use Rattle.forms.specs.Block.{isPop, emitPop};
 ghost use Rattle.lowering.specs.Block.{nl, lines, nativeText};
 

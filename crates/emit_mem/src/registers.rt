@@ -2,7 +2,8 @@
 ghost use mathlib.Core.Path.{_≡_};
 ghost use Prim.Native.Nat.{_*_, _≤_};
 ghost use lib.ListN.{length, getD};
-ghost use Rattle.forms.specs.InlineBody.{names, listed};
+ghost use Rattle.forms.specs.InlineBody.{listed};
+ghost use Rattle.armv4t.specs.RegisterList.{names};
 
 // Whether a register list names a register.
 pub(crate) fn is_listed(rlist: u16, r: u8) -> bool

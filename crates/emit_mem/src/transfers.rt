@@ -14,7 +14,8 @@ ghost use Prim.Native.Nat.{_+_, _%_, _^_};
 ghost use Rattle.armv4t.specs.Instr.{pcValue};
 ghost use Rattle.c_tree.specs.Expr.{word, lit};
 ghost use Rattle.c_tree.specs.Print.{exprText, spaces, codeText};
-ghost use Rattle.forms.specs.InlineBody.{only, names, listed, loads, movedBase, storedReg, stores};
+ghost use Rattle.forms.specs.InlineBody.{only, listed, loads, movedBase, storedReg, stores};
+ghost use Rattle.armv4t.specs.RegisterList.{names};
 ghost use Rattle.lowering.specs.Block.{lines};
 
 // The indent of a line, 6 in a pop, and the register that it sets.

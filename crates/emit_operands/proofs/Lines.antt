@@ -1,13 +1,12 @@
 -- Lines of plain statements: whose they are does not show in their text, and the text of code behind them stands behind theirs.
-use mathlib.Core.Path.{_≡_, refl, ap, _∙_}
+use mathlib.Core.Path.{_≡_, refl, ap}
 use Prim.Native.Nat.{ℕ}
 use mathlib.Core.List.{List, [], _∷_}
-use Rattle.text.specs.Doc.{Doc, text, _▸_, flat, each}
-use Rattle.c_tree.specs.Stmt.{Plain, Owner, common, plain, Code, end, _⨾_}
+use Rattle.text.specs.Doc.{text, _▸_, flat}
+use Rattle.c_tree.specs.Stmt.{Plain, Owner, Code, end, _⨾_}
 use Rattle.c_tree.specs.Print.{plainText, spaces, simpleText, codeText}
 use Rattle.forms.specs.Forms.{Lines}
-use Rattle.forms.specs.InlineBody.{apart}
-use Rattle.lowering.specs.Block.{nl, sp, line, lines}
+use Rattle.lowering.specs.Block.{nl, line, lines}
 
 -- a line, and code behind it
 line-owner : (o q : Owner) (l : List Plain) (c d : Code) → ((k : List ℕ) → flat (codeText c) k ≡ flat (codeText d) k) → (k : List ℕ)
@@ -42,13 +41,3 @@ lines-behind o n (l ∷ ls) c k =
     ap (flat (spaces n))
     (line-behind o l (nl ⨾ lines o n ls c) (nl ⨾ lines o n ls end) c
     (λ (j : List ℕ). ap (flat (simpleText nl)) (lines-behind o n ls c j)) k)
-
--- a plain statement in a line of its own
-abbrev pub plainLine : ℕ → Plain → Doc
-plainLine n p = spaces n ▸ plainText p ▸ text ";\n"
-
--- statements in lines of their own
-pub lines-apart : (o : Owner) (n : ℕ) (ps : List Plain) (k : List ℕ)
-    → flat (each (plainLine n) ps) k ≡ flat (codeText (lines o n (apart ps) end)) k
-lines-apart o n [] k = refl
-lines-apart o n (p ∷ ps) k = ap (flat (plainLine n p)) (lines-apart o n ps k)

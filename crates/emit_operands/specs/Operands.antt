@@ -6,15 +6,11 @@ use lib.Dec.{eqb}
 use Rattle.armv4t.specs.declared.Shift.{Shift}
 use Rattle.armv4t.specs.declared.Operand2.{Operand2}
 use Rattle.text.specs.Doc.{Doc, nothing}
-use Rattle.c_tree.specs.Expr.{word, udec, reg, Expr, lit, get}
+use Rattle.c_tree.specs.Expr.{word, udec, Expr, lit}
 use Rattle.c_tree.specs.Print.{exprText}
-use Rattle.forms.specs.Operands.{shiftExprs}
+use Rattle.forms.specs.Operands.{regOf, shiftExprs}
 
--- regExpr of an instruction that reads pc as PC
-abbrev pub regOf : ℕ → ℕ → Expr
-regOf pc n = cond (eqb n 15) (lit word pc) (get (reg n))
-
--- op2Exprs likewise; an operand that the interpreter is to shift counts as not shifted
+-- op2Exprs of an instruction that reads pc as PC; an operand that the interpreter is to shift counts as not shifted
 abbrev pub operandOf : ℕ → Operand2 → Expr × Option Expr
 operandOf pc (Operand2.Imm value rot) = (lit word value, cond (eqb rot 0) none (some (lit udec (value / 2 ^ 31 % 2))))
 operandOf pc (Operand2.Reg rm (Shift.Imm kind amount)) = shiftExprs (regOf pc rm) kind amount

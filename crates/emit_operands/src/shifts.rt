@@ -4,13 +4,13 @@ use crate::put_reg;
 use armv4t::Reg;
 use armv4t::ShiftKind;
 ghost use mathlib.Core.Path.{_≡_};
-ghost use Prim.Native.Nat.{ℕ, _-_};
+ghost use Prim.Native.Nat.{_-_};
 ghost use Rattle.armv4t.specs.declared.ShiftKind.the-variants.{Lsl, Lsr, Asr, Ror};
 ghost use Rattle.text.specs.Doc.{raw, dec, _▸_};
 ghost use Rattle.text.specs.Wrote.{Wrote};
 ghost use Rattle.c_tree.specs.Print.{exprText};
-ghost use Rattle.forms.specs.Operands.{bitOf, shiftExprs};
-ghost use Rattle.emit_operands.specs.Operands.{regOf, carryText};
+ghost use Rattle.forms.specs.Operands.{bitOf, shiftExprs, regOf};
+ghost use Rattle.emit_operands.specs.Operands.{carryText};
 
 // s, the register, t, a number and u.
 fn put_amount(

@@ -17,11 +17,11 @@ use Rattle.c_tree.specs.Print.{casesText, rowText, topText, unitText}
 use Rattle.forms.specs.Forms.{Body}
 use Rattle.forms.specs.Block.{bodyOf}
 use Rattle.lowering.specs.Block.{bodyKey, sp}
-use Rattle.lowering.specs.Units.{forwarders, tail, nobody, membersOf}
+use Rattle.lowering.specs.Units.{forwarders, lastUnitEnd, defaultBody, membersOf}
 use Rattle.lowering.specs.Measured.{seen}
 use Rattle.lowering.proofs.Measured.{seen-keys}
 use Rattle.emit_flow.specs.Pieces.{tableOpen, tableEnd}
-use Rattle.emit_flow.proofs.Units.{tail-text, each-map}
+use Rattle.emit_flow.proofs.Units.{end-text, each-map}
 use Rattle.emit_tables.specs.Tables.{HaveKeys}
 
 -- the bodies of blocks have their keys
@@ -36,7 +36,7 @@ unfolding bodyOf membersOf
 member-keys multiplier bs [] = refl
 member-keys multiplier bs (i ∷ is) = ap₂ (λ (k : ℕ) (ks : List ℕ). k ∷ ks) (at bs i) (member-keys multiplier bs is)
   where
-    at : (cs : List Block) (j : ℕ) → bodyKey (getD (map (bodyOf multiplier) cs) j nobody) ≡ getD (map blockKey cs) j 0
+    at : (cs : List Block) (j : ℕ) → bodyKey (getD (map (bodyOf multiplier) cs) j defaultBody) ≡ getD (map blockKey cs) j 0
     at [] j = refl
     at (c ∷ cs) zero = refl
     at (c ∷ cs) (suc j) = at cs j
@@ -50,14 +50,14 @@ pub seen-member-keys : (written : Bool) (multiplier : ℕ) (bs : List Block) (is
 seen-member-keys written multiplier bs is = seen-keys written (membersOf (map (bodyOf multiplier) bs) is) ∙ member-keys multiplier bs is
 
 -- the end of the last unit
-pub tail-keys : (bs : List Body) (ks : List ℕ) (n : ℕ) (k : List ℕ) → HaveKeys bs ks → n ≡ length ks
-    → flat (each (λ (j : ℕ). topText (extern j)) ks ▸ tableOpen ▸ each rowText ks ▸ tableEnd ▸ topText (count n)) k ≡ flat (unitText (tail bs)) k
-tail-keys bs ks n k e h =
+pub end-keys : (bs : List Body) (ks : List ℕ) (n : ℕ) (k : List ℕ) → HaveKeys bs ks → n ≡ length ks
+    → flat (each (λ (j : ℕ). topText (extern j)) ks ▸ tableOpen ▸ each rowText ks ▸ tableEnd ▸ topText (count n)) k ≡ flat (unitText (lastUnitEnd bs)) k
+end-keys bs ks n k e h =
     let docs : List ℕ → ℕ → Doc = λ js m. each (λ (j : ℕ). topText (extern j)) js ▸ tableOpen ▸ each rowText js ▸ tableEnd ▸ topText (count m) in
     ap₂ (λ (js : List ℕ) (m : ℕ). flat (docs js m) k) (sym e) (h ∙ ap length (sym e) ∙ length-map bs bodyKey)
     ∙ each-map (λ (j : ℕ). topText (extern j)) bodyKey bs (flat (tableOpen ▸ each rowText (map bodyKey bs) ▸ tableEnd ▸ topText (count (length bs))) k)
     ∙ ap (flat (each (λ (b : Body). topText (extern (bodyKey b))) bs ▸ tableOpen)) (each-map rowText bodyKey bs (flat (tableEnd ▸ topText (count (length bs))) k))
-    ∙ sym (tail-text bs k)
+    ∙ sym (end-text bs k)
 
 -- f of some numbers, each with its place counted from n
 abbrev pub numbered : (ℕ → ℕ → Doc) → ℕ → List ℕ → Doc

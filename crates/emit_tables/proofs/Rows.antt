@@ -9,7 +9,7 @@ use Rattle.block_file.specs.declared.read.FoundBlock.{FoundBlock}
 use Rattle.records.specs.BlockRecord.{countSum, keyPlus}
 use Rattle.block_file.specs.Parse.{Block, blockAt, blocksOf, Accepted, blockKey}
 use Rattle.block_file.specs.Read.{recordAt, foundBlock, IsBlock}
-use Rattle.records.specs.Trailer.{blockCount, blockStart}
+use Rattle.records.specs.Trailer.{blockCount}
 use Rattle.block_file.proofs.Accepted.{length-of}
 use Rattle.block_exits.specs.Exits.{keyOf}
 use Rattle.plan.specs.Plan.{groups}

@@ -15,7 +15,7 @@ ghost use Rattle.block_file.specs.Parse.{Accepted};
 ghost use Rattle.c_tree.specs.Stmt.{extern};
 ghost use Rattle.c_tree.specs.Print.{rowText, topText, unitText};
 ghost use Rattle.forms.specs.Forms.{Body};
-ghost use Rattle.lowering.specs.Units.{tail};
+ghost use Rattle.lowering.specs.Units.{lastUnitEnd};
 ghost use Rattle.emit_tables.specs.Tables.{fileKeys, HaveKeys};
 
 // The declarations of the functions of n blocks.
@@ -49,7 +49,7 @@ fn put_rows(out: &mut [u8], at: usize, file: &[u8], n: usize) -> usize
 // The end of the last unit of an accepted file with n blocks.
 pub fn put_tail(out: &mut [u8], at: usize, file: &[u8], n: usize) -> usize
     requires { ⌜ (n ≡ blockCount (now file)) × Accepted (now file) ⌝ }
-    ensures { λ r. ⌜ ((bs : List Body) → HaveKeys bs (fileKeys (now (file .entry))) → Wrote (now (out .entry)) at (unitText (tail bs)) (now (out .exit)) r) ⌝ }
+    ensures { λ r. ⌜ ((bs : List Body) → HaveKeys bs (fileKeys (now (file .entry))) → Wrote (now (out .entry)) at (unitText (lastUnitEnd bs)) (now (out .exit)) r) ⌝ }
 {
     let p = put_externs(out, at, file, n);
     let q = put_table_head(out, p);

@@ -19,7 +19,7 @@ use Rattle.members.specs.Prepared.{Ready}
 use Rattle.members.proofs.Places.{start-next, start-inside, group-left, group-has}
 use Rattle.c_tree.specs.Stmt.{Top}
 use Rattle.forms.specs.Forms.{Body}
-use Rattle.lowering.specs.Units.{TranslationUnit, emitGroup, opened, tail, textOf, cut, nobody, membersOf, unitsOf, unitsFor, fileUnits}
+use Rattle.lowering.specs.Units.{TranslationUnit, emitGroup, unitHead, lastUnitEnd, textOf, cut, defaultBody, membersOf, unitsOf, unitsFor, fileUnits}
 use Rattle.lowering.proofs.Lengths.{text-append, units-short}
 use Rattle.emit_units.specs.declared.extents.Extent.{Extent}
 use Rattle.emit_units.specs.Groups.{bodiesOf}
@@ -56,13 +56,13 @@ module _ (f : List ℕ) (limit max : ℕ) where
       ≡ cond (leb max (length (textOf (ts ++ groupTree j)))) (handed ts j ∷ unitsFrom f limit max (suc j)) (unitsWith f limit max (ts ++ groupTree j) (suc j))
   unfolding cut membersOf
   cut-group ts j h =
-      let size : startOf gs j + length (membersOf (bodiesOf f) (getD gs j [])) ≡ startOf gs (suc j) = omega (arith, start-next gs j, length-map (getD gs j []) (λ (i : ℕ). getD (bodiesOf f) i nobody)) in
-      ap (λ (hs : List (List ℕ)). cut max (tail (bodiesOf f)) ts (startOf gs j) (map (membersOf (bodiesOf f)) hs)) (drop-cons gs j [] h)
+      let size : startOf gs j + length (membersOf (bodiesOf f) (getD gs j [])) ≡ startOf gs (suc j) = omega (arith, start-next gs j, length-map (getD gs j []) (λ (i : ℕ). getD (bodiesOf f) i defaultBody)) in
+      ap (λ (hs : List (List ℕ)). cut max (lastUnitEnd (bodiesOf f)) ts (startOf gs j) (map (membersOf (bodiesOf f)) hs)) (drop-cons gs j [] h)
       ∙ ap
       (λ (n : ℕ).
       cond (leb max (length (textOf (ts ++ groupTree j))))
-      (record { tree = ts ++ groupTree j; done = n; last = false } ∷ cut max (tail (bodiesOf f)) opened n (map (membersOf (bodiesOf f)) (drop (suc j) gs)))
-      (cut max (tail (bodiesOf f)) (ts ++ groupTree j) n (map (membersOf (bodiesOf f)) (drop (suc j) gs))))
+      (record { tree = ts ++ groupTree j; done = n; last = false } ∷ cut max (lastUnitEnd (bodiesOf f)) unitHead n (map (membersOf (bodiesOf f)) (drop (suc j) gs)))
+      (cut max (lastUnitEnd (bodiesOf f)) (ts ++ groupTree j) n (map (membersOf (bodiesOf f)) (drop (suc j) gs))))
       size
 
   pub cut-handed : (ts : List Top) (j : ℕ) → j < length (groups limit (blocksOf f))
@@ -83,10 +83,10 @@ module _ (f : List ℕ) (limit max : ℕ) where
 
   -- behind the last group
   pub cut-end : (ts : List Top) (j : ℕ) → j ≡ length (groups limit (blocksOf f))
-      → unitsWith f limit max ts j ≡ record { tree = ts ++ tail (bodiesOf f); done = startOf (groups limit (blocksOf f)) j; last = true } ∷ []
+      → unitsWith f limit max ts j ≡ record { tree = ts ++ lastUnitEnd (bodiesOf f); done = startOf (groups limit (blocksOf f)) j; last = true } ∷ []
   unfolding cut
   cut-end ts j e =
-      ap (λ (hs : List (List ℕ)). cut max (tail (bodiesOf f)) ts (startOf gs j) (map (membersOf (bodiesOf f)) hs)) (ap (λ (i : ℕ). drop i gs) e ∙ drop-length gs)
+      ap (λ (hs : List (List ℕ)). cut max (lastUnitEnd (bodiesOf f)) ts (startOf gs j) (map (membersOf (bodiesOf f)) hs)) (ap (λ (i : ℕ). drop i gs) e ∙ drop-length gs)
 
   -- the units from group 0 on are all
   pub units-all : unitsFrom f limit max 0 ≡ fileUnits hashMultiplier limit max (blocksOf f)
@@ -106,7 +106,7 @@ pub record Walked (f : List ℕ) (limit max g q at : ℕ) : Type 0 where
   pub units : unitsFrom f limit max g ≡ unitsWith f limit max (unitGroups f limit g size) (g + size)
 
 -- no group yet
-pub walked-none : (f : List ℕ) (limit max g p at : ℕ) → g ≤ length (groups limit (blocksOf f)) → p ≡ startOf (groups limit (blocksOf f)) g → at ≡ after 0 opened
+pub walked-none : (f : List ℕ) (limit max g p at : ℕ) → g ≤ length (groups limit (blocksOf f)) → p ≡ startOf (groups limit (blocksOf f)) g → at ≡ after 0 unitHead
     → Walked f limit max g p at
 unfolding grown
 walked-none f limit max g p at h e long =
@@ -140,7 +140,7 @@ module _ {f : List ℕ} {n limit : ℕ} {work : List ℕ} (ready : Ready f n lim
     bytes = long ∙ ap (λ (m : ℕ). after m next) (w .bytes) ∙ after-both sofar next
 
     tree : sofar ++ next ≡ unitGroups f limit g (suc (w .size))
-    tree = sym (grown-next (bodiesOf f) opened (groups limit (blocksOf f)) g (w .size) inside)
+    tree = sym (grown-next (bodiesOf f) unitHead (groups limit (blocksOf f)) g (w .size) inside)
 
     -- a group after which the unit goes on
     pub walked-more : at′ < max → Walked f limit max g end at′
@@ -169,17 +169,17 @@ module _ {f : List ℕ} {n limit : ℕ} {work : List ℕ} (ready : Ready f n lim
         }
 
   -- where no row is left
-  pub walked-end : (start length : ℕ) → start ≡ startOf (groups limit (blocksOf f)) g → n ≤ q → length ≡ after at (tail (bodiesOf f))
+  pub walked-end : (start length : ℕ) → start ≡ startOf (groups limit (blocksOf f)) g → n ≤ q → length ≡ after at (lastUnitEnd (bodiesOf f))
       → FirstUnit f limit max g (record { start = start; end = q; length = length; last = true })
   walked-end start length first none-left long =
       record {
         size = w .size;
         takes = record { within = w .within; start = first; end = w .here };
-        bytes = long ∙ ap (λ (m : ℕ). after m (tail (bodiesOf f))) (w .bytes) ∙ after-both sofar (tail (bodiesOf f));
+        bytes = long ∙ ap (λ (m : ℕ). after m (lastUnitEnd (bodiesOf f))) (w .bytes) ∙ after-both sofar (lastUnitEnd (bodiesOf f));
         units =
             w .units
             ∙ cut-end f limit max sofar (g + w .size) all
-            ∙ ap (λ (d : ℕ). record { tree = sofar ++ tail (bodiesOf f); done = d; last = true } ∷ []) (sym (w .here));
+            ∙ ap (λ (d : ℕ). record { tree = sofar ++ lastUnitEnd (bodiesOf f); done = d; last = true } ∷ []) (sym (w .here));
       }
     where
       all : g + w .size ≡ ListN·length (groups limit (blocksOf f))

@@ -16,7 +16,7 @@ use Rattle.c_tree.specs.Print.{casesText, codeText, unitText}
 use Rattle.forms.specs.Forms.{Body}
 use Rattle.lowering.specs.Block.{bodyKey, blockCode}
 use Rattle.lowering.specs.Measured.{seen}
-use Rattle.lowering.specs.Units.{labelled, forwarders, emitGroup, nobody, membersOf}
+use Rattle.lowering.specs.Units.{labelled, forwarders, emitGroup, defaultBody, membersOf}
 use Rattle.emit_flow.specs.Pieces.{blockOpen, functionEnd, groupOpen, switchEnd}
 use Rattle.emit_flow.proofs.Units.{block-text, group-text, member-text}
 use Rattle.emit_tables.specs.Tables.{fileKeys, groupKeys, HaveKeys}
@@ -28,17 +28,17 @@ pub members-each : (written : Bool) (f ks is : List ℕ) (k : List ℕ) → flat
 unfolding membersOf labelled
 members-each written f ks [] k = refl
 members-each written f ks (i ∷ is) k =
-    let b : Body = seen written (getD (bodiesOf f) i nobody) in
+    let b : Body = seen written (getD (bodiesOf f) i defaultBody) in
     ap (flat (labelledText written f ks i)) (members-each written f ks is k) ∙ sym (member-text ks b (map (seen written) (membersOf (bodiesOf f) is)) k)
 
 -- as many bodies as members
 pub members-count : (written : Bool) (f is : List ℕ) → length (map (seen written) (membersOf (bodiesOf f) is)) ≡ length is
 unfolding membersOf
-members-count written f is = length-map (membersOf (bodiesOf f) is) (seen written) ∙ length-map is (λ (i : ℕ). getD (bodiesOf f) i nobody)
+members-count written f is = length-map (membersOf (bodiesOf f) is) (seen written) ∙ length-map is (λ (i : ℕ). getD (bodiesOf f) i defaultBody)
 
 -- the key of a member, by its place
 pub member-key : (limit : ℕ) (f : List ℕ) (g k : ℕ) → k < length (getD (groups limit (blocksOf f)) g [])
-    → getD (groupKeys limit f g) k 0 ≡ bodyKey (getD (bodiesOf f) (getD (getD (groups limit (blocksOf f)) g []) k 0) nobody)
+    → getD (groupKeys limit f g) k 0 ≡ bodyKey (getD (bodiesOf f) (getD (getD (groups limit (blocksOf f)) g []) k 0) defaultBody)
 unfolding membersOf
 member-key limit f g k inside =
     let is : List ℕ = getD (groups limit (blocksOf f)) g [] in
@@ -52,7 +52,7 @@ pub lone-wrote : (written : Bool) (f is ks : List ℕ) (key : ℕ) {o o₁ o₂ 
 unfolding membersOf emitGroup
 lone-wrote written f [] ks key one keys first head code close = absurd (omega arith)
 lone-wrote written f (i ∷ []) ks key one keys first head code close =
-    let b : Body = seen written (getD (bodiesOf f) i nobody) in
+    let b : Body = seen written (getD (bodiesOf f) i defaultBody) in
     let same : key ≡ bodyKey b = first ∙ ap (λ (js : List ℕ). getD js 0 0) (sym keys) in
     said (seq head (seq code close)) (ap (λ (k : ℕ). flat (blockOpen k ▸ codeText (blockCode [] b) ▸ functionEnd) []) same ∙ sym (block-text b []))
 lone-wrote written f (i ∷ j ∷ is) ks key one keys first head code close = absurd (omega arith)

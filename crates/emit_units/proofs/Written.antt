@@ -19,7 +19,7 @@ use Rattle.c_tree.specs.Stmt.{Top}
 use Rattle.c_tree.specs.Print.{topText, unitText}
 use Rattle.forms.specs.Forms.{Body}
 use Rattle.lowering.specs.Measured.{seen}
-use Rattle.lowering.specs.Units.{emitGroup, opened, tail, membersOf}
+use Rattle.lowering.specs.Units.{emitGroup, unitHead, lastUnitEnd, membersOf}
 use Rattle.lowering.proofs.Measured.{seen-written}
 use Rattle.emit_units.specs.declared.extents.Extent.{Extent}
 use Rattle.emit_units.specs.Groups.{bodiesOf, groupText}
@@ -42,7 +42,7 @@ grown-text f ts (is ∷ gs) k =
     ∙ grown-text f (ts ++ emitGroup ms) gs k
 
 module _ (f : List ℕ) (limit g size : ℕ) {o o₁ o₂ : List ℕ} {r₁ r₂ : ℕ} (tree : List Top) (last : Bool) (is : tree ≡ unitTree f limit g size last)
-    (head : Wrote o 0 (unitText opened) o₁ r₁) (body : Wrote o₁ r₁ (each (groupText true f) (take size (drop g (groups limit (blocksOf f))))) o₂ r₂) where
+    (head : Wrote o 0 (unitText unitHead) o₁ r₁) (body : Wrote o₁ r₁ (each (groupText true f) (take size (drop g (groups limit (blocksOf f))))) o₂ r₂) where
   abbrev gs : List (List ℕ)
   gs = take size (drop g (groups limit (blocksOf f)))
 
@@ -50,15 +50,15 @@ module _ (f : List ℕ) (limit g size : ℕ) {o o₁ o₂ : List ℕ} {r₁ r₂
   pub unit-handed : last ≡ false → Wrote o 0 (unitText tree) o₂ r₂
   unit-handed e =
       said (seq head body)
-      (grown-text f opened gs []
+      (grown-text f unitHead gs []
       ∙ ap (λ (ts : List Top). flat (unitText ts) []) (sym (is ∙ ap (unitTree f limit g size) e)))
 
   -- the last
-  pub unit-last : {o₃ : List ℕ} {r₃ : ℕ} → last ≡ true → Wrote o₂ r₂ (unitText (tail (bodiesOf f))) o₃ r₃ → Wrote o 0 (unitText tree) o₃ r₃
+  pub unit-last : {o₃ : List ℕ} {r₃ : ℕ} → last ≡ true → Wrote o₂ r₂ (unitText (lastUnitEnd (bodiesOf f))) o₃ r₃ → Wrote o 0 (unitText tree) o₃ r₃
   unit-last e end =
       said (seq head (seq body end))
-      (grown-text f opened gs (flat (unitText (tail (bodiesOf f))) [])
-      ∙ each-append topText (unitGroups f limit g size) (tail (bodiesOf f)) []
+      (grown-text f unitHead gs (flat (unitText (lastUnitEnd (bodiesOf f))) [])
+      ∙ each-append topText (unitGroups f limit g size) (lastUnitEnd (bodiesOf f)) []
       ∙ ap (λ (ts : List Top). flat (unitText ts) []) (sym (is ∙ ap (unitTree f limit g size) e)))
 
 -- a later group starts no earlier

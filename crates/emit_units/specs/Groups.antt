@@ -12,7 +12,7 @@ use Rattle.forms.specs.Block.{bodyOf}
 use Rattle.forms.specs.Forms.{Body}
 use Rattle.lowering.specs.Block.{bodyKey, nl, blockCode}
 use Rattle.lowering.specs.Measured.{seen}
-use Rattle.lowering.specs.Units.{emitGroup, labelled, nobody, membersOf}
+use Rattle.lowering.specs.Units.{emitGroup, labelled, defaultBody, membersOf}
 use Rattle.emit_tables.specs.Tables.{groupKeys}
 
 -- the bodies of a file's blocks
@@ -21,12 +21,12 @@ bodiesOf f = map (bodyOf hashMultiplier) (blocksOf f)
 
 -- the code of block i, written or measured, where ks are the keys of its group
 abbrev pub memberText : Bool → List ℕ → List ℕ → ℕ → Doc
-memberText written f ks i = codeText (blockCode ks (seen written (getD (bodiesOf f) i nobody)))
+memberText written f ks i = codeText (blockCode ks (seen written (getD (bodiesOf f) i defaultBody)))
 
 -- the same with its label before it and a line end behind
 abbrev pub labelledText : Bool → List ℕ → List ℕ → ℕ → Doc
 labelledText written f ks i =
-    codeText (label (bodyKey (getD (bodiesOf f) i nobody)) ⨾ nl ⨾ end) ▸ memberText written f ks i ▸ codeText (nl ⨾ end)
+    codeText (label (bodyKey (getD (bodiesOf f) i defaultBody)) ⨾ nl ⨾ end) ▸ memberText written f ks i ▸ codeText (nl ⨾ end)
 
 -- the labelled code of some blocks, written or measured, where ks are the keys of their group
 abbrev pub membersText : Bool → List ℕ → List ℕ → List ℕ → Doc

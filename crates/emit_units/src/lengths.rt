@@ -7,7 +7,7 @@ ghost use Prim.Native.Nat.{ℕ, _*_, _≤_, _<_};
 ghost use lib.ListN.{length};
 ghost use Rattle.records.specs.Trailer.{blockCount};
 ghost use Rattle.block_file.specs.Parse.{blocksOf, Accepted};
-ghost use Rattle.lowering.specs.Units.{emitGroup, opened, tail, membersOf as Units·membersOf};
+ghost use Rattle.lowering.specs.Units.{emitGroup, unitHead, lastUnitEnd, membersOf as Units·membersOf};
 ghost use Rattle.members.specs.Members.{membersOf};
 ghost use Rattle.emit_tables.specs.Tables.{IsGroup};
 ghost use Rattle.emit_units.specs.Groups.{bodiesOf};
@@ -15,7 +15,7 @@ ghost use Rattle.emit_units.specs.Units.{after};
 
 // The length of PREAMBLE and the empty line.
 pub(crate) fn after_preamble() -> usize
-    ensures { λ r. ⌜ r ≡ after 0 opened ⌝ }
+    ensures { λ r. ⌜ r ≡ after 0 unitHead ⌝ }
 {
     let mut nothing = [0u8; 0];
     put_preamble(&mut nothing, 0)
@@ -40,7 +40,7 @@ pub(crate) fn after_group(
 // The length of at bytes and the end of the last unit.
 pub(crate) fn after_tail(at: usize, file: &[u8], n: usize) -> usize
     requires { ⌜ (n ≡ blockCount (now file)) × Accepted (now file) ⌝ }
-    ensures { λ r. ⌜ r ≡ after at (tail (bodiesOf (now (file .entry)))) ⌝ }
+    ensures { λ r. ⌜ r ≡ after at (lastUnitEnd (bodiesOf (now (file .entry)))) ⌝ }
 {
     let mut nothing = [0u8; 0];
     put_tail(&mut nothing, at, file, n)

@@ -20,7 +20,7 @@ unfoldable pub follow : ℕ → List ℕ → ℕ → ℕ
 follow zero p i = i
 follow (suc n) p i = cond (eqb (parent p i) i) i (follow n p (parent p i))
 
--- the root of i. An edge makes the path to a root at most one step longer, and a block has at most two edges, so two steps for each block suffice
+-- the root of i (document 01). An edge makes the path to a root at most one step longer, and a block has at most two edges, so two steps for each block suffice
 abbrev pub root : List ℕ → ℕ → ℕ
 root p i = follow (2 * length p) p i
 

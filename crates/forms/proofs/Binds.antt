@@ -24,7 +24,7 @@ use Rattle.armv4t.specs.AluOp.{isCompare}
 use Rattle.armv4t.specs.Bit0.{clearBit0}
 use Rattle.instr_records.specs.declared.decode.TimedInstr.{TimedInstr}
 use Rattle.block_file.specs.Parse.{Block}
-use Rattle.block_exits.specs.Exits.{isAl}
+use Rattle.armv4t.specs.Cond.{isAl}
 use Rattle.c_tree.specs.Expr.{Name, x-r, x-base, x-ob, x-addr, Place, reg, udec, Bin, operator, add, band, bxor, bor, Expr, lit, get, bin, un, compl}
 use Rattle.c_tree.specs.Stmt.{Plain}
 use Rattle.c_tree.specs.Preamble.{v32}
@@ -32,8 +32,10 @@ use Rattle.c_tree.proofs.Clean.{left, right}
 use Rattle.c_tree.specs.Binds.{level, binds, declaratorsBind, plainBinds}
 use Rattle.forms.specs.Forms.{Lines, Native, straight, holds, branch, jump, pair, bx, pop, Form, native, shell}
 use Rattle.forms.specs.Operands.{condExpr, regExpr, carryIn, shiftExprs, op2Exprs}
-use Rattle.forms.specs.InlineBody.{only, apart, let32, setReg, result, logicalC, logical, sum, alu, aluBody, mulBody, mulLongBody, baseExpr, shiftedOffset, offsetExpr, step, loaded, stored, access, memBody, listed, names, loads, movedBase, start, storedReg, stores, transfers, blockMemBody, opBody, inlineBody}
-use Rattle.forms.specs.Block.{regionOf, flushTicks, setWord, emitShell, emitPair, emitPop, emitBranch, emitLines, emitStraight, emitInstrs, closing, bodyOf}
+use Rattle.forms.specs.InlineBody.{only, apart, let32, setReg, result, logicalC, logical, sum, alu, aluBody, mulBody, mulLongBody, baseExpr, shiftedOffset, offsetExpr, step, loaded, stored, access, memBody, listed, loads, movedBase, start, storedReg, stores, transfers, blockMemBody, opBody, inlineBody}
+use Rattle.armv4t.specs.RegisterList.{names}
+use Rattle.forms.specs.Block.{flushTicks, setWord, emitShell, emitPair, emitPop, emitBranch, emitLines, emitStraight, emitInstrs, closingLines, bodyOf}
+use Rattle.block_file.specs.Address.{region}
 use Rattle.forms.proofs.Every.{either, Each, every-form}
 
 -- statements of one line
@@ -419,7 +421,7 @@ pair-fits : (cycles target ret : ℕ) → nativeBinds (emitPair cycles target re
 pair-fits cycles target ret =
     lines-append (ticks-bound cycles) (apart-bound (word-binds 14 ret ◂ one (word-binds 15 (clearBit0 target)))) .lines
 
-closing-bound : (cycles : ℕ) (xs : List TimedInstr) → Bound (closing cycles xs)
+closing-bound : (cycles : ℕ) (xs : List TimedInstr) → Bound (closingLines cycles xs)
 closing-bound cycles [] = record { lines = refl }
 closing-bound cycles (x ∷ []) = lines-append (ticks-bound cycles) (apart-bound (one (word-binds 15 _)))
 closing-bound cycles (x ∷ y ∷ rest) = closing-bound cycles (y ∷ rest)
@@ -433,6 +435,6 @@ forms-bind =
     pair-fits
 
 -- and so do the lines before its closing transfer
-pub last-binds : (multiplier : ℕ) (b : Block) → linesBind (bodyOf multiplier b .last) ≡ true
+pub closing-lines-bind : (multiplier : ℕ) (b : Block) → linesBind (bodyOf multiplier b .closing) ≡ true
 unfolding bodyOf
-last-binds multiplier b = closing-bound (emitInstrs (b .thumb) (regionOf (b .addr)) 0 (b .instrs) .1) (b .instrs) .lines
+closing-lines-bind multiplier b = closing-bound (emitInstrs (b .thumb) (region (b .addr)) 0 (b .instrs) .1) (b .instrs) .lines

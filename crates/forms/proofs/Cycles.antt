@@ -15,13 +15,14 @@ use Rattle.armv4t.specs.Instr.{sizeOf}
 use Rattle.armv4t.specs.Fused.{fuse}
 use Rattle.instr_records.specs.declared.decode.TimedInstr.{TimedInstr}
 use Rattle.block_file.specs.Parse.{Block}
-use Rattle.block_exits.specs.Exits.{isAl}
+use Rattle.armv4t.specs.Cond.{isAl}
 use Rattle.c_tree.specs.Stmt.{Plain, registers, local, declare, adds, set, drop as discard, run, write, tick}
-use Rattle.forms.specs.Forms.{Lines, straight, holds, branch, jump, pair, bx, pop, Form, native, shell, weight}
+use Rattle.forms.specs.Forms.{Lines, straight, holds, branch, jump, pair, bx, pop, Form, native, shell}
+use Rattle.forms.proofs.RecordCount.{recordCount, instr-count}
 use Rattle.forms.specs.InlineBody.{apart, inlineBody}
-use Rattle.forms.specs.Block.{regionOf, flushTicks, setWord, emitPair, emitBranch, isBx, isPop, emitLines, emitStraight, emitOp, emitInstr, emitInstrs, closing, bodyOf}
+use Rattle.forms.specs.Block.{flushTicks, setWord, emitPair, emitBranch, nativeExit, isPop, emitLines, emitStraight, emitOp, emitInstr, emitInstrs, closingLines, bodyOf}
+use Rattle.block_file.specs.Address.{region}
 use Rattle.forms.proofs.Every.{either, fused-or}
-use Rattle.forms.proofs.Weights.{instr-weight}
 
 -- the cycles of a tick
 abbrev pub plainTicks : Plain → ℕ
@@ -74,7 +75,7 @@ costs (x ∷ xs) = x .cost + costs xs
 -- the costs that some forms add, by the instructions that they stand for
 abbrev pub charged : List Form → List TimedInstr → ℕ
 charged [] xs = 0
-charged (r ∷ rs) xs = own r (costs (take (weight r) xs)) + charged rs (drop (weight r) xs)
+charged (r ∷ rs) xs = own r (costs (take (recordCount r) xs)) + charged rs (drop (recordCount r) xs)
 
 ticks-all : (n : ℕ) (ls : Lines) → linesTicks (flushTicks n ++ ls) ≡ n + linesTicks ls
 ticks-all zero ls = omega arith
@@ -115,7 +116,7 @@ op-kept thumb region cycles x (Mul acc s rd rn rs rm) = straight-kept thumb fals
 op-kept thumb region cycles x (MulLong signed acc s hi lo rs rm) = straight-kept thumb false cycles x
 op-kept thumb region cycles x (Swap byte rd rm rn) = straight-kept thumb false cycles x
 op-kept thumb region cycles x (Bx rm) =
-    either (Kept cycles (x .cost)) (isBx region (x .instr)) (record { kept = omega (arith, ticks-alone (cycles + x .cost)) })
+    either (Kept cycles (x .cost)) (nativeExit region (x .instr)) (record { kept = omega (arith, ticks-alone (cycles + x .cost)) })
     (straight-kept thumb false cycles x)
 op-kept thumb region cycles x (Branch link target) = record { kept = omega (arith, branch-ticks thumb (cycles + x .cost) (x .instr) link target) }
 op-kept thumb region cycles x (ThumbBlHigh lr) = record { kept = omega (arith, ticks-all cycles (apart (setWord 15 (x .instr .addr) ∷ []))) }
@@ -141,7 +142,7 @@ own-one : (r : Form) (n : ℕ) → own r (n + 0) ≡ own r n
 own-one (native r) n = omega arith
 own-one (shell h t k) n = refl
 
-charged-one : (r : Form) (rs : List Form) (x : TimedInstr) (xs : List TimedInstr) → weight r ≡ 1 → charged (r ∷ rs) (x ∷ xs) ≡ own r (x .cost) + charged rs xs
+charged-one : (r : Form) (rs : List Form) (x : TimedInstr) (xs : List TimedInstr) → recordCount r ≡ 1 → charged (r ∷ rs) (x ∷ xs) ≡ own r (x .cost) + charged rs xs
 charged-one r rs x xs h = rw h (ap (λ n. n + charged rs xs) (own-one r (x .cost)))
 
 pair-ticks : (cycles target ret : ℕ) → formTicks (native (emitPair cycles target ret)) ≡ cycles
@@ -156,7 +157,7 @@ unfolding emitInstrs
 instrs-kept thumb region cycles [] = record { kept = omega arith }
 instrs-kept thumb region cycles (x ∷ []) =
     let s : Form × ℕ = emitInstr thumb region cycles x in
-    record { kept = omega (arith, instr-cycles thumb region cycles x, charged-one (s .0) [] x [] (instr-weight thumb region cycles x)) }
+    record { kept = omega (arith, instr-cycles thumb region cycles x, charged-one (s .0) [] x [] (instr-count thumb region cycles x)) }
 instrs-kept thumb region cycles (x ∷ y ∷ rest) =
     let s : Form × ℕ = emitInstr thumb region cycles x in
     let rs : List Form × ℕ = emitInstrs thumb region (s .1) (y ∷ rest) in
@@ -167,7 +168,7 @@ instrs-kept thumb region cycles (x ∷ y ∷ rest) =
             arith,
             instr-cycles thumb region cycles x,
             instrs-kept thumb region (s .1) (y ∷ rest) .kept,
-            charged-one (s .0) (rs .0) x (y ∷ rest) (instr-weight thumb region cycles x),
+            charged-one (s .0) (rs .0) x (y ∷ rest) (instr-count thumb region cycles x),
           );
     })
     (λ t r. record { kept = omega (arith, pair-ticks (cycles + (x .cost + y .cost)) t r, instrs-kept thumb region 0 rest .kept) })
@@ -179,19 +180,19 @@ instrs-cycles thumb region cycles xs = instrs-kept thumb region cycles xs .kept
 
 -- the lines before the closing transfer: what is pending, then the address after the last instruction
 pub closing-last : (cycles : ℕ) (xs : List TimedInstr) (x : TimedInstr)
-    → closing cycles (xs ++ (x ∷ [])) ≡ flushTicks cycles ++ apart (setWord 15 ((x .instr .addr + sizeOf (x .instr .thumb)) % 2 ^ 32) ∷ [])
+    → closingLines cycles (xs ++ (x ∷ [])) ≡ flushTicks cycles ++ apart (setWord 15 ((x .instr .addr + sizeOf (x .instr .thumb)) % 2 ^ 32) ∷ [])
 closing-last cycles [] x = refl
 closing-last cycles (y ∷ []) x = refl
 closing-last cycles (y ∷ z ∷ xs) x = closing-last cycles (z ∷ xs) x
 
-closing-ticks : (cycles : ℕ) (x : TimedInstr) (xs : List TimedInstr) → linesTicks (closing cycles (x ∷ xs)) ≡ cycles
+closing-ticks : (cycles : ℕ) (x : TimedInstr) (xs : List TimedInstr) → linesTicks (closingLines cycles (x ∷ xs)) ≡ cycles
 closing-ticks cycles x [] = omega (arith, ticks-all cycles (apart (setWord 15 ((x .instr .addr + sizeOf (x .instr .thumb)) % 2 ^ 32) ∷ [])))
 closing-ticks cycles x (y ∷ ys) = closing-ticks cycles y ys
 
 -- a block, which has an instruction: its ticks are the costs of its native records
 pub body-cycles : (multiplier : ℕ) (b : Block) (x : TimedInstr) (xs : List TimedInstr) → b .instrs ≡ x ∷ xs
-    → formsTicks (bodyOf multiplier b .forms) + linesTicks (bodyOf multiplier b .last) ≡ charged (bodyOf multiplier b .forms) (b .instrs)
+    → formsTicks (bodyOf multiplier b .forms) + linesTicks (bodyOf multiplier b .closing) ≡ charged (bodyOf multiplier b .forms) (b .instrs)
 unfolding bodyOf
 body-cycles multiplier b x xs e =
-    let rs : List Form × ℕ = emitInstrs (b .thumb) (regionOf (b .addr)) 0 (x ∷ xs) in
-    rw e (omega (arith, instrs-cycles (b .thumb) (regionOf (b .addr)) 0 (x ∷ xs), closing-ticks (rs .1) x xs))
+    let rs : List Form × ℕ = emitInstrs (b .thumb) (region (b .addr)) 0 (x ∷ xs) in
+    rw e (omega (arith, instrs-cycles (b .thumb) (region (b .addr)) 0 (x ∷ xs), closing-ticks (rs .1) x xs))

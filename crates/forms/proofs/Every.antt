@@ -13,7 +13,8 @@ use Rattle.block_file.specs.Parse.{Block}
 use Rattle.forms.specs.Forms.{bx, Form, native}
 use Rattle.forms.specs.Operands.{regExpr}
 use Rattle.forms.specs.InlineBody.{listed}
-use Rattle.forms.specs.Block.{regionOf, flushTicks, emitShell, emitPair, emitBranch, isBx, isPop, emitPop, emitStraight, emitOp, emitInstr, fusedOr, emitInstrs, bodyOf}
+use Rattle.forms.specs.Block.{flushTicks, emitShell, emitPair, emitBranch, nativeExit, isPop, emitPop, emitStraight, emitOp, emitInstr, fusedOr, emitInstrs, bodyOf}
+use Rattle.block_file.specs.Address.{region}
 
 -- what holds of both is held by either
 pub either : {A : Type 0} (P : A → Type 0) (b : Bool) {x y : A} → P x → P y → P (cond b x y)
@@ -52,7 +53,7 @@ module _ (P : Form → Type 0)
   op-one thumb region cycles x (MulLong signed acc s hi lo rs rm) = straight-one thumb false cycles x
   op-one thumb region cycles x (Swap byte rd rm rn) = straight-one thumb false cycles x
   op-one thumb region cycles x (Bx rm) =
-      either (One P) (isBx region (x .instr)) (record { form = bxs (cycles + x .cost) (x .instr) rm })
+      either (One P) (nativeExit region (x .instr)) (record { form = bxs (cycles + x .cost) (x .instr) rm })
       (straight-one thumb false cycles x)
   op-one thumb region cycles x (Branch link target) = record { form = branches thumb (cycles + x .cost) (x .instr) link target }
   op-one thumb region cycles x (ThumbBlHigh lr) = record { form = shells thumb true cycles (x .instr) }
@@ -86,4 +87,4 @@ module _ (P : Form → Type 0)
     -- all forms of a block
     pub every-form : (multiplier : ℕ) (b : Block) → Each P (bodyOf multiplier b .forms)
     unfolding bodyOf
-    every-form multiplier b = instrs-all (b .thumb) (regionOf (b .addr)) 0 (b .instrs) .forms
+    every-form multiplier b = instrs-all (b .thumb) (region (b .addr)) 0 (b .instrs) .forms

@@ -27,15 +27,17 @@ use Rattle.armv4t.specs.Bit0.{clearBit0}
 use Rattle.armv4t.specs.Instr.{sizeOf}
 use Rattle.instr_records.specs.declared.decode.TimedInstr.{TimedInstr}
 use Rattle.block_file.specs.Parse.{Block}
-use Rattle.block_exits.specs.Exits.{isAl}
+use Rattle.armv4t.specs.Cond.{isAl}
 use Rattle.c_tree.specs.Expr.{x-ob, reg, udec, add, Expr, lit, get, bin}
 use Rattle.c_tree.specs.Stmt.{Plain}
 use Rattle.c_tree.specs.Preamble.{v32}
 use Rattle.c_tree.specs.Print.{exprText, plainText}
 use Rattle.forms.specs.Forms.{Lines, Native, straight, holds, branch, jump, pair, bx, pop, Form, native, shell}
 use Rattle.forms.specs.Operands.{condExpr, regExpr, shiftExprs, op2Exprs}
-use Rattle.forms.specs.InlineBody.{only, apart, setReg, result, logical, sum, alu, aluBody, mulBody, mulLongBody, baseExpr, shiftedOffset, offsetExpr, loaded, stored, access, memBody, listed, names, loads, movedBase, start, storedReg, stores, transfers, blockMemBody, opBody, inlineBody}
-use Rattle.forms.specs.Block.{regionOf, flushTicks, setWord, emitShell, emitPair, emitPop, emitBranch, emitLines, emitStraight, emitInstrs, closing, bodyOf}
+use Rattle.forms.specs.InlineBody.{only, apart, setReg, result, logical, sum, alu, aluBody, mulBody, mulLongBody, baseExpr, shiftedOffset, offsetExpr, loaded, stored, access, memBody, listed, loads, movedBase, start, storedReg, stores, transfers, blockMemBody, opBody, inlineBody}
+use Rattle.armv4t.specs.RegisterList.{names}
+use Rattle.forms.specs.Block.{flushTicks, setWord, emitShell, emitPair, emitPop, emitBranch, emitLines, emitStraight, emitInstrs, closingLines, bodyOf}
+use Rattle.block_file.specs.Address.{region}
 use Rattle.forms.proofs.Every.{either, Each, every-form}
 
 -- the statements of a line, with a `;` and a space each
@@ -361,7 +363,7 @@ pair-fits : (cycles target ret : ℕ) → nativeMost (emitPair cycles target ret
 pair-fits cycles target ret =
     omega (arith, lines-append (flushTicks cycles) (apart (setWord 14 ret ∷ setWord 15 (clearBit0 target) ∷ [])), ticks-within cycles)
 
-closing-within : (cycles : ℕ) (xs : List TimedInstr) → linesMost (closing cycles xs) ≤ 100
+closing-within : (cycles : ℕ) (xs : List TimedInstr) → linesMost (closingLines cycles xs) ≤ 100
 closing-within cycles [] = omega arith
 closing-within cycles (x ∷ []) = omega (arith, lines-append (flushTicks cycles) (apart (setWord 15 ((x .instr .addr + sizeOf (x .instr .thumb)) % 2 ^ 32) ∷ [])), ticks-within cycles)
 closing-within cycles (x ∷ y ∷ rest) = closing-within cycles (y ∷ rest)
@@ -374,6 +376,6 @@ forms-within =
     pair-fits
 
 -- and the lines before its closing transfer at most 100
-pub last-within : (multiplier : ℕ) (b : Block) → linesMost (bodyOf multiplier b .last) ≤ 100
+pub closing-short : (multiplier : ℕ) (b : Block) → linesMost (bodyOf multiplier b .closing) ≤ 100
 unfolding bodyOf
-last-within multiplier b = closing-within (emitInstrs (b .thumb) (regionOf (b .addr)) 0 (b .instrs) .1) (b .instrs)
+closing-short multiplier b = closing-within (emitInstrs (b .thumb) (region (b .addr)) 0 (b .instrs) .1) (b .instrs)

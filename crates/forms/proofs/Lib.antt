@@ -1,5 +1,5 @@
 pub mod Every
-pub mod Weights
+pub mod RecordCount
 pub mod Binds
 pub mod Lengths
 pub mod Cycles

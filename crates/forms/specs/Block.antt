@@ -1,8 +1,8 @@
 -- A block's instructions as forms of text: emit_block's loop, with the cycles pending.
-use Prim.Native.Nat.{ℕ, zero, suc, _+_, _*_, _/_, _%_, _^_}
+use Prim.Native.Nat.{ℕ, zero, suc, _+_, _*_, _%_, _^_}
 use mathlib.Core.Bool.{Bool, true, false, not, cond, _&&_}
 use mathlib.Core.List.{List, [], _∷_, _++_}
-use mathlib.Core.Option.{Option, none, some}
+use mathlib.Core.Option.{Option, none, some, Option·map}
 use lib.Dec.{eqb}
 use lib.ListN.{length}
 use Rattle.armv4t.specs.declared.Op.{Op}
@@ -15,17 +15,16 @@ use Rattle.armv4t.specs.Instr.{sizeOf}
 use Rattle.armv4t.specs.Fused.{fuse}
 use Rattle.instr_records.specs.declared.decode.TimedInstr.{TimedInstr}
 use Rattle.block_file.specs.Parse.{Block}
-use Rattle.block_exits.specs.Exits.{keyOf, fallThrough, isAl}
+use Rattle.block_file.specs.Address.{region}
+use Rattle.block_exits.specs.Exits.{keyOf, fallThrough}
+use Rattle.armv4t.specs.Cond.{isAl}
 use Rattle.c_tree.specs.Expr.{word, udec, x-addr, reg, compl, add, band, bor, w32, lit, get, un, bin, read}
 use Rattle.c_tree.specs.Stmt.{Plain, tick}
 use Rattle.forms.specs.Forms.{Lines, Native, straight, holds, branch, jump, pair, bx, pop, Form, native, shell, Body}
 use Rattle.forms.specs.Operands.{condExpr, regExpr}
-use Rattle.forms.specs.InlineBody.{only, apart, let32, setReg, aligned, names, listed, loads, inlineBody}
+use Rattle.forms.specs.InlineBody.{only, apart, let32, setReg, aligned, listed, loads, inlineBody}
+use Rattle.armv4t.specs.RegisterList.{names}
 use Rattle.fnv.specs.Fnv.{fnv64}
-
--- the region of an address
-abbrev pub regionOf : ℕ → ℕ
-regionOf addr = addr / 2 ^ 24 % 16
 
 -- flush_ticks: a line for the cycles pending, if there are any
 abbrev pub flushTicks : ℕ → Lines
@@ -44,21 +43,25 @@ emitShell thumb high cycles i = shell high (flushTicks cycles ++ apart (setWord 
 abbrev pub emitPair : ℕ → ℕ → ℕ → Native
 emitPair cycles target ret = pair (flushTicks cycles ++ apart (setWord 14 ret ∷ setWord 15 (clearBit0 target) ∷ [])) (setBit0 target)
 
+-- the registers that a branch sets
+abbrev pub branchRegs : Bool → ℕ → ℕ → List Plain
+branchRegs link ret target = only link (setWord 14 ret) ++ (setWord 15 target ∷ [])
+
 -- Branch
 abbrev pub emitBranch : Bool → ℕ → Instr → Bool → ℕ → Native
 emitBranch thumb cycles i link target =
-    let regs : List Plain = only link (setWord 14 ((i .addr + 4) % 2 ^ 32)) ++ (setWord 15 target ∷ []) in
+    let regs : List Plain = branchRegs link ((i .addr + 4) % 2 ^ 32) target in
     cond (isAl (i .cond)) (jump (flushTicks cycles ++ apart regs) (keyOf target thumb))
     (branch (flushTicks cycles) (condExpr (i .cond)) regs (keyOf target thumb))
 
--- whether Bx is native: a block in region 0 leaves it to the interpreter, and a pop of PC too
-abbrev pub isBx : ℕ → Instr → Bool
-isBx region i = isAl (i .cond) && not (eqb region 0)
+-- whether an indirect exit, Bx or pop of PC, is native: condition Al, outside region 0
+abbrev pub nativeExit : ℕ → Instr → Bool
+nativeExit region i = isAl (i .cond) && not (eqb region 0)
 
 -- whether a BlockMem is a native pop of PC
 abbrev pub isPop : ℕ → Instr → Bool → ℕ → ℕ → Bool → Bool → Bool → Bool → Bool
 isPop region i load rn rlist pre up s-bit writeback =
-    load && not pre && up && not s-bit && writeback && names rlist 15 && not (eqb rn 15) && isBx region i
+    load && not pre && up && not s-bit && writeback && names rlist 15 && not (eqb rn 15) && nativeExit region i
 
 -- a pop of PC
 abbrev pub emitPop : Bool → ℕ → ℕ → List ℕ → Native
@@ -87,7 +90,7 @@ emitOp thumb region cycles x (Mul acc s rd rn rs rm) = emitStraight thumb false 
 emitOp thumb region cycles x (MulLong signed acc s hi lo rs rm) = emitStraight thumb false cycles x
 emitOp thumb region cycles x (Swap byte rd rm rn) = emitStraight thumb false cycles x
 emitOp thumb region cycles x (Bx rm) =
-    cond (isBx region (x .instr)) (native (bx (flushTicks (cycles + x .cost)) (regExpr (x .instr) rm)), 0)
+    cond (nativeExit region (x .instr)) (native (bx (flushTicks (cycles + x .cost)) (regExpr (x .instr) rm)), 0)
     (emitStraight thumb false cycles x)
 emitOp thumb region cycles x (Branch link target) = (native (emitBranch thumb (cycles + x .cost) (x .instr) link target), 0)
 emitOp thumb region cycles x (ThumbBlHigh lr) = (emitShell thumb true cycles (x .instr), 0)
@@ -106,45 +109,44 @@ emitOp thumb region cycles x (Undefined raw) = emitStraight thumb false cycles x
 unfoldable pub emitInstr : Bool → ℕ → ℕ → TimedInstr → Form × ℕ
 emitInstr thumb region cycles x = emitOp thumb region cycles x (x .instr .op)
 
--- one thing for two instructions that are no pair, another for a pair
+-- the first value where nothing fused, else f of target and return address
 abbrev pub fusedOr : {A : Type 0} → Fused → A → (ℕ → ℕ → A) → A
 fusedOr Nothing two f = two
 fusedOr (Pair target ret) two f = f target ret
 
--- a form before others
-abbrev pub before : Form → List Form × ℕ → List Form × ℕ
-before r rs = (r ∷ rs .0, rs .1)
+-- a form before those of the instructions behind, and the cycles pending behind them
+abbrev pub consForm : Form → List Form × ℕ → List Form × ℕ
+consForm r rs = (r ∷ rs .0, rs .1)
 
 -- the loop: the forms of instructions, with cycles pending before them, and the cycles pending behind them
 unfoldable pub emitInstrs : Bool → ℕ → ℕ → List TimedInstr → List Form × ℕ
 emitInstrs thumb region cycles [] = ([], cycles)
-emitInstrs thumb region cycles (x ∷ []) = let s : Form × ℕ = emitInstr thumb region cycles x in before (s .0) ([], s .1)
+emitInstrs thumb region cycles (x ∷ []) = let s : Form × ℕ = emitInstr thumb region cycles x in consForm (s .0) ([], s .1)
 emitInstrs thumb region cycles (x ∷ y ∷ rest) =
     let s : Form × ℕ = emitInstr thumb region cycles x in
-    let two : List Form × ℕ = before (s .0) (emitInstrs thumb region (s .1) (y ∷ rest)) in
+    let two : List Form × ℕ = consForm (s .0) (emitInstrs thumb region (s .1) (y ∷ rest)) in
     fusedOr (fuse (x .instr) (y .instr)) two
-    (λ target ret. before (native (emitPair (cycles + (x .cost + y .cost)) target ret)) (emitInstrs thumb region 0 rest))
+    (λ target ret. consForm (native (emitPair (cycles + (x .cost + y .cost)) target ret)) (emitInstrs thumb region 0 rest))
 
 -- the lines before the closing transfer, by the last instruction
-abbrev pub closing : ℕ → List TimedInstr → Lines
-closing cycles [] = []
-closing cycles (x ∷ []) = flushTicks cycles ++ apart (setWord 15 ((x .instr .addr + sizeOf (x .instr .thumb)) % 2 ^ 32) ∷ [])
-closing cycles (x ∷ y ∷ rest) = closing cycles (y ∷ rest)
+abbrev pub closingLines : ℕ → List TimedInstr → Lines
+closingLines cycles [] = []
+closingLines cycles (x ∷ []) = flushTicks cycles ++ apart (setWord 15 ((x .instr .addr + sizeOf (x .instr .thumb)) % 2 ^ 32) ∷ [])
+closingLines cycles (x ∷ y ∷ rest) = closingLines cycles (y ∷ rest)
 
 -- the hash of a block's code bytes, or their absence
-abbrev pub hashOf : ℕ → Option (List ℕ) → Option ℕ
-hashOf multiplier none = none
-hashOf multiplier (some bytes) = some (fnv64 multiplier bytes)
+abbrev pub hashOf : ℕ → Block → Option ℕ
+hashOf multiplier b = Option·map (fnv64 multiplier) (b .code)
 
 -- a block as it is printed
 unfoldable pub bodyOf : ℕ → Block → Body
 bodyOf multiplier b =
-    let forms : List Form × ℕ = emitInstrs (b .thumb) (regionOf (b .addr)) 0 (b .instrs) in
+    let forms : List Form × ℕ = emitInstrs (b .thumb) (region (b .addr)) 0 (b .instrs) in
     record {
       addr = b .addr;
       thumb = b .thumb;
       count = length (b .instrs);
-      hash = hashOf multiplier (b .code);
+      hash = hashOf multiplier b;
       forms = forms .0;
-      last = closing (forms .1) (b .instrs);
+      closing = closingLines (forms .1) (b .instrs);
     }

@@ -24,7 +24,7 @@ use Rattle.c_tree.specs.Preamble.{v32}
 use Rattle.c_tree.specs.Print.{plainText, spaces}
 use Rattle.forms.specs.Forms.{Lines, straight, branch, pair, bx, pop, native, shell}
 use Rattle.forms.specs.InlineBody.{apart, let32, setReg, mulBody, aligned, listed, advance, blockMemBody, inlineBody}
-use Rattle.forms.specs.Block.{setWord, emitInstr, emitInstrs, closing}
+use Rattle.forms.specs.Block.{setWord, emitInstr, emitInstrs, closingLines}
 
 -- the statements of a line
 abbrev lineText : List Plain → Doc
@@ -201,5 +201,5 @@ costs : emitInstrs false 8 0 (mul 1 ∷ timed 2 (always false stmia) ∷ timed 3
 unfolding emitInstrs emitInstr inlineBody fuse listed
 costs = refl
 
-costs-end : closing 4 (mul 1 ∷ mul 4 ∷ []) ≡ (tick 4 ∷ []) ∷ (setWord 15 0x0800_0004 ∷ []) ∷ []
+costs-end : closingLines 4 (mul 1 ∷ mul 4 ∷ []) ≡ (tick 4 ∷ []) ∷ (setWord 15 0x0800_0004 ∷ []) ∷ []
 costs-end = refl

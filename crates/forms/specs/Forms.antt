@@ -1,8 +1,8 @@
 -- The forms of text that emit_block prints for the instructions of a block. A form holds the expressions and plain statements that vary; the statements that
 -- a way goes by, and the layout, come with the form (the crate `lowering`).
-use Prim.Native.Nat.{ℕ, _+_}
+use Prim.Native.Nat.{ℕ}
 use mathlib.Core.Bool.{Bool}
-use mathlib.Core.List.{List, [], _∷_}
+use mathlib.Core.List.{List}
 use mathlib.Core.Option.{Option}
 use Rattle.c_tree.specs.Expr.{Expr}
 use Rattle.c_tree.specs.Stmt.{Plain}
@@ -11,7 +11,7 @@ use Rattle.c_tree.specs.Stmt.{Plain}
 abbrev pub Lines : Type 0
 Lines = List (List Plain)
 
--- the text of a native record, or of a fused pair; the first lines, at indent 4, are a tick or none and what else stands before
+-- the text of a native record (document 01), or of a fused pair; the first lines, at indent 4, are a tick or none and what else stands before
 pub data Native : Type 0 where
   straight : Lines → Lines → Native  -- { lines at 8 }
   holds : Lines → Expr → Lines → Native  -- { flags; if (e) { lines at 8 } }
@@ -24,7 +24,7 @@ pub data Native : Type 0 where
 -- what emit_block makes of a record, or of a fused pair
 pub data Form : Type 0 where
   native : Native → Form
-  shell : Bool → Lines → ℕ → Form  -- interp_one: whether it is an unfused ThumbBlHigh, behind which the closing transfer is printed too; the lines before; the key behind it
+  shell : Bool → Lines → ℕ → Form  -- a shell (document 01), which calls interp_one: whether it is an unfused ThumbBlHigh, behind which, where it is the block's last, the closing transfer is printed too; the lines before; the key behind it
 
 -- how many records a native form carries out
 abbrev pub records : Native → ℕ
@@ -36,16 +36,6 @@ records (pair t k) = 2
 records (bx t e) = 1
 records (pop t s l u e) = 1
 
--- how many records a form stands for
-abbrev pub weight : Form → ℕ
-weight (native r) = records r
-weight (shell h t k) = 1
-
--- how many records some forms stand for
-abbrev pub weights : List Form → ℕ
-weights [] = 0
-weights (r ∷ rs) = weight r + weights rs
-
 -- a block as it is printed: its address, whether it is Thumb, how many instructions it has, the hash of its code bytes or their absence, the forms of its
 -- instructions in their order, and the lines before the closing transfer
 pub record Body : Type 0 where
@@ -54,4 +44,4 @@ pub record Body : Type 0 where
   pub count : ℕ
   pub hash : Option ℕ
   pub forms : List Form
-  pub last : Lines
+  pub closing : Lines

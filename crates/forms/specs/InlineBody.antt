@@ -18,6 +18,7 @@ use Rattle.armv4t.specs.declared.Op.the-variants.{Alu, Mul, MulLong, Swap, Bx, 
 use Rattle.armv4t.specs.declared.Instr.{Instr}
 use Rattle.armv4t.specs.AluOp.{isCompare}
 use Rattle.armv4t.specs.Instr.{pcValue}
+use Rattle.armv4t.specs.RegisterList.{names}
 use Rattle.c_tree.specs.Expr.{Ty, s8, s16, s32, u32, s64, u64, word, uhex, udec, int, Name, x-r, x-base, x-ob, x-addr, reg, var, compl, Bin, mul, add, sub, shl, shr, band, bxor, bor, Width, w8, w16, w32, Expr, lit, get, par, un, bin, cast, pick, ror, read}
 use Rattle.c_tree.specs.Stmt.{is, plus, f-nz, f-c, f-nz64, Plain, declare, adds, set, drop, run, write}
 use Rattle.c_tree.specs.Preamble.{v32}
@@ -167,10 +168,6 @@ memBody base up pre rest (some off) =
     some
     (apart
     (let32 x-base base ∷ let32 x-ob (bin (step up) (v32 x-base) off) ∷ let32 x-addr (v32 (cond pre x-ob x-base)) ∷ rest))
-
--- whether a register list names a register
-abbrev pub names : ℕ → ℕ → Bool
-names rlist r = eqb (rlist / 2 ^ r % 2) 1
 
 -- the registers below n that a register list names, in rising order
 unfoldable pub listed : ℕ → ℕ → List ℕ

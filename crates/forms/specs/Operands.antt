@@ -14,7 +14,7 @@ use Rattle.armv4t.specs.Instr.{pcValue}
 use Rattle.c_tree.specs.Expr.{s32, u32, word, udec, int, x-cn, x-cz, x-cc, x-cv, reg, lnot, shl, shr, eq, ne, band, bor, land, lor, Expr, lit, get, par, un, bin, cast, ror}
 use Rattle.c_tree.specs.Preamble.{v32}
 
--- cond_expr without its outer parentheses, which `if` prints; Nv is taken as Al
+-- cond_expr without the parentheses around it: those are printed with the `if`. Nv is taken as Al
 abbrev pub condExpr : Cond → Expr
 condExpr Eq = v32 x-cz
 condExpr Ne = un lnot (v32 x-cz)
@@ -33,9 +33,13 @@ condExpr Le = bin lor (v32 x-cz) (bin ne (v32 x-cn) (v32 x-cv))
 condExpr Al = lit int 1
 condExpr Nv = lit int 1
 
--- reg: a register as an instruction reads it, PC as the address that it stands for there
+-- a register, or the value pc in the place of PC
+abbrev pub regOf : ℕ → ℕ → Expr
+regOf pc r = cond (eqb r 15) (lit word pc) (get (reg r))
+
+-- reg: a register as an instruction reads it
 abbrev pub regExpr : Instr → ℕ → Expr
-regExpr i r = cond (eqb r 15) (lit word (pcValue i)) (get (reg r))
+regExpr i r = regOf (pcValue i) r
 
 -- ((e >> nu) & 1u)
 abbrev pub bitOf : Expr → ℕ → Expr

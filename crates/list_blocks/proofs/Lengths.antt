@@ -1,12 +1,11 @@
 -- How long a listing can be: short enough that its length is exact in 64 bits.
 -- Assumes nothing.
 use Prim.Native.Nat.{ℕ, suc, zero-le, _+_, _*_, _≤_, _<_}
-use mathlib.Core.Path.{_≡_, refl, ap}
 use mathlib.Core.List.{List, [], _∷_}
 use native.Mathlib.Omega.{arith}
 use lib.ListN.{length}
 use Rattle.block_file.specs.Parse.{Block, blockKey}
-use Rattle.text.specs.Doc.{text, print}
+use Rattle.text.specs.Doc.{print}
 use Rattle.text.specs.Wrote.{top}
 use Rattle.text.proofs.Lengths.{most, length-most}
 use Rattle.block_exits.specs.Exits.{exits}

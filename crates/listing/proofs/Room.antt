@@ -7,9 +7,8 @@ use native.Mathlib.Omega.{arith}
 use borrow.Author.Tests.{lt-ltb, le-ltb}
 use lib.ListN.{length, take, drop, length-append}
 use lib.Seq.{take-at}
-use Rattle.block_file.specs.Answer.{Answer, refusal, value}
+use Rattle.block_file.specs.Answer.{refusal, value}
 use Rattle.block_file.specs.Parse.{Block, Parsed, parse}
-use Rattle.records.specs.Trailer.{blockCount}
 use Rattle.block_file.proofs.Accepted.{length-of, sections-of}
 use Rattle.text.specs.Doc.{Doc, text, print}
 use Rattle.text.specs.Wrote.{Wrote}

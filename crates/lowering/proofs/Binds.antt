@@ -9,17 +9,17 @@ use lib.Dec.{leb}
 use lib.ListN.{length, getD}
 use Rattle.armv4t.specs.Bit0.{clearBit0}
 use Rattle.block_file.specs.Parse.{Block}
-use Rattle.c_tree.specs.Expr.{Expr, lit, word}
-use Rattle.c_tree.specs.Stmt.{Plain, Owner, common, Test, other, Code, end, _⨾_, _⧺_, plain, retIf, gate, goto, ret, Top, opening, function, blank, extern, table, count, helper, block, group}
-use Rattle.c_tree.specs.Binds.{level, binds, declaratorsBind, plainBinds, testBinds, simpleBinds, codeBinds}
+use Rattle.c_tree.specs.Expr.{Expr}
+use Rattle.c_tree.specs.Stmt.{Plain, Owner, common, Code, end, _⨾_, plain, Top, extern, table, count}
+use Rattle.c_tree.specs.Binds.{level, binds, declaratorsBind, plainBinds, testBinds, simpleBinds, codeBinds, topBinds, treeBinds}
 use Rattle.c_tree.proofs.Laws.{binds-append}
 use Rattle.forms.specs.Forms.{Lines, Native, straight, holds, branch, jump, pair, bx, pop, Form, shell, records, Body}
 use Rattle.forms.specs.Block.{bodyOf}
-use Rattle.forms.proofs.Binds.{plainsBind, linesBind, nativeBinds, formBinds, forms-bind, last-binds}
+use Rattle.forms.proofs.Binds.{plainsBind, linesBind, nativeBinds, formBinds, forms-bind, closing-lines-bind}
 use Rattle.forms.proofs.Every.{Each}
-use Rattle.lowering.specs.Binds.{topBinds, treeBinds}
-use Rattle.lowering.specs.Block.{bodyKey, nl, sp, leave, line, lines, has, chain, transfer, closing, flags, conditional, nativeText, emitShell, rest, defer, guarded, underGuard, blockCode}
-use Rattle.lowering.specs.Units.{declared, emitBlock, labelled, groupCode, forwarders, emitGroup, opened, tail, TranslationUnit, textOf, cut, nobody, membersOf, unitsOf}
+use Rattle.lowering.specs.Block.{bodyKey, nl, sp, leave, line, lines, chain, transfer, closing, conditional, nativeText, rest, underGuard, blockCode}
+use Rattle.block_file.specs.Address.{among, outsideRomBios}
+use Rattle.lowering.specs.Units.{withLocals, emitBlock, labelled, groupCode, forwarders, emitGroup, unitHead, lastUnitEnd, TranslationUnit, textOf, cut, defaultBody, membersOf, unitsOf}
 
 left : (a b : Bool) → (a && b) ≡ true → a ≡ true
 left true b e = refl
@@ -57,7 +57,7 @@ chain-binds false o n k c h = h
 
 transfer-binds : (ks : List ℕ) (a : ℕ) (o : Owner) (n k : ℕ) (c : Code) → codeBinds false c ≡ true → codeBinds false (transfer ks a o n k c) ≡ true
 unfolding codeBinds simpleBinds binds transfer
-transfer-binds ks a o n k c h = pick (has k ks) _ _ (chain-binds (leb (clearBit0 k) a) o n k c h) h
+transfer-binds ks a o n k c h = pick (among k ks) _ _ (chain-binds (leb (clearBit0 k) a) o n k c h) h
 
 conditional-binds : (o : Owner) (e : Expr) (b c : Code) → binds false e ≡ true → codeBinds false b ≡ true → codeBinds false c ≡ true → codeBinds false (conditional o e b c) ≡ true
 unfolding codeBinds simpleBinds plainBinds declaratorsBind testBinds binds level
@@ -92,10 +92,10 @@ abbrev pub AllBind : List Form → Type 0
 AllBind rs = Each (λ (r : Form). formBinds r ≡ true) rs
 
 -- a block whose forms and closing lines bind
-module _ (ks : List ℕ) (b : Body) (last : linesBind (b .last) ≡ true) where
+module _ (ks : List ℕ) (b : Body) (bound : linesBind (b .closing) ≡ true) where
   closing-binds : codeBinds false (closing ks b) ≡ true
   unfolding codeBinds closing
-  closing-binds = lines-bind common 4 (b .last) _ last (transfer-binds ks (b .addr) common 4 _ end refl)
+  closing-binds = lines-bind common 4 (b .closing) _ bound (transfer-binds ks (b .addr) common 4 _ end refl)
 
   rest-binds : (i : ℕ) (rs : List Form) → AllBind rs → codeBinds false (rest ks b i rs) ≡ true
   unfolding codeBinds simpleBinds testBinds binds level rest
@@ -112,11 +112,11 @@ module _ (ks : List ℕ) (b : Body) (last : linesBind (b .last) ≡ true) where
 
   pub block-binds : AllBind (b .forms) → codeBinds false (blockCode ks b) ≡ true
   unfolding blockCode
-  block-binds h = pick (guarded b) _ _ (guard-binds (b .hash) h) (rest-binds 0 (b .forms) h)
+  block-binds h = pick (outsideRomBios (b .addr)) _ _ (guard-binds (b .hash) h) (rest-binds 0 (b .forms) h)
 
 -- blocks that bind
 abbrev pub Binding : Body → Type 0
-Binding b = AllBind (b .forms) × (linesBind (b .last) ≡ true)
+Binding b = AllBind (b .forms) × (linesBind (b .closing) ≡ true)
 
 abbrev pub AllBinding : List Body → Type 0
 AllBinding bs = Each Binding bs
@@ -135,7 +135,7 @@ forwarders-bind k n (b ∷ bs) t (List·Memᴰ·tail m) = forwarders-bind k (suc
 
 -- all code of a group
 pub group-binds : (bs : List Body) → AllBinding bs → (t : Top) → List·Memᴰ t (emitGroup bs) → topBinds t ≡ true
-unfolding codeBinds simpleBinds plainBinds emitGroup emitBlock declared groupCode
+unfolding codeBinds simpleBinds plainBinds emitGroup emitBlock withLocals groupCode
 group-binds (b ∷ []) h t (List·Memᴰ·head e) = rw e (block-binds [] b (h .0 .1) (h .0 .0))
 group-binds (b ∷ []) h t (List·Memᴰ·tail (List·Memᴰ·head e)) = rw e
 group-binds (b ∷ c ∷ bs) h t (List·Memᴰ·head e) = rw e (labelled-binds (map bodyKey (b ∷ c ∷ bs)) (b ∷ c ∷ bs) h)
@@ -153,11 +153,11 @@ holds-append ts us h k t m = go (List·Memᴰ·append-cases ts m)
     go (inl n) = h t n
     go (inr n) = k t n
 
-opened-binds : Holds opened
+head-binds : Holds unitHead
 unfolding codeBinds simpleBinds plainBinds declaratorsBind binds level
-opened-binds t m = first m
+head-binds t m = first m
   where
-    first : List·Memᴰ t opened → topBinds t ≡ true
+    first : List·Memᴰ t unitHead → topBinds t ≡ true
     first (List·Memᴰ·head e) = rw e
     first (List·Memᴰ·tail (List·Memᴰ·head e)) = rw e
     first (List·Memᴰ·tail (List·Memᴰ·tail (List·Memᴰ·head e))) = rw e
@@ -166,9 +166,9 @@ opened-binds t m = first m
     first (List·Memᴰ·tail (List·Memᴰ·tail (List·Memᴰ·tail (List·Memᴰ·tail (List·Memᴰ·tail (List·Memᴰ·head e)))))) = rw e
     first (List·Memᴰ·tail (List·Memᴰ·tail (List·Memᴰ·tail (List·Memᴰ·tail (List·Memᴰ·tail (List·Memᴰ·tail (List·Memᴰ·head e))))))) = rw e
 
-tail-binds : (bs : List Body) → Holds (tail bs)
-unfolding codeBinds tail
-tail-binds bs = holds-append (map (λ (b : Body). extern (bodyKey b)) bs) _ (externs bs) ends
+end-binds : (bs : List Body) → Holds (lastUnitEnd bs)
+unfolding codeBinds lastUnitEnd
+end-binds bs = holds-append (map (λ (b : Body). extern (bodyKey b)) bs) _ (externs bs) ends
   where
     externs : (cs : List Body) → Holds (map (λ (b : Body). extern (bodyKey b)) cs)
     externs [] t m = absurd (List·Memᴰ·not-nil m)
@@ -185,13 +185,13 @@ unfolding cut
 cut-binds max closed ts n [] h k g u (List·Memᴰ·head e) = rw e (holds-append ts closed k h)
 cut-binds max closed ts n (c ∷ gs) h k g u m =
     let more : Holds (ts ++ emitGroup c) = holds-append ts (emitGroup c) k (group-binds c (g .0)) in
-    go (leb max (length (textOf (ts ++ emitGroup c)))) more (cut-binds max closed opened (n + length c) gs h opened-binds (g .1) u)
+    go (leb max (length (textOf (ts ++ emitGroup c)))) more (cut-binds max closed unitHead (n + length c) gs h head-binds (g .1) u)
     (cut-binds max closed (ts ++ emitGroup c) (n + length c) gs h more (g .1) u) m
   where
-    go : (b : Bool) → Holds (ts ++ emitGroup c) → (List·Memᴰ u (cut max closed opened (n + length c) gs) → Holds (u .tree))
+    go : (b : Bool) → Holds (ts ++ emitGroup c) → (List·Memᴰ u (cut max closed unitHead (n + length c) gs) → Holds (u .tree))
         → (List·Memᴰ u (cut max closed (ts ++ emitGroup c) (n + length c) gs) → Holds (u .tree))
         → List·Memᴰ u
-        (cond b (record { tree = ts ++ emitGroup c; done = n + length c; last = false } ∷ cut max closed opened (n + length c) gs)
+        (cond b (record { tree = ts ++ emitGroup c; done = n + length c; last = false } ∷ cut max closed unitHead (n + length c) gs)
         (cut max closed (ts ++ emitGroup c) (n + length c) gs))
         → Holds (u .tree)
     go true more next same (List·Memᴰ·head e) = rw e more
@@ -200,9 +200,9 @@ cut-binds max closed ts n (c ∷ gs) h k g u m =
 
 bodies-bind : (multiplier : ℕ) (bs : List Block) → AllBinding (map (bodyOf multiplier) bs)
 bodies-bind multiplier [] = tt
-bodies-bind multiplier (b ∷ bs) = ((forms-bind multiplier b, last-binds multiplier b), bodies-bind multiplier bs)
+bodies-bind multiplier (b ∷ bs) = ((forms-bind multiplier b, closing-lines-bind multiplier b), bodies-bind multiplier bs)
 
-body-binds : (bs : List Body) → AllBinding bs → (i : ℕ) → Binding (getD bs i nobody)
+body-binds : (bs : List Body) → AllBinding bs → (i : ℕ) → Binding (getD bs i defaultBody)
 body-binds [] h i = (tt, refl)
 body-binds (b ∷ bs) h zero = h .0
 body-binds (b ∷ bs) h (suc i) = body-binds bs (h .1) i
@@ -227,4 +227,4 @@ unfolding unitsOf
 units-bind multiplier max bs gs u m =
     let bodies = map (bodyOf multiplier) bs in
     tree-binds (u .tree)
-    (cut-binds max (tail bodies) opened 0 (map (membersOf bodies) gs) (tail-binds bodies) opened-binds (groups-bind bodies (bodies-bind multiplier bs) gs) u m)
+    (cut-binds max (lastUnitEnd bodies) unitHead 0 (map (membersOf bodies) gs) (end-binds bodies) head-binds (groups-bind bodies (bodies-bind multiplier bs) gs) u m)

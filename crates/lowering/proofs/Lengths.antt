@@ -4,15 +4,12 @@ use mathlib.Core.Bool.{Bool, true, false, cond}
 use mathlib.Core.List.{List, [], _∷_, _++_, map, flatten, List·Memᴰ, List·Memᴰ·head, List·Memᴰ·tail}
 use mathlib.Core.Option.{Option, none, some}
 use mathlib.Core.Path.{_≡_, refl, ap, subst}
-use native.Mathlib.Nat.{add-zero, zero-add}
 use native.Mathlib.Omega.{arith}
 use native.Mathlib.Decide.{decLt}
 use lib.Dec.{leb, eqb}
 use lib.ListN.{length, getD, length-map}
 use Rattle.armv4t.specs.Bit0.{clearBit0}
-use Rattle.records.specs.Trailer.{blockCount, instrCount, blockStart}
-use Rattle.records.specs.BlockRecord.{addrAt, countAt, thumbAt, countSum}
-use Rattle.block_file.specs.Parse.{Block, Parsed, instrsFrom, blockAt, blocksFrom, parse, instrTotal}
+use Rattle.block_file.specs.Parse.{Block, Parsed, parse, instrTotal}
 use Rattle.block_file.proofs.Accepted.{length-of, few-blocks, few-instrs, instrs-of}
 use Rattle.forest.specs.Forest.{range}
 use Rattle.plan.specs.Plan.{groups}
@@ -30,13 +27,15 @@ use Rattle.c_tree.specs.Preamble.{v32}
 use Rattle.c_tree.specs.Print.{exprText, keyText, spaces, casesText, codeText, rowText, unitText}
 use Rattle.c_tree.proofs.Laws.{length-unit}
 use Rattle.c_tree.proofs.Lengths.{most-append}
-use Rattle.forms.specs.Forms.{Lines, Native, straight, holds, branch, jump, pair, bx, pop, Form, shell, records, weights, Body}
+use Rattle.forms.specs.Forms.{Lines, Native, straight, holds, branch, jump, pair, bx, pop, Form, shell, records, Body}
+use Rattle.forms.proofs.RecordCount.{recordCounts, body-count}
 use Rattle.forms.specs.Block.{bodyOf}
 use Rattle.forms.proofs.Every.{either, Each}
-use Rattle.forms.proofs.Lengths.{plainsMost, linesMost, nativeMost, formMost, forms-within, last-within}
-use Rattle.forms.proofs.Weights.{body-weight}
-use Rattle.lowering.specs.Block.{bodyKey, bodyEnd, nl, sp, line, lines, has, chain, transfer, closing, conditional, leave, toThumb, toArm, nativeText, emitShell, rest, guarded, underGuard, blockCode}
-use Rattle.lowering.specs.Units.{declared, emitBlock, labelled, groupCode, forwarders, emitGroup, opened, tail, TranslationUnit, textOf, cut, nobody, membersOf, unitsOf}
+use Rattle.forms.proofs.Lengths.{plainsMost, linesMost, nativeMost, formMost, forms-within, closing-short}
+use Rattle.lowering.specs.Block.{bodyKey, bodyEnd, nl, sp, line, lines, chain, transfer, closing, conditional, leave, toThumb, toArm, nativeText, shellCode, rest, underGuard, blockCode}
+use Rattle.records.specs.BlockRecord.{keyPlus}
+use Rattle.block_file.specs.Address.{among, outsideRomBios}
+use Rattle.lowering.specs.Units.{withLocals, emitBlock, labelled, groupCode, forwarders, emitGroup, unitHead, lastUnitEnd, TranslationUnit, textOf, cut, defaultBody, membersOf, unitsOf}
 
 -- the most bytes of the text of code
 abbrev codeMost : Code → ℕ
@@ -66,7 +65,7 @@ chain-most false o n k c h = omega (arith, h, spaces-most n, key-most k)
 transfer-most : (ks : List ℕ) (a : ℕ) (o : Owner) (n k : ℕ) (c : Code) → n ≤ 8 → codeMost (transfer ks a o n k c) ≤ 80 + codeMost c
 unfolding transfer
 transfer-most ks a o n k c h =
-    either (λ (d : Code). codeMost d ≤ 80 + codeMost c) (has k ks) (chain-most (leb (clearBit0 k) a) o n k c h) (omega (arith, h, spaces-most n))
+    either (λ (d : Code). codeMost d ≤ 80 + codeMost c) (among k ks) (chain-most (leb (clearBit0 k) a) o n k c h) (omega (arith, h, spaces-most n))
 
 conditional-most : (o : Owner) (e : Expr) (b c : Code) → codeMost (conditional o e b c) ≤ 300 + most (exprText e) + codeMost b + codeMost c
 conditional-most o e b c = omega arith
@@ -129,8 +128,8 @@ records-some (pop t s l u e) = omega arith
 -- a block whose forms and closing lines are as short as those of every instruction, and which has no more records than it counts
 pub record Short (b : Body) : Type 0 where
   pub forms : Each (λ (r : Form). formMost r ≤ 2200) (b .forms)
-  pub last : linesMost (b .last) ≤ 100
-  pub count : weights (b .forms) ≤ b .count
+  pub closing : linesMost (b .closing) ≤ 100
+  pub count : recordCounts (b .forms) ≤ b .count
 
 module _ (ks : List ℕ) (b : Body) (short : Short b) where
   closing-most : codeMost (closing ks b) ≤ 180
@@ -138,12 +137,12 @@ module _ (ks : List ℕ) (b : Body) (short : Short b) where
   closing-most =
       omega (
         arith,
-        short .last,
-        lines-most common 4 (b .last) (transfer ks (b .addr) common 4 (bodyEnd b + cond (b .thumb) 1 0) end) (omega arith),
-        transfer-most ks (b .addr) common 4 (bodyEnd b + cond (b .thumb) 1 0) end (omega arith),
+        short .closing,
+        lines-most common 4 (b .closing) (transfer ks (b .addr) common 4 (keyPlus (bodyEnd b) (b .thumb)) end) (omega arith),
+        transfer-most ks (b .addr) common 4 (keyPlus (bodyEnd b) (b .thumb)) end (omega arith),
       )
 
-  rest-most : (i : ℕ) (rs : List Form) → Each (λ (r : Form). formMost r ≤ 2200) rs → codeMost (rest ks b i rs) ≤ 180 + weights rs * 2600
+  rest-most : (i : ℕ) (rs : List Form) → Each (λ (r : Form). formMost r ≤ 2200) rs → codeMost (rest ks b i rs) ≤ 180 + recordCounts rs * 2600
   unfolding rest
   rest-most i [] h = omega (arith, closing-most)
   rest-most i (Form.native r ∷ rs) h =
@@ -161,7 +160,7 @@ module _ (ks : List ℕ) (b : Body) (short : Short b) where
       omega (
         arith,
         h .0,
-        lines-most common 4 t (emitShell b i k (rest ks b (i + 1) (r ∷ rs))) (omega arith),
+        lines-most common 4 t (shellCode b i k (rest ks b (i + 1) (r ∷ rs))) (omega arith),
         rest-most (i + 1) (r ∷ rs) (h .1),
       )
 
@@ -173,7 +172,7 @@ module _ (ks : List ℕ) (b : Body) (short : Short b) where
   code-most : codeMost (blockCode ks b) ≤ 400 + b .count * 2600
   unfolding blockCode
   code-most =
-      either (λ (c : Code). codeMost c ≤ 400 + b .count * 2600) (guarded b) (guard-most (b .hash))
+      either (λ (c : Code). codeMost c ≤ 400 + b .count * 2600) (outsideRomBios (b .addr)) (guard-most (b .hash))
       (omega (arith, short .count, rest-most 0 (b .forms) (short .forms)))
 
   -- the text of a block
@@ -184,7 +183,7 @@ module _ (ks : List ℕ) (b : Body) (short : Short b) where
 pub body-short : (multiplier : ℕ) (b : Block) → Short (bodyOf multiplier b)
 unfolding bodyOf
 body-short multiplier b =
-    record { forms = forms-within multiplier b; last = last-within multiplier b; count = omega (arith, body-weight multiplier b) }
+    record { forms = forms-within multiplier b; closing = closing-short multiplier b; count = omega (arith, body-count multiplier b) }
 
 -- the text of a block, by its instructions
 pub block-short : (ks : List ℕ) (multiplier : ℕ) (b : Block) → length (print (codeText (blockCode ks (bodyOf multiplier b)))) ≤ 400 + length (b .instrs) * 2600
@@ -218,7 +217,7 @@ forwarders-most k n [] = omega arith
 forwarders-most k n (b ∷ bs) = omega (arith, key-most (bodyKey b), forwarders-most k (suc n) bs)
 
 tree-most : (bs : List Body) → Each Short bs → most (unitText (emitGroup bs)) ≤ membersMost bs
-unfolding emitGroup emitBlock groupCode declared
+unfolding emitGroup emitBlock groupCode withLocals
 tree-most [] h = omega arith
 tree-most (b ∷ []) h = omega (arith, key-most (bodyKey b), code-most [] b (h .0))
 tree-most (b ∷ c ∷ bs) h =
@@ -230,14 +229,14 @@ pub group-most : (bs : List Body) → Each Short bs → length (textOf (emitGrou
 unfolding textOf
 group-most bs h = omega (arith, length-most (unitText (emitGroup bs)), tree-most bs h)
 
-opened-most : length (textOf opened) ≤ 4000
+head-most : length (textOf unitHead) ≤ 4000
 unfolding textOf hexadecimal8 fixed
-opened-most = omega (arith, length-most (unitText opened))
+head-most = omega (arith, length-most (unitText unitHead))
 
 -- externs, table and count
-tail-most : (bs : List Body) → length (textOf (tail bs)) ≤ 200 + length bs * 100
-unfolding textOf tail
-tail-most bs =
+end-most : (bs : List Body) → length (textOf (lastUnitEnd bs)) ≤ 200 + length bs * 100
+unfolding textOf lastUnitEnd
+end-most bs =
     let names : List Top = map (λ (b : Body). extern (bodyKey b)) bs in
     let ends : List Top = table (map bodyKey bs) ∷ counts (length bs) ∷ [] in
     omega (arith, length-unit names ends, length-most (unitText names), length-most (unitText ends), externs bs, rows bs)
@@ -260,9 +259,9 @@ pub text-append : (ts us : List Top) → length (textOf (ts ++ us)) ≡ length (
 unfolding textOf
 text-append ts us = length-unit ts us
 
-among : (bs : List Body) (g : List ℕ) (gs : List (List ℕ)) → List·Memᴰ g gs → membersMost (membersOf bs g) ≤ groupsMost (map (membersOf bs) gs)
-among bs g (h ∷ gs) (List·Memᴰ·head e) = omega (arith, ap (λ (k : List ℕ). membersMost (membersOf bs k)) e)
-among bs g (h ∷ gs) (List·Memᴰ·tail m) = omega (arith, among bs g gs m)
+group-below : (bs : List Body) (g : List ℕ) (gs : List (List ℕ)) → List·Memᴰ g gs → membersMost (membersOf bs g) ≤ groupsMost (map (membersOf bs) gs)
+group-below bs g (h ∷ gs) (List·Memᴰ·head e) = omega (arith, ap (λ (k : List ℕ). membersMost (membersOf bs k)) e)
+group-below bs g (h ∷ gs) (List·Memᴰ·tail m) = omega (arith, group-below bs g gs m)
 
 -- tops with a text of at most n bytes
 abbrev Within : ℕ → List Top → Type 0
@@ -276,14 +275,14 @@ cut-most max closed ts n before [] g h u (List·Memᴰ·head e) = rw e (omega (a
 cut-most max closed ts n before (c ∷ gs) g h u m =
     let more : Within (4000 + (before + membersMost c)) (ts ++ emitGroup c) = omega (arith, text-append ts (emitGroup c), group-most c (g .0), h) in
     go (leb max (length (textOf (ts ++ emitGroup c)))) more
-    (cut-most max closed opened (n + length c) (before + membersMost c) gs (g .1) (omega (arith, opened-most)) u)
+    (cut-most max closed unitHead (n + length c) (before + membersMost c) gs (g .1) (omega (arith, head-most)) u)
     (cut-most max closed (ts ++ emitGroup c) (n + length c) (before + membersMost c) gs (g .1) more u) m
   where
     go : (b : Bool) → Within (4000 + (before + membersMost c)) (ts ++ emitGroup c)
-        → (List·Memᴰ u (cut max closed opened (n + length c) gs) → Within (4000 + (before + membersMost c) + groupsMost gs + length (textOf closed)) (u .tree))
+        → (List·Memᴰ u (cut max closed unitHead (n + length c) gs) → Within (4000 + (before + membersMost c) + groupsMost gs + length (textOf closed)) (u .tree))
         → (List·Memᴰ u (cut max closed (ts ++ emitGroup c) (n + length c) gs) → Within (4000 + (before + membersMost c) + groupsMost gs + length (textOf closed)) (u .tree))
         → List·Memᴰ u
-        (cond b (record { tree = ts ++ emitGroup c; done = n + length c; last = false } ∷ cut max closed opened (n + length c) gs)
+        (cond b (record { tree = ts ++ emitGroup c; done = n + length c; last = false } ∷ cut max closed unitHead (n + length c) gs)
         (cut max closed (ts ++ emitGroup c) (n + length c) gs))
         → Within (4000 + before + (membersMost c + groupsMost gs) + length (textOf closed)) (u .tree)
     go true more next same (List·Memᴰ·head e) = rw e (omega (arith, more))
@@ -294,8 +293,8 @@ bodies-short : (multiplier : ℕ) (bs : List Block) → Each Short (map (bodyOf 
 bodies-short multiplier [] = tt
 bodies-short multiplier (b ∷ bs) = (body-short multiplier b, bodies-short multiplier bs)
 
-member-short : (bs : List Body) → Each Short bs → (i : ℕ) → Short (getD bs i nobody)
-member-short [] h i = record { forms = tt; last = omega arith; count = omega arith }
+member-short : (bs : List Body) → Each Short bs → (i : ℕ) → Short (getD bs i defaultBody)
+member-short [] h i = record { forms = tt; closing = omega arith; count = omega arith }
 member-short (b ∷ bs) h zero = h .0
 member-short (b ∷ bs) h (suc i) = member-short bs (h .1) i
 
@@ -318,7 +317,7 @@ members-cost bs [] h = refl
 members-cost bs (i ∷ is) h =
     omega (
       arith,
-      map-at (λ (b : Body). membersMost (b ∷ [])) bs i nobody 0 (h i (List·Memᴰ·head refl)),
+      map-at (λ (b : Body). membersMost (b ∷ [])) bs i defaultBody 0 (h i (List·Memᴰ·head refl)),
       members-cost bs is (λ j m. h j (List·Memᴰ·tail m)),
     )
 
@@ -382,7 +381,7 @@ module _ (limit : ℕ) (bs : List Block) where
       omega (
         arith,
         group-most (membersOf bodies g) (members-short bodies (bodies-short multiplier bs) g),
-        among bodies g (groups limit bs) m,
+        group-below bodies g (groups limit bs) m,
         all-members multiplier,
       )
 
@@ -394,14 +393,13 @@ module _ (limit : ℕ) (bs : List Block) where
       let bodies : List Body = map (bodyOf multiplier) bs in
       omega (
         arith,
-        cut-most max (tail bodies) opened 0 0 (map (membersOf bodies) (groups limit bs)) (groups-short bodies (bodies-short multiplier bs) (groups limit bs))
-            (omega (arith, opened-most)) u m,
-        tail-most bodies,
+        cut-most max (lastUnitEnd bodies) unitHead 0 0 (map (membersOf bodies) (groups limit bs)) (groups-short bodies (bodies-short multiplier bs) (groups limit bs))
+            (omega (arith, head-most)) u m,
+        end-most bodies,
         length-map bs (bodyOf multiplier),
         all-members multiplier,
       )
 
--- the instructions of blocks are as many as their records count
 -- the text of every unit of an accepted file: at most 2,778,730,600 bytes by its limits
 pub units-short : (f : List ℕ) (bs : List Block) → parse f ≡ Parsed.accepted bs → (multiplier limit max : ℕ) (u : TranslationUnit)
     → List·Memᴰ u (unitsOf max (map (bodyOf multiplier) bs) (groups limit bs)) → length (textOf (u .tree)) < top

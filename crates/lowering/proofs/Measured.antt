@@ -11,8 +11,9 @@ use Rattle.text.proofs.Numerals.{length-fixed}
 use Rattle.c_tree.specs.Stmt.{Owner, common, begin, call, Code, end, _⨾_, when, braces, _⧺_, block, Top, function, extern, table, count}
 use Rattle.c_tree.specs.Print.{casesText, codeText, unitText}
 use Rattle.forms.specs.Forms.{Form, shell, records, Body}
-use Rattle.lowering.specs.Block.{bodyKey, nl, sp, lines, closing, nativeText, emitShell, rest, guarded, underGuard, blockCode}
-use Rattle.lowering.specs.Units.{declared, emitBlock, labelled, groupCode, forwarders, emitGroup, tail, textOf, nobody, membersOf}
+use Rattle.lowering.specs.Block.{bodyKey, nl, sp, lines, closing, nativeText, shellCode, rest, underGuard, blockCode}
+use Rattle.block_file.specs.Address.{outsideRomBios}
+use Rattle.lowering.specs.Units.{withLocals, emitBlock, labelled, groupCode, forwarders, emitGroup, lastUnitEnd, textOf, defaultBody, membersOf}
 use Rattle.lowering.specs.Measured.{seenHash, seen, measured}
 
 -- the length of a doc by its pieces: that of a hash is 16, whatever it is
@@ -46,7 +47,7 @@ size-append (braces b c) d = omega (arith, size-append c d)
 
 -- a body as it is written is itself
 pub seen-written : (b : Body) → seen true b ≡ b
-seen-written b = ap (λ (h : Option ℕ). record { addr = b .addr; thumb = b .thumb; count = b .count; hash = h; forms = b .forms; last = b .last }) (go (b .hash))
+seen-written b = ap (λ (h : Option ℕ). record { addr = b .addr; thumb = b .thumb; count = b .count; hash = h; forms = b .forms; closing = b .closing }) (go (b .hash))
   where
     go : (h : Option ℕ) → seenHash true h ≡ h
     go none = refl
@@ -60,7 +61,7 @@ module _ (written : Bool) where
   rest-seen ks b i (Form.native r ∷ rs) =
       ap (λ (c : Code). begin (bodyKey b) i (records r) ⨾ nativeText ks (b .addr) (Owner.native (bodyKey b)) r c) (rest-seen ks b (i + records r) rs)
   rest-seen ks b i (shell h t k ∷ []) = refl
-  rest-seen ks b i (shell h t k ∷ r ∷ rs) = ap (λ (c : Code). lines common 4 t (emitShell b i k c)) (rest-seen ks b (i + 1) (r ∷ rs))
+  rest-seen ks b i (shell h t k ∷ r ∷ rs) = ap (λ (c : Code). lines common 4 t (shellCode b i k c)) (rest-seen ks b (i + 1) (r ∷ rs))
 
   rest-size : (ks : List ℕ) (b : Body) → size (codeText (rest ks (seen written b) 0 (b .forms))) ≡ size (codeText (rest ks b 0 (b .forms)))
   rest-size ks b = ap (λ (c : Code). size (codeText c)) (rest-seen ks b 0 (b .forms))
@@ -72,8 +73,8 @@ module _ (written : Bool) where
   guard-size ks b (some h) = omega (arith, rest-size ks b)
 
   block-size : (ks : List ℕ) (b : Body) → size (codeText (blockCode ks (seen written b))) ≡ size (codeText (blockCode ks b))
-  unfolding blockCode guarded
-  block-size ks b = go (guarded b)
+  unfolding blockCode outsideRomBios
+  block-size ks b = go (outsideRomBios (b .addr))
     where
       go : (g : Bool)
           → size (codeText (cond g (underGuard ks (seen written b) (seenHash written (b .hash))) (rest ks (seen written b) 0 (b .forms))))
@@ -109,7 +110,7 @@ module _ (written : Bool) where
       ap (λ (ts : List Top). function (block (bodyKey b)) (sp 1 ⨾ call k n ⨾ sp 1 ⨾ end) ∷ ts) (forwarders-seen k (suc n) bs)
 
   group-size : (bs : List Body) → size (unitText (emitGroup (map (seen written) bs))) ≡ size (unitText (emitGroup bs))
-  unfolding emitGroup emitBlock groupCode declared
+  unfolding emitGroup emitBlock groupCode withLocals
   group-size [] = refl
   group-size (b ∷ []) = omega (arith, block-size [] b)
   group-size (b ∷ c ∷ bs) =
@@ -128,9 +129,9 @@ module _ (written : Bool) where
   seen-length bs = length-size (unitText (emitGroup (map (seen written) bs))) ∙ group-size bs ∙ sym (length-size (unitText (emitGroup bs)))
 
   -- the end of the last unit stays: it shows keys alone
-  pub seen-tail : (bs : List Body) → tail (map (seen written) bs) ≡ tail bs
-  unfolding tail
-  seen-tail bs =
+  pub seen-end : (bs : List Body) → lastUnitEnd (map (seen written) bs) ≡ lastUnitEnd bs
+  unfolding lastUnitEnd
+  seen-end bs =
       ap₂ (λ (ts us : List Top). ts ++ us) (externs bs)
       (ap₂ (λ (ks : List ℕ) (n : ℕ). table ks ∷ count n ∷ []) (seen-keys bs) (length-map bs (seen written)))
     where
@@ -144,7 +145,7 @@ module _ (written : Bool) where
   seen-members bs [] = refl
   seen-members bs (i ∷ is) = ap₂ (λ (c : Body) (cs : List Body). c ∷ cs) (at bs i) (seen-members bs is)
     where
-      at : (cs : List Body) (j : ℕ) → getD (map (seen written) cs) j nobody ≡ seen written (getD cs j nobody)
+      at : (cs : List Body) (j : ℕ) → getD (map (seen written) cs) j defaultBody ≡ seen written (getD cs j defaultBody)
       at [] j = refl
       at (c ∷ cs) zero = refl
       at (c ∷ cs) (suc j) = at cs j

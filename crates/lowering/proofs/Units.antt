@@ -12,7 +12,7 @@ use Rattle.plan.proofs.PlanLength.{groups-length}
 use Rattle.plan.specs.Plan.{groups}
 use Rattle.c_tree.specs.Stmt.{Top}
 use Rattle.forms.specs.Forms.{Body}
-use Rattle.lowering.specs.Units.{TranslationUnit, emitGroup, opened, tail, textOf, cut, nobody, membersOf, unitsOf, unitsFor}
+use Rattle.lowering.specs.Units.{TranslationUnit, emitGroup, unitHead, lastUnitEnd, textOf, cut, defaultBody, membersOf, unitsOf, unitsFor}
 
 -- how many blocks some groups have
 abbrev pub blocksIn : {A : Type 0} → List (List A) → ℕ
@@ -65,8 +65,8 @@ module _ (max : ℕ) (closed : List Top) where
   cut-ends (g ∷ gs) ts n =
       let same : n + length g + blocksIn gs ≡ n + (length g + blocksIn gs) = omega arith in
       subst (λ (m : ℕ). Ends max closed m (cut max closed ts n (g ∷ gs))) same
-      (go (leb max (length (textOf (ts ++ emitGroup g)))) (leb-true _ _) (cut max closed opened (n + length g) gs) (cut max closed (ts ++ emitGroup g) (n + length g) gs)
-      (cut-ends gs opened (n + length g)) (cut-ends gs (ts ++ emitGroup g) (n + length g)))
+      (go (leb max (length (textOf (ts ++ emitGroup g)))) (leb-true _ _) (cut max closed unitHead (n + length g) gs) (cut max closed (ts ++ emitGroup g) (n + length g) gs)
+      (cut-ends gs unitHead (n + length g)) (cut-ends gs (ts ++ emitGroup g) (n + length g)))
     where
       go : (x : Bool) → (x ≡ true → max ≤ length (textOf (ts ++ emitGroup g))) → (us vs : List TranslationUnit)
           → Ends max closed (n + length g + blocksIn gs) us → Ends max closed (n + length g + blocksIn gs) vs
@@ -76,18 +76,18 @@ module _ (max : ℕ) (closed : List Top) where
 
   -- a unit that is reached with PREAMBLE in front keeps it
   abbrev Opens : TranslationUnit → Type 0
-  Opens u = (r : List Top) × (u .tree ≡ opened ++ r)
+  Opens u = (r : List Top) × (u .tree ≡ unitHead ++ r)
 
-  grown : (ts more r : List Top) → ts ≡ opened ++ r → ts ++ more ≡ opened ++ (r ++ more)
-  grown ts more r e = ap (λ (l : List Top). l ++ more) e ∙ append-assoc opened r more
+  grown : (ts more r : List Top) → ts ≡ unitHead ++ r → ts ++ more ≡ unitHead ++ (r ++ more)
+  grown ts more r e = ap (λ (l : List Top). l ++ more) e ∙ append-assoc unitHead r more
 
-  cut-opens : (gs : List (List Body)) (ts : List Top) (n : ℕ) (r : List Top) → ts ≡ opened ++ r → (u : TranslationUnit) → List·Memᴰ u (cut max closed ts n gs) → Opens u
+  cut-opens : (gs : List (List Body)) (ts : List Top) (n : ℕ) (r : List Top) → ts ≡ unitHead ++ r → (u : TranslationUnit) → List·Memᴰ u (cut max closed ts n gs) → Opens u
   unfolding cut
   cut-opens [] ts n r e u (List·Memᴰ·head p) = subst Opens (sym p) (r ++ closed, grown ts closed r e)
   cut-opens [] ts n r e u (List·Memᴰ·tail m) = absurd (List·Memᴰ·not-nil m)
   cut-opens (g ∷ gs) ts n r e u m =
-      go (leb max (length (textOf (ts ++ emitGroup g)))) (cut max closed opened (n + length g) gs) (cut max closed (ts ++ emitGroup g) (n + length g) gs)
-      (cut-opens gs opened (n + length g) [] refl u) (cut-opens gs (ts ++ emitGroup g) (n + length g) (r ++ emitGroup g) (grown ts (emitGroup g) r e) u) m
+      go (leb max (length (textOf (ts ++ emitGroup g)))) (cut max closed unitHead (n + length g) gs) (cut max closed (ts ++ emitGroup g) (n + length g) gs)
+      (cut-opens gs unitHead (n + length g) [] refl u) (cut-opens gs (ts ++ emitGroup g) (n + length g) (r ++ emitGroup g) (grown ts (emitGroup g) r e) u) m
     where
       first : (us : List TranslationUnit) → (List·Memᴰ u us → Opens u)
           → List·Memᴰ u (record { tree = ts ++ emitGroup g; done = n + length g; last = false } ∷ us) → Opens u
@@ -106,19 +106,19 @@ length-map f (x ∷ xs) = ap suc (length-map f xs)
 blocks-of : (bs : List Body) (gs : List (List ℕ)) → blocksIn (map (membersOf bs) gs) ≡ blocksIn gs
 unfolding membersOf
 blocks-of bs [] = refl
-blocks-of bs (g ∷ gs) = omega (arith, length-map (λ (i : ℕ). getD bs i nobody) g, blocks-of bs gs)
+blocks-of bs (g ∷ gs) = omega (arith, length-map (λ (i : ℕ). getD bs i defaultBody) g, blocks-of bs gs)
 
 -- every unit but the last is long enough and not the last; the last has the table, and all blocks are done with it
-pub units-end : (max : ℕ) (bs : List Body) (gs : List (List ℕ)) → Ends max (tail bs) (blocksIn gs) (unitsOf max bs gs)
+pub units-end : (max : ℕ) (bs : List Body) (gs : List (List ℕ)) → Ends max (lastUnitEnd bs) (blocksIn gs) (unitsOf max bs gs)
 unfolding unitsOf
 units-end max bs gs =
     let same : 0 + blocksIn (map (membersOf bs) gs) ≡ blocksIn gs = omega (arith, blocks-of bs gs) in
-    subst (λ (n : ℕ). Ends max (tail bs) n (unitsOf max bs gs)) same (cut-ends max (tail bs) (map (membersOf bs) gs) opened 0)
+    subst (λ (n : ℕ). Ends max (lastUnitEnd bs) n (unitsOf max bs gs)) same (cut-ends max (lastUnitEnd bs) (map (membersOf bs) gs) unitHead 0)
 
 -- every unit opens with PREAMBLE and a newline
-pub unit-opens : (max : ℕ) (bs : List Body) (gs : List (List ℕ)) (u : TranslationUnit) → List·Memᴰ u (unitsOf max bs gs) → (r : List Top) × (u .tree ≡ opened ++ r)
+pub unit-opens : (max : ℕ) (bs : List Body) (gs : List (List ℕ)) (u : TranslationUnit) → List·Memᴰ u (unitsOf max bs gs) → (r : List Top) × (u .tree ≡ unitHead ++ r)
 unfolding unitsOf
-unit-opens max bs gs u m = cut-opens max (tail bs) (map (membersOf bs) gs) opened 0 [] refl u m
+unit-opens max bs gs u m = cut-opens max (lastUnitEnd bs) (map (membersOf bs) gs) unitHead 0 [] refl u m
 
 blocks-flat : (gs : List (List ℕ)) → blocksIn gs ≡ length (flatten gs)
 unfolding flatten
@@ -126,8 +126,8 @@ blocks-flat [] = refl
 blocks-flat (g ∷ gs) = omega (arith, length-append g (flatten gs), blocks-flat gs)
 
 -- with the last unit of a file's blocks all of them are done
-pub file-ends : (bodyOf : Block → Body) (limit max : ℕ) (bs : List Block) → Ends max (tail (map bodyOf bs)) (length bs) (unitsFor bodyOf limit max bs)
+pub file-ends : (bodyOf : Block → Body) (limit max : ℕ) (bs : List Block) → Ends max (lastUnitEnd (map bodyOf bs)) (length bs) (unitsFor bodyOf limit max bs)
 unfolding unitsFor
 file-ends bodyOf limit max bs =
-    subst (λ (n : ℕ). Ends max (tail (map bodyOf bs)) n (unitsOf max (map bodyOf bs) (groups limit bs))) (blocks-flat (groups limit bs) ∙ groups-length bs limit)
+    subst (λ (n : ℕ). Ends max (lastUnitEnd (map bodyOf bs)) n (unitsOf max (map bodyOf bs) (groups limit bs))) (blocks-flat (groups limit bs) ∙ groups-length bs limit)
     (units-end max (map bodyOf bs) (groups limit bs))

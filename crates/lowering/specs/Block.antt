@@ -1,35 +1,28 @@
 -- The tree of a block's text: transfer, emit_shell and emit_block. Code is made with what stands behind it as its last argument.
-use Prim.Native.Nat.{ℕ, _+_, _*_, _/_, _%_, _^_}
-use mathlib.Core.Bool.{Bool, true, false, not, cond, _||_}
+use Prim.Native.Nat.{ℕ, _+_, _%_, _^_}
+use mathlib.Core.Bool.{Bool, true, false, cond}
 use mathlib.Core.List.{List, [], _∷_}
 use mathlib.Core.Option.{Option, none, some}
-use lib.Dec.{leb, eqb}
+use lib.Dec.{leb}
 use Rattle.armv4t.specs.Bit0.{clearBit0}
-use Rattle.armv4t.specs.Instr.{sizeOf}
 use Rattle.c_tree.specs.Expr.{u32, word, uhex, udec, int, x-t, x-s, x-cn, x-cz, x-cc, x-cv, x-pc, reg, compl, shr, ne, band, bor, Expr, lit, get, par, un, bin}
 use Rattle.c_tree.specs.Stmt.{is, and, or, Plain, declare, set, guard, gate, other, Owner, common, Simple, gap, begin, plain, goto, ret, retIf, interp, retInterp, Code, end, _⨾_, when, braces}
 use Rattle.c_tree.specs.Preamble.{v32}
+use Rattle.records.specs.BlockRecord.{lengthOf, keyPlus}
+use Rattle.block_file.specs.Address.{outsideRomBios, among}
 use Rattle.forms.specs.Forms.{Lines, Native, straight, holds, branch, jump, pair, bx, pop, Form, shell, records, Body}
 
 -- the key of a block: its address plus the Thumb bit
 abbrev pub bodyKey : Body → ℕ
-bodyKey b = b .addr + cond (b .thumb) 1 0
+bodyKey b = keyPlus (b .addr) (b .thumb)
 
 -- its length in bytes
 abbrev pub bodyLength : Body → ℕ
-bodyLength b = b .count * sizeOf (b .thumb)
+bodyLength b = lengthOf (b .count) (b .thumb)
 
 -- the address behind it, wrapping at 2^32
 abbrev pub bodyEnd : Body → ℕ
 bodyEnd b = (b .addr + bodyLength b) % 2 ^ 32
-
--- its region: the page modulo 16
-abbrev pub region : Body → ℕ
-region b = b .addr / 2 ^ 24 % 16
-
--- outside regions 0 and 8
-unfoldable pub guarded : Body → Bool
-guarded b = not (eqb (region b) 8 || eqb (region b) 0)
 
 -- a line end, and spaces
 abbrev pub nl : Simple
@@ -49,24 +42,19 @@ abbrev pub lines : Owner → ℕ → Lines → Code → Code
 lines o n [] c = c
 lines o n (l ∷ ls) c = sp n ⨾ line o l (nl ⨾ lines o n ls c)
 
--- whether a key is among some
-abbrev pub has : ℕ → List ℕ → Bool
-has k [] = false
-has k (j ∷ js) = eqb k j || has k js
-
--- a goto, with the chain gate before it or not
+-- a goto: gated (document 01), with the chain gate before it, or plain
 unfoldable pub chain : Bool → Owner → ℕ → ℕ → Code → Code
 chain true o n k c = sp n ⨾ retIf o gate (lit word k) ⨾ nl ⨾ sp n ⨾ goto o k ⨾ nl ⨾ c
 chain false o n k c = sp n ⨾ goto o k ⨾ nl ⨾ c
 
--- transfer: from the block at address a, to key k, at indent n. A goto if k is among the group's keys, which a lone block has none of; gated if the
--- target's address is not above the block's
+-- transfer: from the block at address a, to key k, at indent n. ks: the keys of a group of several, empty for a lone block.
+-- A goto if k is among them; gated if the target's address is not above the block's
 unfoldable pub transfer : List ℕ → ℕ → Owner → ℕ → ℕ → Code → Code
-transfer ks a o n k c = cond (has k ks) (chain (leb (clearBit0 k) a) o n k c) (sp n ⨾ ret o (lit word k) ⨾ nl ⨾ c)
+transfer ks a o n k c = cond (among k ks) (chain (leb (clearBit0 k) a) o n k c) (sp n ⨾ ret o (lit word k) ⨾ nl ⨾ c)
 
--- the lines before the closing transfer, and that transfer to the key behind the block
+-- the closing transfer (document 01), to the key behind the block, with the lines before it
 unfoldable pub closing : List ℕ → Body → Code
-closing ks b = lines common 4 (b .last) (transfer ks (b .addr) common 4 (bodyEnd b + cond (b .thumb) 1 0) end)
+closing ks b = lines common 4 (b .closing) (transfer ks (b .addr) common 4 (keyPlus (bodyEnd b) (b .thumb)) end)
 
 -- (s_ >> n) & 1u
 abbrev pub flagBit : ℕ → Expr
@@ -116,16 +104,16 @@ nativeText ks a o (bx t e) c =
 nativeText ks a o (pop t p l q e) c =
     lines o 4 t (sp 4 ⨾ braces (sp 1 ⨾ plain o p ⨾ nl ⨾ lines o 6 l (sp 6 ⨾ plain o q ⨾ leave o e)) (nl ⨾ end))
 
--- emit_shell behind its lines, for the record with index i that has others behind it: the interpreter, and the way out where it comes to another key
-abbrev pub emitShell : Body → ℕ → ℕ → Code → Code
-emitShell b i k c = sp 4 ⨾ interp (bodyKey b) i ⨾ sp 1 ⨾ retIf common (other (bin ne (v32 x-pc) (lit word k))) (v32 x-pc) ⨾ nl ⨾ c
+-- emit_shell behind its lines, for the record with index i that has others behind it: the interpreter, and a return where its answer is not k, the next record's key
+abbrev pub shellCode : Body → ℕ → ℕ → Code → Code
+shellCode b i k c = sp 4 ⨾ interp (bodyKey b) i ⨾ sp 1 ⨾ retIf common (other (bin ne (v32 x-pc) (lit word k))) (v32 x-pc) ⨾ nl ⨾ c
 
 -- the text of a block from the record with index i on. The last shell returns; behind an unfused half that is last stands the closing transfer
 unfoldable pub rest : List ℕ → Body → ℕ → List Form → Code
 rest ks b i [] = closing ks b
 rest ks b i (Form.native r ∷ rs) = begin (bodyKey b) i (records r) ⨾ nativeText ks (b .addr) (Owner.native (bodyKey b)) r (rest ks b (i + records r) rs)
 rest ks b i (shell h t k ∷ []) = lines common 4 t (sp 4 ⨾ retInterp (bodyKey b) i ⨾ nl ⨾ cond h (closing ks b) end)
-rest ks b i (shell h t k ∷ r ∷ rs) = lines common 4 t (emitShell b i k (rest ks b (i + 1) (r ∷ rs)))
+rest ks b i (shell h t k ∷ r ∷ rs) = lines common 4 t (shellCode b i k (rest ks b (i + 1) (r ∷ rs)))
 
 -- the interpreter in the block's place
 abbrev pub defer : Body → Code → Code
@@ -136,6 +124,6 @@ unfoldable pub underGuard : List ℕ → Body → Option ℕ → Code
 underGuard ks b none = sp 4 ⨾ defer b (nl ⨾ end)
 underGuard ks b (some h) = sp 4 ⨾ when common true (guard (b .addr) (bodyLength b) h) (sp 1 ⨾ defer b (sp 1 ⨾ end)) (nl ⨾ rest ks b 0 (b .forms))
 
--- emit_block between its head, or label, and its close; ks are the keys of its group, none for a lone block
+-- emit_block between its head, or label, and its close; ks: the keys of a group of several, empty for a lone block
 unfoldable pub blockCode : List ℕ → Body → Code
-blockCode ks b = cond (guarded b) (underGuard ks b (b .hash)) (rest ks b 0 (b .forms))
+blockCode ks b = cond (outsideRomBios (b .addr)) (underGuard ks b (b .hash)) (rest ks b 0 (b .forms))

@@ -2,5 +2,4 @@
 pub mod Block
 pub mod Units
 pub mod Measured
-pub mod Binds
 pub mod Examples

@@ -12,7 +12,7 @@ seenHash written (some h) = some (cond written h 0)
 -- a body as it is written (true) or measured (false)
 abbrev pub seen : Bool → Body → Body
 seen written b =
-    record { addr = b .addr; thumb = b .thumb; count = b .count; hash = seenHash written (b .hash); forms = b .forms; last = b .last }
+    record { addr = b .addr; thumb = b .thumb; count = b .count; hash = seenHash written (b .hash); forms = b .forms; closing = b .closing }
 
 -- a body with 0 in the place of its hash, if it has one: what is measured instead of it
 abbrev pub measured : Body → Body

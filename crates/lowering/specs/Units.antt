@@ -17,8 +17,8 @@ use Rattle.forms.specs.Forms.{Body}
 use Rattle.lowering.specs.Block.{bodyKey, nl, sp, blockCode}
 
 -- c and pc, at the head of a function
-unfoldable pub declared : Code → Code
-declared c =
+unfoldable pub withLocals : Code → Code
+withLocals c =
     gap true 4
     ⨾ plain common registers
     ⨾ gap true 4
@@ -30,7 +30,7 @@ declared c =
 
 -- emit_block of a lone block: its function
 unfoldable pub emitBlock : Body → List Top
-emitBlock b = function (block (bodyKey b)) (declared (blockCode [] b)) ∷ blank ∷ []
+emitBlock b = function (block (bodyKey b)) (withLocals (blockCode [] b)) ∷ blank ∷ []
 
 -- the labelled bodies of a group with the keys ks
 unfoldable pub labelled : List ℕ → List Body → Code
@@ -39,7 +39,7 @@ labelled ks (b ∷ bs) = label (bodyKey b) ⨾ nl ⨾ (blockCode ks b ⧺ (nl �
 
 -- the body of a group's function
 unfoldable pub groupCode : List Body → Code
-groupCode bs = declared (sp 4 ⨾ switch (map bodyKey bs) ⨾ nl ⨾ labelled (map bodyKey bs) bs)
+groupCode bs = withLocals (sp 4 ⨾ switch (map bodyKey bs) ⨾ nl ⨾ labelled (map bodyKey bs) bs)
 
 -- the functions that enter the group of the key k, counted from n
 unfoldable pub forwarders : ℕ → ℕ → List Body → List Top
@@ -53,14 +53,15 @@ emitGroup (b ∷ []) = emitBlock b
 emitGroup (b ∷ c ∷ bs) = function (group (bodyKey b)) (groupCode (b ∷ c ∷ bs)) ∷ blank ∷ forwarders (bodyKey b) 0 (b ∷ c ∷ bs)
 
 -- PREAMBLE and a newline, at the head of each unit
-abbrev pub opened : List Top
-opened = preamble ++ (blank ∷ [])
+abbrev pub unitHead : List Top
+unitHead = preamble ++ (blank ∷ [])
 
 -- the end of the last unit: externs, table and count of all blocks
-unfoldable pub tail : List Body → List Top
-tail bs = map (λ (b : Body). extern (bodyKey b)) bs ++ (table (map bodyKey bs) ∷ count (length bs) ∷ [])
+unfoldable pub lastUnitEnd : List Body → List Top
+lastUnitEnd bs = map (λ (b : Body). extern (bodyKey b)) bs ++ (table (map bodyKey bs) ∷ count (length bs) ∷ [])
 
--- a unit: its tree, the blocks done with it, and whether it is the last
+-- a unit (document 01): its tree; the blocks done (document 01), that is how many blocks are done up to its end, from the first unit on; whether it is
+-- the last
 pub record TranslationUnit : Type 0 where
   pub tree : List Top
   pub done : ℕ
@@ -76,20 +77,20 @@ unfoldable pub cut : ℕ → List Top → List Top → ℕ → List (List Body) 
 cut max closed ts n [] = record { tree = ts ++ closed; done = n; last = true } ∷ []
 cut max closed ts n (g ∷ gs) =
     cond (leb max (length (textOf (ts ++ emitGroup g))))
-    (record { tree = ts ++ emitGroup g; done = n + length g; last = false } ∷ cut max closed opened (n + length g) gs)
+    (record { tree = ts ++ emitGroup g; done = n + length g; last = false } ∷ cut max closed unitHead (n + length g) gs)
     (cut max closed (ts ++ emitGroup g) (n + length g) gs)
 
 -- what a number past the last block would name; no group has one
-abbrev pub nobody : Body
-nobody = record { addr = 0; thumb = false; count = 0; hash = none; forms = []; last = [] }
+abbrev pub defaultBody : Body
+defaultBody = record { addr = 0; thumb = false; count = 0; hash = none; forms = []; closing = [] }
 
 -- the members of a group, by their numbers
 unfoldable pub membersOf : List Body → List ℕ → List Body
-membersOf bs is = map (λ (i : ℕ). getD bs i nobody) is
+membersOf bs is = map (λ (i : ℕ). getD bs i defaultBody) is
 
--- emit_c_chunked: the units of some blocks at a wished size, the groups being lists of block numbers
+-- emit_c_chunked: the units of some blocks at a wished size (document 01), the groups being lists of block numbers
 unfoldable pub unitsOf : ℕ → List Body → List (List ℕ) → List TranslationUnit
-unitsOf max bs gs = cut max (tail bs) opened 0 (map (membersOf bs) gs)
+unitsOf max bs gs = cut max (lastUnitEnd bs) unitHead 0 (map (membersOf bs) gs)
 
 -- the units of some blocks, where bodyOf says how one is printed: grouped by a limit, cut at a wished size
 unfoldable pub unitsFor : (Block → Body) → ℕ → ℕ → List Block → List TranslationUnit
@@ -99,7 +100,7 @@ unitsFor bodyOf limit max bs = unitsOf max (map bodyOf bs) (groups limit bs)
 abbrev pub fileUnits : ℕ → ℕ → ℕ → List Block → List TranslationUnit
 fileUnits multiplier = unitsFor (bodyOf multiplier)
 
--- what is told of a unit: its text, the text's length, the blocks done with it, and whether it is the last
+-- what is told of a unit: its text, the text's length, how many blocks are done up to its end, from the first unit on, and whether it is the last
 pub record UnitAnswer : Type 0 where
   pub text : List ℕ
   pub length : ℕ

@@ -19,16 +19,11 @@ use Rattle.plan.proofs.GroupLaws.{group-of, group-inside, group-joinable}
 use Rattle.block_file.proofs.Keys.{block-key, keys-rise}
 use Rattle.search.proofs.Searching.{target-some}
 use Rattle.plan.proofs.Listing.{map-at}
-use Rattle.members.specs.Members.{membersOf, keysOf, among}
+use Rattle.members.specs.Members.{membersOf, keysOf}
+use Rattle.block_file.specs.Address.{among}
 use Rattle.members.specs.Prepared.{Ready}
 use Rattle.members.proofs.GroupOf.{group-listed}
 use Rattle.members.proofs.Places.{list-at, has-member, blocks-all}
-
--- any test that goes through a list in the same way is the same
-pub among-only : (has : ℕ → List ℕ → Bool) → ((k : ℕ) → has k [] ≡ false) → ((k j : ℕ) (js : List ℕ) → has k (j ∷ js) ≡ (eqb k j || has k js))
-    → (k : ℕ) (ks : List ℕ) → has k ks ≡ among k ks
-among-only has empty more k [] = empty k
-among-only has empty more k (j ∷ js) = more k j js ∙ ap (λ (b : Bool). eqb k j || b) (among-only has empty more k js)
 
 or-right : (b c : Bool) → c ≡ true → (b || c) ≡ true
 or-right true c e = refl

@@ -1,8 +1,6 @@
 -- The members of the groups of a plan: their keys, and the rows where they stand.
 use Prim.Native.Nat.{ℕ, zero, suc, _+_}
-use mathlib.Core.Bool.{Bool, false, _||_}
 use mathlib.Core.List.{List, [], _∷_, map}
-use lib.Dec.{eqb}
 use lib.ListN.{length, getD}
 use Rattle.block_file.specs.Parse.{Block, blockKey}
 use Rattle.plan.specs.Plan.{groups}
@@ -14,11 +12,6 @@ membersOf limit bs g = getD (groups limit bs) g []
 -- the keys of some blocks, by their numbers
 abbrev pub keysOf : List Block → List ℕ → List ℕ
 keysOf bs is = map (λ (i : ℕ). getD (map blockKey bs) i 0) is
-
--- whether a key is among some
-abbrev pub among : ℕ → List ℕ → Bool
-among k [] = false
-among k (j ∷ js) = eqb k j || among k js
 
 -- the row of the first member of a group
 unfoldable pub startOf : List (List ℕ) → ℕ → ℕ

@@ -6,7 +6,8 @@ ghost use Prim.Native.Nat.{ℕ, _*_, _≤_, _<_};
 ghost use lib.ListN.{length};
 ghost use Rattle.records.specs.Trailer.{blockCount};
 ghost use Rattle.block_file.specs.Parse.{blocksOf};
-ghost use Rattle.members.specs.Members.{membersOf, keysOf, among};
+ghost use Rattle.members.specs.Members.{membersOf, keysOf};
+ghost use Rattle.block_file.specs.Address.{among};
 ghost use Rattle.members.specs.Prepared.{Ready};
 
 // Whether a group of several has a block with a key, an exit of block i: a block of page 8, since such a group has no other.

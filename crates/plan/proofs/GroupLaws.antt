@@ -10,7 +10,8 @@ use borrow.Author.Tests.{eqb-true}
 use lib.ListN.{length, getD}
 use Rattle.block_file.specs.Parse.{Block, blockKey}
 use Rattle.forest.specs.Forest.{range, root}
-use Rattle.search.specs.Target.{joinable, page}
+use Rattle.search.specs.Target.{joinable}
+use Rattle.block_file.specs.Address.{page}
 use Rattle.plan.specs.Plan.{parents, groupsFrom, groups}
 use Rattle.plan.proofs.Components.{component, countsOf, component-member, component-rises, components-once, groups-flat, groups-part}
 use Rattle.plan.proofs.Cutting.{NoFall, sort-order, instructions, instructions-within, part-fits, part-piece}

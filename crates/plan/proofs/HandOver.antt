@@ -12,7 +12,7 @@ use Rattle.block_file.specs.Answer.{refusal, value}
 use Rattle.records.specs.Trailer.{blockCount}
 use Rattle.block_file.specs.Parse.{Block, Parsed, blocksOf, Accepted}
 use Rattle.block_file.proofs.Accepted.{length-of}
-use Rattle.plan.specs.Calls.{cleared, Made, Outcome, handOver, callOnBlocks, callOnFile}
+use Rattle.plan.specs.Calls.{cleared, Made, handOver, callOnBlocks, callOnFile}
 
 -- numbers past m, where none of them changed
 past : (m : ℕ) (work work′ : List ℕ) → length work′ ≡ length work → ((k : ℕ) → m ≤ k → getD work′ k 0 ≡ getD work k 0) → drop m work′ ≡ drop m work

@@ -34,14 +34,14 @@ pub record Outcome (A : Type 0) : Type 0 where
   pub work : List ℕ
   pub result : List ℕ
 
--- with work numbers that are cleared: 9 where nothing was made, 10 where the result is shorter than what was made, or the result with that in its front
+-- the outcome once 8 is ruled out; `work` is cleared already: 9 where nothing was made, 10 where the result is shorter than what was made, or the result with that in its front
 abbrev pub handOver : {A : Type 0} → Option (Made A) → List ℕ → List ℕ → Outcome A
 handOver none work result = record { answer = refusal 9 0; work = work; result = result }
 handOver (some m) work result =
     cond (ltb (length result) (length (m .content))) (record { answer = refusal 10 0; work = work; result = result })
     (record { answer = value (m .values); work = work; result = m .content ++ drop (length (m .content)) result })
 
--- a call that groups, for n blocks: 8 with nothing written, or with the first 4 n work numbers cleared
+-- a call that groups, for n blocks: 8 with nothing written, or with the first 4 n work numbers (document 01) cleared
 unfoldable pub callOnBlocks : {A : Type 0} → ℕ → Option (Made A) → List ℕ → List ℕ → Outcome A
 callOnBlocks n made work result =
     cond (ltb (length work) (4 * n)) (record { answer = refusal 8 0; work = work; result = result }) (handOver made (cleared (4 * n) work) result)

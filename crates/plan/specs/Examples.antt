@@ -7,7 +7,7 @@ use Rattle.block_file.specs.Parse.{Parsed}
 use Rattle.block_exits.specs.Examples.{armBlock, threeBlocks}
 use Rattle.block_exits.specs.Exits.{exits, instrExits}
 use Rattle.forest.specs.Forest.{follow}
-use Rattle.plan.specs.Calls.{Outcome, callOnBlocks, callOnFile, planCall}
+use Rattle.plan.specs.Calls.{callOnBlocks, callOnFile, planCall}
 use Rattle.search.specs.Target.{target}
 use Rattle.plan.specs.Plan.{joinExits, joinBlocks, parents, members, insert, sortByKey, parts, groupsFrom, groups, rowsFrom, plan}
 

@@ -10,7 +10,7 @@ use Rattle.block_exits.specs.Exits.{exits}
 use Rattle.forest.specs.Forest.{range, root, hang}
 use Rattle.search.specs.Target.{joinable, target}
 
--- the edge from block i to the block that was found for a key, if there is one
+-- the edge (document 01) from block i to the block that was found for a key, if there is one
 abbrev pub joinTo : ℕ → List ℕ → Option ℕ → List ℕ
 joinTo i p none = p
 joinTo i p (some j) = hang p i j
@@ -29,7 +29,7 @@ joinBlocks all p i (b ∷ bs) = joinBlocks all (cond (joinable b) (joinExits all
 unfoldable pub parents : List Block → List ℕ
 parents bs = joinBlocks bs (range (length bs) 0) 0 bs
 
--- of n blocks from block i on those whose root is r
+-- a component (document 01): of n blocks from block i on those whose root is r
 unfoldable pub members : List ℕ → ℕ → ℕ → ℕ → List ℕ
 members p r zero i = []
 members p r (suc n) i = cond (eqb (root p i) r) (i ∷ members p r n (suc i)) (members p r n (suc i))
@@ -54,7 +54,7 @@ abbrev pub isEmpty : List ℕ → Bool
 isEmpty [] = true
 isEmpty (i ∷ is) = false
 
--- cuts a component into parts: one closes before a block that would push it over the limit, unless it is empty
+-- cuts a component into parts (document 01): one closes before a block that would push it over the limit, unless it is empty
 unfoldable pub parts : ℕ → List ℕ → List ℕ → ℕ → List ℕ → List (List ℕ)
 parts limit counts part total [] = close part
 parts limit counts part total (i ∷ is) =
@@ -68,7 +68,7 @@ groupsFrom limit bs p (suc n) r =
     parts limit (map (λ (b : Block). length (b .instrs)) bs) [] 0 (sortByKey (map blockKey bs) (members p r (length bs) 0))
     ++ groupsFrom limit bs p n (suc r)
 
--- the groups of some blocks, in emission order
+-- the groups of some blocks, in emission order (document 01 for both)
 unfoldable pub groups : ℕ → List Block → List (List ℕ)
 groups limit bs = groupsFrom limit bs (parents bs) (length bs) 0
 

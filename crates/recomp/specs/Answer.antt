@@ -14,6 +14,7 @@ pub record CheckNumbers : Type 0 where
   pub blocks : ℕ
   pub instructions : ℕ
 
+-- the numbers of an answer of the check
 abbrev pub checkNumbers : Answer Counts → CheckNumbers
 checkNumbers (refusal n i) = record { number = n; at = i; blocks = 0; instructions = 0 }
 checkNumbers (value c) = record { number = 0; at = 0; blocks = c .blocks; instructions = c .instructions }
@@ -26,6 +27,7 @@ pub record ExitsNumbers : Type 0 where
   pub first : ℕ
   pub second : ℕ
 
+-- the numbers of an answer with an exit list
 abbrev pub exitsNumbers : Answer (List ℕ) → ExitsNumbers
 exitsNumbers (refusal n i) = record { number = n; at = i; count = 0; first = 0; second = 0 }
 exitsNumbers (value ks) = record { number = 0; at = 0; count = length ks; first = getD ks 0 0; second = getD ks 1 0 }
@@ -38,12 +40,14 @@ pub record OutcomeNumbers : Type 0 where
   pub work : List ℕ
   pub result : List ℕ
 
+-- the numbers of an answer with one value, and the lent buffers
 abbrev pub withAnswer : Answer ℕ → List ℕ → List ℕ → OutcomeNumbers
 withAnswer (refusal n i) work result = record { number = n; at = i; count = 0; work = work; result = result }
 withAnswer (value v) work result = record { number = 0; at = 0; count = v; work = work; result = result }
 
+-- the same of what such a call leaves
 abbrev pub outcomeNumbers : Outcome ℕ → OutcomeNumbers
-outcomeNumbers l = withAnswer (l .answer) (l .work) (l .result)
+outcomeNumbers outcome = withAnswer (outcome .answer) (outcome .work) (outcome .result)
 
 -- what the call for a unit hands over, and the lent buffers; `last` is 1 for the last unit, else 0
 pub record UnitNumbers : Type 0 where
@@ -55,10 +59,12 @@ pub record UnitNumbers : Type 0 where
   pub work : List ℕ
   pub text : List ℕ
 
+-- the numbers of an answer with a unit, and the lent buffers
 abbrev pub withUnit : Answer UnitValues → List ℕ → List ℕ → UnitNumbers
 withUnit (refusal n i) work text = record { number = n; at = i; length = 0; done = 0; last = 0; work = work; text = text }
 withUnit (value u) work text =
     record { number = 0; at = 0; length = u .length; done = u .done; last = cond (u .last) 1 0; work = work; text = text }
 
+-- the same of what the call for a unit leaves
 abbrev pub unitNumbers : Outcome UnitValues → UnitNumbers
-unitNumbers l = withUnit (l .answer) (l .work) (l .result)
+unitNumbers outcome = withUnit (outcome .answer) (outcome .work) (outcome .result)

@@ -7,7 +7,7 @@ ghost use Rattle.block_file.specs.Answer.{value};
 ghost use Rattle.block_file.specs.Parse.{parse};
 ghost use Rattle.block_exits.specs.Exits.{keysOf};
 ghost use Rattle.block_exits.specs.Calls.{exitsCall};
-ghost use Rattle.recomp.specs.Answer.{ExitsNumbers, exitsNumbers};
+ghost use Rattle.recomp.specs.Answer.{exitsNumbers};
 
 // The numbers of exits: how many keys, and the keys.
 fn put_exits(exits: Exits, count: &mut u64, first: &mut u64, second: &mut u64)

@@ -31,11 +31,14 @@ thumbAt f at = eqb (flagsAt f at % 2) 1
 abbrev pub presentAt : List ℕ → ℕ → Bool
 presentAt f at = eqb (flagsAt f at / 2 % 2) 1
 
--- the length of the block in bytes, its instruction count times their size
-abbrev pub lengthAt : List ℕ → ℕ → ℕ
-lengthAt f at = countAt f at * sizeOf (thumbAt f at)
+-- the length of a block in bytes, its instruction count times their size
+abbrev pub lengthOf : ℕ → Bool → ℕ
+lengthOf count thumb = count * sizeOf thumb
 
--- the key of a block: its address plus the Thumb bit
+abbrev pub lengthAt : List ℕ → ℕ → ℕ
+lengthAt f at = lengthOf (countAt f at) (thumbAt f at)
+
+-- the key of a block (document 01): its address plus the Thumb bit
 abbrev pub keyPlus : ℕ → Bool → ℕ
 keyPlus addr thumb = addr + cond thumb 1 0
 

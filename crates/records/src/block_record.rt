@@ -2,10 +2,9 @@
 use crate::bytes::word;
 use crate::trailer::trailer_word;
 ghost use mathlib.Core.Path.{_≡_};
-ghost use Prim.Native.Nat.{_+_, _*_, _≤_, _<_, _^_};
+ghost use Prim.Native.Nat.{_+_, _≤_, _<_, _^_};
 ghost use lib.ListN.{length};
-ghost use Rattle.armv4t.specs.Instr.{sizeOf};
-ghost use Rattle.records.specs.BlockRecord.{addrAt, flagsAt, countAt, codeOffsetAt, thumbAt, presentAt, lengthAt, keyPlus, keyAt, aligned as specAligned, codeRight, blockRight};
+ghost use Rattle.records.specs.BlockRecord.{addrAt, flagsAt, countAt, codeOffsetAt, thumbAt, presentAt, lengthOf, lengthAt, keyPlus, keyAt, aligned as specAligned, codeRight, blockRight};
 
 pub fn addr(file: &[u8], at: usize) -> u32
     requires { ⌜ at + 16 ≤ length (now file) ⌝ }
@@ -51,7 +50,7 @@ pub fn present(file: &[u8], at: usize) -> bool
 
 // What n instructions take in bytes. The bound is what sums with it need.
 pub fn instrs_length(n: u32, is_thumb: bool) -> usize
-    ensures { λ r. ⌜ (r ≡ n * sizeOf «is_thumb») × (r < 2 ^ 35) ⌝ }
+    ensures { λ r. ⌜ (r ≡ lengthOf n «is_thumb») × (r < 2 ^ 35) ⌝ }
 {
     let wide = n as usize;
     if is_thumb { wide * 2 } else { wide * 4 }

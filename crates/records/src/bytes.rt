@@ -2,7 +2,7 @@
 ghost use mathlib.Core.Path.{_≡_};
 ghost use Prim.Native.Nat.{_+_, _≤_, _<_};
 ghost use lib.ListN.{length};
-ghost use Rattle.records.specs.Bytes.{byteAt, halfAt, wordAt};
+ghost use Rattle.records.specs.Bytes.{halfAt, wordAt};
 
 // A byte as a word. The bound is what the sums below need of it.
 fn wide(b: u8) -> u32

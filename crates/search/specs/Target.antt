@@ -1,14 +1,11 @@
 -- The blocks that edges join, and which of them has a key.
-use Prim.Native.Nat.{ℕ, suc, _/_, _^_}
+use Prim.Native.Nat.{ℕ, suc}
 use mathlib.Core.Bool.{Bool, cond, _&&_}
 use mathlib.Core.List.{List, [], _∷_}
 use mathlib.Core.Option.{Option, none, some}
 use lib.Dec.{eqb}
 use Rattle.block_file.specs.Parse.{Block, blockKey}
-
--- the page of an address
-abbrev pub page : ℕ → ℕ
-page addr = addr / 2 ^ 24
+use Rattle.block_file.specs.Address.{page}
 
 -- whether the page of an address is exactly 8
 abbrev pub onPage8 : ℕ → Bool

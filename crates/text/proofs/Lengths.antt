@@ -7,7 +7,7 @@ use native.Mathlib.Omega.{arith}
 use native.Mathlib.Nat.{le-refl, suc-mul}
 use lib.Dec.{ltb}
 use lib.ListN.{length, length-append}
-use Rattle.text.specs.Digits.{numeral, fixed, glyph}
+use Rattle.text.specs.Digits.{numeral, glyph}
 use Rattle.text.specs.Doc.{Doc, nothing, raw, text, dec, hex, hex8, hex16, _▸_, chars, print, decimal, hexadecimal, hexadecimal8, hexadecimal16, each}
 use Rattle.text.proofs.Numerals.{length-fixed}
 

@@ -8,7 +8,8 @@ use Rattle.armv4t.specs.Bit0.{clearBit0}
 use Rattle.c_tree.specs.Expr.{word, Expr, lit}
 use Rattle.c_tree.specs.Stmt.{Plain, Owner, common, Simple, gap, begin, plain, label, goto, ret, retIf, interp, retInterp, call, switch, Code, end, _⨾_, when, braces}
 use Rattle.forms.specs.Forms.{Lines, Native, straight, holds, branch, jump, pair, bx, pop, Form, shell, records, Body}
-use Rattle.lowering.specs.Block.{guarded, nl, sp, line, lines, has, chain, transfer, closing, leave, toThumb, toArm, conditional, nativeText, rest, underGuard, blockCode}
+use Rattle.lowering.specs.Block.{nl, sp, line, lines, chain, transfer, closing, leave, toThumb, toArm, conditional, nativeText, rest, underGuard, blockCode}
+use Rattle.block_file.specs.Address.{among, outsideRomBios}
 
 -- a text without labels
 abbrev pub NoLabel : Simple → Type 0
@@ -51,11 +52,11 @@ bare-chain false o n k c h = (tt, (tt, (tt, h)))
 module _ (ks : List ℕ) (b : Body) where
   bare-transfer : (o : Owner) (n k : ℕ) (c : Code) → Bare c → Bare (transfer ks (b .addr) o n k c)
   unfolding transfer
-  bare-transfer o n k c h = bare-cond (has k ks) _ (sp n ⨾ ret o (lit word k) ⨾ nl ⨾ c) (bare-chain (leb (clearBit0 k) (b .addr)) o n k c h) (tt, (tt, (tt, h)))
+  bare-transfer o n k c h = bare-cond (among k ks) _ (sp n ⨾ ret o (lit word k) ⨾ nl ⨾ c) (bare-chain (leb (clearBit0 k) (b .addr)) o n k c h) (tt, (tt, (tt, h)))
 
   bare-closing : Bare (closing ks b)
   unfolding closing
-  bare-closing = bare-lines common 4 (b .last) _ (bare-transfer common 4 _ end tt)
+  bare-closing = bare-lines common 4 (b .closing) _ (bare-transfer common 4 _ end tt)
 
   bare-conditional : (o : Owner) (e : Expr) (d c : Code) → Bare d → Bare c → Bare (conditional o e d c)
   bare-conditional o e d c g h = (tt, ((tt, (tt, (tt, (tt, (tt, (g, (tt, tt))))))), (tt, h)))
@@ -94,4 +95,4 @@ module _ (ks : List ℕ) (b : Body) where
 
   pub bare-block : Bare (blockCode ks b)
   unfolding blockCode
-  bare-block = bare-cond (guarded b) _ _ (bare-guard (b .hash)) (bare-rest (b .forms) 0)
+  bare-block = bare-cond (outsideRomBios (b .addr)) _ _ (bare-guard (b .hash)) (bare-rest (b .forms) 0)

@@ -8,8 +8,9 @@ use mathlib.Core.Option.{some}
 use lib.Dec.{T, T-not}
 use Rattle.c_tree.specs.Stmt.{guard, Top}
 use Rattle.forms.specs.Forms.{Body}
-use Rattle.lowering.specs.Block.{bodyKey, bodyLength, guarded, blockCode}
-use Rattle.lowering.specs.Units.{declared}
+use Rattle.lowering.specs.Block.{bodyKey, bodyLength, blockCode}
+use Rattle.block_file.specs.Address.{outsideRomBios}
+use Rattle.lowering.specs.Units.{withLocals}
 use Rattle.ways.specs.Ways.{Event, said, Way}
 use Rattle.ways.specs.Claim.{AtNative}
 use Rattle.ways.proofs.Logic.{Logic, Follow}
@@ -25,20 +26,20 @@ abbrev pub Apart : List Body → Type 0
 Apart bs = (b c : Body) → List·Memᴰ b bs → List·Memᴰ c bs → bodyKey b ≡ bodyKey c → b ≡ c
 
 abbrev pub Backed : List Body → List Event → Event → Type 0
-Backed bs s e = (b : Body) → List·Memᴰ b bs → AtNative (bodyKey b) e → T (guarded b) → Allowed b s
+Backed bs s e = (b : Body) → List·Memᴰ b bs → AtNative (bodyKey b) e → T (outsideRomBios (b .addr)) → Allowed b s
 
 abbrev pub History : List Body → Logic
 History bs = record { S = List Event; step = λ s e. e ∷ s; allow = Backed bs; owed = λ k s. Unit {0} }
 
-later : (b : Body) (s : List Event) (e : Event) → (T (guarded b) → Allowed b s) → T (guarded b) → Allowed b (e ∷ s)
+later : (b : Body) (s : List Event) (e : Event) → (T (outsideRomBios (b .addr)) → Allowed b s) → T (outsideRomBios (b .addr)) → Allowed b (e ∷ s)
 later b s e f t = let p = f t in (p .0, p .1, List·Memᴰ·tail (p .2))
 
 module _ (bs : List Body) (apart : Apart bs) (b : Body) (m : List·Memᴰ b bs) where
   -- what is known of b is known of whichever block has its key
-  backed : (s : List Event) → (T (guarded b) → Allowed b s) → (c : Body) → List·Memᴰ c bs → bodyKey b ≡ bodyKey c → T (guarded c) → Allowed c s
-  backed s f c n e = subst (λ d. T (guarded d) → Allowed d s) (apart b c m n e) f
+  backed : (s : List Event) → (T (outsideRomBios (b .addr)) → Allowed b s) → (c : Body) → List·Memᴰ c bs → bodyKey b ≡ bodyKey c → T (outsideRomBios (c .addr)) → Allowed c s
+  backed s f c n e = subst (λ d. T (outsideRomBios (d .addr)) → Allowed d s) (apart b c m n e) f
 
-  quiet-of : (s : List Event) (e : Event) → (T (guarded b) → Allowed b s) → Quiet b e → Backed bs s e × (T (guarded b) → Allowed b (e ∷ s))
+  quiet-of : (s : List Event) (e : Event) → (T (outsideRomBios (b .addr)) → Allowed b s) → Quiet b e → Backed bs s e × (T (outsideRomBios (b .addr)) → Allowed b (e ∷ s))
   quiet-of s e f q-native = (backed s f, later b s _ f)
   quiet-of s e f q-none = (λ c n a. absurd a, later b s _ f)
   quiet-of s e f q-other = (λ c n a. absurd a, later b s _ f)
@@ -46,21 +47,21 @@ module _ (bs : List Body) (apart : Apart bs) (b : Body) (m : List·Memᴰ b bs) 
 
   pub history-rules : (ks : List ℕ) → Rules (History bs) b ks
   history-rules ks = record {
-    Inv = λ p w s. T (guarded b) → Allowed b s;
+    Inv = λ p w s. T (outsideRomBios (b .addr)) → Allowed b s;
     Pre = λ s. Unit {0};
     quiet = λ p w s e i q. quiet-of s e i q;
     carry = λ p n w s i. (backed s i, later b s _ i);
     shells = λ p w s i. (λ c n a. absurd a, later b s _ i);
     up = λ p w s k i n l. tt;
     back = λ p w s k o x i n. tt;
-    free = λ s t i g. absurd (T-not (guarded b) t g);
+    free = λ s t i g. absurd (T-not (outsideRomBios (b .addr)) t g);
     asks = λ s y x i. (λ c n a. absurd a, λ c n a. absurd a, tt);
     yes-of = λ s y e i t. (y, e, List·Memᴰ·head refl);
     lands = λ s o. tt;
     defers = λ s i. (λ c n a. absurd a, λ c n a. absurd a);
   }
 
-  pub lone-seen : {ts : List Top} {xs : List Bool} {es : List Event} → Way ts (declared (blockCode [] b)) (declared (blockCode [] b)) xs es → Follow (History bs) es []
+  pub lone-seen : {ts : List Top} {xs : List Bool} {es : List Event} → Way ts (withLocals (blockCode [] b)) (withLocals (blockCode [] b)) xs es → Follow (History bs) es []
   unfolding history-rules
   lone-seen w =
       lone-follows (History bs) b (history-rules []) []
@@ -90,7 +91,7 @@ among {a} (u ∷ us) s m = go (among us (u ∷ s) m)
     go (inr n) = down n
 
 pub behind-of : (bs : List Body) (us vs : List Event) (e : Event) → Follow (History bs) (us ++ (e ∷ vs)) []
-    → (b : Body) → List·Memᴰ b bs → AtNative (bodyKey b) e → T (guarded b) → Allowed b us
+    → (b : Body) → List·Memᴰ b bs → AtNative (bodyKey b) e → T (outsideRomBios (b .addr)) → Allowed b us
 behind-of bs us vs e f b m n t = let p = at bs us vs e [] f b m n t in (p .0, p .1, go (among us [] (p .2)))
   where
     go : {a : Event} → List·Memᴰ a us ⊎ List·Memᴰ a [] → List·Memᴰ a us

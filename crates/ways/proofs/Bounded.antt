@@ -7,9 +7,10 @@ use native.Mathlib.Omega.{arith}
 use lib.Dec.{T, leb, leb→le, nleb→lt}
 use Rattle.armv4t.specs.Bit0.{clearBit0}
 use Rattle.c_tree.specs.Stmt.{Test, guard, gate, other}
-use Rattle.forms.specs.Forms.{weights, Body}
+use Rattle.forms.specs.Forms.{Body}
+use Rattle.forms.proofs.RecordCount.{recordCounts}
 use Rattle.lowering.specs.Block.{bodyKey}
-use Rattle.ways.specs.Ways.{Event, reach, said, natively, shelled}
+use Rattle.ways.specs.Ways.{Event, reach, said, nativeStart, interpreted}
 use Rattle.ways.specs.Claim.{carried, Gateless}
 use Rattle.ways.proofs.Logic.{Logic, Follow}
 use Rattle.ways.proofs.Emitted.{Quiet, q-native, q-none, q-other, q-gate, Rules}
@@ -18,7 +19,7 @@ use Rattle.ways.proofs.Emitted.{Quiet, q-native, q-none, q-other, q-gat
 pub record Member (b : Body) : Type 0 where
   pub even : b .addr % 2 ≡ 0
   pub filled : 1 ≤ b .count
-  pub whole : weights (b .forms) ≡ b .count
+  pub whole : recordCounts (b .forms) ≡ b .count
 
 -- the instructions of some blocks
 abbrev pub total : List Body → ℕ
@@ -33,8 +34,8 @@ asked (other t) s = s
 abbrev spend : ℕ → Event → ℕ
 spend s (reach o) = s
 spend s (said t x) = asked t s
-spend s (natively k i n) = s + n
-spend s (shelled k i) = s + 1
+spend s (nativeStart k i n) = s + n
+spend s (interpreted k i) = s + 1
 
 -- the counts of the members at the address a or above
 pub at-least : ℕ → List Body → ℕ
@@ -125,8 +126,8 @@ module _ (limit : ℕ) where
     part (said (guard a l k) x ∷ ps) vs s h f q = part ps vs s (f .0) (f .1) (q .1)
     part (said gate x ∷ ps) vs s h f q = absurd (q .0)
     part (said (other t) x ∷ ps) vs s h f q = part ps vs s (f .0) (f .1) (q .1)
-    part (natively k i n ∷ ps) vs s h f q = omega (arith, part ps vs (s + n) (f .0) (f .1) q)
-    part (shelled k i ∷ ps) vs s h f q = omega (arith, part ps vs (s + 1) (f .0) (f .1) q)
+    part (nativeStart k i n ∷ ps) vs s h f q = omega (arith, part ps vs (s + n) (f .0) (f .1) q)
+    part (interpreted k i ∷ ps) vs s h f q = omega (arith, part ps vs (s + 1) (f .0) (f .1) q)
 
     pub parts : (us ps vs : List Event) → Follow (Spent limit g) (us ++ (ps ++ vs)) 0 → Gateless ps → carried ps ≤ limit
     parts us ps vs f q =

@@ -11,16 +11,17 @@ use Rattle.plan.specs.Plan.{groups}
 use Rattle.plan.proofs.GroupLaws.{groups-once, group-inside, group-of}
 use Rattle.plan.proofs.Listing.{count, count-append, count-here, count-other, map-at}
 use Rattle.c_tree.specs.Stmt.{block, function}
-use Rattle.forms.specs.Forms.{weights, Body}
+use Rattle.forms.specs.Forms.{Body}
+use Rattle.forms.proofs.RecordCount.{recordCounts}
 use Rattle.lowering.specs.Block.{bodyKey}
-use Rattle.lowering.specs.Units.{emitGroup, opened, tail, nobody, membersOf, unitsOf, unitsFor}
+use Rattle.lowering.specs.Units.{emitGroup, unitHead, lastUnitEnd, defaultBody, membersOf, unitsOf, unitsFor}
 use Rattle.ways.proofs.Faithful.{Faithful}
-use Rattle.ways.specs.Claim.{times, fileTree}
+use Rattle.ways.specs.Claim.{times, allUnits}
 use Rattle.ways.specs.Complete.{functions, Found, Complete}
 use Rattle.ways.proofs.Places.{found-at}
 use Rattle.ways.proofs.Members.{nowhere, File, bodies, key-of, is-member, same-place}
 use Rattle.ways.proofs.Entered.{entered}
-use Rattle.ways.proofs.Pieces.{Part, group-part, in-part, inGroups, no-tail, functions-cut, group-count}
+use Rattle.ways.proofs.Pieces.{Part, group-part, in-part, inGroups, no-end, functions-cut, group-count}
 
 count-none : (k : ℕ) → count k [] ≡ 0
 unfolding count
@@ -46,8 +47,8 @@ module _ (F : File) (i : ℕ) (h : i < length (F .bs)) where
   abbrev key : ℕ → ℕ
   key j = bodyKey (bodyOf (getD bs j nowhere))
 
-  body-is : (j : ℕ) → j < length bs → getD (bodies F) j nobody ≡ bodyOf (getD bs j nowhere)
-  body-is j l = map-at bodyOf bs j nowhere nobody l
+  body-is : (j : ℕ) → j < length bs → getD (bodies F) j defaultBody ≡ bodyOf (getD bs j nowhere)
+  body-is j l = map-at bodyOf bs j nowhere defaultBody l
 
   keys-of : (g : List ℕ) → ((j : ℕ) → List·Memᴰ j g → j < length bs) → map bodyKey (membersOf (bodies F) g) ≡ map key g
   unfolding membersOf
@@ -69,11 +70,11 @@ module _ (F : File) (i : ℕ) (h : i < length (F .bs)) where
       omega (arith, one, more, count-append i g (flatten gs))
 
   module _ (max : ℕ) where
-    one-function : functions (key i) (fileTree bodyOf limit max bs) ≡ 1
-    unfolding fileTree unitsFor unitsOf
+    one-function : functions (key i) (allUnits bodyOf limit max bs) ≡ 1
+    unfolding allUnits unitsFor unitsOf
     one-function =
-        let none : functions (key i) opened ≡ 0 = refl in
-        functions-cut (key i) max (tail (bodies F)) (no-tail (key i) (bodies F)) (map (membersOf (bodies F)) (groups limit bs)) opened 0
+        let none : functions (key i) unitHead ≡ 0 = refl in
+        functions-cut (key i) max (lastUnitEnd (bodies F)) (no-end (key i) (bodies F)) (map (membersOf (bodies F)) (groups limit bs)) unitHead 0
         ∙ omega (arith, none, in-groups (groups limit bs) (group-inside limit bs), groups-once limit bs i h)
 
     abbrev mine : List ℕ
@@ -82,24 +83,24 @@ module _ (F : File) (i : ℕ) (h : i < length (F .bs)) where
     part : Part (emitGroup (membersOf (bodies F) mine)) (unitsFor bodyOf limit max bs)
     unfolding unitsFor unitsOf
     part =
-        group-part max (tail (bodies F)) (membersOf (bodies F) mine) (map (membersOf (bodies F)) (groups limit bs)) opened 0
+        group-part max (lastUnitEnd (bodies F)) (membersOf (bodies F) mine) (map (membersOf (bodies F)) (groups limit bs)) unitHead 0
         (Memᴰ·map (membersOf (bodies F)) (group-of limit bs i h .1))
 
     here : List·Memᴰ (bodyOf (getD bs i nowhere)) (membersOf (bodies F) mine)
     unfolding membersOf
-    here = Memᴰ·cast (sym (body-is i h)) (Memᴰ·map (λ (j : ℕ). getD (bodies F) j nobody) (group-of limit bs i h .2))
+    here = Memᴰ·cast (sym (body-is i h)) (Memᴰ·map (λ (j : ℕ). getD (bodies F) j defaultBody) (group-of limit bs i h .2))
 
-    filled : 1 ≤ weights (bodyOf (getD bs i nowhere) .forms)
+    filled : 1 ≤ recordCounts (bodyOf (getD bs i nowhere) .forms)
     filled = let m = is-member F i h in omega (arith, m .filled, m .whole)
 
     pub found : (b : Block) → getD bs i nowhere ≡ b → Found bodyOf limit max bs i b
-    unfolding fileTree
+    unfolding allUnits
     found b e =
-        let w = entered (fileTree bodyOf limit max bs) (bodyOf (getD bs i nowhere)) filled (membersOf (bodies F) mine) here
+        let w = entered (allUnits bodyOf limit max bs) (bodyOf (getD bs i nowhere)) filled (membersOf (bodies F) mine) here
         (λ t m. in-part t (emitGroup (membersOf (bodies F) mine)) (unitsFor bodyOf limit max bs) part m) in
         let k : key i ≡ blockKey b = key-of F (getD bs i nowhere) ∙ ap blockKey e in
         record {
-          single = subst (λ n. functions n (fileTree bodyOf limit max bs) ≡ 1) k one-function;
+          single = subst (λ n. functions n (allUnits bodyOf limit max bs) ≡ 1) k one-function;
           members = mine;
           grouped = group-of limit bs i h .1;
           among = group-of limit bs i h .2;

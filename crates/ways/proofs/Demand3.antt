@@ -3,20 +3,20 @@ use Prim.Native.Nat.{ℕ}
 use mathlib.Core.Path.{refl}
 use mathlib.Core.List.{List}
 use Rattle.ways.specs.Claim.{Claim}
-use Rattle.forms.specs.Block.{bodyOf}
-use Rattle.forms.proofs.Weights.{body-weight}
+use Rattle.forms.specs.Block.{bodyOf, hashOf}
+use Rattle.forms.proofs.RecordCount.{body-count}
 use Rattle.ways.proofs.Faithful.{Faithful}
-use Rattle.ways.specs.Demand3.{codeHash, Demand3Of, Demand3, Demand3Applies}
+use Rattle.ways.specs.Demand3.{Demand3Of, Demand3, Demand3Applies}
 use Rattle.ways.proofs.Theorem.{theorem}
 use Rattle.ways.proofs.Complete.{complete}
 
-faithful : (multiplier : ℕ) → Faithful (codeHash multiplier) (bodyOf multiplier)
+faithful : (multiplier : ℕ) → Faithful (hashOf multiplier) (bodyOf multiplier)
 unfolding bodyOf
-faithful multiplier = record { addr = λ b. refl; thumb = λ b. refl; count = λ b. refl; hash = λ b. refl; whole = λ b. body-weight multiplier b }
+faithful multiplier = record { addr = λ b. refl; thumb = λ b. refl; count = λ b. refl; hash = λ b. refl; whole = λ b. body-count multiplier b }
 
 pub demand-3 : Demand3
 unfolding Demand3
-demand-3 multiplier = theorem (codeHash multiplier) (bodyOf multiplier) (faithful multiplier)
+demand-3 multiplier = theorem (hashOf multiplier) (bodyOf multiplier) (faithful multiplier)
 
 -- so it holds of each file
 pub demand-3-of : (multiplier limit max : ℕ) (f : List ℕ) → Demand3Of multiplier limit max f
@@ -25,4 +25,4 @@ demand-3-of multiplier = demand-3 multiplier
 
 pub demand-3-applies : Demand3Applies
 unfolding Demand3Applies
-demand-3-applies multiplier = complete (codeHash multiplier) (bodyOf multiplier) (faithful multiplier)
+demand-3-applies multiplier = complete (hashOf multiplier) (bodyOf multiplier) (faithful multiplier)

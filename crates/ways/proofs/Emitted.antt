@@ -8,11 +8,13 @@ use mathlib.Core.Option.{Option, none, some}
 use lib.Dec.{T, leb, eqb, eqb→eq, nleb→lt}
 use Rattle.armv4t.specs.Bit0.{clearBit0}
 use Rattle.c_tree.specs.Expr.{u32, word, udec, x-t, x-pc, ne, band, Expr, lit, bin}
-use Rattle.c_tree.specs.Stmt.{Plain, declare, Test, guard, gate, other, Owner, common, gap, plain, label, goto, ret, retIf, retInterp, Code, end, _⨾_, when}
+use Rattle.c_tree.specs.Stmt.{Plain, declare, Test, guard, gate, other, Owner, common, gap, plain, goto, ret, retIf, retInterp, Code, end, _⨾_, when}
 use Rattle.c_tree.specs.Preamble.{v32}
-use Rattle.forms.specs.Forms.{Lines, Native, straight, holds, branch, jump, pair, bx, pop, Form, shell, records, weights, Body}
-use Rattle.lowering.specs.Block.{bodyKey, bodyLength, guarded, nl, sp, line, lines, has, chain, transfer, closing, flags, leave, toThumb, toArm, conditional, nativeText, rest, defer, underGuard, blockCode}
-use Rattle.ways.specs.Ways.{Event, reach, said, natively, shelled}
+use Rattle.forms.specs.Forms.{Lines, Native, straight, holds, branch, jump, pair, bx, pop, Form, shell, records, Body}
+use Rattle.forms.proofs.RecordCount.{recordCounts}
+use Rattle.lowering.specs.Block.{bodyKey, bodyLength, nl, sp, line, lines, chain, transfer, closing, flags, leave, toThumb, toArm, conditional, nativeText, rest, defer, underGuard, blockCode}
+use Rattle.block_file.specs.Address.{among, outsideRomBios}
+use Rattle.ways.specs.Ways.{Event, reach, said, nativeStart, interpreted}
 use Rattle.ways.proofs.Logic.{Logic, Pick, Ok}
 
 -- an event of the block that carries out nothing and asks no guard
@@ -27,29 +29,29 @@ pub record Rules (L : Logic) (b : Body) (ks : List ℕ) : Type 1 where
   pub Inv : ℕ → ℕ → L .S → Type 0
   pub Pre : L .S → Type 0
   pub quiet : (p w : ℕ) (s : L .S) (e : Event) → Inv p w s → Quiet b e → L .allow s e × Inv p w (L .step s e)
-  pub carry : (p n w : ℕ) (s : L .S) → Inv p (n + w) s → L .allow s (natively (bodyKey b) p n) × Inv (p + n) w (L .step s (natively (bodyKey b) p n))
-  pub shells : (p w : ℕ) (s : L .S) → Inv p (1 + w) s → L .allow s (shelled (bodyKey b) p) × Inv (p + 1) w (L .step s (shelled (bodyKey b) p))
+  pub carry : (p n w : ℕ) (s : L .S) → Inv p (n + w) s → L .allow s (nativeStart (bodyKey b) p n) × Inv (p + n) w (L .step s (nativeStart (bodyKey b) p n))
+  pub shells : (p w : ℕ) (s : L .S) → Inv p (1 + w) s → L .allow s (interpreted (bodyKey b) p) × Inv (p + 1) w (L .step s (interpreted (bodyKey b) p))
   pub up : (p w : ℕ) (s : L .S) (k : ℕ) → Inv p w s → List·Memᴰ k ks → b .addr < clearBit0 k → L .owed k s
   pub back : (p w : ℕ) (s : L .S) (k : ℕ) (o : Owner) (x : Bool) → Inv p w s → List·Memᴰ k ks → L .owed k (L .step (L .step s (said gate x)) (reach o))
-  pub free : (s : L .S) → T (not (guarded b)) → Pre s → Inv 0 (weights (b .forms)) s
+  pub free : (s : L .S) → T (not (outsideRomBios (b .addr))) → Pre s → Inv 0 (recordCounts (b .forms)) s
   pub asks : (s : L .S) (h : ℕ) (x : Bool) → Pre s
       → L .allow s (reach common)
       × L .allow (L .step s (reach common)) (said (guard (b .addr) (bodyLength b) h) x)
       × Pre (L .step (L .step s (reach common)) (said (guard (b .addr) (bodyLength b) h) x))
   pub yes-of : (s : L .S) (h : ℕ) → b .hash ≡ some h → Pre s
-      → Inv 0 (weights (b .forms)) (L .step (L .step s (reach common)) (said (guard (b .addr) (bodyLength b) h) true))
+      → Inv 0 (recordCounts (b .forms)) (L .step (L .step s (reach common)) (said (guard (b .addr) (bodyLength b) h) true))
   pub lands : (s : L .S) → L .owed (bodyKey b) s → Pre s
-  pub defers : (s : L .S) → Pre s → L .allow s (reach common) × L .allow (L .step s (reach common)) (shelled (bodyKey b) 0)
+  pub defers : (s : L .S) → Pre s → L .allow s (reach common) × L .allow (L .step s (reach common)) (interpreted (bodyKey b) 0)
 
 or-cases : (x y : Bool) → T (x || y) → T x ⊎ T y
 or-cases true y t = inl tt
 or-cases false y t = inr t
 
-has→mem : (k : ℕ) (ks : List ℕ) → T (has k ks) → List·Memᴰ k ks
-has→mem k [] t = absurd t
-has→mem k (j ∷ js) t = go (or-cases (eqb k j) (has k js) t) (has→mem k js)
+among→mem : (k : ℕ) (ks : List ℕ) → T (among k ks) → List·Memᴰ k ks
+among→mem k [] t = absurd t
+among→mem k (j ∷ js) t = go (or-cases (eqb k j) (among k js) t) (among→mem k js)
   where
-    go : T (eqb k j) ⊎ T (has k js) → (T (has k js) → List·Memᴰ k js) → List·Memᴰ k (j ∷ js)
+    go : T (eqb k j) ⊎ T (among k js) → (T (among k js) → List·Memᴰ k js) → List·Memᴰ k (j ∷ js)
     go (inl h) f = List·Memᴰ·head (eqb→eq k j h)
     go (inr h) f = List·Memᴰ·tail (f h)
 
@@ -113,7 +115,7 @@ module _ (L : Logic) (b : Body) (ks : List ℕ) (R : Rules L b ks) where
 
     ok-transfer : (n k : ℕ) (c : Code) (K : S → Type 0) → Fits p w (transfer ks (b .addr) o n k c) K
     unfolding transfer
-    ok-transfer n k c K = go (has k ks) (has→mem k ks)
+    ok-transfer n k c K = go (among k ks) (among→mem k ks)
       where
         go : (x : Bool) → (T x → List·Memᴰ k ks) → Fits p w (cond x (chain (leb (clearBit0 k) (b .addr)) o n k c) (sp n ⨾ ret o (lit word k) ⨾ nl ⨾ c)) K
         go true m = ok-chain n k (m tt) (leb (clearBit0 k) (b .addr)) (nleb→lt (clearBit0 k) (b .addr)) c K
@@ -159,19 +161,19 @@ module _ (L : Logic) (b : Body) (ks : List ℕ) (R : Rules L b ks) where
 
   ok-closing : (p w : ℕ) (K : S → Type 0) → Fits p w (closing ks b) K
   unfolding closing
-  ok-closing p w K = ok-lines p w common q-none 4 (b .last) _ K (ok-transfer p w common q-none 4 _ end K)
+  ok-closing p w K = ok-lines p w common q-none 4 (b .closing) _ K (ok-transfer p w common q-none 4 _ end K)
 
-  ok-rest : (rs : List Form) (p : ℕ) (K : S → Type 0) → Fits p (weights rs) (rest ks b p rs) K
+  ok-rest : (rs : List Form) (p : ℕ) (K : S → Type 0) → Fits p (recordCounts rs) (rest ks b p rs) K
   unfolding rest
   ok-rest [] p K s i = ok-closing p 0 K s i
   ok-rest (Form.native r ∷ rs) p K s i =
-      let d = carry p (records r) (weights rs) s i in
-      (d .0, ok-native (p + records r) (weights rs) (Owner.native (bodyKey b)) q-native r _ K (ok-rest rs (p + records r) K) _ (d .1))
+      let d = carry p (records r) (recordCounts rs) s i in
+      (d .0, ok-native (p + records r) (recordCounts rs) (Owner.native (bodyKey b)) q-native r _ K (ok-rest rs (p + records r) K) _ (d .1))
   ok-rest (shell h t e ∷ []) p K s i = ok-lines _ _ _ q-none 4 t (sp 4 ⨾ retInterp (bodyKey b) p ⨾ nl ⨾ cond h (closing ks b) end) K (λ s′ j. shells p 0 s′ j .0) s i
   ok-rest (shell h t e ∷ r ∷ rs) p K s i =
       ok-lines _ _ _ q-none 4 t _ K
       (λ s′ j.
-      let d = shells p (weights (r ∷ rs)) s′ j in (
+      let d = shells p (recordCounts (r ∷ rs)) s′ j in (
         d .0,
         ok-retIf _ _ common q-none (other (bin ne (v32 x-pc) (lit word e))) (λ x. q-other) (v32 x-pc) (nl ⨾ rest ks b (p + 1) (r ∷ rs)) K
             (λ s″ j′.
@@ -183,7 +185,7 @@ module _ (L : Logic) (b : Body) (ks : List ℕ) (R : Rules L b ks) where
 
   pub ok-block : (K : S → Type 0) (s : S) → Pre s → Ok L (blockCode ks b) s K
   unfolding blockCode underGuard
-  ok-block K s i = go (guarded b) (λ t. free s t i)
+  ok-block K s i = go (outsideRomBios (b .addr)) (λ t. free s t i)
     where
       ask : (h : ℕ) → b .hash ≡ some h → Ok L (underGuard ks b (some h)) s K
       ask h e = (asks s h true i .0, λ x. (asks s h x i .1, pass x))
@@ -198,6 +200,6 @@ module _ (L : Logic) (b : Body) (ks : List ℕ) (R : Rules L b ks) where
       under none e = defers s i
       under (some h) e = ask h e
 
-      go : (x : Bool) → (T (not x) → Inv 0 (weights (b .forms)) s) → Ok L (cond x (underGuard ks b (b .hash)) (rest ks b 0 (b .forms))) s K
+      go : (x : Bool) → (T (not x) → Inv 0 (recordCounts (b .forms)) s) → Ok L (cond x (underGuard ks b (b .hash)) (rest ks b 0 (b .forms))) s K
       go true f = under (b .hash) refl
       go false f = ok-rest (b .forms) 0 K s (f tt)

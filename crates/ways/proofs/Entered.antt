@@ -6,11 +6,13 @@ use mathlib.Core.List.{List, [], _∷_, map, List·Memᴰ, List·Memᴰ·head, L
 use mathlib.Core.Option.{Option, none, some}
 use native.Mathlib.Omega.{arith}
 use borrow.Author.Tests.{eq-eqb}
-use Rattle.c_tree.specs.Stmt.{Plain, Owner, common, gap, plain, label, switch, Code, end, _⨾_, when, braces, _⧺_, block, group, Top, function}
-use Rattle.forms.specs.Forms.{Lines, Native, straight, holds, branch, jump, pair, bx, pop, Form, shell, records, weights, Body}
-use Rattle.lowering.specs.Block.{bodyKey, guarded, nl, line, lines, rest, underGuard, blockCode}
-use Rattle.lowering.specs.Units.{declared, emitBlock, labelled, groupCode, forwarders, emitGroup}
-use Rattle.ways.specs.Ways.{Place, here, later, past-when, past-braces, Event, natively, shelled, turn, taken, Way, stop, w-gap, w-begin, w-plain, w-label, w-goto, w-lost, w-ret, w-leave, w-stay, w-unsaid, w-call, w-interp, w-retInterp, w-entry, w-default, w-past, w-when, w-unanswered, w-braces}
+use Rattle.c_tree.specs.Stmt.{Plain, Owner, common, gap, plain, Code, end, _⨾_, when, braces, _⧺_, block, group, Top, function}
+use Rattle.forms.specs.Forms.{Lines, Native, straight, holds, branch, jump, pair, bx, pop, Form, shell, records, Body}
+use Rattle.forms.proofs.RecordCount.{recordCounts}
+use Rattle.lowering.specs.Block.{bodyKey, nl, line, lines, rest, underGuard, blockCode}
+use Rattle.block_file.specs.Address.{outsideRomBios}
+use Rattle.lowering.specs.Units.{withLocals, emitBlock, labelled, groupCode, forwarders, emitGroup}
+use Rattle.ways.specs.Ways.{LabelAt, here, later, past-when, past-braces, Event, nativeStart, interpreted, negated, taken, Way, stop, w-gap, w-begin, w-plain, w-label, w-goto, w-lost, w-ret, w-leave, w-stay, w-unsaid, w-call, w-interp, w-retInterp, w-entry, w-default, w-past, w-when, w-unanswered, w-braces}
 use Rattle.ways.specs.Claim.{times}
 use Rattle.ways.proofs.Functions.{forwarder}
 
@@ -38,7 +40,7 @@ extend d w-leave = w-leave
 extend d (w-stay w) = w-stay (extend d w)
 extend d w-unsaid = w-unsaid
 extend {ts} d (w-when {f = f} {b = b} {c = c} {xs = xs} {es = es} {n = n} {x = x} w) =
-    w-when (subst (λ e. Way ts f e xs es) (taken-append (turn n x) b c d) (extend d w))
+    w-when (subst (λ e. Way ts f e xs es) (taken-append (negated n x) b c d) (extend d w))
 extend d w-unanswered = w-unanswered
 extend {ts} d (w-braces {f = f} {b = b} {c = c} {xs = xs} {es = es} w) = w-braces (subst (λ e. Way ts f e xs es) (assoc b c d) (extend d w))
 extend d (w-call m w) = w-call m w
@@ -49,7 +51,7 @@ extend d w-default = w-default
 extend d (w-past w) = w-past (extend d w)
 
 -- a place behind other code
-past : {k : ℕ} (c d e : Code) → Place k d e → Place k (c ⧺ d) e
+past : {k : ℕ} (c d e : Code) → LabelAt k d e → LabelAt k (c ⧺ d) e
 past end d e p = p
 past (s ⨾ c) d e p = later (past c d e p)
 past (when o n t b c) d e p = past-when (past c d e p)
@@ -78,13 +80,13 @@ module _ (ts : List Top) (f : Code) (k : ℕ) where
   before : (c d : Code) → Carries c → Carries (c ⧺ d)
   before c d r = (r .0, r .1, extend d (r .2), r .3)
 
-  over-declared : (c : Code) → Carries c → Carries (declared c)
-  unfolding declared
-  over-declared c r =
+  over-locals : (c : Code) → Carries c → Carries (withLocals c)
+  unfolding withLocals
+  over-locals c r =
       over-gap true 4 _ (over-plain common _ _ (over-gap true 4 _ (over-plain common _ _ (over-gap false 1 _ (over-plain common _ _ (over-gap true 0 c r))))))
 
 module _ (ts : List Top) (f : Code) (ks : List ℕ) (b : Body) where
-  counts : (r : Native) → 1 ≤ times (bodyKey b) 0 (natively (bodyKey b) 0 (records r) ∷ [])
+  counts : (r : Native) → 1 ≤ times (bodyKey b) 0 (nativeStart (bodyKey b) 0 (records r) ∷ [])
   counts (straight t l) = rw (eq-eqb (bodyKey b) (bodyKey b) refl) (omega arith)
   counts (holds t e l) = rw (eq-eqb (bodyKey b) (bodyKey b) refl) (omega arith)
   counts (branch t e s k) = rw (eq-eqb (bodyKey b) (bodyKey b) refl) (omega arith)
@@ -93,10 +95,10 @@ module _ (ts : List Top) (f : Code) (ks : List ℕ) (b : Body) where
   counts (bx t e) = rw (eq-eqb (bodyKey b) (bodyKey b) refl) (omega arith)
   counts (pop t s l u e) = rw (eq-eqb (bodyKey b) (bodyKey b) refl) (omega arith)
 
-  shell-counts : 1 ≤ times (bodyKey b) 0 (shelled (bodyKey b) 0 ∷ [])
+  shell-counts : 1 ≤ times (bodyKey b) 0 (interpreted (bodyKey b) 0 ∷ [])
   shell-counts = rw (eq-eqb (bodyKey b) (bodyKey b) refl) (omega arith)
 
-  from-rest : (rs : List Form) → 1 ≤ weights rs → Carries ts f (bodyKey b) (rest ks b 0 rs)
+  from-rest : (rs : List Form) → 1 ≤ recordCounts rs → Carries ts f (bodyKey b) (rest ks b 0 rs)
   unfolding rest
   from-rest [] h = absurd (omega arith)
   from-rest (Form.native r ∷ rs) h = ([], _, w-begin stop, counts r)
@@ -104,9 +106,9 @@ module _ (ts : List Top) (f : Code) (ks : List ℕ) (b : Body) where
   from-rest (shell x t e ∷ r ∷ rs) h = over-lines ts f (bodyKey b) common 4 t _ ([], _, w-gap (w-interp stop), shell-counts)
 
   -- the guard says yes where there is one
-  from-block : 1 ≤ weights (b .forms) → Carries ts f (bodyKey b) (blockCode ks b)
+  from-block : 1 ≤ recordCounts (b .forms) → Carries ts f (bodyKey b) (blockCode ks b)
   unfolding blockCode underGuard
-  from-block h = go (guarded b)
+  from-block h = go (outsideRomBios (b .addr))
     where
       all : Carries ts f (bodyKey b) (rest ks b 0 (b .forms))
       all = from-rest (b .forms) h
@@ -120,22 +122,22 @@ module _ (ts : List Top) (f : Code) (ks : List ℕ) (b : Body) where
       go false = all
 
 -- the label of a member, and the code from there on
-to-label : (ks : List ℕ) (b : Body) (bs : List Body) → List·Memᴰ b bs → (d : Code) × Place (bodyKey b) (labelled ks bs) (nl ⨾ (blockCode ks b ⧺ d))
+to-label : (ks : List ℕ) (b : Body) (bs : List Body) → List·Memᴰ b bs → (d : Code) × LabelAt (bodyKey b) (labelled ks bs) (nl ⨾ (blockCode ks b ⧺ d))
 unfolding labelled
 to-label ks b (c ∷ bs) (List·Memᴰ·head e) =
-    subst (λ x. (d : Code) × Place (bodyKey x) (labelled ks (c ∷ bs)) (nl ⨾ (blockCode ks x ⧺ d))) (sym e) (nl ⨾ labelled ks bs, here)
+    subst (λ x. (d : Code) × LabelAt (bodyKey x) (labelled ks (c ∷ bs)) (nl ⨾ (blockCode ks x ⧺ d))) (sym e) (nl ⨾ labelled ks bs, here)
 to-label ks b (c ∷ bs) (List·Memᴰ·tail m) =
     let r = to-label ks b bs m in
     (r .0, later (later (past (blockCode ks c) (nl ⨾ labelled ks bs) _ (later (r .1)))))
 
-module _ (ts : List Top) (b : Body) (h : 1 ≤ weights (b .forms)) where
+module _ (ts : List Top) (b : Body) (h : 1 ≤ recordCounts (b .forms)) where
   -- through the switch of its group
   from-group : (g : List Body) → List·Memᴰ b g → Carries ts (groupCode g) (bodyKey b) (groupCode g)
-  unfolding groupCode declared
+  unfolding groupCode withLocals
   from-group g m =
       let p = to-label (map bodyKey g) b g m in
       let r = before ts (groupCode g) (bodyKey b) (blockCode (map bodyKey g) b) (p .0) (from-block ts (groupCode g) (map bodyKey g) b h) in
-      over-declared ts (groupCode g) (bodyKey b) _
+      over-locals ts (groupCode g) (bodyKey b) _
       (r .0, r .1, w-gap (w-entry (Memᴰ·map bodyKey m) (later (later (later (later (later (later (later (later (later (later (p .1))))))))))) (w-gap (r .2))), r .3)
 
   forwards : (g : List Body) → List·Memᴰ b g → (k : ℕ) → List·Memᴰ (function (group k) (groupCode g)) ts → (n : ℕ) → Carries ts (forwarder k n) (bodyKey b) (forwarder k n)
@@ -151,9 +153,9 @@ module _ (ts : List Top) (b : Body) (h : 1 ≤ weights (b .forms)) where
       → (c : Code) × List·Memᴰ (function (block (bodyKey b)) c) (emitGroup g) × Carries ts c (bodyKey b) c
   unfolding emitGroup emitBlock
   entered (a ∷ []) (List·Memᴰ·head e) all = (
-    declared (blockCode [] b),
-    List·Memᴰ·head (ap (λ x. function (block (bodyKey x)) (declared (blockCode [] x))) e),
-    over-declared ts (declared (blockCode [] b)) (bodyKey b) (blockCode [] b) (from-block ts (declared (blockCode [] b)) [] b h),
+    withLocals (blockCode [] b),
+    List·Memᴰ·head (ap (λ x. function (block (bodyKey x)) (withLocals (blockCode [] x))) e),
+    over-locals ts (withLocals (blockCode [] b)) (bodyKey b) (blockCode [] b) (from-block ts (withLocals (blockCode [] b)) [] b h),
   )
   entered (a ∷ []) (List·Memᴰ·tail m) all = absurd (List·Memᴰ·not-nil m)
   entered (a ∷ d ∷ g) m all =

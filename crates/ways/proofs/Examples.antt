@@ -8,9 +8,10 @@ use Rattle.c_tree.specs.Expr.{word, x-cz, reg, lit}
 use Rattle.c_tree.specs.Stmt.{is, set, tick, gate, other, Owner, Code, _⨾_, _⧺_, group, Top, function, Test, guard}
 use Rattle.c_tree.specs.Preamble.{v32}
 use Rattle.forms.specs.Forms.{branch, Form, shell, Body, straight}
-use Rattle.lowering.specs.Block.{bodyKey, guarded, nl, chain, transfer, nativeText, rest, blockCode, underGuard}
-use Rattle.lowering.specs.Units.{declared, labelled, groupCode, emitGroup, opened, tail, membersOf, unitsOf}
-use Rattle.ways.specs.Ways.{Place, here, later, Event, reach, said, natively, shelled, Way, w-gap, w-begin, w-plain, w-goto, w-leave, w-stay, w-call, w-retInterp, w-entry, w-when, w-braces, stop}
+use Rattle.lowering.specs.Block.{bodyKey, nl, chain, transfer, nativeText, rest, blockCode, underGuard}
+use Rattle.block_file.specs.Address.{outsideRomBios}
+use Rattle.lowering.specs.Units.{withLocals, labelled, groupCode, emitGroup, unitHead, lastUnitEnd, membersOf, unitsOf}
+use Rattle.ways.specs.Ways.{LabelAt, here, later, Event, reach, said, nativeStart, interpreted, Way, w-gap, w-begin, w-plain, w-goto, w-leave, w-stay, w-call, w-retInterp, w-entry, w-when, w-braces, stop}
 use Rattle.ways.specs.Claim.{carried, times}
 use Rattle.ways.proofs.Functions.{trees, forwarder}
 use Rattle.ways.proofs.Pieces.{group-part, in-part}
@@ -24,7 +25,7 @@ loop =
       count = 1;
       hash = none;
       forms = Form.native (branch ((tick 3 ∷ []) ∷ []) (v32 x-cz) (set (reg 15) is (lit word 0x08000100) ∷ []) 0x08000100) ∷ [];
-      last = (set (reg 15) is (lit word 0x08000104) ∷ []) ∷ [];
+      closing = (set (reg 15) is (lit word 0x08000104) ∷ []) ∷ [];
     }
 
 -- swi
@@ -36,7 +37,7 @@ swi =
       count = 1;
       hash = none;
       forms = shell false ((set (reg 15) is (lit word 0x08000104) ∷ []) ∷ []) 0x08000108 ∷ [];
-      last = (set (reg 15) is (lit word 0x08000108) ∷ []) ∷ [];
+      closing = (set (reg 15) is (lit word 0x08000108) ∷ []) ∷ [];
     }
 
 abbrev both : List Body
@@ -51,14 +52,14 @@ there : (max : ℕ) → List·Memᴰ (function (group 0x08000100) (groupCode bot
 unfolding unitsOf emitGroup membersOf
 there max =
     in-part (function (group 0x08000100) (groupCode both)) (emitGroup both) (unitsOf max both ((0 ∷ 1 ∷ []) ∷ []))
-    (group-part max (tail both) both (both ∷ []) opened 0 (List·Memᴰ·head refl)) (List·Memᴰ·head refl)
+    (group-part max (lastUnitEnd both) both (both ∷ []) unitHead 0 (List·Memᴰ·head refl)) (List·Memᴰ·head refl)
 
 -- the code from the loop's label on
 abbrev at-loop : Code
 at-loop = nl ⨾ (blockCode (map bodyKey both) loop ⧺ (nl ⨾ labelled (map bodyKey both) (swi ∷ [])))
 
-to-loop : Place 0x08000100 (groupCode both) at-loop
-unfolding groupCode declared labelled
+to-loop : LabelAt 0x08000100 (groupCode both) at-loop
+unfolding groupCode withLocals labelled
 to-loop = later (later (later (later (later (later (later (later (later (later here)))))))))
 
 -- what happens from there to the gate
@@ -66,17 +67,17 @@ abbrev owner : Event
 owner = reach (Owner.native 0x08000100)
 
 abbrev round : List Event
-round = natively 0x08000100 0 1 ∷ owner ∷ owner ∷ owner ∷ owner ∷ said (other (v32 x-cz)) true ∷ owner ∷ owner ∷ []
+round = nativeStart 0x08000100 0 1 ∷ owner ∷ owner ∷ owner ∷ owner ∷ said (other (v32 x-cz)) true ∷ owner ∷ owner ∷ []
 
 -- the gate says yes: the way leaves
 leaves : (ts : List Top) → Way ts (groupCode both) at-loop (true ∷ true ∷ []) (round ++ (said gate true ∷ owner ∷ []))
-unfolding blockCode guarded rest nativeText transfer chain
+unfolding blockCode outsideRomBios rest nativeText transfer chain
 leaves ts = w-gap (w-begin (w-gap (w-plain (w-gap (w-gap (w-braces (w-gap (w-plain (w-gap (w-plain (w-gap (w-when (w-gap (w-plain (w-gap (w-gap w-leave))))))))))))))))
 
 -- it says no: the way goes round
 goes-on : (ts : List Top) {xs : List Bool} {es : List Event} → Way ts (groupCode both) at-loop xs es
     → Way ts (groupCode both) at-loop (true ∷ false ∷ xs) (round ++ (said gate false ∷ owner ∷ es))
-unfolding blockCode guarded rest nativeText transfer chain
+unfolding blockCode outsideRomBios rest nativeText transfer chain
 goes-on ts w =
     w-gap
     (w-begin
@@ -87,7 +88,7 @@ abbrev events : List Event
 events = reach Owner.common ∷ reach Owner.common ∷ reach Owner.common ∷ (round ++ (said gate false ∷ owner ∷ (round ++ (said gate true ∷ owner ∷ []))))
 
 pub twice : (max : ℕ) → Way (units max) (forwarder 0x08000100 0) (forwarder 0x08000100 0) (true ∷ false ∷ true ∷ true ∷ []) events
-unfolding groupCode declared
+unfolding groupCode withLocals
 twice max =
     w-gap
     (w-call (there max)
@@ -100,10 +101,10 @@ two = (refl, refl)
 
 -- swi by itself: the interpreter carries out one instruction
 abbrev shelling : List Event
-shelling = reach Owner.common ∷ reach Owner.common ∷ reach Owner.common ∷ reach Owner.common ∷ shelled 0x08000104 0 ∷ []
+shelling = reach Owner.common ∷ reach Owner.common ∷ reach Owner.common ∷ reach Owner.common ∷ interpreted 0x08000104 0 ∷ []
 
-pub lone : (ts : List Top) → Way ts (declared (blockCode [] swi)) (declared (blockCode [] swi)) [] shelling
-unfolding declared blockCode guarded rest
+pub lone : (ts : List Top) → Way ts (withLocals (blockCode [] swi)) (withLocals (blockCode [] swi)) [] shelling
+unfolding withLocals blockCode outsideRomBios rest
 lone ts = w-gap (w-plain (w-gap (w-plain (w-gap (w-plain (w-gap (w-gap (w-plain (w-gap (w-gap w-retInterp))))))))))
 
 pub one : carried shelling ≡ 1
@@ -118,7 +119,7 @@ ram =
       count = 1;
       hash = some 7;
       forms = Form.native (straight [] ((set (reg 0) is (lit word 0) ∷ []) ∷ [])) ∷ [];
-      last = (set (reg 15) is (lit word 0x02000004) ∷ []) ∷ [];
+      closing = (set (reg 15) is (lit word 0x02000004) ∷ []) ∷ [];
     }
 
 -- what happens before the guard answers, and what it is asked about: address, length and hash
@@ -130,13 +131,13 @@ asked = guard 0x02000000 4 7
 
 -- its yes leads to the native statement
 pub guard-yes : (ts : List Top)
-    → Way ts (declared (blockCode [] ram)) (declared (blockCode [] ram)) (true ∷ [])
-    (asking ++ (said asked true ∷ natively 0x02000000 0 1 ∷ reach (Owner.native 0x02000000) ∷ []))
-unfolding declared blockCode guarded underGuard rest nativeText
+    → Way ts (withLocals (blockCode [] ram)) (withLocals (blockCode [] ram)) (true ∷ [])
+    (asking ++ (said asked true ∷ nativeStart 0x02000000 0 1 ∷ reach (Owner.native 0x02000000) ∷ []))
+unfolding withLocals blockCode outsideRomBios underGuard rest nativeText
 guard-yes ts = w-gap (w-plain (w-gap (w-plain (w-gap (w-plain (w-gap (w-gap (w-when (w-gap (w-begin (w-gap (w-braces (w-gap (w-gap (w-plain stop)))))))))))))))
 
 -- its no to the interpreter, which carries out the block's first instruction
 pub guard-no : (ts : List Top)
-    → Way ts (declared (blockCode [] ram)) (declared (blockCode [] ram)) (false ∷ []) (asking ++ (said asked false ∷ reach Owner.common ∷ shelled 0x02000000 0 ∷ []))
-unfolding declared blockCode guarded underGuard rest
+    → Way ts (withLocals (blockCode [] ram)) (withLocals (blockCode [] ram)) (false ∷ []) (asking ++ (said asked false ∷ reach Owner.common ∷ interpreted 0x02000000 0 ∷ []))
+unfolding withLocals blockCode outsideRomBios underGuard rest
 guard-no ts = w-gap (w-plain (w-gap (w-plain (w-gap (w-plain (w-gap (w-gap (w-when (w-gap (w-plain (w-gap w-retInterp)))))))))))

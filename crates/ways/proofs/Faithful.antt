@@ -4,7 +4,8 @@ use mathlib.Core.Option.{Option}
 use mathlib.Core.Path.{_≡_}
 use lib.ListN.{length}
 use Rattle.block_file.specs.Parse.{Block}
-use Rattle.forms.specs.Forms.{weights, Body}
+use Rattle.forms.specs.Forms.{Body}
+use Rattle.forms.proofs.RecordCount.{recordCounts}
 
 -- that its forms are the block's, hashOf being the hash of its code bytes or their absence, and stand for each of its instructions
 pub record Faithful (hashOf : Block → Option ℕ) (bodyOf : Block → Body) : Type 0 where
@@ -12,4 +13,4 @@ pub record Faithful (hashOf : Block → Option ℕ) (bodyOf : Block → Body) : 
   pub thumb : (b : Block) → bodyOf b .thumb ≡ b .thumb
   pub count : (b : Block) → bodyOf b .count ≡ length (b .instrs)
   pub hash : (b : Block) → bodyOf b .hash ≡ hashOf b
-  pub whole : (b : Block) → weights (bodyOf b .forms) ≡ bodyOf b .count
+  pub whole : (b : Block) → recordCounts (bodyOf b .forms) ≡ bodyOf b .count

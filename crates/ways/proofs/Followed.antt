@@ -6,7 +6,7 @@ use mathlib.Core.List.{List, [], _∷_, map, List·Memᴰ, List·Memᴰ·head, L
 use Rattle.c_tree.specs.Stmt.{common, Simple, gap, begin, plain, label, goto, ret, retIf, interp, retInterp, call, switch, Code, end, _⨾_, when, braces, _⧺_, Top}
 use Rattle.forms.specs.Forms.{Body}
 use Rattle.lowering.specs.Block.{bodyKey, nl, sp, blockCode}
-use Rattle.lowering.specs.Units.{declared, labelled, groupCode}
+use Rattle.lowering.specs.Units.{withLocals, labelled, groupCode}
 use Rattle.ways.specs.Ways.{Event, reach, Way}
 use Rattle.ways.proofs.Logic.{Logic, Ok, At, Labels, append, Follow, Done, sound}
 use Rattle.ways.proofs.Emitted.{Rules, ok-block}
@@ -65,10 +65,10 @@ module _ (L : Logic) where
     pub third : allow (step (step s (reach common)) (reach common)) (reach common)
     pub fourth : allow (opened s) (reach common)
 
-  declared-follows : (c : Code) (s : S) → Opens s → Ok L c (opened s) (Done L) → Labels L c (Done L) → {ts : List Top} {xs : List Bool} {es : List Event}
-      → Way ts (declared c) (declared c) xs es → Follow L es s
-  unfolding declared
-  declared-follows c s o h l way = sound L (tt, (tt, (tt, (tt, (tt, (tt, (tt, l))))))) way s (o .first, (o .second, (o .third, h)))
+  locals-follow : (c : Code) (s : S) → Opens s → Ok L c (opened s) (Done L) → Labels L c (Done L) → {ts : List Top} {xs : List Bool} {es : List Event}
+      → Way ts (withLocals c) (withLocals c) xs es → Follow L es s
+  unfolding withLocals
+  locals-follow c s o h l way = sound L (tt, (tt, (tt, (tt, (tt, (tt, (tt, l))))))) way s (o .first, (o .second, (o .third, h)))
 
   pub group-follows : (b : Body) (g : List Body) → ((c : Body) → List·Memᴰ c (b ∷ g) → Rules L c (map bodyKey (b ∷ g))) → (s : S) → Opens s
       → ((k : ℕ) → List·Memᴰ k (map bodyKey (b ∷ g)) → owed k (opened s)) → {ts : List Top} {xs : List Bool} {es : List Event}
@@ -76,10 +76,10 @@ module _ (L : Logic) where
   unfolding groupCode labelled
   group-follows b g R s o w way =
       let r : Rules L b (map bodyKey (b ∷ g)) = R b (List·Memᴰ·head refl) in
-      declared-follows (sp 4 ⨾ switch (map bodyKey (b ∷ g)) ⨾ nl ⨾ labelled (map bodyKey (b ∷ g)) (b ∷ g)) s o
+      locals-follow (sp 4 ⨾ switch (map bodyKey (b ∷ g)) ⨾ nl ⨾ labelled (map bodyKey (b ∷ g)) (b ∷ g)) s o
       (w, o .fourth, ok-labelled (map bodyKey (b ∷ g)) b g r (opened s) (r .lands (opened s) (w (bodyKey b) (List·Memᴰ·head refl))))
       (tt, (tt, (tt, labels-labelled (map bodyKey (b ∷ g)) (b ∷ g) R))) way
 
   pub lone-follows : (b : Body) (R : Rules L b []) (s : S) → Opens s → R .Pre (opened s) → {ts : List Top} {xs : List Bool} {es : List Event}
-      → Way ts (declared (blockCode [] b)) (declared (blockCode [] b)) xs es → Follow L es s
-  lone-follows b R s o i way = declared-follows (blockCode [] b) s o (ok-block L b [] R (Done L) (opened s) i) (bare-labels (blockCode [] b) (bare-block [] b) (Done L)) way
+      → Way ts (withLocals (blockCode [] b)) (withLocals (blockCode [] b)) xs es → Follow L es s
+  lone-follows b R s o i way = locals-follow (blockCode [] b) s o (ok-block L b [] R (Done L) (opened s) i) (bare-labels (blockCode [] b) (bare-block [] b) (Done L)) way

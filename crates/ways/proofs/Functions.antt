@@ -9,7 +9,7 @@ use lib.ListN.{length}
 use Rattle.c_tree.specs.Stmt.{call, Code, end, _⨾_, Head, helper, block, group, Top, opening, function, blank, extern, table, count}
 use Rattle.forms.specs.Forms.{Body}
 use Rattle.lowering.specs.Block.{bodyKey, sp, blockCode}
-use Rattle.lowering.specs.Units.{TranslationUnit, declared, emitBlock, groupCode, forwarders, emitGroup, opened, tail, textOf, cut}
+use Rattle.lowering.specs.Units.{TranslationUnit, withLocals, emitBlock, groupCode, forwarders, emitGroup, unitHead, lastUnitEnd, textOf, cut}
 
 -- the function of a block or of a group
 abbrev pub Own : Top → Type 0
@@ -30,17 +30,17 @@ foreign-next : (t : Top) (ts : List Top) → (Own t → ⊥) → Foreign ts → 
 foreign-next t ts f g s o (List·Memᴰ·head e) = f (subst Own e o)
 foreign-next t ts f g s o (List·Memᴰ·tail m) = g s o m
 
-pub opened-foreign : Foreign opened
-opened-foreign =
+pub head-foreign : Foreign unitHead
+head-foreign =
     foreign-next _ _ (λ o. o)
     (foreign-next _ _ (λ o. o)
     (foreign-next _ _ (λ o. o)
     (foreign-next _ _ (λ o. o)
     (foreign-next _ _ (λ o. o) (foreign-next _ _ (λ o. o) (foreign-next _ _ (λ o. o) (λ t o m. absurd (List·Memᴰ·not-nil m))))))))
 
-pub tail-foreign : (bs : List Body) → Foreign (tail bs)
-unfolding tail
-tail-foreign bs t o m = go (List·Memᴰ·append-cases (map (λ (b : Body). extern (bodyKey b)) bs) m)
+pub end-foreign : (bs : List Body) → Foreign (lastUnitEnd bs)
+unfolding lastUnitEnd
+end-foreign bs t o m = go (List·Memᴰ·append-cases (map (λ (b : Body). extern (bodyKey b)) bs) m)
   where
     go : List·Memᴰ t (map (λ (b : Body). extern (bodyKey b)) bs) ⊎ List·Memᴰ t (table (map bodyKey bs) ∷ count (length bs) ∷ []) → ⊥
     go (inl n) = let r = Memᴰ·of-map (λ (b : Body). extern (bodyKey b)) bs n in subst Own (sym (r .2)) o
@@ -67,8 +67,8 @@ module _ (max : ℕ) (closed : List Top) (apart : Foreign closed) (t : Top) (own
       go (inl k) = front (List·Memᴰ·append-cases ts k)
       go (inr k) = absurd (List·Memᴰ·not-nil k)
   from-cut (g ∷ gs) ts n m =
-      pick (cut max closed opened (n + length g) gs) (cut max closed (ts ++ emitGroup g) (n + length g) gs) (leb max (length (textOf (ts ++ emitGroup g))))
-      (from-cut gs opened (n + length g)) (from-cut gs (ts ++ emitGroup g) (n + length g)) m
+      pick (cut max closed unitHead (n + length g) gs) (cut max closed (ts ++ emitGroup g) (n + length g) gs) (leb max (length (textOf (ts ++ emitGroup g))))
+      (from-cut gs unitHead (n + length g)) (from-cut gs (ts ++ emitGroup g) (n + length g)) m
     where
       front : List·Memᴰ t ts ⊎ List·Memᴰ t (emitGroup g) → List·Memᴰ t ts ⊎ InGroup t (g ∷ gs)
       front (inl k) = inl k
@@ -81,16 +81,16 @@ module _ (max : ℕ) (closed : List Top) (apart : Foreign closed) (t : Top) (own
       next (inl k) = front (List·Memᴰ·append-cases ts k)
       next (inr h) = inr (behind h)
 
-      fresh : List·Memᴰ t opened ⊎ InGroup t gs → List·Memᴰ t ts ⊎ InGroup t (g ∷ gs)
-      fresh (inl k) = absurd (opened-foreign t own k)
+      fresh : List·Memᴰ t unitHead ⊎ InGroup t gs → List·Memᴰ t ts ⊎ InGroup t (g ∷ gs)
+      fresh (inl k) = absurd (head-foreign t own k)
       fresh (inr h) = inr (behind h)
 
-      handed : (us : List TranslationUnit) → (List·Memᴰ t (trees us) → List·Memᴰ t opened ⊎ InGroup t gs)
+      handed : (us : List TranslationUnit) → (List·Memᴰ t (trees us) → List·Memᴰ t unitHead ⊎ InGroup t gs)
           → List·Memᴰ t (ts ++ emitGroup g) ⊎ List·Memᴰ t (trees us) → List·Memᴰ t ts ⊎ InGroup t (g ∷ gs)
       handed us f (inl k) = front (List·Memᴰ·append-cases ts k)
       handed us f (inr k) = fresh (f k)
 
-      pick : (us vs : List TranslationUnit) (x : Bool) → (List·Memᴰ t (trees us) → List·Memᴰ t opened ⊎ InGroup t gs)
+      pick : (us vs : List TranslationUnit) (x : Bool) → (List·Memᴰ t (trees us) → List·Memᴰ t unitHead ⊎ InGroup t gs)
           → (List·Memᴰ t (trees vs) → List·Memᴰ t (ts ++ emitGroup g) ⊎ InGroup t gs)
           → List·Memᴰ t (trees (cond x (record { tree = ts ++ emitGroup g; done = n + length g; last = false } ∷ us) vs))
           → List·Memᴰ t ts ⊎ InGroup t (g ∷ gs)
@@ -150,7 +150,7 @@ forwards a k c (b ∷ bs) n (List·Memᴰ·tail m) = let r = forwards a k c bs (
 
 -- the function of a lone block
 abbrev pub Alone : ℕ → Code → List Body → Type 0
-Alone k c g = (b : Body) × (g ≡ b ∷ []) × (bodyKey b ≡ k) × (c ≡ declared (blockCode [] b))
+Alone k c g = (b : Body) × (g ≡ b ∷ []) × (bodyKey b ≡ k) × (c ≡ withLocals (blockCode [] b))
 
 -- the function of a block of a group of several
 abbrev pub Among : ℕ → Code → List Body → Type 0

@@ -14,7 +14,7 @@ use Rattle.plan.proofs.GroupLaws.{group-limit, group-inside}
 use Rattle.plan.proofs.Listing.{map-at}
 use Rattle.forms.specs.Forms.{Body}
 use Rattle.lowering.specs.Block.{bodyKey}
-use Rattle.lowering.specs.Units.{nobody, membersOf}
+use Rattle.lowering.specs.Units.{defaultBody, membersOf}
 use Rattle.ways.proofs.Faithful.{Faithful}
 use Rattle.ways.proofs.Bounded.{Member, total}
 use Rattle.ways.proofs.Behind.{Apart}
@@ -57,9 +57,9 @@ module _ (F : File) where
       → (i : ℕ) × List·Memᴰ i g × (i < length bs) × (bodyOf (getD bs i nowhere) ≡ b)
   unfolding membersOf
   member-of g m b n =
-      let r = Memᴰ·of-map (λ (i : ℕ). getD bodies i nobody) g n in
+      let r = Memᴰ·of-map (λ (i : ℕ). getD bodies i defaultBody) g n in
       let inside : r .0 < length bs = group-inside limit bs g m (r .0) (r .1) in
-      (r .0, r .1, inside, sym (map-at bodyOf bs (r .0) nowhere nobody inside) ∙ r .2)
+      (r .0, r .1, inside, sym (map-at bodyOf bs (r .0) nowhere defaultBody inside) ∙ r .2)
 
   pub is-member : (i : ℕ) → i < length bs → Member (bodyOf (getD bs i nowhere))
   is-member i h =
@@ -73,7 +73,7 @@ module _ (F : File) where
   in-bodies i h = Memᴰ·map bodyOf (at-member bs i nowhere h)
 
   -- the counts of the plan are those of the bodies
-  count-at : (cs : List Block) (i : ℕ) → getD (map bodyOf cs) i nobody .count ≡ getD (countsOf cs) i 0
+  count-at : (cs : List Block) (i : ℕ) → getD (map bodyOf cs) i defaultBody .count ≡ getD (countsOf cs) i 0
   count-at [] i = refl
   count-at (c ∷ cs) zero = faithful .count c
   count-at (c ∷ cs) (suc i) = count-at cs i

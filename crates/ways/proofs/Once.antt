@@ -8,8 +8,8 @@ use lib.Dec.{T, leb, ltb, eqb, leb→le, ltb→lt, eqb→eq}
 use Rattle.c_tree.specs.Stmt.{Top}
 use Rattle.forms.specs.Forms.{Body}
 use Rattle.lowering.specs.Block.{blockCode}
-use Rattle.lowering.specs.Units.{declared}
-use Rattle.ways.specs.Ways.{Event, reach, said, natively, shelled, Way}
+use Rattle.lowering.specs.Units.{withLocals}
+use Rattle.ways.specs.Ways.{Event, reach, said, nativeStart, interpreted, Way}
 use Rattle.ways.specs.Claim.{times}
 use Rattle.ways.proofs.Logic.{Logic, Follow}
 use Rattle.ways.proofs.Emitted.{Quiet, q-native, q-none, q-other, q-gate, Rules}
@@ -18,14 +18,14 @@ use Rattle.ways.proofs.Followed.{lone-follows}
 abbrev ahead : ℕ → Event → ℕ
 ahead s (reach o) = s
 ahead s (said t x) = s
-ahead s (natively k p n) = p + n
-ahead s (shelled k p) = p + 1
+ahead s (nativeStart k p n) = p + n
+ahead s (interpreted k p) = p + 1
 
 abbrev rises : ℕ → Event → Type 0
 rises s (reach o) = Unit {0}
 rises s (said t x) = Unit {0}
-rises s (natively k p n) = s ≤ p
-rises s (shelled k p) = s ≤ p
+rises s (nativeStart k p n) = s ≤ p
+rises s (interpreted k p) = s ≤ p
 
 abbrev pub Rising : Logic
 Rising = record { S = ℕ; step = ahead; allow = rises; owed = λ k s. ⊥ }
@@ -52,7 +52,7 @@ rising-rules b = record {
   defers = λ s i. (tt, i);
 }
 
-pub lone-rises : (b : Body) {ts : List Top} {xs : List Bool} {es : List Event} → Way ts (declared (blockCode [] b)) (declared (blockCode [] b)) xs es → Follow Rising es 0
+pub lone-rises : (b : Body) {ts : List Top} {xs : List Bool} {es : List Event} → Way ts (withLocals (blockCode [] b)) (withLocals (blockCode [] b)) xs es → Follow Rising es 0
 unfolding rising-rules
 lone-rises b w = lone-follows Rising b (rising-rules b) 0 (record { first = tt; second = tt; third = tt; fourth = tt }) (omega arith) w
 
@@ -83,11 +83,11 @@ few : (h j : ℕ) (es : List Event) (s : ℕ) → Follow Rising es s → Few h j
 few h j [] s f = record { below = λ l. omega arith; twice = omega arith }
 few h j (reach o ∷ es) s f = let k = few h j es s (f .1) in record { below = k .below; twice = k .twice }
 few h j (said t x ∷ es) s f = let k = few h j es s (f .1) in record { below = k .below; twice = k .twice }
-few h j (natively k p n ∷ es) s f =
+few h j (nativeStart k p n ∷ es) s f =
     let l : s ≤ p = f .0 in
     let a = add h j s (p + n) es (eqb h k && leb p j && ltb j (p + n)) (λ t. omega (arith, covers h k j p n t)) (omega arith) (few h j es (p + n) (f .1)) in
     record { below = a .0; twice = a .1 }
-few h j (shelled k p ∷ es) s f =
+few h j (interpreted k p ∷ es) s f =
     let l : s ≤ p = f .0 in
     let a = add h j s (p + 1) es (eqb h k && eqb p j) (λ t. omega (arith, hits h k j p t)) (omega arith) (few h j es (p + 1) (f .1)) in
     record { below = a .0; twice = a .1 }

@@ -9,7 +9,7 @@ use lib.ListN.{length}
 use Rattle.c_tree.specs.Stmt.{extern, Top}
 use Rattle.forms.specs.Forms.{Body}
 use Rattle.lowering.specs.Block.{bodyKey}
-use Rattle.lowering.specs.Units.{TranslationUnit, emitBlock, forwarders, emitGroup, opened, tail, textOf, cut}
+use Rattle.lowering.specs.Units.{TranslationUnit, emitBlock, forwarders, emitGroup, unitHead, lastUnitEnd, textOf, cut}
 use Rattle.plan.proofs.Listing.{count as countOf}
 use Rattle.ways.specs.Complete.{functions}
 use Rattle.ways.proofs.Functions.{trees}
@@ -37,7 +37,7 @@ module _ (max : ℕ) (closed : List Top) where
   stays x before after [] ts n e =
       record { unit = _; made = List·Memᴰ·head refl; before = before; after = after ++ closed; piece = longer ts x before after closed e }
   stays x before after (g ∷ gs) ts n e =
-      go (leb max (length (textOf (ts ++ emitGroup g)))) (cut max closed opened (n + length g) gs) (cut max closed (ts ++ emitGroup g) (n + length g) gs)
+      go (leb max (length (textOf (ts ++ emitGroup g)))) (cut max closed unitHead (n + length g) gs) (cut max closed (ts ++ emitGroup g) (n + length g) gs)
       (stays x before (after ++ emitGroup g) gs (ts ++ emitGroup g) (n + length g) (longer ts x before after (emitGroup g) e))
     where
       go : (y : Bool) (us vs : List TranslationUnit) → Part x vs → Part x (cond y (record { tree = ts ++ emitGroup g; done = n + length g; last = false } ∷ us) vs)
@@ -49,7 +49,7 @@ module _ (max : ℕ) (closed : List Top) where
   unfolding cut
   group-part g (h ∷ gs) ts n (List·Memᴰ·head e) =
       subst (λ x. Part (emitGroup x) (cut max closed ts n (h ∷ gs))) (sym e)
-      (go (leb max (length (textOf (ts ++ emitGroup h)))) (cut max closed opened (n + length h) gs) (cut max closed (ts ++ emitGroup h) (n + length h) gs)
+      (go (leb max (length (textOf (ts ++ emitGroup h)))) (cut max closed unitHead (n + length h) gs) (cut max closed (ts ++ emitGroup h) (n + length h) gs)
       (stays (emitGroup h) ts [] gs (ts ++ emitGroup h) (n + length h) (ap (λ (l : List Top). ts ++ l) (sym (append-nil (emitGroup h))))))
     where
       append-nil : (l : List Top) → l ++ [] ≡ l
@@ -68,8 +68,8 @@ module _ (max : ℕ) (closed : List Top) where
           }
       go false us vs p = p
   group-part g (h ∷ gs) ts n (List·Memᴰ·tail m) =
-      go (leb max (length (textOf (ts ++ emitGroup h)))) (cut max closed opened (n + length h) gs) (cut max closed (ts ++ emitGroup h) (n + length h) gs)
-      (group-part g gs opened (n + length h) m) (group-part g gs (ts ++ emitGroup h) (n + length h) m)
+      go (leb max (length (textOf (ts ++ emitGroup h)))) (cut max closed unitHead (n + length h) gs) (cut max closed (ts ++ emitGroup h) (n + length h) gs)
+      (group-part g gs unitHead (n + length h) m) (group-part g gs (ts ++ emitGroup h) (n + length h) m)
     where
       go : (y : Bool) (us vs : List TranslationUnit) → Part (emitGroup g) us → Part (emitGroup g) vs
           → Part (emitGroup g) (cond y (record { tree = ts ++ emitGroup h; done = n + length h; last = false } ∷ us) vs)
@@ -101,9 +101,9 @@ module _ (k : ℕ) where
   no-extern [] = refl
   no-extern (b ∷ bs) = omega (arith, no-extern bs)
 
-  pub no-tail : (bs : List Body) → functions k (tail bs) ≡ 0
-  unfolding tail
-  no-tail bs = functions-append (map (λ (b : Body). extern (bodyKey b)) bs) _ ∙ omega (arith, no-extern bs)
+  pub no-end : (bs : List Body) → functions k (lastUnitEnd bs) ≡ 0
+  unfolding lastUnitEnd
+  no-end bs = functions-append (map (λ (b : Body). extern (bodyKey b)) bs) _ ∙ omega (arith, no-extern bs)
 
   -- the units have those of the groups and no other
   pub functions-cut : (max : ℕ) (closed : List Top) → functions k closed ≡ 0 → (gs : List (List Body)) (ts : List Top) (n : ℕ)
@@ -111,10 +111,10 @@ module _ (k : ℕ) where
   unfolding cut flatten
   functions-cut max closed z [] ts n = functions-append (ts ++ closed) [] ∙ omega (arith, functions-append ts closed)
   functions-cut max closed z (g ∷ gs) ts n =
-      go (leb max (length (textOf (ts ++ emitGroup g)))) (cut max closed opened (n + length g) gs) (cut max closed (ts ++ emitGroup g) (n + length g) gs)
-      (functions-cut max closed z gs opened (n + length g)) (functions-cut max closed z gs (ts ++ emitGroup g) (n + length g))
+      go (leb max (length (textOf (ts ++ emitGroup g)))) (cut max closed unitHead (n + length g) gs) (cut max closed (ts ++ emitGroup g) (n + length g) gs)
+      (functions-cut max closed z gs unitHead (n + length g)) (functions-cut max closed z gs (ts ++ emitGroup g) (n + length g))
     where
-      go : (y : Bool) (us vs : List TranslationUnit) → functions k (trees us) ≡ functions k opened + inGroups gs
+      go : (y : Bool) (us vs : List TranslationUnit) → functions k (trees us) ≡ functions k unitHead + inGroups gs
           → functions k (trees vs) ≡ functions k (ts ++ emitGroup g) + inGroups gs
           → functions k (trees (cond y (record { tree = ts ++ emitGroup g; done = n + length g; last = false } ∷ us) vs))
           ≡ functions k ts + (functions k (emitGroup g) + inGroups gs)

@@ -1,12 +1,12 @@
 -- The claim on ways, proved.
-use Prim.Native.Nat.{ℕ, _*_, _/_, _%_, _^_, _≤_, _<_}
+use Prim.Native.Nat.{ℕ, _*_, _≤_, _<_}
 use mathlib.Core.Path.{_≡_, refl, sym, ap, ap₂, _∙_, subst}
 use mathlib.Core.Logic.{_⊎_, inl, inr}
-use mathlib.Core.Bool.{Bool, true, not, _||_}
+use mathlib.Core.Bool.{Bool, true}
 use mathlib.Core.List.{List, [], _∷_, _++_, map, List·Memᴰ, List·Memᴰ·head, Memᴰ·cast, Memᴰ·map, Memᴰ·of-map}
 use mathlib.Core.Option.{Option}
 use native.Mathlib.Omega.{arith}
-use lib.Dec.{T, eqb}
+use lib.Dec.{T}
 use lib.ListN.{length, getD}
 use Rattle.armv4t.specs.Bit0.{clearBit0}
 use Rattle.armv4t.specs.Instr.{sizeOf}
@@ -15,18 +15,19 @@ use Rattle.plan.specs.Plan.{groups}
 use Rattle.plan.proofs.GroupLaws.{group-same}
 use Rattle.c_tree.specs.Stmt.{guard, Code, block, group, Top, function}
 use Rattle.forms.specs.Forms.{Body}
-use Rattle.lowering.specs.Block.{bodyKey, guarded, blockCode}
-use Rattle.lowering.specs.Units.{declared, groupCode, emitGroup, opened, tail, membersOf, unitsOf, unitsFor}
+use Rattle.lowering.specs.Block.{bodyKey, blockCode}
+use Rattle.block_file.specs.Address.{outsideRomBios}
+use Rattle.lowering.specs.Units.{withLocals, groupCode, emitGroup, unitHead, lastUnitEnd, membersOf, unitsOf, unitsFor}
 use Rattle.ways.specs.Ways.{Event, said, Way, stop, w-gap, w-call}
 use Rattle.ways.proofs.Faithful.{Faithful}
-use Rattle.ways.specs.Claim.{AtNative, outside, fileTree, Passed, Kept, ClaimOf, Claim}
+use Rattle.ways.specs.Claim.{AtNative, allUnits, Passed, WayClaim, ClaimOf, Claim}
 use Rattle.ways.proofs.Logic.{Follow}
 use Rattle.ways.proofs.Followed.{group-follows}
 use Rattle.ways.proofs.Bounded.{total, Spent, at-most-total, spent-rules, parts}
 use Rattle.ways.proofs.Once.{lone-rises, once-of}
 use Rattle.ways.proofs.Behind.{Allowed, Apart, History, history-rules, lone-seen, behind-of}
 use Rattle.ways.proofs.Places.{found-at}
-use Rattle.ways.proofs.Functions.{Own, opened-foreign, tail-foreign, InGroup, from-cut, Many, forwarder, Alone, Among, block-stands, group-stands}
+use Rattle.ways.proofs.Functions.{Own, head-foreign, end-foreign, InGroup, from-cut, Many, forwarder, Alone, Among, block-stands, group-stands}
 use Rattle.ways.proofs.Members.{nowhere, Good, File, bodies, key-of, member-of, several, one, good, same-place, apart}
 
 -- a way from a forwarder is none, or one through a group's function
@@ -56,23 +57,23 @@ module _ (F : File) (max : ℕ) where
   open File F using (hashOf, bodyOf, faithful, bs, limit)
 
   -- a function of the units stands in a group of the plan
-  in-group : (t : Top) → Own t → List·Memᴰ t (fileTree bodyOf limit max bs) → (g : List ℕ) × List·Memᴰ g (groups limit bs) × List·Memᴰ t (emitGroup (membersOf (bodies F) g))
-  unfolding fileTree unitsFor unitsOf
-  in-group t o m = go (from-cut max (tail (bodies F)) (tail-foreign (bodies F)) t o (map (membersOf (bodies F)) (groups limit bs)) opened 0 m)
+  in-group : (t : Top) → Own t → List·Memᴰ t (allUnits bodyOf limit max bs) → (g : List ℕ) × List·Memᴰ g (groups limit bs) × List·Memᴰ t (emitGroup (membersOf (bodies F) g))
+  unfolding allUnits unitsFor unitsOf
+  in-group t o m = go (from-cut max (lastUnitEnd (bodies F)) (end-foreign (bodies F)) t o (map (membersOf (bodies F)) (groups limit bs)) unitHead 0 m)
     where
-      go : List·Memᴰ t opened ⊎ InGroup t (map (membersOf (bodies F)) (groups limit bs))
+      go : List·Memᴰ t unitHead ⊎ InGroup t (map (membersOf (bodies F)) (groups limit bs))
           → (g : List ℕ) × List·Memᴰ g (groups limit bs) × List·Memᴰ t (emitGroup (membersOf (bodies F) g))
-      go (inl k) = absurd (opened-foreign t o k)
+      go (inl k) = absurd (head-foreign t o k)
       go (inr h) =
           let r = Memᴰ·of-map (membersOf (bodies F)) (groups limit bs) (h .1) in
           (r .0, r .1, subst (λ g. List·Memᴰ t (emitGroup g)) (sym (r .2)) (h .2))
 
   -- a way from a forwarder
-  forwarded : (k n : ℕ) {xs : List Bool} {es : List Event} → Way (fileTree bodyOf limit max bs) (forwarder k n) (forwarder k n) xs es
+  forwarded : (k n : ℕ) {xs : List Bool} {es : List Event} → Way (allUnits bodyOf limit max bs) (forwarder k n) (forwarder k n) xs es
       → (g : List Body) × Both limit (bodies F) (apart F) g es
   forwarded k n {xs} {es} w = go (called w)
     where
-      go : (es ≡ []) ⊎ ((c : Code) × List·Memᴰ (function (group k) c) (fileTree bodyOf limit max bs) × Way (fileTree bodyOf limit max bs) c c xs es)
+      go : (es ≡ []) ⊎ ((c : Code) × List·Memᴰ (function (group k) c) (allUnits bodyOf limit max bs) × Way (allUnits bodyOf limit max bs) c c xs es)
           → (g : List Body) × Both limit (bodies F) (apart F) g es
       go (inl e) = ([], subst (Both limit (bodies F) (apart F) []) (sym e) (tt, tt))
       go (inr r) =
@@ -80,7 +81,7 @@ module _ (F : File) (max : ℕ) where
           let p = group-stands k (r .0) (membersOf (bodies F) (q .0)) (q .2) in (
             membersOf (bodies F) (q .0),
             group-both limit (bodies F) (apart F) (membersOf (bodies F) (q .0)) (p .0) (good F (q .0) (q .1))
-                (subst (λ c. Way (fileTree bodyOf limit max bs) c c xs es) (p .1) (r .2)),
+                (subst (λ c. Way (allUnits bodyOf limit max bs) c c xs es) (p .1) (r .2)),
           )
 
   -- what is known of a body is known of its block
@@ -94,11 +95,10 @@ module _ (F : File) (max : ℕ) where
         (p .2),
   )
 
-  is-guarded : (b : Block) → T (outside b) → T (guarded (bodyOf b))
-  unfolding guarded
-  is-guarded b t = subst (λ (a : ℕ). T (not (eqb (a / 2 ^ 24 % 16) 8 || eqb (a / 2 ^ 24 % 16) 0))) (sym (faithful .addr b)) t
+  is-guarded : (b : Block) → T (outsideRomBios (b .addr)) → T (outsideRomBios (bodyOf b .addr))
+  is-guarded b t = subst (λ (a : ℕ). T (outsideRomBios a)) (sym (faithful .addr b)) t
 
-  seen : (es us vs : List Event) (e : Event) → es ≡ us ++ (e ∷ vs) → Follow (History (bodies F)) es [] → (b : Block) → List·Memᴰ b bs → AtNative (blockKey b) e → T (outside b)
+  seen : (es us vs : List Event) (e : Event) → es ≡ us ++ (e ∷ vs) → Follow (History (bodies F)) es [] → (b : Block) → List·Memᴰ b bs → AtNative (blockKey b) e → T (outsideRomBios (b .addr))
       → Passed hashOf b us
   seen es us vs e p h b m n t =
       passed b us
@@ -115,7 +115,7 @@ module _ (F : File) (max : ℕ) where
 
   module _ (i : ℕ) (h : i < length bs) (g : List ℕ) (m : List·Memᴰ g (groups limit bs)) (es : List Event) where
     kept-lone : (b : Body) → membersOf (bodies F) g ≡ b ∷ [] → bodyKey b ≡ blockKey (getD bs i nowhere)
-        → {xs : List Bool} → Way (fileTree bodyOf limit max bs) (declared (blockCode [] b)) (declared (blockCode [] b)) xs es → Kept hashOf limit bs i es
+        → {xs : List Bool} → Way (allUnits bodyOf limit max bs) (withLocals (blockCode [] b)) (withLocals (blockCode [] b)) xs es → WayClaim hashOf limit bs i es
     kept-lone b e k w =
         let there : List·Memᴰ b (membersOf (bodies F) g) = subst (λ l. List·Memᴰ b l) (sym e) (List·Memᴰ·head refl) in
         let single : length g ≡ 1 = one F g b e in
@@ -129,7 +129,7 @@ module _ (F : File) (max : ℕ) where
         }
 
     kept-several : Many (membersOf (bodies F) g) → (b : Body) → List·Memᴰ b (membersOf (bodies F) g) → bodyKey b ≡ blockKey (getD bs i nowhere)
-        → (g′ : List Body) → Both limit (bodies F) (apart F) g′ es → Kept hashOf limit bs i es
+        → (g′ : List Body) → Both limit (bodies F) (apart F) g′ es → WayClaim hashOf limit bs i es
     kept-several v b n k g′ q =
         let mine : List·Memᴰ i g = here i h g m b n k in
         record {
@@ -141,10 +141,10 @@ module _ (F : File) (max : ℕ) where
         }
 
     kept : (c : Code) → Alone (blockKey (getD bs i nowhere)) c (membersOf (bodies F) g) ⊎ Among (blockKey (getD bs i nowhere)) c (membersOf (bodies F) g)
-        → (xs : List Bool) → Way (fileTree bodyOf limit max bs) c c xs es → Kept hashOf limit bs i es
-    kept c (inl a) xs w = kept-lone (a .0) (a .1) (a .2) (subst (λ d. Way (fileTree bodyOf limit max bs) d d xs es) (a .3) w)
+        → (xs : List Bool) → Way (allUnits bodyOf limit max bs) c c xs es → WayClaim hashOf limit bs i es
+    kept c (inl a) xs w = kept-lone (a .0) (a .1) (a .2) (subst (λ d. Way (allUnits bodyOf limit max bs) d d xs es) (a .3) w)
     kept c (inr a) xs w =
-        let q = forwarded (a .2 .0) (a .2 .1) (subst (λ d. Way (fileTree bodyOf limit max bs) d d xs es) (a .2 .2) w) in
+        let q = forwarded (a .2 .0) (a .2 .1) (subst (λ d. Way (allUnits bodyOf limit max bs) d d xs es) (a .2 .2) w) in
         kept-several (a .0) (a .1 .0) (a .1 .1) (a .1 .2) (q .0) (q .1)
 
 -- demand 3
@@ -154,5 +154,5 @@ theorem hashOf bodyOf faithful limit max f bs accepted i b e c m xs es w =
     let F : File = record { hashOf = hashOf; bodyOf = bodyOf; faithful = faithful; bytes = f; bs = bs; accepted = accepted; limit = limit } in
     let at = found-at bs i nowhere b e in
     let k : ℕ = blockKey (getD bs i nowhere) in
-    let g = in-group F max (function (block k) c) tt (subst (λ d. List·Memᴰ (function (block (blockKey d)) c) (fileTree bodyOf limit max bs)) (sym (at .1)) m) in
+    let g = in-group F max (function (block k) c) tt (subst (λ d. List·Memᴰ (function (block (blockKey d)) c) (allUnits bodyOf limit max bs)) (sym (at .1)) m) in
     kept F max i (at .0) (g .0) (g .1) es c (block-stands k c (membersOf (bodies F) (g .0)) (g .2)) xs w

@@ -1,98 +1,95 @@
 -- The claim on ways (demand 3): one statement about every way through the units of every accepted file.
-use Prim.Native.Nat.{ℕ, _+_, _*_, _%_, _≤_}
+use Prim.Native.Nat.{ℕ, _+_, _≤_}
 use mathlib.Core.Path.{_≡_}
-use mathlib.Core.Bool.{Bool, true, not, cond, _&&_, _||_}
+use mathlib.Core.Bool.{Bool, true, cond, _&&_}
 use mathlib.Core.List.{List, [], _∷_, _++_, map, flatten, List·Memᴰ}
 use mathlib.Core.Option.{Option, some}
 use lib.Dec.{T, leb, ltb, eqb}
 use lib.ListN.{length, getElem?}
-use Rattle.armv4t.specs.Instr.{sizeOf}
+use Rattle.records.specs.BlockRecord.{lengthOf}
 use Rattle.block_file.specs.Parse.{Block, Parsed, parse, blockKey}
-use Rattle.search.specs.Target.{page}
+use Rattle.block_file.specs.Address.{outsideRomBios}
 use Rattle.plan.specs.Plan.{groups}
 use Rattle.c_tree.specs.Stmt.{Test, guard, gate, other, native, common, Code, block, Top, function}
 use Rattle.forms.specs.Forms.{Body}
 use Rattle.lowering.specs.Units.{TranslationUnit, unitsFor}
-use Rattle.ways.specs.Ways.{Event, reach, said, natively, shelled, Way}
+use Rattle.ways.specs.Ways.{Event, reach, said, nativeStart, interpreted, Way}
 
--- how many instructions some events carry out
+-- how many instructions are carried out (document 01) by some events
 abbrev pub carried : List Event → ℕ
 carried [] = 0
 carried (reach o ∷ es) = carried es
 carried (said t x ∷ es) = carried es
-carried (natively k i n ∷ es) = n + carried es
-carried (shelled k i ∷ es) = 1 + carried es
+carried (nativeStart k i n ∷ es) = n + carried es
+carried (interpreted k i ∷ es) = 1 + carried es
 
--- a test that is not the chain gate
+-- a test that does not consult the chain gate (document 01)
 abbrev pub NotGate : Test → Type 0
 NotGate (guard a l h) = Unit {0}
 NotGate gate = ⊥
 NotGate (other e) = Unit {0}
 
--- events without a consultation of the chain gate
+-- a gateless run (document 01): events without a consultation of the chain gate
 abbrev pub Gateless : List Event → Type 0
 Gateless [] = Unit {0}
 Gateless (reach o ∷ es) = Gateless es
 Gateless (said t x ∷ es) = NotGate t × Gateless es
-Gateless (natively k i n ∷ es) = Gateless es
-Gateless (shelled k i ∷ es) = Gateless es
+Gateless (nativeStart k i n ∷ es) = Gateless es
+Gateless (interpreted k i ∷ es) = Gateless es
 
 -- how often they carry out the instruction with index j of the block with the key h
 abbrev pub times : ℕ → ℕ → List Event → ℕ
 times h j [] = 0
 times h j (reach o ∷ es) = times h j es
 times h j (said t x ∷ es) = times h j es
-times h j (natively k i n ∷ es) = cond (eqb h k && leb i j && ltb j (i + n)) 1 0 + times h j es
-times h j (shelled k i ∷ es) = cond (eqb h k && eqb i j) 1 0 + times h j es
+times h j (nativeStart k i n ∷ es) = cond (eqb h k && leb i j && ltb j (i + n)) 1 0 + times h j es
+times h j (interpreted k i ∷ es) = cond (eqb h k && eqb i j) 1 0 + times h j es
 
--- an event at the native statements of the block with the key h
+-- an event at the native statements (document 01) of the block with the key h
 abbrev pub AtNative : ℕ → Event → Type 0
 AtNative h (reach (native k)) = k ≡ h
 AtNative h (reach common) = ⊥
 AtNative h (said t x) = ⊥
-AtNative h (natively k i n) = k ≡ h
-AtNative h (shelled k i) = ⊥
+AtNative h (nativeStart k i n) = k ≡ h
+AtNative h (interpreted k i) = ⊥
 
--- outside regions 0 and 8, that is outside BIOS and ROM
-abbrev pub outside : Block → Bool
-outside b = not (eqb (page (b .addr) % 16) 8 || eqb (page (b .addr) % 16) 0)
-
--- a block that shares its group with another, and one that shares it with none
+-- a block that shares its group with another
 abbrev pub Several : ℕ → List Block → ℕ → Type 0
 Several limit bs i = (g : List ℕ) × List·Memᴰ g (groups limit bs) × List·Memᴰ i g × (2 ≤ length g)
 
+-- a lone block (document 01): it shares its group with no other
 abbrev pub Lone : ℕ → List Block → ℕ → Type 0
 Lone limit bs i = List·Memᴰ (i ∷ []) (groups limit bs)
 
 module _ (bodyOf : Block → Body) where
   -- all that stands in the units of some blocks
-  unfoldable pub fileTree : ℕ → ℕ → List Block → List Top
-  fileTree limit max bs = flatten (map (λ (u : TranslationUnit). u .tree) (unitsFor bodyOf limit max bs))
+  unfoldable pub allUnits : ℕ → ℕ → List Block → List Top
+  allUnits limit max bs = flatten (map (λ (u : TranslationUnit). u .tree) (unitsFor bodyOf limit max bs))
 
 module _ (hashOf : Block → Option ℕ) where
   -- the guard said yes to a block: to its address, length and hash
   abbrev pub Passed : Block → List Event → Type 0
   Passed b es =
-      (h : ℕ) × (hashOf b ≡ some h) × List·Memᴰ (said (guard (b .addr) (length (b .instrs) * sizeOf (b .thumb)) h) true) es
+      (h : ℕ) × (hashOf b ≡ some h) × List·Memᴰ (said (guard (b .addr) (lengthOf (length (b .instrs)) (b .thumb)) h) true) es
 
   -- What holds of the events of a way from the function of block i, by demand 3: "each part without a consultation of the chain gate carries out at most
   -- 8,192 instructions in a group of several blocks; a lone block carries out no instruction twice; native statements of a block outside ROM and BIOS are
   -- reached only after the guard said yes to that block's address, length and hash"
-  pub record Kept (limit : ℕ) (bs : List Block) (i : ℕ) (es : List Event) : Type 0 where
+  pub record WayClaim (limit : ℕ) (bs : List Block) (i : ℕ) (es : List Event) : Type 0 where
     -- a part without a consultation of the gate, in a group of several
     pub bounded : Several limit bs i → (us ps vs : List Event) → es ≡ us ++ (ps ++ vs) → Gateless ps → carried ps ≤ limit
     -- a lone block
     pub once : Lone limit bs i → (h j : ℕ) → times h j es ≤ 1
     -- native statements
-    pub behind : (us vs : List Event) (e : Event) → es ≡ us ++ (e ∷ vs) → (b : Block) → List·Memᴰ b bs → AtNative (blockKey b) e → T (outside b) → Passed b us
+    pub behind : (us vs : List Event) (e : Event) → es ≡ us ++ (e ∷ vs) → (b : Block) → List·Memᴰ b bs → AtNative (blockKey b) e → T (outsideRomBios (b .addr)) → Passed b us
 
 module _ (hashOf : Block → Option ℕ) (bodyOf : Block → Body) where
   -- a file at a limit and a wished size, if it is accepted: every block and its function in the units; every list of answers and every way
   unfoldable pub ClaimOf : ℕ → ℕ → List ℕ → Type 0
   ClaimOf limit max f =
       (bs : List Block) → parse f ≡ Parsed.accepted bs → (i : ℕ) (b : Block) → getElem? bs i ≡ some b
-      → (c : Code) → List·Memᴰ (function (block (blockKey b)) c) (fileTree bodyOf limit max bs)
-      → (xs : List Bool) (es : List Event) → Way (fileTree bodyOf limit max bs) c c xs es → Kept hashOf limit bs i es
+      → (c : Code) → List·Memᴰ (function (block (blockKey b)) c) (allUnits bodyOf limit max bs)
+      → (xs : List Bool) (es : List Event) → Way (allUnits bodyOf limit max bs) c c xs es → WayClaim hashOf limit bs i es
 
   -- every file, limit and wished size
   unfoldable pub Claim : Type 0

@@ -12,29 +12,29 @@ use Rattle.c_tree.specs.Stmt.{Code, helper, block, group, Top, opening, functio
 use Rattle.forms.specs.Forms.{Body}
 use Rattle.lowering.specs.Units.{TranslationUnit, emitGroup, membersOf, unitsFor}
 use Rattle.ways.specs.Ways.{Event, Way}
-use Rattle.ways.specs.Claim.{times, fileTree}
+use Rattle.ways.specs.Claim.{times, allUnits}
 
 -- 1 for the function of the block with the key k, else 0
-abbrev pub isFunction : ℕ → Top → ℕ
-isFunction k opening = 0
-isFunction k (function (helper h) c) = 0
-isFunction k (function (block j) c) = cond (eqb k j) 1 0
-isFunction k (function (group j) c) = 0
-isFunction k blank = 0
-isFunction k (extern j) = 0
-isFunction k (table js) = 0
-isFunction k (count n) = 0
+abbrev pub functionCount : ℕ → Top → ℕ
+functionCount k opening = 0
+functionCount k (function (helper h) c) = 0
+functionCount k (function (block j) c) = cond (eqb k j) 1 0
+functionCount k (function (group j) c) = 0
+functionCount k blank = 0
+functionCount k (extern j) = 0
+functionCount k (table js) = 0
+functionCount k (count n) = 0
 
 -- how often a tree has that function
 abbrev pub functions : ℕ → List Top → ℕ
 functions k [] = 0
-functions k (t ∷ ts) = isFunction k t + functions k ts
+functions k (t ∷ ts) = functionCount k t + functions k ts
 
 module _ (bodyOf : Block → Body) where
   -- what there is of block i, which is b
   pub record Found (limit max : ℕ) (bs : List Block) (i : ℕ) (b : Block) : Type 0 where
     -- over all units it has one function
-    pub single : functions (blockKey b) (fileTree bodyOf limit max bs) ≡ 1
+    pub single : functions (blockKey b) (allUnits bodyOf limit max bs) ≡ 1
     -- its group stands in one piece in a unit, and the function in that piece
     pub members : List ℕ
     pub grouped : List·Memᴰ members (groups limit bs)
@@ -49,7 +49,7 @@ module _ (bodyOf : Block → Body) where
     -- a way from it carries out the block's first instruction
     pub answers : List Bool
     pub events : List Event
-    pub way : Way (fileTree bodyOf limit max bs) code code answers events
+    pub way : Way (allUnits bodyOf limit max bs) code code answers events
     pub first : 1 ≤ times (blockKey b) 0 events
 
   -- each block of each accepted file, at each limit and wished size

@@ -1,23 +1,17 @@
 -- Demand 3: the claim on ways, and that it is about something, for the blocks as `forms` has them and any multiplier of the hash.
 use Prim.Native.Nat.{ℕ}
 use mathlib.Core.List.{List}
-use mathlib.Core.Option.{Option}
-use Rattle.block_file.specs.Parse.{Block}
 use Rattle.forms.specs.Block.{hashOf, bodyOf}
 use Rattle.ways.specs.Claim.{ClaimOf, Claim}
 use Rattle.ways.specs.Complete.{Complete}
 
--- the hash of a block's code bytes, or their absence
-abbrev pub codeHash : ℕ → Block → Option ℕ
-codeHash multiplier b = hashOf multiplier (b .code)
-
 -- demand 3 of a file, at a limit and a wished size
 unfoldable pub Demand3Of : ℕ → ℕ → ℕ → List ℕ → Type 0
-Demand3Of multiplier = ClaimOf (codeHash multiplier) (bodyOf multiplier)
+Demand3Of multiplier = ClaimOf (hashOf multiplier) (bodyOf multiplier)
 
 -- demand 3 of every file
 unfoldable pub Demand3 : Type 0
-Demand3 = (multiplier : ℕ) → Claim (codeHash multiplier) (bodyOf multiplier)
+Demand3 = (multiplier : ℕ) → Claim (hashOf multiplier) (bodyOf multiplier)
 
 -- each block has its function, and a way from it
 unfoldable pub Demand3Applies : Type 0

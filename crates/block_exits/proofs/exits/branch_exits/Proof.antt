@@ -9,7 +9,7 @@ use borrow.Author.Needs.{needs}
 use Rattle.armv4t.proofs.Arms.{arm, others}
 use Rattle.armv4t.specs.declared.Cond.{Cond}
 use Rattle.armv4t.proofs.Cond.{enum, the-type}
-use Rattle.block_exits.specs.Exits.{isAl}
+use Rattle.armv4t.specs.Cond.{isAl}
 use Rattle.block_exits.proofs.exits.branch_exits.Statement.{statement}
 use Rattle.block_exits.proofs.exits.branch_exits.Tie as tie
 

@@ -8,7 +8,6 @@ use denote.Enum.Declared.{tagOf}
 use borrow.Author.Needs.{needs}
 use native.Mathlib.Omega.{arith}
 use Rattle.armv4t.specs.declared.Fused.{Fused}
-use Rattle.armv4t.specs.declared.Instr.{Instr}
 use Rattle.armv4t.specs.declared.Op.{Op}
 use Rattle.armv4t.specs.Fused.{fuse, fuseLow, fuseOps}
 use Rattle.armv4t.proofs.Arms.{arm, others}

@@ -1,9 +1,7 @@
 -- `length_of` multiplies by the size of an instruction.
 -- Assumes nothing.
-use Prim.Native.Nat.{_*_}
 use mathlib.Core.Path.{sym, ap}
-use mathlib.Core.Bool.{Bool}
-use Rattle.armv4t.specs.Instr.{sizeOf}
+use Rattle.records.specs.BlockRecord.{lengthOf}
 use borrow.Author.Needs.{needs}
 use Rattle.emit_block.proofs.block.length_of.Statement.{statement}
 use Rattle.emit_block.proofs.block.length_of.Tie as tie
@@ -18,10 +16,10 @@ mul-result-2 : tie.Need-mul-result-2
 mul-result-2 c = search needs
 
 returns : tie.Need-returns
-returns c = ap (λ (t : Bool). c .before .before .args .block .count * sizeOf t) (sym (c .if1 .taken))
+returns c = ap (lengthOf (c .before .before .args .block .count)) (sym (c .if1 .taken))
 
 returns-2 : tie.Need-returns-2
-returns-2 c = ap (λ (t : Bool). c .before .before .args .block .count * sizeOf t) (sym (c .if1 .left))
+returns-2 c = ap (lengthOf (c .before .before .args .block .count)) (sym (c .if1 .left))
 
 pub length-of-spec : {M : Type 1} → statement M
 length-of-spec = tie.close (tie.spec cast-n mul-result mul-result-2 returns returns-2)

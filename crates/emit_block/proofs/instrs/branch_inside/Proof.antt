@@ -10,7 +10,7 @@ use Rattle.armv4t.proofs.Op.{the-type}
 use Prim.Native.Nat.{ℕ}
 use mathlib.Core.Bool.{false}
 use mathlib.Core.Path.{sym, ap, _∙_, subst}
-use Rattle.lowering.specs.Block.{has}
+use Rattle.block_file.specs.Address.{among}
 use Rattle.emit_instr.specs.Steps.{Reaches}
 use borrow.Author.Needs.{needs}
 use Rattle.emit_block.proofs.instrs.branch_inside.Statement.{statement}
@@ -44,7 +44,7 @@ is-inside-requires : tie.Need-is-inside-requires
 is-inside-requires c κs = search needs
 
 returns : tie.Need-returns
-returns c = λ ks s. subst (Reaches ks (c .before .before .before .before .before .before .before .args .thumb) (c .is-inside .result)) (sym (c .before .before .before .op .given .1)) (ap (λ (k : ℕ). has k ks) (sym (c .before .key-of .ensures)) ∙ c .is-inside .ensures ks s)
+returns c = λ ks s. subst (Reaches ks (c .before .before .before .before .before .before .before .args .thumb) (c .is-inside .result)) (sym (c .before .before .before .op .given .1)) (ap (λ (k : ℕ). among k ks) (sym (c .before .key-of .ensures)) ∙ c .is-inside .ensures ks s)
 
 returns-2 : tie.Need-returns-2
 returns-2 c = λ ks s. elsewhere ks (c .before .before .before .args .thumb) (c .before .before .before .args .op) (c .match .keys2)

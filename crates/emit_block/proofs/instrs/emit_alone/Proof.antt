@@ -5,7 +5,7 @@ use mathlib.Core.List.{List}
 use native.Mathlib.Omega.{arith}
 use denote.Ref.{now}
 use Rattle.forms.specs.Forms.{Form}
-use Rattle.forms.specs.Block.{regionOf}
+use Rattle.block_file.specs.Address.{region}
 use Rattle.emit_block.specs.Walk.{formsFrom}
 use Rattle.emit_block.proofs.FormsFrom.{empty-behind}
 use Rattle.emit_block.proofs.Recording.{alone-recorded}
@@ -30,7 +30,7 @@ returns c = let v = c .before .before .before .before .before .before .before .b
     let s = c .before .before .emit-instr .result in
     λ ks b first here at alone small few.
     let fs : List Form = formsFrom (now (v .file)) (v .block) first (suc (v .j)) (s .cycles) .0 in
-    let step = c .before .before .emit-instr .ensures ks b (v .j) fs (empty-behind (now (v .file)) (v .block .thumb) (v .block .count) first (v .block .addr) (v .j) (regionOf (v .block .addr)) (s .cycles) (c .before .before .before .before .before .before .before .before .before .before .before .pre .4)) (here .body .addr) (omega arith) (c .before .before .before .before .before .before .branch-inside .ensures ks (here .stands)) in
+    let step = c .before .before .emit-instr .ensures ks b (v .j) fs (empty-behind (now (v .file)) (v .block .thumb) (v .block .count) first (v .block .addr) (v .j) (region (v .block .addr)) (s .cycles) (c .before .before .before .before .before .before .before .before .before .before .before .pre .4)) (here .body .addr) (omega arith) (c .before .before .before .before .before .before .branch-inside .ensures ks (here .stands)) in
     alone-recorded (now (v .file)) (v .block) first ks b (v .j) (v .cycles) (v .x) (now (v .out)) (v .at) (c .before .before .emit-instr .last .0) s at alone small (step .cycles) (step .onward)
 
 pub emit-alone-spec : {M : Type 1} → statement M

@@ -5,7 +5,8 @@ use mathlib.Core.Path.{sym, ap, _∙_, subst}
 use denote.Ref.{now}
 use Rattle.c_tree.specs.Stmt.{Owner, end}
 use Rattle.forms.specs.Block.{emitPair}
-use Rattle.lowering.specs.Block.{bodyKey, has, nativeText, rest}
+use Rattle.lowering.specs.Block.{bodyKey, nativeText, rest}
+use Rattle.block_file.specs.Address.{among}
 use Rattle.emit_flow.proofs.Blocks.{rest-native}
 use Rattle.emit_instr.specs.Onward.{Onward}
 use Rattle.emit_instr.proofs.Onward.{same-from, start}
@@ -30,7 +31,7 @@ returns c = let v = c .before .before .before .before .before .before .before .b
     λ ks b j fs s e.
     same-from _ (rest-native ks b j (emitPair (v .cycles) (v .target) (v .ret)) fs)
     (subst (λ (a : ℕ). Onward (now (v .out)) (v .at) (nativeText ks a (Owner.native (bodyKey b)) (emitPair (v .cycles) (v .target) (v .ret)) (rest ks b (j + 2) fs)) end (c .before .before .emit-pair .last .0) (c .before .before .emit-pair .result)) (sym e)
-    (start (c .before .before .emit-pair .ensures ks (Owner.native (bodyKey b)) (rest ks b (j + 2) fs) (ap (λ (k : ℕ). has k ks) (sym (c .before .before .before .before .before .set-bit0 .ensures)) ∙ c .before .before .before .before .is-inside .ensures ks s))))
+    (start (c .before .before .emit-pair .ensures ks (Owner.native (bodyKey b)) (rest ks b (j + 2) fs) (ap (λ (k : ℕ). among k ks) (sym (c .before .before .before .before .before .set-bit0 .ensures)) ∙ c .before .before .before .before .is-inside .ensures ks s))))
 
 pub emit-fused-spec : {M : Type 1} → statement M
 emit-fused-spec =

@@ -1,7 +1,7 @@
 -- `emit_flow::exits::emit_bx` meets its contract: what its calls write, one after another. Assumes nothing.
 use borrow.Author.Needs.{needs}
 use Rattle.emit_flow.proofs.Pieces.{bx-text}
-use Rattle.emit_flow.specs.Pieces.{regOr}
+use Rattle.forms.specs.Operands.{regOf}
 use Rattle.text.proofs.Laws.{seq, said}
 use Rattle.emit_flow.proofs.exits.emit_bx.Statement.{statement}
 use Rattle.emit_flow.proofs.exits.emit_bx.Tie as tie
@@ -31,7 +31,7 @@ returns c =
     let c2 = c3 .before .before .before .before in
     let c1 = c2 .before .before .before .before .before in
     let v = c1 .before .before .before .args in
-    λ ks a o d. said (seq (c1 .flush-ticks .ensures) (seq (c2 .put .ensures) (seq (c3 .put-reg .ensures) (c4 .put2 .ensures)))) (bx-text ks a o (v .cycles) (regOr (v .pc) (v .r)) d)
+    λ ks a o d. said (seq (c1 .flush-ticks .ensures) (seq (c2 .put .ensures) (seq (c3 .put-reg .ensures) (c4 .put2 .ensures)))) (bx-text ks a o (v .cycles) (regOf (v .pc) (v .r)) d)
 
 same-length : tie.Need-same-length
 same-length c = search needs

@@ -3,7 +3,7 @@ use mathlib.Core.Path.{ap, _∙_}
 use Prim.Native.Nat.{ℕ}
 use borrow.Author.Needs.{needs}
 use Rattle.emit_flow.proofs.Pieces.{paired}
-use Rattle.lowering.specs.Block.{has}
+use Rattle.block_file.specs.Address.{among}
 use Rattle.text.proofs.Laws.{seq, said}
 use Rattle.emit_flow.proofs.exits.emit_pair.Statement.{statement}
 use Rattle.emit_flow.proofs.exits.emit_pair.Tie as tie
@@ -35,7 +35,7 @@ returns c =
     let c2 = c3 .before .before .before .before in
     let c1 = c2 .before .before .before .before in
     let v = c1 .before .before .before .args in
-    λ ks o d h. said (seq (c1 .flush-ticks .ensures) (seq (c2 .set-lr .ensures) (seq (c4 .set-pc .ensures) (c6 .transfer .ensures ks o (ap (λ (n : ℕ). has n ks) (c5 .set-bit0 .ensures) ∙ h))))) (paired ks (v .src) o (v .cycles) (v .target) (v .ret) d _ _ (c3 .clear-bit0 .ensures) (c5 .set-bit0 .ensures))
+    λ ks o d h. said (seq (c1 .flush-ticks .ensures) (seq (c2 .set-lr .ensures) (seq (c4 .set-pc .ensures) (c6 .transfer .ensures ks o (ap (λ (n : ℕ). among n ks) (c5 .set-bit0 .ensures) ∙ h))))) (paired ks (v .src) o (v .cycles) (v .target) (v .ret) d _ _ (c3 .clear-bit0 .ensures) (c5 .set-bit0 .ensures))
 
 same-length : tie.Need-same-length
 same-length c = search needs

@@ -1,7 +1,7 @@
 -- `emit_flow::heads::put_group_head` meets its contract: what its calls write, one after another. Assumes nothing.
 use mathlib.Core.Path.{refl}
 use borrow.Author.Needs.{needs}
-use Rattle.lowering.specs.Units.{declared}
+use Rattle.lowering.specs.Units.{withLocals}
 use Rattle.text.proofs.Laws.{seq, said, kept}
 use Rattle.emit_flow.proofs.heads.put_group_head.Statement.{statement}
 use Rattle.emit_flow.proofs.heads.put_group_head.Tie as tie
@@ -19,7 +19,7 @@ put-requires : tie.Need-put-requires
 put-requires c κs = search needs
 
 returns : tie.Need-returns
-unfolding declared
+unfolding withLocals
 returns c =
     let c2 = c .before .before in
     let c1 = c2 .before .before .before .before .before in

@@ -1,6 +1,6 @@
 -- `emit_flow::opening::put_preamble` meets its contract: what its calls write, one after another. Assumes nothing.
 use borrow.Author.Needs.{needs}
-use Rattle.emit_flow.proofs.Pieces.{opened-text}
+use Rattle.emit_flow.proofs.Pieces.{head-text}
 use Rattle.text.proofs.Laws.{said, kept}
 use Rattle.emit_flow.proofs.opening.put_preamble.Statement.{statement}
 use Rattle.emit_flow.proofs.opening.put_preamble.Tie as tie
@@ -14,7 +14,7 @@ put-requires c κs = search needs
 returns : tie.Need-returns
 returns c =
     let c1 = c .before .before in
-    said (c1 .put .ensures) opened-text
+    said (c1 .put .ensures) head-text
 
 same-length : tie.Need-same-length
 same-length c = kept (returns c)

@@ -2,7 +2,7 @@
 use borrow.Author.Needs.{needs}
 use Rattle.emit_flow.proofs.Pieces.{ticked}
 use Rattle.c_tree.specs.Stmt.{common, end}
-use Rattle.lowering.specs.Block.{emitShell}
+use Rattle.lowering.specs.Block.{shellCode}
 use mathlib.Core.List.{[], _∷_}
 use Rattle.forms.specs.InlineBody.{apart}
 use Rattle.forms.specs.Block.{setWord}
@@ -35,7 +35,7 @@ returns c =
     let c2 = c3 .before .before .before .before .before in
     let c1 = c2 .before .before .before .before in
     let v = c1 .before .before .before .args in
-    λ b i. said (seq (c1 .flush-ticks .ensures) (seq (c2 .set-pc .ensures) (seq (c3 .put-then-hex8 .ensures) (c4 .put .ensures)))) (ticked common (v .cycles) (apart (setWord 15 (v .addr) ∷ [])) (emitShell b i (v .expect) end))
+    λ b i. said (seq (c1 .flush-ticks .ensures) (seq (c2 .set-pc .ensures) (seq (c3 .put-then-hex8 .ensures) (c4 .put .ensures)))) (ticked common (v .cycles) (apart (setWord 15 (v .addr) ∷ [])) (shellCode b i (v .expect) end))
 
 same-length : tie.Need-same-length
 same-length c = search needs

@@ -4,7 +4,7 @@ use mathlib.Core.Bool.{_&&_, _||_}
 use mathlib.Core.Option.{Option·some-injective, Option·none-ne-some}
 use mathlib.Core.Path.{refl, sym, _∙_}
 use Rattle.armv4t.specs.declared.Op.the-variants.{Alu, Mul, MulLong, Mem, BlockMem}
-use Rattle.forms.specs.InlineBody.{names}
+use Rattle.armv4t.specs.RegisterList.{names}
 use Rattle.emit_alu.proofs.Bodies.{mul-lines}
 use Rattle.emit_instr.proofs.Lined.{as-lines, known-body, tested, tested-lines, alu-by-pc}
 use Rattle.emit_instr.proofs.Operations.{no-lines}

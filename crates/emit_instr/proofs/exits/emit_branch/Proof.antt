@@ -7,10 +7,10 @@ use Rattle.text.proofs.Laws.{seq}
 use Rattle.forms.specs.Forms.{Form}
 use Rattle.forms.specs.Operands.{condExpr}
 use Rattle.forms.specs.InlineBody.{apart}
-use Rattle.forms.specs.Block.{flushTicks}
-use Rattle.block_exits.specs.Exits.{isAl}
-use Rattle.lowering.specs.Block.{bodyKey, has, rest}
-use Rattle.emit_flow.specs.Pieces.{branchRegs}
+use Rattle.forms.specs.Block.{flushTicks, branchRegs}
+use Rattle.armv4t.specs.Cond.{isAl}
+use Rattle.lowering.specs.Block.{bodyKey, rest}
+use Rattle.block_file.specs.Address.{among}
 use Rattle.emit_instr.proofs.Texts.{jump-step, branch-step, branch-form}
 use Rattle.emit_instr.proofs.Steps.{same-form}
 use borrow.Author.Needs.{needs}
@@ -48,7 +48,7 @@ returns c =
           jump-step ks b j (isAl (a .i .cond)) (flushTicks (a .cycles) ++ apart regs) (flushTicks (a .cycles)) (condExpr (a .i .cond)) regs
           (key .key-of .result) (a .src) fs
           (sym (c1 .before .is-al .ensures) ∙ c1 .if1 .taken) e
-          (c2 .branch-always .ensures ks (Owner.native (bodyKey b)) (rest ks b (j + 1) fs) (ap (λ (n : ℕ). has n ks) (key .key-of .ensures) ∙ h));
+          (c2 .branch-always .ensures ks (Owner.native (bodyKey b)) (rest ks b (j + 1) fs) (ap (λ (n : ℕ). among n ks) (key .key-of .ensures) ∙ h));
       cycles = refl;
     })
 
@@ -78,7 +78,7 @@ returns-2 c =
           branch-step ks b j (isAl (a .i .cond)) (flushTicks (a .cycles) ++ apart regs) (flushTicks (a .cycles)) (condExpr (a .i .cond)) regs
           (key .key-of .result) (a .src) fs
           (sym (c1 .before .is-al .ensures) ∙ c1 .if1 .left) e
-          (seq (c2 .put-condition .ensures) (c3 .branch-taken .ensures ks (Owner.native (bodyKey b)) (ap (λ (n : ℕ). has n ks) (key .key-of .ensures) ∙ h)));
+          (seq (c2 .put-condition .ensures) (c3 .branch-taken .ensures ks (Owner.native (bodyKey b)) (ap (λ (n : ℕ). among n ks) (key .key-of .ensures) ∙ h)));
       cycles = refl;
     })
 

@@ -7,10 +7,9 @@ use Rattle.text.proofs.Laws.{said}
 use Rattle.c_tree.specs.Stmt.{Owner}
 use Rattle.c_tree.specs.Print.{codeText}
 use Rattle.forms.specs.Forms.{bx}
-use Rattle.forms.specs.Operands.{regExpr}
+use Rattle.forms.specs.Operands.{regExpr, regOf}
 use Rattle.forms.specs.Block.{flushTicks}
 use Rattle.lowering.specs.Block.{bodyKey, nativeText, rest}
-use Rattle.emit_flow.specs.Pieces.{regOr}
 use Rattle.emit_instr.proofs.Texts.{exit-step}
 use borrow.Author.Needs.{needs}
 use Rattle.emit_instr.proofs.exits.leave_by_bx.Statement.{statement}
@@ -35,7 +34,7 @@ returns c =
       onward =
           exit-step ks b j (bx (flushTicks (a .cycles)) (regExpr (a .i) (a .rm))) (b .addr) fs refl
           (said (c2 .emit-bx .ensures ks (b .addr) (Owner.native (bodyKey b)) (rest ks b (j + 1) fs))
-          (ap (λ (n : ℕ). flat (codeText (nativeText ks (b .addr) (Owner.native (bodyKey b)) (bx (flushTicks (a .cycles)) (regOr n (a .rm))) (rest ks b (j + 1) fs))) []) (c1 .pc-value .ensures)));
+          (ap (λ (n : ℕ). flat (codeText (nativeText ks (b .addr) (Owner.native (bodyKey b)) (bx (flushTicks (a .cycles)) (regOf n (a .rm))) (rest ks b (j + 1) fs))) []) (c1 .pc-value .ensures)));
       cycles = refl;
     }
 

@@ -4,7 +4,7 @@ use mathlib.Core.Path.{sym, ap, _∙_}
 use mathlib.Core.Bool.{false}
 use Rattle.forms.specs.Forms.{bx, Form}
 use Rattle.forms.specs.Operands.{regExpr}
-use Rattle.forms.specs.Block.{flushTicks, isBx, emitStraight}
+use Rattle.forms.specs.Block.{flushTicks, nativeExit, emitStraight}
 use Rattle.emit_instr.proofs.Chosen.{chosen, refused}
 use Rattle.emit_instr.proofs.Steps.{same-form}
 use borrow.Author.Needs.{needs}
@@ -34,7 +34,7 @@ returns c =
     λ ks b j fs h g.
     same-form _ _
     (ap (λ (n : ℕ). (Form.native (bx (flushTicks n) (regExpr (a .x .instr) (a .rm))), 0)) (c2 .before .with-cost .ensures g)
-    ∙ chosen (isBx (a .region) (a .x .instr)) _ (emitStraight (a .thumb) false (a .cycles) (a .x)) (sym (c1 .before .is-bx .ensures) ∙ c1 .if1 .taken))
+    ∙ chosen (nativeExit (a .region) (a .x .instr)) _ (emitStraight (a .thumb) false (a .cycles) (a .x)) (sym (c1 .before .is-bx .ensures) ∙ c1 .if1 .taken))
     (c2 .leave-by-bx .ensures ks b j fs)
 
 same-length-2 : tie.Need-same-length-2
@@ -46,7 +46,7 @@ returns-2 c =
     let c1 = c2 .before .before in
     let a = c1 .before .before .before .before .args in
     λ ks b j fs h g.
-    same-form _ _ (refused (isBx (a .region) (a .x .instr)) _ (emitStraight (a .thumb) false (a .cycles) (a .x)) (sym (c1 .before .is-bx .ensures) ∙ c1 .if1 .left))
+    same-form _ _ (refused (nativeExit (a .region) (a .x .instr)) _ (emitStraight (a .thumb) false (a .cycles) (a .x)) (sym (c1 .before .is-bx .ensures) ∙ c1 .if1 .left))
     (c2 .emit-straight .ensures ks b j fs h g)
 
 pub emit-any-bx-spec : {M : Type 1} → statement M

@@ -10,7 +10,7 @@ use Rattle.block_exits.specs.Exits.{fallThrough}
 use Rattle.forms.specs.Forms.{Lines}
 use Rattle.forms.specs.InlineBody.{apart}
 use Rattle.forms.specs.Block.{flushTicks, setWord}
-use Rattle.lowering.specs.Block.{bodyKey, lines, emitShell}
+use Rattle.lowering.specs.Block.{bodyKey, lines, shellCode}
 use Rattle.emit_instr.proofs.Texts.{shell-step, last-step}
 use borrow.Author.Needs.{needs}
 use Rattle.emit_instr.proofs.shells.put_shell.Statement.{statement}
@@ -49,7 +49,7 @@ returns-2 c =
     let t : Lines = flushTicks (a .cycles) ++ apart (setWord 15 (a .i .addr) ∷ []) in
     λ high ks b j fs h.
     shell-step ks b j high (a .last) t (fallThrough (a .thumb) (a .i)) fs h (c1 .if1 .left)
-    (said (c3 .emit-shell .ensures b j) (ap (λ (n : ℕ). flat (codeText (lines common 4 t (emitShell b j n end))) []) (c2 .fall-through .ensures)))
+    (said (c3 .emit-shell .ensures b j) (ap (λ (n : ℕ). flat (codeText (lines common 4 t (shellCode b j n end))) []) (c2 .fall-through .ensures)))
 
 pub put-shell-spec : {M : Type 1} → statement M
 put-shell-spec =

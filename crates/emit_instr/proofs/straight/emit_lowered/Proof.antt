@@ -2,7 +2,7 @@
 use mathlib.Core.Bool.{cond}
 use mathlib.Core.List.{[]}
 use Rattle.text.proofs.Laws.{seq}
-use Rattle.block_exits.specs.Exits.{isAl}
+use Rattle.armv4t.specs.Cond.{isAl}
 use Rattle.forms.specs.Operands.{condExpr}
 use Rattle.forms.specs.Block.{flushTicks}
 use Rattle.emit_instr.proofs.Texts.{lowered-step}

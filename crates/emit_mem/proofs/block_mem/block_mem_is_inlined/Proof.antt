@@ -2,7 +2,7 @@
 -- Assumes nothing.
 use borrow.Author.Needs.{needs}
 use borrow.Author.Tests.{eq-eqb, ne-eqb}
-use mathlib.Core.Bool.{Bool, not}
+use mathlib.Core.Bool.{not}
 use mathlib.Core.Path.{refl, ap}
 use Rattle.emit_mem.proofs.block_mem.block_mem_is_inlined.Statement.{statement}
 use Rattle.emit_mem.proofs.block_mem.block_mem_is_inlined.Tie as tie

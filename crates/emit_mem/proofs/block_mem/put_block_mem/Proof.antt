@@ -8,7 +8,8 @@ use Rattle.c_tree.specs.Expr.{x-base, x-addr, reg, get}
 use Rattle.c_tree.specs.Stmt.{end}
 use Rattle.emit_mem.proofs.Lines.{lines-both}
 use Rattle.forms.specs.Forms.{Lines}
-use Rattle.forms.specs.InlineBody.{apart, let32, names, listed, movedBase, start, transfers}
+use Rattle.forms.specs.InlineBody.{apart, let32, listed, movedBase, start, transfers}
+use Rattle.armv4t.specs.RegisterList.{names}
 use Rattle.text.proofs.Laws.{seq, said, kept}
 use Rattle.emit_mem.proofs.block_mem.put_block_mem.Statement.{statement}
 use Rattle.emit_mem.proofs.block_mem.put_block_mem.Tie as tie

@@ -11,7 +11,7 @@ use Rattle.armv4t.proofs.Cond.{enum, the-type}
 use Rattle.armv4t.specs.declared.Cond.{Cond}
 use Rattle.emit_mem.proofs.pop.is_al.Statement.{statement}
 use Rattle.emit_mem.proofs.pop.is_al.Tie as tie
-use Rattle.block_exits.specs.Exits.{isAl}
+use Rattle.armv4t.specs.Cond.{isAl}
 
 -- the search does not reach through all fifteen, so three stand here
 other : (k : Cond) → OneOf (others 16 (14 ∷ [])) (tagOf the-type k) → isAl k ≡ false

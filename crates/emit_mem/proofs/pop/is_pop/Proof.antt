@@ -2,7 +2,7 @@
 -- Assumes nothing.
 use mathlib.Core.Bool.{and-false, not, _&&_}
 use lib.Dec.{eqb}
-use Rattle.forms.specs.InlineBody.{names}
+use Rattle.armv4t.specs.RegisterList.{names}
 use borrow.Author.Needs.{needs}
 use mathlib.Core.Path.{refl, sym, _∙_}
 use Rattle.emit_mem.proofs.pop.is_pop.Statement.{statement}

@@ -1,6 +1,6 @@
 -- `emit_operands::shifts::put_right_carry` meets its contract: what its calls write, one after another. Assumes nothing.
 use mathlib.Core.List.{[]}
-use Rattle.emit_operands.specs.Operands.{regOf}
+use Rattle.forms.specs.Operands.{regOf}
 use borrow.Author.Needs.{needs}
 use Rattle.emit_operands.proofs.Operands.{right-carry, sign-carry}
 use Rattle.text.proofs.Laws.{said, kept}

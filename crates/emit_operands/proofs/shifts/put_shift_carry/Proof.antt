@@ -1,6 +1,7 @@
 -- `emit_operands::shifts::put_shift_carry` meets its contract: what its calls write, one after another. Assumes nothing.
 use mathlib.Core.Path.{refl, ap}
-use Rattle.emit_operands.specs.Operands.{regOf, carryText}
+use Rattle.emit_operands.specs.Operands.{carryText}
+use Rattle.forms.specs.Operands.{regOf}
 use Rattle.text.specs.Doc.{flat}
 use Rattle.c_tree.specs.Expr.{Expr}
 use mathlib.Core.Option.{Option}

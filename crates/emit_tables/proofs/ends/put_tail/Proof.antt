@@ -4,7 +4,7 @@ use borrow.Author.Needs.{needs}
 use mathlib.Core.List.{[]}
 use mathlib.Core.Path.{sym, _∙_}
 use Rattle.text.proofs.Laws.{seq, said}
-use Rattle.emit_tables.proofs.Around.{tail-keys}
+use Rattle.emit_tables.proofs.Around.{end-keys}
 use Rattle.emit_tables.proofs.Rows.{file-length}
 use Rattle.emit_tables.proofs.ends.put_tail.Statement.{statement}
 use Rattle.emit_tables.proofs.ends.put_tail.Tie as tie
@@ -37,7 +37,7 @@ returns c = λ bs keys.
     let pre = c1 .before .before .before .before .pre in
     said
     (seq (c1 .put-externs .ensures) (seq (c2 .put-table-head .ensures) (seq (c3 .put-rows .ensures) (seq (c4 .put-table-end .ensures) (c5 .put-count .ensures)))))
-    (tail-keys bs _ _ [] keys (pre .0 ∙ sym (file-length _ (pre .1))))
+    (end-keys bs _ _ [] keys (pre .0 ∙ sym (file-length _ (pre .1))))
 
 pub put-tail-spec : {M : Type 1} → statement M
 put-tail-spec =

@@ -1,7 +1,6 @@
 -- `instr_records::instr_record::row_number` meets its contract: kind and form are the digits of the number.
 -- Assumes nothing.
 use borrow.Author.Needs.{needs}
-use native.Mathlib.Omega.{arith}
 use Rattle.instr_records.proofs.Rows.{numbered}
 use Rattle.instr_records.proofs.instr_record.row_number.Statement.{statement}
 use Rattle.instr_records.proofs.instr_record.row_number.Tie as tie

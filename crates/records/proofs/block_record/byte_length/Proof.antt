@@ -1,9 +1,7 @@
 -- `byte_length` gives a block's length in bytes: its count times the size of its instructions, both as the record has them.
-use Rattle.armv4t.specs.Instr.{sizeOf}
-use mathlib.Core.Bool.{Bool}
-use Prim.Native.Nat.{ℕ, _*_}
 use mathlib.Core.Path.{_∙_, ap₂}
 use borrow.Author.Needs.{needs}
+use Rattle.records.specs.BlockRecord.{lengthOf}
 use Rattle.records.proofs.block_record.byte_length.Statement.{statement}
 use Rattle.records.proofs.block_record.byte_length.Tie as tie
 
@@ -17,7 +15,7 @@ instrs-length-requires : tie.Need-instrs-length-requires
 instrs-length-requires c κs = search needs
 
 returns : tie.Need-returns
-returns c = (c .instrs-length .ensures .0 ∙ ap₂ (λ (n : ℕ) (t : Bool). n * sizeOf t) (c .before .before .count .ensures) (c .before .thumb .ensures), c .instrs-length .ensures .1)
+returns c = (c .instrs-length .ensures .0 ∙ ap₂ lengthOf (c .before .before .count .ensures) (c .before .thumb .ensures), c .instrs-length .ensures .1)
 
 pub byte-length-spec : {M : Type 1} → statement M
 byte-length-spec =

@@ -1,0 +1,8 @@
+-- The register list of a BlockMem: bit r stands for register r.
+use Prim.Native.Nat.{ℕ, _/_, _%_, _^_}
+use mathlib.Core.Bool.{Bool}
+use lib.Dec.{eqb}
+
+-- whether a register list names a register
+abbrev pub names : ℕ → ℕ → Bool
+names rlist r = eqb (rlist / 2 ^ r % 2) 1
