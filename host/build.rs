@@ -1,0 +1,52 @@
+//! Has `rt` prove the library, where its sources have changed, and links what it writes.
+
+use std::path::{Path, PathBuf};
+use std::process::Command;
+
+/// Names a static library to link in place of the repository's own.
+const OVERRIDE: &str = "RECOMP_LIBRARY";
+
+fn main() {
+    println!("cargo::rerun-if-changed=build.rs");
+    println!("cargo::rerun-if-env-changed={OVERRIDE}");
+    let found = match std::env::var_os(OVERRIDE) {
+        Some(path) => Ok(PathBuf::from(path)),
+        None => proved_library(),
+    };
+    match found {
+        Ok(library) if library.is_file() => link(&library),
+        Ok(library) => fail(&format!("there is no file {}", library.display())),
+        Err(reason) => fail(&reason),
+    }
+}
+
+fn link(library: &Path) {
+    println!("cargo::rerun-if-changed={}", library.display());
+    println!("cargo::rustc-link-arg={}", library.display());
+    // The tests compile a C program against the same library.
+    println!("cargo::rustc-env={OVERRIDE}={}", library.display());
+}
+
+fn fail(reason: &str) {
+    println!("cargo::error=recomp links the proved library, librecomp.a, which could not be had");
+    println!("cargo::error={reason}");
+}
+
+fn proved_library() -> Result<PathBuf, String> {
+    let package = std::env::var("CARGO_MANIFEST_DIR").expect("set by cargo");
+    let root = Path::new(&package).parent().expect("the repository");
+    for sources in ["crates", "crates.txt"] {
+        println!("cargo::rerun-if-changed={}", root.join(sources).display());
+    }
+    // Cargo shows what goes to standard error if the build fails, and at once under -vv.
+    let status = Command::new("rt")
+        .args(["staticlib", "recomp"])
+        .current_dir(root)
+        .stdout(std::io::stderr())
+        .status()
+        .map_err(|error| format!("rt did not start ({error}): put the Rattle kit on the path"))?;
+    if status.success() {
+        return Ok(root.join("target/staticlib/librecomp.a"));
+    }
+    Err(format!("rt staticlib recomp ended with {status}"))
+}

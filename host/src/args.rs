@@ -1,0 +1,188 @@
+//! The arguments of the program.
+
+use crate::failure::Failure;
+use crate::help;
+use std::ffi::{OsStr, OsString};
+use std::path::PathBuf;
+
+/// The size of units unless one is given.
+pub const UNIT_SIZE: u64 = 1 << 20;
+
+#[derive(Clone, Debug, PartialEq, Eq)]
+pub enum Command {
+    /// Print this text.
+    Say(String),
+    Units {
+        file: OsString,
+        folder: PathBuf,
+        size: u64,
+    },
+    Check {
+        file: OsString,
+    },
+    Plan {
+        file: OsString,
+    },
+    Exits {
+        file: OsString,
+        block: Option<u64>,
+    },
+    Listing {
+        file: OsString,
+    },
+}
+
+/// The arguments behind a command's name, options apart.
+#[derive(Default)]
+struct Words {
+    help: bool,
+    plain: Vec<OsString>,
+    folder: Option<OsString>,
+    size: Option<OsString>,
+}
+
+pub fn parse(args: impl Iterator<Item = OsString>) -> Result<Command, Failure> {
+    let mut args = args;
+    let Some(command) = args.next() else {
+        return Err(Failure::error("no command is given; run recomp --help"));
+    };
+    let command = command.to_string_lossy().into_owned();
+    let (text, most) = match command.as_str() {
+        "--help" | "-h" => return Ok(Command::Say(help::RECOMP.into())),
+        "--version" => return Ok(Command::Say(version())),
+        "units" => (help::UNITS, 1),
+        "check" => (help::CHECK, 1),
+        "plan" => (help::PLAN, 1),
+        "exits" => (help::EXITS, 2),
+        "listing" => (help::LISTING, 1),
+        _ => {
+            let what = format!("{command} is no command; run recomp --help");
+            return Err(Failure::error(what));
+        }
+    };
+    let words = words(&command, args)?;
+    if words.help {
+        return Ok(Command::Say(text.into()));
+    }
+    if let Some(more) = words.plain.get(most) {
+        let what = format!("{} is one argument too many", more.to_string_lossy());
+        return Err(wrong(&command, &what));
+    }
+    build(&command, words)
+}
+
+fn version() -> String {
+    concat!("recomp ", env!("CARGO_PKG_VERSION"), "\n").into()
+}
+
+/// A usage error, with the way to the command's help.
+fn wrong(command: &str, what: &str) -> Failure {
+    Failure::error(format!("{command}: {what}; run recomp {command} --help"))
+}
+
+/// Sorts arguments into options and others. Behind `--` there are no options.
+fn words(command: &str, mut args: impl Iterator<Item = OsString>) -> Result<Words, Failure> {
+    let mut words = Words::default();
+    while let Some(arg) = args.next() {
+        let text = arg.to_string_lossy().into_owned();
+        let mut value = |what: &str| {
+            let none = || wrong(command, &format!("{text} needs {what} behind it"));
+            args.next().map(Some).ok_or_else(none)
+        };
+        match (text.as_str(), command) {
+            ("--help" | "-h", _) => words.help = true,
+            ("--", _) => words.plain.extend(args.by_ref()),
+            ("-o", "units") => words.folder = value("a folder")?,
+            ("--unit-size", "units") => words.size = value("a size")?,
+            (option, "units") if option.starts_with("--unit-size=") => {
+                words.size = option.strip_prefix("--unit-size=").map(OsString::from)
+            }
+            (option, _) if option.starts_with('-') && option != "-" => {
+                return Err(wrong(command, &format!("there is no option {option}")));
+            }
+            _ => words.plain.push(arg),
+        }
+    }
+    Ok(words)
+}
+
+fn build(command: &str, words: Words) -> Result<Command, Failure> {
+    let mut plain = words.plain.into_iter();
+    let no_file = || wrong(command, "no block file is given");
+    let file = plain.next().ok_or_else(no_file)?;
+    Ok(match command {
+        "units" => {
+            let none = || wrong(command, "no folder is given; add -o DIR");
+            let folder = words.folder.filter(|folder| !folder.is_empty());
+            Command::Units {
+                file,
+                folder: folder.ok_or_else(none)?.into(),
+                size: words.size.map_or(Ok(UNIT_SIZE), |size| parse_size(&size))?,
+            }
+        }
+        "check" => Command::Check { file },
+        "plan" => Command::Plan { file },
+        "exits" => Command::Exits {
+            file,
+            block: plain.next().map(|block| parse_block(&block)).transpose()?,
+        },
+        _ => Command::Listing { file },
+    })
+}
+
+fn parse_block(text: &OsStr) -> Result<u64, Failure> {
+    let text = text.to_string_lossy();
+    let none = || wrong("exits", &format!("{text} is no block number, as 0 is"));
+    digits(&text).ok_or_else(none)
+}
+
+fn parse_size(text: &OsStr) -> Result<u64, Failure> {
+    let text = text.to_string_lossy();
+    let none = || {
+        let what = format!("{text} is no size; give bytes, as 1048576, 1024K or 1M");
+        wrong("units", &what)
+    };
+    size(&text).ok_or_else(none)
+}
+
+/// Bytes, with K for 1024 and M for 1024 times 1024.
+fn size(text: &str) -> Option<u64> {
+    let (number, unit) = match text.as_bytes().last()? {
+        b'K' | b'k' => (&text[..text.len() - 1], 1 << 10),
+        b'M' | b'm' => (&text[..text.len() - 1], 1 << 20),
+        _ => (text, 1),
+    };
+    digits(number)?.checked_mul(unit)
+}
+
+/// A number of decimal digits alone: `parse` would take a sign too.
+fn digits(text: &str) -> Option<u64> {
+    let only = text.bytes().all(|byte| byte.is_ascii_digit());
+    only.then(|| text.parse().ok())?
+}
+
+#[cfg(test)]
+mod tests {
+    use super::*;
+
+    #[test]
+    fn sizes() {
+        assert_eq!(size("0"), Some(0));
+        assert_eq!(size("300000"), Some(300_000));
+        assert_eq!(size("64K"), Some(65_536));
+        assert_eq!(size("2m"), Some(2_097_152));
+        assert_eq!(size("18446744073709551615"), Some(u64::MAX));
+        for wrong in [
+            "",
+            "K",
+            "-1",
+            "+1",
+            "1G",
+            "1 K",
+            "18446744073709551616",
+            "18014398509481984K",
+        ] {
+            assert_eq!(size(wrong), None, "{wrong}");
+        }
+    }
+}

@@ -1,0 +1,159 @@
+//! What each command does with its file.
+
+use crate::args::Command;
+use crate::failure::Failure;
+use crate::folder::Folder;
+use crate::input::{self, Input};
+use crate::lent::{Lent, Nothing};
+use crate::library;
+use crate::progress::{Progress, Totals};
+use crate::refusal;
+use std::ffi::OsStr;
+use std::fmt::Write as _;
+use std::io::Write as _;
+use std::path::Path;
+
+/// Text that is lent for a unit beyond its wished size, which most groups fit into.
+const SPARE: u64 = 1 << 20;
+
+/// Of a wished size no more than this is lent at first: a file may have far less text.
+const MOST_AT_FIRST: u64 = 64 << 20;
+
+pub fn run(command: Command) -> Result<(), Failure> {
+    match command {
+        Command::Say(text) => print(text.as_bytes()),
+        Command::Units { file, folder, size } => units(&file, &folder, size),
+        Command::Check { file } => check(&file),
+        Command::Plan { file } => plan(&file),
+        Command::Exits { file, block } => match block {
+            Some(block) => exits_of(&file, block),
+            None => exits(&file),
+        },
+        Command::Listing { file } => listing(&file),
+    }
+}
+
+fn print(text: &[u8]) -> Result<(), Failure> {
+    let mut out = std::io::stdout().lock();
+    let done = out.write_all(text).and_then(|()| out.flush());
+    done.map_err(|error| {
+        let what = format!("cannot write to standard output: {error}");
+        Failure::error(format!(
+            "{what}; send it where there is room, then run again"
+        ))
+    })
+}
+
+/// The failure for a call that gave nothing.
+fn failed(input: &Input, nothing: Nothing) -> Failure {
+    match nothing {
+        Nothing::Refused(refused) => Failure::refused(refusal::line(&input.name, refused)),
+        Nothing::NoMemory(bytes) => Failure::error(format!(
+            "{bytes} bytes of memory could not be had; free memory, or run on a larger machine"
+        )),
+    }
+}
+
+fn check(file: &OsStr) -> Result<(), Failure> {
+    let input = input::read(file)?;
+    let checked = library::check(&input.bytes);
+    let counts = checked.map_err(|refused| failed(&input, Nothing::Refused(refused)))?;
+    let line = format!(
+        "accepted: blocks {}, instructions {}\n",
+        counts.blocks, counts.instructions
+    );
+    print(line.as_bytes())
+}
+
+fn plan(file: &OsStr) -> Result<(), Failure> {
+    let input = input::read(file)?;
+    let plan = Lent::new(&input.bytes, 0).and_then(|mut lent| lent.plan());
+    let plan = plan.map_err(|nothing| failed(&input, nothing))?;
+    let mut text = String::from("group block\n");
+    for row in plan.chunks_exact(2) {
+        push(&mut text, format_args!("{} {}\n", row[0], row[1]));
+    }
+    print(text.as_bytes())
+}
+
+fn push(text: &mut String, more: std::fmt::Arguments) {
+    text.write_fmt(more).expect("a string takes all");
+}
+
+const EXITS: &str = "block exits\n";
+
+/// The exits of one block.
+fn exits_of(file: &OsStr, block: u64) -> Result<(), Failure> {
+    let input = input::read(file)?;
+    let exits = library::exits(&input.bytes, block);
+    let exits = exits.map_err(|refused| failed(&input, Nothing::Refused(refused)))?;
+    let keys: Vec<_> = exits.iter().map(|key| format!("{key:08x}")).collect();
+    let keys = if keys.is_empty() {
+        "-".into()
+    } else {
+        keys.join(" ")
+    };
+    print(format!("{EXITS}{block} {keys}\n").as_bytes())
+}
+
+/// The exits of all blocks. A call for each would check the file each time, so they are taken from
+/// the listing, where they follow key and group.
+fn exits(file: &OsStr) -> Result<(), Failure> {
+    let input = input::read(file)?;
+    let mut lent = Lent::new(&input.bytes, 0).map_err(|nothing| failed(&input, nothing))?;
+    let listing = lent.listing().map_err(|nothing| failed(&input, nothing))?;
+    let listing = std::str::from_utf8(listing).expect("a listing is ASCII");
+    let mut text = String::from(EXITS);
+    for (block, line) in listing.lines().skip(1).enumerate() {
+        let keys = line.splitn(3, ' ').nth(2).expect("key, group and exits");
+        push(&mut text, format_args!("{block} {keys}\n"));
+    }
+    print(text.as_bytes())
+}
+
+fn listing(file: &OsStr) -> Result<(), Failure> {
+    let input = input::read(file)?;
+    let mut lent = Lent::new(&input.bytes, 0).map_err(|nothing| failed(&input, nothing))?;
+    print(lent.listing().map_err(|nothing| failed(&input, nothing))?)
+}
+
+fn units(file: &OsStr, folder: &Path, size: u64) -> Result<(), Failure> {
+    let input = input::read(file)?;
+    let expected = size.min(MOST_AT_FIRST) + SPARE;
+    let lent = Lent::new(&input.bytes, expected as usize);
+    let mut lent = lent.map_err(|nothing| failed(&input, nothing))?;
+    let mut folder = Folder::open(folder)?;
+    let totals = write_units(&mut lent, &mut folder, size, &input)?;
+    folder.finish()?;
+    let Totals {
+        units,
+        blocks,
+        bytes,
+    } = totals;
+    print(format!("units {units}, blocks {blocks}, bytes {bytes}\n").as_bytes())
+}
+
+/// Writes all units, one call each, to the last.
+fn write_units(
+    lent: &mut Lent,
+    folder: &mut Folder,
+    size: u64,
+    input: &Input,
+) -> Result<Totals, Failure> {
+    let mut totals = Totals::default();
+    let mut progress = Progress::new(lent.counts.blocks);
+    loop {
+        let made = lent.unit(size, totals.units);
+        let (unit, text) = made.map_err(|nothing| failed(input, nothing))?;
+        folder.write(text)?;
+        totals = Totals {
+            units: totals.units + 1,
+            blocks: unit.done,
+            bytes: totals.bytes + unit.length,
+        };
+        progress.show(totals);
+        if unit.last {
+            return Ok(totals);
+        }
+    }
+}

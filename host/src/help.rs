@@ -1,0 +1,65 @@
+//! The texts of --help.
+
+pub const RECOMP: &str = "\
+Translates block files (decoded ARM and Thumb blocks) to C units.
+
+usage: recomp COMMAND FILE ...
+
+  recomp units FILE -o DIR [--unit-size BYTES]   write the C units
+  recomp check FILE                              say whether the file is accepted
+  recomp plan FILE                               print which blocks are emitted together
+  recomp exits FILE [BLOCK]                      print where blocks can statically go
+  recomp listing FILE                            print key, group and exits of each block
+
+FILE is - for standard input. `recomp COMMAND --help` says more, `recomp --version` the version.
+Exit status: 0 done, 1 refused file (`refused N at I` and the rule), 2 any other failure.
+";
+
+pub const UNITS: &str = "\
+Writes the C units of a block file as unit_000.c, unit_001.c and so on.
+
+usage: recomp units FILE -o DIR [--unit-size BYTES]
+
+  FILE               a block file, or - for standard input
+  -o DIR             the folder of the units, which is made if there is none
+  --unit-size BYTES  close a unit once it has so many bytes (1M unless given; K is 1024, M is 1024K)
+
+Nothing is written for a refused file. Units get their names when all are written; files of DIR
+that are named like further units, left by an older run, are removed, and no others. Each unit
+takes one pass over the file: large units take less time together.
+";
+
+pub const CHECK: &str = "\
+Says whether a block file is accepted, and how many blocks and instructions it has.
+
+usage: recomp check FILE
+
+  FILE  a block file, or - for standard input
+";
+
+pub const PLAN: &str = "\
+Prints the plan of a block file: group and block, both from 0, in the order of emission.
+
+usage: recomp plan FILE
+
+  FILE  a block file, or - for standard input
+";
+
+pub const EXITS: &str = "\
+Prints the keys that blocks can statically go to, `-` for none. A key is the address, plus 1 for
+Thumb, in hexadecimal.
+
+usage: recomp exits FILE [BLOCK]
+
+  FILE   a block file, or - for standard input
+  BLOCK  the number of a block, from 0; all blocks unless given
+";
+
+pub const LISTING: &str = "\
+Prints a line for each block of a block file: its key (the address, plus 1 for Thumb), its group,
+and the keys that it can statically go to, `-` for none.
+
+usage: recomp listing FILE
+
+  FILE  a block file, or - for standard input
+";
