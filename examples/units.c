@@ -1,0 +1,99 @@
+/* Writes the C units of a block file with the proved library: units FILE DIR BYTES.
+ *
+ *     cc -std=c99 -Iinclude examples/units.c target/staticlib/librecomp.a -o units
+ *     ./units samples/three_blocks.blk . 1048576
+ */
+#include "recomp.h"
+
+#include <stdio.h>
+#include <stdlib.h>
+
+/* What is lent to every call: the file, four work numbers for each block, and a text. */
+struct lent {
+    uint8_t *file;
+    size_t file_len;
+    uint32_t *work;
+    size_t work_len;
+    uint8_t *text;
+    size_t text_len;
+};
+
+static void *stop(const char *what) {
+    perror(what);
+    exit(2);
+}
+
+/* Makes room for so many items, never none: the calls ask for pointers that are not null. */
+static void *room(void *old, size_t count, size_t size) {
+    void *made = count < SIZE_MAX / size ? realloc(old, (count + 1) * size) : NULL;
+    return made ? made : stop("memory");
+}
+
+static void refused(uint32_t number, uint64_t at) {
+    fprintf(stderr, "refused %lu at %llu\n", (unsigned long)number, (unsigned long long)at);
+    exit(1);
+}
+
+static void read_file(struct lent *lent, const char *path) {
+    FILE *in = fopen(path, "rb");
+    size_t got;
+    if (!in) stop(path);
+    do {
+        lent->file = room(lent->file, lent->file_len + 65536, 1);
+        got = fread(lent->file + lent->file_len, 1, 65536, in);
+        lent->file_len += got;
+    } while (got > 0);
+    if (ferror(in)) stop(path);
+    fclose(in);
+}
+
+/* The check says how many work numbers the other calls need. */
+static void lend(struct lent *lent) {
+    uint64_t at, blocks, instructions;
+    uint32_t number = recomp_check(lent->file, lent->file_len, &at, &blocks, &instructions);
+    if (number) refused(number, at);
+    lent->work_len = 4 * (size_t)blocks;
+    lent->work = room(NULL, lent->work_len, sizeof *lent->work);
+    lent->text_len = 4096;
+    lent->text = room(NULL, lent->text_len, 1);
+}
+
+static void write_unit(const struct lent *lent, const char *dir, uint64_t unit, size_t length) {
+    char path[4096];
+    FILE *out;
+    snprintf(path, sizeof path, "%s/unit_%03llu.c", dir, (unsigned long long)unit);
+    out = fopen(path, "wb");
+    if (!out) stop(path);
+    if (fwrite(lent->text, 1, length, out) < length || fclose(out)) stop(path);
+}
+
+int main(int argc, char **argv) {
+    struct lent lent = {NULL, 0, NULL, 0, NULL, 0};
+    uint64_t size, at, length, done, last = 0, unit = 0;
+    if (argc != 4) {
+        fprintf(stderr, "usage: units FILE DIR BYTES\n");
+        return 2;
+    }
+    size = strtoull(argv[3], NULL, 10);
+    read_file(&lent, argv[1]);
+    lend(&lent);
+    while (!last) {
+        uint32_t number = recomp_unit(lent.file, lent.file_len, size, unit, lent.work, lent.work_len,
+                                      lent.text, lent.text_len, &at, &length, &done, &last);
+        if (number == 10) {
+            /* The text is longer than what was lent: lend more, and ask again. */
+            lent.text_len *= 2;
+            lent.text = room(lent.text, lent.text_len, 1);
+            continue;
+        }
+        if (number) refused(number, at);
+        write_unit(&lent, argv[2], unit, (size_t)length);
+        printf("unit %llu: %llu bytes, %llu blocks done\n", (unsigned long long)unit,
+               (unsigned long long)length, (unsigned long long)done);
+        unit++;
+    }
+    free(lent.file);
+    free(lent.work);
+    free(lent.text);
+    return 0;
+}

@@ -1,0 +1,82 @@
+/* The calls of librecomp.a: block files to plans, exits, listings and C units.
+ *
+ * `rt staticlib recomp` proves the library and writes target/staticlib/librecomp.a. What is said
+ * here in words is proved of every call and every input; the definitions are named at each call.
+ *
+ * For all calls:
+ * - The return value is 0, or the number of a refusal:
+ *     1  the file has under 32 bytes
+ *     2  its trailer counts over 65,536 blocks or over 1,048,576 instructions
+ *     3  another rule of the trailer is broken
+ *     4  block i: a rule of its record is broken, key order apart
+ *     5  block i: its key (address plus 1 for Thumb) is not above that of the block before
+ *     6  the blocks' instruction counts do not sum to the trailer's
+ *     7  instruction i: a rule of its record is broken
+ *     8  fewer than four work numbers for each block are lent
+ *     9  there is no such block or unit
+ *    10  the lent result is too short
+ *   The first that applies is given. A call gives those of them that can apply to it, and gives
+ *   1 to 7 exactly as recomp_check does.
+ * - `*at` is i for 4, 5 and 7, counted from 0 through the file, else 0. The other numbers handed
+ *   over are 0 on refusal. All of them are written on every return.
+ * - Work numbers: the first 4 * blocks are 0 after success and after 9 and 10, and are as they were
+ *   after 1 to 8. What they hold before a call does not matter. Those behind are never changed.
+ * - A lent plan or text is changed on success only, and only in its front, as far as the result
+ *   reaches.
+ * - Nothing is allocated, kept or read beyond what is lent. Calls with different buffers may run at
+ *   the same time; they may share the file.
+ *
+ * What is asked of a caller and cannot be tested by a call: each pointer is not null, is aligned
+ * for its type and points to as many items as its length says (a length may be 0), and whatever a
+ * call may write overlaps nothing else that it is handed.
+ */
+#ifndef RECOMP_H
+#define RECOMP_H
+
+#include <stddef.h>
+#include <stdint.h>
+
+#ifdef __cplusplus
+extern "C" {
+#endif
+
+/* Whether the file is accepted: refusals 1 to 7, or the number of its blocks and instructions.
+ * Definition: `parse` in crates/block_file/specs/Parse.antt. */
+uint32_t recomp_check(const uint8_t *file, size_t file_len,
+                      uint64_t *at, uint64_t *blocks, uint64_t *instructions);
+
+/* The keys that block `block` (from 0) can statically go to: `*count` of them, 0 to 2, a branch's
+ * target before the fall-through; `*first` and `*second` are 0 where there is none.
+ * Refusals 1 to 7 and 9. Definition: `exitsCall` in crates/block_exits/specs/Calls.antt. */
+uint32_t recomp_exits(const uint8_t *file, size_t file_len, uint64_t block,
+                      uint64_t *at, uint64_t *count, uint64_t *first, uint64_t *second);
+
+/* The plan: for each of the `*blocks` blocks its group and its number in the file, both from 0, in
+ * the order of emission. It needs 2 * blocks numbers.
+ * Refusals 1 to 8 and 10. Definition: `planCall` in crates/plan/specs/Calls.antt. */
+uint32_t recomp_plan(const uint8_t *file, size_t file_len, uint32_t *work, size_t work_len,
+                     uint32_t *plan, size_t plan_len, uint64_t *at, uint64_t *blocks);
+
+/* The listing: a header, then a line for each block in file order with key, group and exits. It is
+ * `*length` bytes of ASCII, with no zero byte behind it.
+ * Refusals 1 to 8 and 10. Definition: `listingCall` in crates/list_blocks/specs/Calls.antt. */
+uint32_t recomp_listing(const uint8_t *file, size_t file_len, uint32_t *work, size_t work_len,
+                        uint8_t *text, size_t text_len, uint64_t *at, uint64_t *length);
+
+/* The C text of unit `unit` (from 0) of those that are closed once they have `max_bytes` bytes after
+ * a group: `*length` bytes of UTF-8, with no zero byte behind it. `*done` is the number of blocks in
+ * it and in all units before it, `*last` is 1 for the last unit and 0 for the others. Every accepted
+ * file has a last unit, at every size; refusal 9 is given for every number above that unit's.
+ * Each call goes through the file from its start, and its time does not depend on earlier calls.
+ * Refusals 1 to 10. Definition: `unitCall` in crates/emit_units/specs/Calls.antt. It is also proved
+ * of the units of every accepted file, at every size, how they reach gate and guard: `Demand3Of` in
+ * crates/ways/specs/Demand3.antt. */
+uint32_t recomp_unit(const uint8_t *file, size_t file_len, uint64_t max_bytes, uint64_t unit,
+                     uint32_t *work, size_t work_len, uint8_t *text, size_t text_len,
+                     uint64_t *at, uint64_t *length, uint64_t *done, uint64_t *last);
+
+#ifdef __cplusplus
+}
+#endif
+
+#endif
