@@ -86,7 +86,9 @@ const EXITS: &str = "block exits\n";
 fn exits_of(file: &OsStr, block: u64) -> Result<(), Failure> {
     let input = input::read(file)?;
     let exits = library::exits(&input.bytes, block);
-    let exits = exits.map_err(|refused| failed(&input, Nothing::Refused(refused)))?;
+    let exits = exits.map_err(|refused| {
+        Failure::refused(refusal::line_for_block(&input.name, refused, block))
+    })?;
     let keys: Vec<_> = exits.iter().map(|key| format!("{key:08x}")).collect();
     let keys = if keys.is_empty() {
         "-".into()

@@ -2,10 +2,24 @@
 
 use crate::library::Refused;
 
-/// The line for a refusal of what was asked of the file of this name.
+/// The line for a refusal of the file of this name.
 pub fn line(name: &str, refused: Refused) -> String {
-    let Refused { number, at } = refused;
-    format!("refused {number} at {at}: {name}: {}", rule(refused))
+    with_rule(name, refused, &rule(refused))
+}
+
+/// The line for a refusal of a call that named a block.
+pub fn line_for_block(name: &str, refused: Refused, block: u64) -> String {
+    let rule = match refused.number {
+        9 => format!(
+            "there is no block {block}; `recomp check` says how many there are, the first being 0"
+        ),
+        _ => rule(refused),
+    };
+    with_rule(name, refused, &rule)
+}
+
+fn with_rule(name: &str, Refused { number, at }: Refused, rule: &str) -> String {
+    format!("refused {number} at {at}: {name}: {rule}")
 }
 
 fn rule(Refused { number, at }: Refused) -> String {
@@ -18,7 +32,7 @@ fn rule(Refused { number, at }: Refused) -> String {
         6 => "the blocks' instruction counts do not sum to the trailer's; have the converter write the file again".into(),
         7 => format!("instruction {at}, from 0 through the file: a field of its record is out of range, or a byte is not zero that must be; have the converter write it again"),
         8 => "fewer than four work numbers for each block were lent; lend more".into(),
-        9 => "there is no such block or unit; `recomp check` says how many blocks the file has, the first being 0".into(),
+        9 => "there is no such block or unit; name one that the file has".into(),
         10 => "what was lent for the result is too short; lend more".into(),
         _ => "this program does not know the refusal; build it again from the sources of its library".into(),
     }

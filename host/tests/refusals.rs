@@ -1,0 +1,142 @@
+//! Every refusal: 1 to 7 and 9 as the program prints them, 8 and 10 as the library's calls give
+//! them to a caller that lends too little.
+
+mod common;
+
+use common::{lone, lone_blocks, recomp, recomp_on, Scratch};
+use recomp_host::library::{self, Refused};
+use recomp_tools::file::{block, build, trailer, File};
+use recomp_tools::record::Record;
+
+/// Two blocks of one instruction, damaged by setting the word at a place.
+fn damaged(place: fn(&File) -> usize, word: u32) -> Vec<u8> {
+    let mut file = lone_blocks(2);
+    let at = place(&file);
+    file.set_word(at, word);
+    file.bytes
+}
+
+/// Number and i of each refusal of a file, words that its line has, and a file that gets it.
+fn refused_files() -> Vec<(u32, u64, &'static str, Vec<u8>)> {
+    let same_key = build(&[lone(0, Record::bx(14)), lone(0, Record::bx(14))]).bytes;
+    vec![
+        (1, 0, "under 32 bytes", vec![]),
+        (1, 0, "under 32 bytes", vec![0; 31]),
+        (
+            2,
+            0,
+            "over 65,536 blocks",
+            damaged(|f| f.trailer_at(trailer::BLOCKS), 65_537),
+        ),
+        (
+            3,
+            0,
+            "the trailer's",
+            damaged(|f| f.trailer_at(trailer::EDITION), 2),
+        ),
+        (3, 0, "copied whole", lone_blocks(2).bytes[16..].to_vec()),
+        (
+            4,
+            1,
+            "block 1, from 0:",
+            damaged(|f| f.block_at(1, block::ADDRESS), 0x0800_0006),
+        ),
+        (5, 1, "block 1, from 0:", same_key),
+        (
+            6,
+            0,
+            "do not sum",
+            damaged(|f| f.block_at(1, block::COUNT), 2),
+        ),
+        (
+            7,
+            1,
+            "instruction 1, from 0",
+            damaged(|f| f.instruction_at(1), 0xff),
+        ),
+    ]
+}
+
+#[test]
+fn every_command_refuses_with_number_place_and_rule() {
+    let scratch = Scratch::new();
+    for (number, at, words, bytes) in refused_files() {
+        let file = scratch.file("refused.blk", &bytes);
+        let folder = scratch.join("units");
+        let runs = [
+            recomp(&["check", &file]),
+            recomp(&["plan", &file]),
+            recomp(&["exits", &file]),
+            recomp(&["exits", &file, "0"]),
+            recomp(&["listing", &file]),
+            recomp(&["units", &file, "-o", &folder]),
+        ];
+        for run in runs {
+            let line = run.failed(1);
+            let start = format!("refused {number} at {at}: {file}: ");
+            assert!(line.starts_with(&start), "{line}");
+            assert!(line.contains(words), "{line}");
+        }
+        assert!(!std::path::Path::new(&folder).exists(), "no folder is made");
+    }
+}
+
+#[test]
+fn standard_input_is_refused_by_that_name() {
+    for command in ["check", "plan", "exits", "listing"] {
+        let line = recomp_on(&[], &[command, "-"]).failed(1);
+        assert!(
+            line.starts_with("refused 1 at 0: standard input: "),
+            "{line}"
+        );
+    }
+}
+
+#[test]
+fn no_such_block() {
+    let scratch = Scratch::new();
+    let file = scratch.file("two.blk", &lone_blocks(2).bytes);
+    for block in ["2", "18446744073709551615"] {
+        let line = recomp(&["exits", &file, block]).failed(1);
+        let start = format!("refused 9 at 0: {file}: there is no block {block};");
+        assert!(line.starts_with(&start), "{line}");
+    }
+}
+
+fn refusal(number: u32) -> Refused {
+    Refused { number, at: 0 }
+}
+
+#[test]
+fn no_such_unit() {
+    let file = lone_blocks(2).bytes;
+    let (work, text) = (&mut [7; 9], &mut [7; 8192]);
+    // Each of the two blocks has its unit, and the last has the table.
+    let answer = library::unit(&file, 0, 3, work, text);
+    assert_eq!(answer, Err(refusal(9)));
+    assert_eq!((work[..8].to_vec(), work[8]), (vec![0; 8], 7));
+    assert_eq!(text, &[7; 8192]);
+}
+
+#[test]
+fn too_few_work_numbers() {
+    let file = lone_blocks(2).bytes;
+    let (work, text, plan) = (&mut [7; 7], &mut [7; 8192], &mut [7; 4]);
+    assert_eq!(library::plan(&file, work, plan), Err(refusal(8)));
+    assert_eq!(library::listing(&file, work, text), Err(refusal(8)));
+    assert_eq!(library::unit(&file, 0, 0, work, text), Err(refusal(8)));
+    assert_eq!((*work, *plan), ([7; 7], [7; 4]));
+    assert_eq!(text, &[7; 8192]);
+}
+
+#[test]
+fn too_short_a_result() {
+    let file = lone_blocks(2).bytes;
+    let (plan, text) = (&mut [7; 3], &mut [7; 40]);
+    assert_eq!(library::plan(&file, &mut [7; 8], plan), Err(refusal(10)));
+    let work = &mut [7; 8];
+    assert_eq!(library::listing(&file, work, text), Err(refusal(10)));
+    assert_eq!(library::unit(&file, 0, 0, work, text), Err(refusal(10)));
+    assert_eq!((*work, *plan), ([0; 8], [7; 3]));
+    assert_eq!(text, &[7; 40]);
+}

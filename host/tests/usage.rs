@@ -1,0 +1,98 @@
+//! Arguments: help, version, and every wrong use with its line.
+
+mod common;
+
+use common::{recomp, sample};
+
+const COMMANDS: [&str; 5] = ["units", "check", "plan", "exits", "listing"];
+
+#[test]
+fn version() {
+    assert_eq!(recomp(&["--version"]).printed(), "recomp 0.1.0\n");
+}
+
+#[test]
+fn help_of_the_program_names_every_command() {
+    let text = recomp(&["--help"]).printed();
+    assert_eq!(recomp(&["-h"]).printed(), text);
+    for command in COMMANDS {
+        assert!(text.contains(&format!("recomp {command} FILE")), "{text}");
+    }
+}
+
+#[test]
+fn help_of_each_command() {
+    for command in COMMANDS {
+        let text = recomp(&[command, "--help"]).printed();
+        let usage = format!("usage: recomp {command} FILE");
+        assert!(text.contains(&usage), "{text}");
+        // Help is given whatever else stands there.
+        assert_eq!(recomp(&[command, "a", "b", "c", "-h"]).printed(), text);
+    }
+}
+
+#[test]
+fn wrong_uses() {
+    let file = &sample("three_blocks.blk");
+    let cases: [(&[&str], &str); 14] = [
+        (&[], "no command is given; run recomp --help"),
+        (&["unit", file], "unit is no command; run recomp --help"),
+        (
+            &["check"],
+            "check: no block file is given; run recomp check --help",
+        ),
+        (
+            &["units", file],
+            "units: no folder is given; add -o DIR; run recomp units --help",
+        ),
+        (
+            &["units", file, "-o"],
+            "units: -o needs a folder behind it; run recomp units --help",
+        ),
+        (
+            &["units", file, "-o", ""],
+            "units: no folder is given; add -o DIR; run recomp units --help",
+        ),
+        (
+            &["units", file, "-o", "x", "--unit-size"],
+            "units: --unit-size needs a size behind it; run recomp units --help",
+        ),
+        (
+            &["units", file, "-o", "x", "--unit-size", "1G"],
+            "units: 1G is no size; give bytes, as 1048576, 1024K or 1M; run recomp units --help",
+        ),
+        (
+            &["units", file, "-o", "x", "--unit-size=-1"],
+            "units: -1 is no size; give bytes, as 1048576, 1024K or 1M; run recomp units --help",
+        ),
+        (
+            &["check", "-o", "x", file],
+            "check: there is no option -o; run recomp check --help",
+        ),
+        (
+            &["plan", file, "--all"],
+            "plan: there is no option --all; run recomp plan --help",
+        ),
+        (
+            &["listing", file, "b"],
+            "listing: b is one argument too many; run recomp listing --help",
+        ),
+        (
+            &["exits", file, "one"],
+            "exits: one is no block number, as 0 is; run recomp exits --help",
+        ),
+        (
+            &["exits", file, "0", "1"],
+            "exits: 1 is one argument too many; run recomp exits --help",
+        ),
+    ];
+    for (args, line) in cases {
+        assert_eq!(recomp(args).failed(2), format!("recomp: {line}"));
+    }
+}
+
+#[test]
+fn behind_two_dashes_a_name_may_begin_with_one() {
+    let line = recomp(&["check", "--", "-x"]).failed(2);
+    assert!(line.starts_with("recomp: cannot read -x: "), "{line}");
+}
