@@ -69,8 +69,10 @@ uint32_t recomp_listing(const uint8_t *file, size_t file_len, uint32_t *work, si
  * file has a last unit, at every size; refusal 9 is given for every number above that unit's.
  * Each call goes through the file from its start, and its time does not depend on earlier calls.
  * Refusals 1 to 10. Definition: `unitCall` in crates/emit_units/specs/Calls.antt. It is also proved
- * of the units of every accepted file, at every size, how they reach gate and guard: `Demand3Of` in
- * crates/ways/specs/Demand3.antt. */
+ * that along every way through the units, at every size, at most 8,192 instructions are carried out
+ * between two calls of the chain gate in a group of several blocks, that a block alone in its group
+ * carries out no instruction twice, and that native code of a block outside ROM and BIOS is reached
+ * only after the guard said yes to it: `Demand3Of` in crates/ways/specs/Demand3.antt. */
 uint32_t recomp_unit(const uint8_t *file, size_t file_len, uint64_t max_bytes, uint64_t unit,
                      uint32_t *work, size_t work_len, uint8_t *text, size_t text_len,
                      uint64_t *at, uint64_t *length, uint64_t *done, uint64_t *last);
