@@ -10,7 +10,7 @@ use crate::progress::{Progress, Totals};
 use crate::refusal;
 use std::ffi::OsStr;
 use std::fmt::Write as _;
-use std::io::Write as _;
+use std::io::{ErrorKind, Write as _};
 use std::path::Path;
 
 /// Text that is lent for a unit beyond its wished size, which most groups fit into.
@@ -37,10 +37,12 @@ fn print(text: &[u8]) -> Result<(), Failure> {
     let mut out = std::io::stdout().lock();
     let done = out.write_all(text).and_then(|()| out.flush());
     done.map_err(|error| {
+        let advice = match error.kind() {
+            ErrorKind::BrokenPipe => "the program that reads it ended first; let it read all",
+            _ => "send it where there is room, then run again",
+        };
         let what = format!("cannot write to standard output: {error}");
-        Failure::error(format!(
-            "{what}; send it where there is room, then run again"
-        ))
+        Failure::error(format!("{what}; {advice}"))
     })
 }
 

@@ -136,7 +136,7 @@ fn unprivileged(scratch: &Scratch) -> Command {
 fn files_that_may_not_be_read() {
     let scratch = Scratch::new();
     let file = scratch.file("closed.blk", &lone_blocks(1).bytes);
-    fs::set_permissions(&file, Permissions::from_mode(0)).expect("a mode");
+    fs::set_permissions(&file, Permissions::from_mode(0o000)).expect("a mode");
     let output = unprivileged(&scratch).args(["check", &file]).output();
     let line = Run::of(output.expect("the program runs")).failed(2);
     assert!(
@@ -178,4 +178,17 @@ fn output_that_finds_no_room() {
             "{line}"
         );
     }
+}
+
+#[test]
+fn output_that_nobody_reads() {
+    let (reader, writer) = std::io::pipe().expect("a pipe");
+    drop(reader);
+    let mut program = program(&["listing", &sample("three_blocks.blk")]);
+    let output = program.stdout(writer).output();
+    let line = Run::of(output.expect("the program runs")).failed(2);
+    assert!(
+        line.ends_with("; the program that reads it ended first; let it read all"),
+        "{line}"
+    );
 }
