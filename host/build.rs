@@ -10,26 +10,28 @@ fn main() {
     println!("cargo::rerun-if-changed=build.rs");
     println!("cargo::rerun-if-env-changed={OVERRIDE}");
     let found = match std::env::var_os(OVERRIDE) {
-        Some(path) => Ok(PathBuf::from(path)),
+        Some(path) => named_library(path.into()),
         None => proved_library(),
     };
-    match found {
-        Ok(library) if library.is_file() => link(&library),
-        Ok(library) => fail(&format!("there is no file {}", library.display())),
-        Err(reason) => fail(&reason),
+    if let Err(reason) = found.and_then(|library| link(&library)) {
+        println!("cargo::error=recomp links the proved library, which could not be had: {reason}");
     }
 }
 
-fn link(library: &Path) {
-    println!("cargo::rerun-if-changed={}", library.display());
-    println!("cargo::rustc-link-arg={}", library.display());
+/// Links a copy, which stays as it is when the repository's own is written anew or removed.
+fn link(library: &Path) -> Result<(), String> {
+    let out = std::env::var("OUT_DIR").expect("set by cargo");
+    let copy = Path::new(&out).join("librecomp.a");
+    std::fs::copy(library, &copy).map_err(|error| format!("{}: {error}", library.display()))?;
+    println!("cargo::rustc-link-arg={}", copy.display());
     // The tests compile a C program against the same library.
-    println!("cargo::rustc-env={OVERRIDE}={}", library.display());
+    println!("cargo::rustc-env={OVERRIDE}={}", copy.display());
+    Ok(())
 }
 
-fn fail(reason: &str) {
-    println!("cargo::error=recomp links the proved library, librecomp.a, which could not be had");
-    println!("cargo::error={reason}");
+fn named_library(path: PathBuf) -> Result<PathBuf, String> {
+    println!("cargo::rerun-if-changed={}", path.display());
+    Ok(path)
 }
 
 fn proved_library() -> Result<PathBuf, String> {
