@@ -14,7 +14,9 @@ fn main() {
         None => proved_library(),
     };
     if let Err(reason) = found.and_then(|library| link(&library)) {
-        println!("cargo::error=recomp links the proved library, which could not be had: {reason}");
+        eprintln!("recomp links the proved library, which could not be had: {reason}");
+        // Cargo then shows all that went to standard error, what rt said included.
+        std::process::exit(1);
     }
 }
 
@@ -40,7 +42,7 @@ fn proved_library() -> Result<PathBuf, String> {
     for sources in ["crates", "crates.txt"] {
         println!("cargo::rerun-if-changed={}", root.join(sources).display());
     }
-    // Cargo shows what goes to standard error if the build fails, and at once under -vv.
+    // Under -vv cargo shows at once what goes to standard error.
     let status = Command::new("rt")
         .args(["staticlib", "recomp"])
         .current_dir(root)
