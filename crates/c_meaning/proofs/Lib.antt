@@ -1,0 +1,2 @@
+-- The laws of what C99 makes of the tree.
+pub mod Append

@@ -1,0 +1,128 @@
+-- What C's statements do, up to where they lead. None: undefined, or no native text has it.
+use Prim.Native.Nat.{ℕ}
+use mathlib.Core.Bool.{Bool, not, cond, Bool·beq}
+use mathlib.Core.List.{List, [], _∷_}
+use mathlib.Core.Option.{Option, none, some}
+use lib.Dec.{eqb}
+use Rattle.c_tree.specs.Expr.{Ty, u32, u64, Name, Var, Place, var, Bin, add, band, bor, Expr}
+use Rattle.c_tree.specs.Stmt.{Set, is, plus, and, or, Proc, f-nz, f-c, f-nz64, Plain, registers, local, declare, adds, set, drop, run, write, tick, Test, guard, gate, other, Simple, gap, begin, plain, label, goto, ret, retIf, interp, retInterp, call, switch, Code, end, _⨾_, when, braces, Helper, op-adds, proc}
+use Rattle.c_meaning.specs.Types.{common, convert}
+use Rattle.c_meaning.specs.State.{bind, State, setMem, setScopes, answered, enter, leave, value, declared, put, placeTy, store}
+use Rattle.c_meaning.specs.Eval.{ty, binValue, eval, evalAs}
+
+-- where statements lead
+pub data Goes : Type 0 where
+  on : Goes  -- behind them
+  to : ℕ → Goes  -- to a label, by a goto: its key
+  back : ℕ → Goes  -- out of the function, by a return: its value
+
+-- a state, and where the statements led that made it
+abbrev pub Outcome : Type 0
+Outcome = Option (State × Goes)
+
+-- what comes behind, where statements led on
+abbrev pub next : Goes → State → (State → Outcome) → Outcome
+next on z f = f z
+next (to k) z f = some (z, to k)
+next (back x) z f = some (z, back x)
+
+-- what a call without a value gives, and one with a value
+abbrev pub ended : Goes → State → Option State
+ended on z = some z
+ended (to k) z = none
+ended (back x) z = none
+
+abbrev pub returned : Goes → Option ℕ
+returned on = none
+returned (to k) = none
+returned (back x) = some x
+
+-- x op= e is x = x op e, with x evaluated once (6.5.16.2); k has the type y
+abbrev pub compound : Bin → Place → Ty → ℕ → State → Option ℕ
+compound o p y k z = bind (value p z) λ l. bind (binValue o (placeTy p) y l k) λ x. some (convert (common (placeTy p) y) (placeTy p) x)
+
+abbrev pub newValue : Set → Place → Ty → ℕ → State → Option ℕ
+newValue is p y k z = some (convert y (placeTy p) k)
+newValue plus p y k z = compound add p y k z
+newValue and p y k z = compound band p y k z
+newValue or p y k z = compound bor p y k z
+
+-- what a function that sets flags takes
+abbrev pub procTy : Proc → Ty
+procTy f-nz = u32
+procTy f-c = u32
+procTy f-nz64 = u64
+
+-- a declaration without a value
+abbrev pub declares : Var → State → Option State
+declares x z = bind (declared x (z .scopes)) λ fs. some (setScopes fs z)
+
+-- R: what ror32 answers. H: what the other helpers do with c before their arguments
+module _ (R : ℕ → ℕ → Option ℕ) (H : Helper → List ℕ → State → Outcome) where
+  -- y x = e: the name is declared before its value is computed (6.2.1)
+  abbrev pub initialise : Var → Expr → State → Option State
+  initialise x e z = bind (declares x z) λ u. bind (evalAs R (x .0) e u) λ k. put (var x) k u
+
+  -- further declarators of the same type
+  unfoldable pub others : Ty → List (Name × Expr) → State → Option State
+  unfolding evalAs
+  others y [] z = some z
+  others y (d ∷ ds) z = bind (initialise (y, d .0) (d .1) z) (others y ds)
+
+  -- a plain statement
+  unfoldable pub exec : Plain → State → Option State
+  unfolding eval evalAs others
+  exec registers z = some z
+  exec (local x) z = declares x z
+  exec (declare x e ds) z = bind (initialise x e z) (others (x .0) ds)
+  exec (adds x d e f) z =
+      bind (declares (u32, x) z) λ u.
+      bind (evalAs R u32 d u) λ k. bind (evalAs R u32 e u) λ l. bind (evalAs R u32 f u) λ i.
+      bind (H op-adds (k ∷ l ∷ i ∷ []) u) λ q. bind (returned (q .1)) λ r. put (var (u32, x)) r (q .0)
+  exec (set p o e) z = bind (eval R e z) λ k. bind (newValue o p (ty e) k z) λ x. put p x z
+  exec (drop x) z = bind (value (var x) z) λ k. some z
+  exec (run p e) z = bind (evalAs R (procTy p) e z) λ k. bind (H (proc p) (k ∷ []) z) λ q. ended (q .1) (q .0)
+  exec (write w d e) z = bind (evalAs R u32 d z) λ a. bind (evalAs R u32 e z) λ x. some (setMem (store w a x (z .mem)) z)
+  exec (tick n) z = some z
+
+  -- plain statements one after the other
+  unfoldable pub execs : List Plain → State → Option State
+  unfolding exec
+  execs [] z = some z
+  execs (p ∷ ps) z = bind (exec p z) (execs ps)
+
+  -- whether a test holds, and the state behind it; the runtime's answers are used up in order
+  unfoldable pub asks : Test → State → Option (Bool × State)
+  unfolding eval
+  asks (guard a l h) z = some (not (eqb (z .answers 0) 0), answered z)
+  asks gate z = some (not (eqb (z .answers 0) 0), answered z)
+  asks (other e) z = bind (eval R e z) λ k. some (not (eqb k 0), z)
+
+  -- return e
+  abbrev pub returns : Expr → State → Outcome
+  returns e z = bind (evalAs R u32 e z) λ k. some (z, back k)
+
+  -- a statement without braces. The interpreter's step, a group's call and its switch are in no native text
+  unfoldable pub step : Simple → State → Outcome
+  unfolding evalAs exec asks
+  step (gap l n) z = some (z, on)
+  step (begin k i n) z = some (z, on)
+  step (plain o p) z = bind (exec p z) λ u. some (u, on)
+  step (label k) z = some (z, on)
+  step (goto o k) z = some (z, to k)
+  step (ret o e) z = returns e z
+  step (retIf o t e) z = bind (asks t z) λ q. cond (q .0) (returns e (q .1)) (some (q .1, on))
+  step (interp k i) z = none
+  step (retInterp k i) z = none
+  step (call k n) z = none
+  step (switch ks) z = none
+
+  -- statements one after the other; what braces enclose is a scope
+  unfoldable pub runs : Code → State → Outcome
+  unfolding step asks
+  runs end z = some (z, on)
+  runs (s ⨾ c) z = bind (step s z) λ q. next (q .1) (q .0) (runs c)
+  runs (when o n t b c) z =
+      bind (asks t z) λ q.
+      cond (Bool·beq n (q .0)) (runs c (q .1)) (bind (runs b (enter (q .1))) λ r. next (r .1) (leave (r .0)) (runs c))
+  runs (braces b c) z = bind (runs b (enter z)) λ r. next (r .1) (leave (r .0)) (runs c)

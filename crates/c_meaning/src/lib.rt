@@ -1,0 +1,1 @@
+// What C99 makes of the tree of c_tree: definitions only.

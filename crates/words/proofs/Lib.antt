@@ -1,0 +1,2 @@
+-- The laws of operations on bits.
+pub mod Bits

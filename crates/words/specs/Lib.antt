@@ -1,0 +1,2 @@
+-- Operations on the bits of numbers.
+pub mod Word

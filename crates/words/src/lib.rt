@@ -1,0 +1,1 @@
+// Operations on the bits of numbers: definitions only.
