@@ -1,0 +1,1 @@
+-- Definitions and examples only: nothing is proved here.

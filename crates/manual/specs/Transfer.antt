@@ -1,0 +1,91 @@
+-- A5.2, A5.3 Addressing modes 2 and 3, and A4.1: LDR, LDRB, LDRBT, LDRH, LDRSB, LDRSH, LDRT, STR, STRB, STRBT, STRH, STRT.
+use Prim.Native.Nat.{ℕ, _+_, _-_, _*_, _/_, _%_, _^_}
+use mathlib.Core.Path.{_≡_, refl}
+use mathlib.Core.Bool.{Bool, true, false, not, cond, _&&_, _||_}
+use lib.Dec.{eqb}
+use Rattle.armv4t.specs.declared.MemWidth.{MemWidth}
+use Rattle.armv4t.specs.declared.MemWidth.the-variants.{Byte, Half, Word}
+use Rattle.armv4t.specs.declared.MemOffset.{MemOffset}
+use Rattle.manual.specs.Machine.{word, Machine, R, update, setReg, setMem}
+use Rattle.manual.specs.Operators.{Rotate-Right, SignExtend8, SignExtend16}
+use Rattle.manual.specs.Shifter.{shifted}
+
+-- byte i behind address a; addresses wrap (A2.7.1)
+abbrev pub byte : (ℕ → ℕ) → ℕ → ℕ → ℕ
+byte f a i = f ((a + i) % word)
+
+-- Memory[a, 2] and Memory[a, 4], little-endian (A2.7.2); a word is read and written at its address without bits 1:0 (A2.8)
+abbrev pub Memory2 : (ℕ → ℕ) → ℕ → ℕ
+Memory2 f a = f a + byte f a 1 * 2 ^ 8
+
+abbrev pub Memory4 : (ℕ → ℕ) → ℕ → ℕ
+Memory4 f address = let a : ℕ = address / 4 * 4 in f a + byte f a 1 * 2 ^ 8 + byte f a 2 * 2 ^ 16 + byte f a 3 * 2 ^ 24
+
+-- byte i of x put behind address a
+abbrev pub setByte : ℕ → ℕ → ℕ → (ℕ → ℕ) → ℕ → ℕ
+setByte a x i = update ((a + i) % word) (x / 2 ^ (8 * i) % 256)
+
+abbrev pub setMemory2 : ℕ → ℕ → (ℕ → ℕ) → ℕ → ℕ
+setMemory2 a x f = setByte a x 1 (update a (x % 256) f)
+
+abbrev pub setMemory4 : ℕ → ℕ → (ℕ → ℕ) → ℕ → ℕ
+setMemory4 address x f = let a : ℕ = address / 4 * 4 in setByte a x 3 (setByte a x 2 (setByte a x 1 (update a (x % 256) f)))
+
+-- the offset: A5.2.2 and A5.3.2 an immediate, A5.2.3, A5.2.4 and A5.3.3 a register, shifted
+abbrev pub offsetValue : Machine → ℕ → MemOffset → ℕ
+offsetValue m pc (MemOffset.Imm value) = value
+offsetValue m pc (MemOffset.Reg rm s) = shifted m pc rm s .0
+
+-- U: the base plus or minus the offset
+abbrev pub moved : Bool → ℕ → ℕ → ℕ
+moved true x off = (x + off) % word
+moved false x off = (x + (word - off)) % word
+
+-- P: the offset counts before the access, or only for the base behind it (A5.2.8 to A5.2.10, A5.3.6, A5.3.7)
+abbrev pub address : Bool → Bool → ℕ → ℕ → ℕ
+address true up x off = moved up x off
+address false up x off = x
+
+-- the base as Rn, where R15 reads as pc; in Thumb without its bits 1:0 (A7.1 LDR (3))
+abbrev pub base : Bool → Machine → ℕ → ℕ → ℕ
+base thumb m pc rn = cond (thumb && eqb rn 15) (pc / 4 * 4) (R m pc rn)
+
+-- what is loaded: LDR turns its word right by 8 times address[1:0]. LDRH and LDRSH at an odd address are unpredictable
+abbrev pub loaded : MemWidth → Bool → (ℕ → ℕ) → ℕ → ℕ
+loaded Byte false f a = f a
+loaded Byte true f a = SignExtend8 (f a)
+loaded Half false f a = Memory2 f a
+loaded Half true f a = SignExtend16 (Memory2 f a)
+loaded Word signed f a = Rotate-Right (Memory4 f a) (8 * (a % 4))
+
+-- what is stored: the low bits. STRH at an odd address is unpredictable
+abbrev pub stored : MemWidth → ℕ → ℕ → (ℕ → ℕ) → ℕ → ℕ
+stored Byte a x f = update a (x % 256) f
+stored Half a x f = setMemory2 a x f
+stored Word a x f = setMemory4 a x f
+
+-- W, or P clear: the base register is written
+abbrev pub writesBack : Bool → Bool → Bool
+writesBack pre writeback = not pre || writeback
+
+-- a load: the base is written, and then Rd, not R15
+abbrev pub load : MemWidth → Bool → ℕ → ℕ → ℕ → ℕ → Bool → Bool → Bool → Machine → Machine
+load width signed rd rn x off pre up writeback m =
+    let m1 : Machine = cond (writesBack pre writeback) (setReg rn (moved up x off) m) m in
+    setReg rd (loaded width signed (m .mem) (address pre up x off)) m1
+
+-- a store: Rd, not R15, is read before the base is written
+abbrev pub store : MemWidth → ℕ → ℕ → ℕ → ℕ → Bool → Bool → Bool → Machine → Machine
+store width rd rn x off pre up writeback m =
+    let m1 : Machine = setMem (stored width (address pre up x off) (m .r rd) (m .mem)) m in
+    cond (writesBack pre writeback) (setReg rn (moved up x off) m1) m1
+
+-- memory of which byte a is a: a word at an address that ends in 01 is turned
+turned : loaded Word false (λ a. a) 0x41 ≡ 0x40434241
+turned = refl
+
+sign : loaded Half true (λ a. a) 0xfe ≡ 0xfffffffe
+sign = refl
+
+read-back : Memory4 (setMemory4 0x1002 0x12345678 (λ a. 0)) 0x1001 ≡ 0x12345678
+read-back = refl

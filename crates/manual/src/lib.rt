@@ -1,0 +1,1 @@
+// The ARM Architecture Reference Manual's account of the instructions, for ARMv4T: definitions only.
