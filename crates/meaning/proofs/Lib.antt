@@ -1,0 +1,6 @@
+-- The proofs of what the lowered text means.
+pub mod Gives
+pub mod Flags
+pub mod Operands
+pub mod Steps
+pub mod Alu

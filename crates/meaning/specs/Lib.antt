@@ -1,0 +1,2 @@
+-- When C's state and the manual's machine agree, and what is claimed of lowered instructions.
+pub mod Agree
