@@ -4,3 +4,4 @@ pub mod Flags
 pub mod Operands
 pub mod Steps
 pub mod Alu
+pub mod Body

@@ -1,0 +1,92 @@
+-- What the lines of an instruction mean, class by class.
+use mathlib.Core.Path.{_≡_, refl, sym, ap, subst}
+use mathlib.Core.Logic.{_≢_}
+use mathlib.Core.Bool.{Bool, true, false, cond}
+use mathlib.Core.List.{List, [], _∷_}
+use mathlib.Core.Option.{Option, none, some}
+use Prim.Native.Nat.{ℕ, _≤_, _<_}
+use native.Mathlib.Omega.{arith}
+use lib.Dec.{eqb}
+use Rattle.armv4t.specs.declared.AluOp.{AluOp}
+use Rattle.armv4t.specs.declared.Shift.{Shift}
+use Rattle.armv4t.specs.declared.Operand2.{Operand2}
+use Rattle.armv4t.specs.declared.Op.the-variants.{Alu}
+use Rattle.armv4t.specs.declared.Instr.{Instr}
+use Rattle.armv4t.specs.Instr.{pcValue}
+use Rattle.c_tree.specs.Stmt.{Plain}
+use Rattle.c_meaning.specs.State.{State, enter}
+use Rattle.forms.specs.Forms.{Lines}
+use Rattle.forms.specs.Operands.{regExpr, op2Exprs}
+use Rattle.forms.specs.InlineBody.{apart, aluBody}
+use Rattle.manual.specs.Machine.{Machine, R}
+use Rattle.manual.specs.Shifter.{shift, shifter}
+use Rattle.manual.specs.DataProcessing.{dataProcessing}
+use Rattle.manual.specs.Execute.{onward}
+use Rattle.meaning.specs.Agree.{Agrees, Sound, Makes}
+use Rattle.meaning.specs.Claim.{OperandInRange, InRange, statements, OpMeans}
+use Rattle.meaning.proofs.Gives.{r-word}
+use Rattle.meaning.proofs.Operands.{ne-of, operand-reads, shifted-reads, value-carries, shifted-carries}
+use Rattle.meaning.proofs.Alu.{alu-ok}
+
+-- what is some is that
+from-some : {A : Type 0} → A → Option A → A
+from-some d none = d
+from-some d (some x) = x
+
+some-same : {A : Type 0} {x y : A} → _≡_ {A = Option A} (some x) (some y) → x ≡ y
+unfolding from-some
+some-same {x = x} q = ap (from-some x) q
+
+is-some : {A : Type 0} → Option A → Type 0
+is-some none = ⊥
+is-some (some x) = Unit {0}
+
+not-none : {A : Type 0} {x : A} → _≡_ {A = Option A} none (some x) → ⊥
+unfolding is-some
+not-none q = subst is-some (sym q) tt
+
+-- statements each in a line of its own
+all-of : (ps : List Plain) → statements (apart ps) ≡ ps
+all-of [] = refl
+all-of (p ∷ ps) = ap (λ (qs : List Plain). p ∷ qs) (all-of ps)
+
+under : (r : ℕ) → r ≤ 15 → eqb r 15 ≡ false → r < 15
+under r h q = go r h (ne-of r 15 q)
+  where
+    go : (r : ℕ) → r ≤ 15 → r ≢ 15 → r < 15
+    go r h n = omega arith
+
+-- lines of one statement each do what the statements do
+apart-makes : (ps : List Plain) {z : State} {m : Machine} → Makes ps z m → Makes (statements (apart ps)) z m
+apart-makes ps {z} {m} h = subst (λ (qs : List Plain). Makes qs z m) (sym (all-of ps)) h
+
+module _ (i : Instr) {z : State} {m : Machine} (s : Sound m) (a : Agrees z m) (op : AluOp) (w : Bool) (rd rn : ℕ) (hd : rd < 15) (hn : rn ≤ 15) where
+  -- Alu by its second operand
+  alu-lines : (op2 : Operand2) → OperandInRange op2 → (ls : Lines) → aluBody op w rd (regExpr i rn) (op2Exprs i op2) ≡ some ls
+      → Makes (statements ls) (enter z) (dataProcessing op w rd rn op2 (pcValue i) m)
+  alu-lines (Operand2.Imm value rot) h ls q =
+      subst (λ (ls : Lines). Makes (statements ls) (enter z) (dataProcessing op w rd rn (Operand2.Imm value rot) (pcValue i) m)) (some-same q)
+      (apart-makes _
+      (alu-ok s a rd hd op w _ _ _ (R m (pcValue i) rn) value (shifter m (pcValue i) (Operand2.Imm value rot) .1)
+      (λ u g. operand-reads u m s i (g .regs) rn hn) (λ u g. r-word h) (λ u g. value-carries u m s i g value rot)))
+  alu-lines (Operand2.Reg rm (Shift.Imm kind n)) h ls q =
+      subst (λ (ls : Lines). Makes (statements ls) (enter z) (dataProcessing op w rd rn (Operand2.Reg rm (Shift.Imm kind n)) (pcValue i) m)) (some-same q)
+      (apart-makes _
+      (alu-ok s a rd hd op w _ _ _ (R m (pcValue i) rn) (shift kind (R m (pcValue i) rm) n (m .c) .0) (shift kind (R m (pcValue i) rm) n (m .c) .1)
+      (λ u g. operand-reads u m s i (g .regs) rn hn) (λ u g. shifted-reads u m s i (g .regs) (g .flags) rm kind n (h .0) (h .1))
+      (λ u g. shifted-carries u m s i g rm kind n (h .0) (h .1))))
+  alu-lines (Operand2.Reg rm (Shift.Reg kind rs)) h ls q = absurd (not-none q)
+
+  -- Alu, whose rd is not R15 where it is lowered
+  alu-outcome : (op2 : Operand2) → OperandInRange op2 → (ls : Lines) → aluBody op w rd (regExpr i rn) (op2Exprs i op2) ≡ some ls
+      → (next : Machine × ℕ) → some (onward i (dataProcessing op w rd rn op2 (pcValue i) m)) ≡ some next → Makes (statements ls) (enter z) (next .0)
+  alu-outcome op2 h ls q next o = subst (λ (n : Machine × ℕ). Makes (statements ls) (enter z) (n .0)) (some-same o) (alu-lines op2 h ls q)
+
+-- Alu
+pub alu-means : (i : Instr) (op : AluOp) (w : Bool) (rd rn : ℕ) (op2 : Operand2) → InRange (Alu op w rd rn op2) → OpMeans i (Alu op w rd rn op2)
+alu-means i op w rd rn op2 r ls q z m s a bad next o = go (eqb rd 15) refl q o
+  where
+    go : (b : Bool) → eqb rd 15 ≡ b → cond b none (aluBody op w rd (regExpr i rn) (op2Exprs i op2)) ≡ some ls
+        → cond b none (some (onward i (dataProcessing op w rd rn op2 (pcValue i) m))) ≡ some next → Makes (statements ls) (enter z) (next .0)
+    go true e q o = absurd (not-none q)
+    go false e q o = alu-outcome i s a op w rd rn (under rd (r .0) e) (r .1) op2 (r .2) ls q next o

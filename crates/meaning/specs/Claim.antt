@@ -1,0 +1,64 @@
+-- What is claimed of the plain statements that an instruction is lowered to.
+use Prim.Native.Nat.{ℕ, _≤_, _<_, _^_}
+use mathlib.Core.Path.{_≡_}
+use mathlib.Core.Bool.{false}
+use mathlib.Core.List.{List, [], _∷_, _++_}
+use mathlib.Core.Option.{some}
+use Rattle.armv4t.specs.declared.Shift.{Shift}
+use Rattle.armv4t.specs.declared.Operand2.{Operand2}
+use Rattle.armv4t.specs.declared.MemOffset.{MemOffset}
+use Rattle.armv4t.specs.declared.Op.{Op}
+use Rattle.armv4t.specs.declared.Op.the-variants.{Alu, Mul, MulLong, Swap, Bx, Branch, ThumbBlHigh, ThumbBlLow, Mem, BlockMem, Mrs, MsrReg, MsrImm, Swi, Undefined}
+use Rattle.armv4t.specs.declared.Instr.{Instr}
+use Rattle.c_tree.specs.Stmt.{Plain}
+use Rattle.c_meaning.specs.State.{State, enter}
+use Rattle.forms.specs.Forms.{Lines}
+use Rattle.forms.specs.InlineBody.{opBody}
+use Rattle.manual.specs.Machine.{Machine}
+use Rattle.manual.specs.Execute.{operation}
+use Rattle.manual.specs.Unpredictable.{badOperation}
+use Rattle.meaning.specs.Agree.{Agrees, Sound, Makes}
+
+-- the fields of an operation are in the ranges that document 01 has for instruction records
+abbrev pub ShiftInRange : Shift → Type 0
+ShiftInRange (Shift.Imm kind amount) = amount < 32
+ShiftInRange (Shift.Reg kind rs) = rs ≤ 15
+
+abbrev pub OperandInRange : Operand2 → Type 0
+OperandInRange (Operand2.Imm value rot) = value < 2 ^ 32
+OperandInRange (Operand2.Reg rm s) = (rm ≤ 15) × ShiftInRange s
+
+abbrev pub OffsetInRange : MemOffset → Type 0
+OffsetInRange (MemOffset.Imm value) = value < 2 ^ 16
+OffsetInRange (MemOffset.Reg rm s) = (rm ≤ 15) × ShiftInRange s
+
+abbrev pub InRange : Op → Type 0
+InRange (Alu op s rd rn op2) = (rd ≤ 15) × (rn ≤ 15) × OperandInRange op2
+InRange (Mul acc s rd rn rs rm) = (rd ≤ 15) × (rn ≤ 15) × (rs ≤ 15) × (rm ≤ 15)
+InRange (MulLong signed acc s hi lo rs rm) = (hi ≤ 15) × (lo ≤ 15) × (rs ≤ 15) × (rm ≤ 15)
+InRange (Swap b rd rm rn) = Unit {0}
+InRange (Bx rm) = rm ≤ 15
+InRange (Branch link target) = target < 2 ^ 32
+InRange (ThumbBlHigh lr) = lr < 2 ^ 32
+InRange (ThumbBlLow off) = off < 2 ^ 16
+InRange (Mem ld width signed rd rn offset pre up writeback) = (rd ≤ 15) × (rn ≤ 15) × OffsetInRange offset
+InRange (BlockMem ld rn rlist pre up s-bit writeback) = (rn ≤ 15) × (rlist < 2 ^ 16)
+InRange (Mrs spsr rd) = Unit {0}
+InRange (MsrReg spsr fields rm) = Unit {0}
+InRange (MsrImm spsr fields value) = Unit {0}
+InRange (Swi imm) = Unit {0}
+InRange (Undefined raw) = Unit {0}
+
+-- the statements of lines
+abbrev pub statements : Lines → List Plain
+statements [] = []
+statements (l ∷ ls) = l ++ statements ls
+
+-- where an operation of an instruction, in a block of its own set, is lowered to lines, and the manual says what it makes of the machine m, then the lines,
+-- run in braces of their own from a state that agrees with m, end defined in a state that agrees with that
+abbrev pub OpMeans : Instr → Op → Type 0
+OpMeans i op =
+    (ls : Lines) → opBody (i .thumb) i op ≡ some ls
+    → (z : State) (m : Machine) → Sound m → Agrees z m → badOperation i op m ≡ false
+    → (next : Machine × ℕ) → operation i op m ≡ some next
+    → Makes (statements ls) (enter z) (next .0)
