@@ -1,32 +1,36 @@
 -- What the lines of an instruction mean, class by class.
 use mathlib.Core.Path.{_≡_, refl, sym, ap, subst}
 use mathlib.Core.Logic.{_≢_}
-use mathlib.Core.Bool.{Bool, true, false, cond}
+use mathlib.Core.Bool.{Bool, true, false, cond, _&&_}
 use mathlib.Core.List.{List, [], _∷_}
 use mathlib.Core.Option.{Option, none, some}
 use Prim.Native.Nat.{ℕ, _≤_, _<_}
 use native.Mathlib.Omega.{arith}
-use lib.Dec.{eqb}
+use lib.Dec.{T, eqb}
 use Rattle.armv4t.specs.declared.AluOp.{AluOp}
 use Rattle.armv4t.specs.declared.Shift.{Shift}
 use Rattle.armv4t.specs.declared.Operand2.{Operand2}
-use Rattle.armv4t.specs.declared.Op.the-variants.{Alu}
+use Rattle.armv4t.specs.declared.Op.the-variants.{Alu, Mul, MulLong}
 use Rattle.armv4t.specs.declared.Instr.{Instr}
 use Rattle.armv4t.specs.Instr.{pcValue}
 use Rattle.c_tree.specs.Stmt.{Plain}
 use Rattle.c_meaning.specs.State.{State, enter}
 use Rattle.forms.specs.Forms.{Lines}
 use Rattle.forms.specs.Operands.{regExpr, op2Exprs}
-use Rattle.forms.specs.InlineBody.{apart, aluBody}
+use Rattle.forms.specs.InlineBody.{apart, aluBody, mulBody}
 use Rattle.manual.specs.Machine.{Machine, R}
 use Rattle.manual.specs.Shifter.{shift, shifter}
 use Rattle.manual.specs.DataProcessing.{dataProcessing}
+use Rattle.manual.specs.Multiply.{multiply, multiplyLong}
+use Rattle.manual.specs.Unpredictable.{any, mulReasons, mulLongReasons}
 use Rattle.manual.specs.Execute.{onward}
 use Rattle.meaning.specs.Agree.{Agrees, Sound, Makes}
 use Rattle.meaning.specs.Claim.{OperandInRange, InRange, statements, OpMeans}
 use Rattle.meaning.proofs.Gives.{r-word}
 use Rattle.meaning.proofs.Operands.{ne-of, operand-reads, shifted-reads, value-carries, shifted-carries}
 use Rattle.meaning.proofs.Alu.{alu-ok}
+use Rattle.meaning.proofs.Multiply.{multiply-ok}
+use Rattle.meaning.proofs.Long.{multiply-long-ok}
 
 -- what is some is that
 from-some : {A : Type 0} → A → Option A → A
@@ -44,6 +48,17 @@ is-some (some x) = Unit {0}
 not-none : {A : Type 0} {x : A} → _≡_ {A = Option A} none (some x) → ⊥
 unfolding is-some
 not-none q = subst is-some (sym q) tt
+
+-- none of some tests holds
+None : List Bool → Type 0
+None [] = Unit {0}
+None (b ∷ bs) = (b ≡ false) × None bs
+
+none-of : (bs : List Bool) → any bs ≡ false → None bs
+unfolding None
+none-of [] q = tt
+none-of (true ∷ bs) q = absurd (subst T q tt)
+none-of (false ∷ bs) q = (refl, none-of bs q)
 
 -- statements each in a line of its own
 all-of : (ps : List Plain) → statements (apart ps) ≡ ps
@@ -90,3 +105,31 @@ alu-means i op w rd rn op2 r ls q z m s a bad next o = go (eqb rd 15) refl q o
         → cond b none (some (onward i (dataProcessing op w rd rn op2 (pcValue i) m))) ≡ some next → Makes (statements ls) (enter z) (next .0)
     go true e q o = absurd (not-none q)
     go false e q o = alu-outcome i s a op w rd rn (under rd (r .0) e) (r .1) op2 (r .2) ls q next o
+
+-- Mul
+pub mul-means : (i : Instr) (acc w : Bool) (rd rn rs rm : ℕ) → InRange (Mul acc w rd rn rs rm) → OpMeans i (Mul acc w rd rn rs rm)
+unfolding None
+mul-means i acc w rd rn rs rm r ls q z m s a bad next o = go (eqb rd 15) q
+  where
+    no : None (mulReasons (i .thumb) acc rd rn rs rm)
+    no = none-of (mulReasons (i .thumb) acc rd rn rs rm) bad
+
+    hn : acc ≡ true → rn < 15
+    hn e = under rn (r .1) (subst (λ (b : Bool). (b && eqb rn 15) ≡ false) e (no .1 .1 .1 .0))
+
+    go : (b : Bool) → cond b none (some (apart (mulBody acc w rd rn rs rm))) ≡ some ls → Makes (statements ls) (enter z) (next .0)
+    go true q = absurd (not-none q)
+    go false q =
+        subst (λ (n : Machine × ℕ). Makes (statements ls) (enter z) (n .0)) (some-same o)
+        (subst (λ (ls : Lines). Makes (statements ls) (enter z) (multiply acc w rd rn rs rm m)) (some-same q)
+        (apart-makes _ (multiply-ok s a rd rn rs rm (under rd (r .0) (no .0)) (under rs (r .2) (no .1 .0)) (under rm (r .3) (no .1 .1 .0)) acc w hn)))
+
+-- MulLong
+pub mul-long-means : (i : Instr) (sig acc w : Bool) (hi lo rs rm : ℕ) → InRange (MulLong sig acc w hi lo rs rm) → OpMeans i (MulLong sig acc w hi lo rs rm)
+unfolding None
+mul-long-means i sig acc w hi lo rs rm r ls q z m s a bad next o =
+    let no : None (mulLongReasons hi lo rs rm) = none-of (mulLongReasons hi lo rs rm) bad in
+    subst (λ (n : Machine × ℕ). Makes (statements ls) (enter z) (n .0)) (some-same o)
+    (subst (λ (ls : Lines). Makes (statements ls) (enter z) (multiplyLong sig acc w hi lo rs rm m)) (some-same q)
+    (apart-makes _
+    (multiply-long-ok s a hi lo rs rm (under hi (r .0) (no .0)) (under lo (r .1) (no .1 .0)) (under rs (r .2) (no .1 .1 .0)) (under rm (r .3) (no .1 .1 .1 .0)) sig acc w)))

@@ -8,7 +8,7 @@ use Prim.Native.Nat.{ℕ, _+_, _-_, _*_, _/_, _%_, _^_, _≤_, _<_}
 use native.Mathlib.Omega.{arith}
 use lib.Dec.{T, leb, eqb, eqb→eq, le→leb, leb→le, T-not, not-T}
 use Rattle.words.specs.Word.{AND, OR, EOR, bit, oneIf}
-use Rattle.words.proofs.Bits.{and-top, or-top, and-zero-r, and-shr, xor-shr, xor-lt, sign-top, top-bit, not-top, bool-ext}
+use Rattle.words.proofs.Bits.{and-top, or-top, and-zero-r, and-shr, xor-shr, xor-lt, sign-top, top-bit, not-top, bool-ext, both-l, both-r}
 use Rattle.c_tree.specs.Stmt.{f-nz, f-c, f-nz64, op-adds, proc}
 use Rattle.c_meaning.specs.State.{State, setC}
 use Rattle.c_meaning.specs.Eval.{eval, evalAs}
@@ -20,14 +20,6 @@ use Rattle.manual.specs.Operators.{CarryFrom, OverflowFromAdd}
 -- a statement on Booleans, by trying them all
 abbrev every : (Bool → Bool) → Bool
 every p = p true && p false
-
-both-l : (x y : Bool) → T (x && y) → T x
-both-l true y h = tt
-both-l false y h = h
-
-both-r : (x y : Bool) → T (x && y) → T y
-both-r true y h = h
-both-r false y h = absurd h
 
 every-at : (p : Bool → Bool) → T (every p) → (b : Bool) → T (p b)
 every-at p h true = both-l (p true) (p false) h

@@ -4,4 +4,6 @@ pub mod Flags
 pub mod Operands
 pub mod Steps
 pub mod Alu
+pub mod Multiply
+pub mod Long
 pub mod Body

@@ -3,12 +3,12 @@ use mathlib.Core.Path.{_≡_, refl, ap}
 use mathlib.Core.Bool.{Bool, true, false, cond}
 use mathlib.Core.List.{List, [], _∷_}
 use mathlib.Core.Option.{Option, none, some}
-use Prim.Native.Nat.{ℕ, _≤_, _<_}
+use Prim.Native.Nat.{ℕ, _+_, _%_, _≤_, _<_}
 use native.Mathlib.Omega.{arith}
 use lib.Dec.{eqb, eqb→eq, eqb-refl}
 use Rattle.words.proofs.Bits.{is-true, is-false}
-use Rattle.c_tree.specs.Expr.{u32, Name, reg, Expr}
-use Rattle.c_tree.specs.Stmt.{is, f-nz, f-c, Plain, declare, adds, set, run, op-adds, proc}
+use Rattle.c_tree.specs.Expr.{u32, Name, reg, var, Expr}
+use Rattle.c_tree.specs.Stmt.{is, plus, f-nz, f-c, Plain, declare, adds, set, run, op-adds, proc}
 use Rattle.c_meaning.specs.State.{State, Scope, update, index, setC, setScopes}
 use Rattle.c_meaning.specs.Eval.{evalAs}
 use Rattle.c_meaning.specs.Exec.{on, back, exec, execs, others}
@@ -56,6 +56,12 @@ pub do-adds : (x : Name) (f : Scope) (fs : List Scope) (z : State) (v : ℕ) {d 
     → exec1 (adds x d e g) (within f fs z) ≡ some (within (given x r f) fs (setC 16 v z))
 unfolding exec evalAs
 do-adds x f fs z v q p s t h = rw (q, p .gives, p .typed, s .gives, s .typed, t .gives, t .typed, h, self (index x))
+
+-- x += e;
+pub do-plus : (x : Name) (f : Scope) (fs : List Scope) (z : State) {e : Expr} {k l : ℕ} → f (index x) ≡ some (u32, some l) → Reads e (within f fs z) k
+    → exec1 (set (var (u32, x)) plus e) (within f fs z) ≡ some (within (update (index x) (some (u32, some ((l + k) % 4294967296))) f) fs z)
+unfolding exec
+do-plus x f fs z q p = rw (p .gives, p .typed, q)
 
 module _ {z : State} {e : Expr} {x : ℕ} (p : Reads e z x) where
   pub do-nz : {y : State} → called (proc f-nz) (x ∷ []) z ≡ some (y, on) → exec1 (run f-nz e) z ≡ some y

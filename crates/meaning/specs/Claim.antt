@@ -16,7 +16,7 @@ use Rattle.forms.specs.Forms.{Lines}
 use Rattle.forms.specs.InlineBody.{opBody}
 use Rattle.manual.specs.Machine.{Machine}
 use Rattle.manual.specs.Execute.{operation}
-use Rattle.manual.specs.Unpredictable.{badOperation}
+use Rattle.manual.specs.Unpredictable.{any, reasons}
 use Rattle.meaning.specs.Agree.{Agrees, Sound, Makes}
 
 -- the fields of an operation are in the ranges that document 01 has for instruction records
@@ -59,6 +59,6 @@ statements (l ∷ ls) = l ++ statements ls
 abbrev pub OpMeans : Instr → Op → Type 0
 OpMeans i op =
     (ls : Lines) → opBody (i .thumb) i op ≡ some ls
-    → (z : State) (m : Machine) → Sound m → Agrees z m → badOperation i op m ≡ false
+    → (z : State) (m : Machine) → Sound m → Agrees z m → any (reasons i op m) ≡ false
     → (next : Machine × ℕ) → operation i op m ≡ some next
     → Makes (statements ls) (enter z) (next .0)

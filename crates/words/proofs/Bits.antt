@@ -1,6 +1,6 @@
 -- The laws of operations on bits: those of lib.Bits under the names that do not unfold, the four top bits of a word, and turns.
 use mathlib.Core.Path.{_≡_, refl, sym, ap, ap₂, _∙_, subst}
-use mathlib.Core.Bool.{Bool, true, false}
+use mathlib.Core.Bool.{Bool, true, false, _&&_}
 use Prim.Native.Nat.{ℕ, zero, suc, _+_, _-_, _*_, _/_, _%_, _^_, _≤_, _<_}
 use native.Mathlib.Nat.{mod-lt, mod-eq-of-lt, mul-mod-left, add-zero, add-comm}
 use native.Mathlib.Omega.{arith}
@@ -106,6 +106,16 @@ top-bit x h = sym (bit-num x 31 ∙ mod-eq-of-lt (lt2 x h))
 -- ~x
 pub not-top : (x : ℕ) → x < 4294967296 → (4294967295 - x) / 2 ^ 31 ≡ 1 - x / 2 ^ 31
 not-top x h = omega arith
+
+-- both of two tests
+
+pub both-l : (x y : Bool) → T (x && y) → T x
+both-l true y h = tt
+both-l false y h = h
+
+pub both-r : (x y : Bool) → T (x && y) → T y
+both-r true y h = h
+both-r false y h = absurd h
 
 -- two tests are one
 
