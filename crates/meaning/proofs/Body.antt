@@ -1,36 +1,45 @@
 -- What the lines of an instruction mean, class by class.
 use mathlib.Core.Path.{_≡_, refl, sym, ap, subst}
 use mathlib.Core.Logic.{_≢_}
-use mathlib.Core.Bool.{Bool, true, false, cond, _&&_}
+use mathlib.Core.Bool.{Bool, true, false, not, cond, _&&_, _||_}
 use mathlib.Core.List.{List, [], _∷_}
 use mathlib.Core.Option.{Option, none, some}
-use Prim.Native.Nat.{ℕ, _≤_, _<_}
+use Prim.Native.Nat.{ℕ, zero, suc, _*_, _/_, _≤_, _<_}
+use native.Mathlib.Nat.{le-trans}
 use native.Mathlib.Omega.{arith}
-use lib.Dec.{T, eqb}
+use lib.Dec.{T, eqb, lit≤}
 use Rattle.armv4t.specs.declared.AluOp.{AluOp}
+use Rattle.armv4t.specs.declared.ShiftKind.{ShiftKind}
+use Rattle.armv4t.specs.declared.ShiftKind.the-variants.{Lsl, Lsr, Asr, Ror}
 use Rattle.armv4t.specs.declared.Shift.{Shift}
 use Rattle.armv4t.specs.declared.Operand2.{Operand2}
-use Rattle.armv4t.specs.declared.Op.the-variants.{Alu, Mul, MulLong}
+use Rattle.armv4t.specs.declared.MemWidth.{MemWidth}
+use Rattle.armv4t.specs.declared.MemOffset.{MemOffset}
+use Rattle.armv4t.specs.declared.Op.the-variants.{Alu, Mul, MulLong, Mem}
 use Rattle.armv4t.specs.declared.Instr.{Instr}
 use Rattle.armv4t.specs.Instr.{pcValue}
+use Rattle.c_tree.specs.Expr.{word, x-base, x-ob, x-addr, Expr, lit, par, bin}
 use Rattle.c_tree.specs.Stmt.{Plain}
+use Rattle.c_tree.specs.Preamble.{v32}
 use Rattle.c_meaning.specs.State.{State, enter}
 use Rattle.forms.specs.Forms.{Lines}
 use Rattle.forms.specs.Operands.{regExpr, op2Exprs}
-use Rattle.forms.specs.InlineBody.{apart, aluBody, mulBody}
+use Rattle.forms.specs.InlineBody.{apart, let32, aluBody, mulBody, baseExpr, shiftedOffset, offsetExpr, step as direction, access, memBody}
 use Rattle.manual.specs.Machine.{Machine, R}
 use Rattle.manual.specs.Shifter.{shift, shifter}
 use Rattle.manual.specs.DataProcessing.{dataProcessing}
 use Rattle.manual.specs.Multiply.{multiply, multiplyLong}
-use Rattle.manual.specs.Unpredictable.{any, mulReasons, mulLongReasons}
+use Rattle.manual.specs.Transfer.{offsetValue, address, base, load, store}
+use Rattle.manual.specs.Unpredictable.{any, mulReasons, mulLongReasons, memReasons, reasons}
 use Rattle.manual.specs.Execute.{onward}
 use Rattle.meaning.specs.Agree.{Agrees, Sound, Makes}
-use Rattle.meaning.specs.Claim.{OperandInRange, InRange, statements, OpMeans}
-use Rattle.meaning.proofs.Gives.{r-word}
-use Rattle.meaning.proofs.Operands.{ne-of, operand-reads, shifted-reads, value-carries, shifted-carries}
-use Rattle.meaning.proofs.Alu.{alu-ok}
+use Rattle.meaning.specs.Claim.{OperandInRange, OffsetInRange, InRange, statements, OpMeans}
+use Rattle.meaning.proofs.Gives.{Reads, r-word, r-uhex, r-par}
+use Rattle.meaning.proofs.Operands.{ne-of, pc-lt, operand-reads, shifted-reads, value-carries, shifted-carries}
+use Rattle.meaning.proofs.Alu.{Always, alu-ok}
 use Rattle.meaning.proofs.Multiply.{multiply-ok}
 use Rattle.meaning.proofs.Long.{multiply-long-ok}
+use Rattle.meaning.proofs.Transfer.{place, store-access, load-access}
 
 -- what is some is that
 from-some : {A : Type 0} → A → Option A → A
@@ -133,3 +142,97 @@ mul-long-means i sig acc w hi lo rs rm r ls q z m s a bad next o =
     (subst (λ (ls : Lines). Makes (statements ls) (enter z) (multiplyLong sig acc w hi lo rs rm m)) (some-same q)
     (apart-makes _
     (multiply-long-ok s a hi lo rs rm (under hi (r .0) (no .0)) (under lo (r .1) (no .1 .0)) (under rs (r .2) (no .1 .1 .0)) (under rm (r .3) (no .1 .1 .1 .0)) sig acc w)))
+
+-- what an expression gives, an equal one gives
+same-expr : {d e : Expr} {u : State} {x : ℕ} → d ≡ e → Reads d u x → Reads e u x
+same-expr {u = u} {x = x} q p = subst (λ (e : Expr). Reads e u x) q p
+
+-- the base of a Mem, PC word-aligned in Thumb
+module _ (i : Instr) {m : Machine} (s : Sound m) where
+  aligned-lt : (x : ℕ) → x < 4294967296 → x / 4 * 4 < 4294967296
+  aligned-lt x h = omega arith
+
+  base-always : (rn : ℕ) → rn ≤ 15 → Always (baseExpr (i .thumb) i rn) m (base (i .thumb) m (pcValue i) rn)
+  base-always rn h u g = go (i .thumb && eqb rn 15)
+    where
+      go : (b : Bool) → Reads (cond b (par (lit word (pcValue i / 4 * 4))) (regExpr i rn)) u (cond b (pcValue i / 4 * 4) (R m (pcValue i) rn))
+      go true = r-par (r-word (aligned-lt (pcValue i) (pc-lt i)))
+      go false = operand-reads u m s i (g .regs) rn h
+
+  -- its offset
+  shifted-always : (rm : ℕ) (k : ShiftKind) (n : ℕ) → rm ≤ 15 → n < 32 → (e : Expr) → shiftedOffset (regExpr i rm) k n ≡ some e → Always e m (shift k (R m (pcValue i) rm) n (m .c) .0)
+  shifted-always rm Lsl n h l e q u g = same-expr (some-same q) (shifted-reads u m s i (g .regs) (g .flags) rm Lsl n h l)
+  shifted-always rm Lsr n h l e q u g = same-expr (some-same q) (shifted-reads u m s i (g .regs) (g .flags) rm Lsr n h l)
+  shifted-always rm Asr n h l e q u g = same-expr (some-same q) (shifted-reads u m s i (g .regs) (g .flags) rm Asr n h l)
+  shifted-always rm Ror zero h l e q u g = absurd (not-none q)
+  shifted-always rm Ror (suc n) h l e q u g = same-expr (some-same q) (shifted-reads u m s i (g .regs) (g .flags) rm Ror (suc n) h l)
+
+  offset-always : (offset : MemOffset) → OffsetInRange offset → (e : Expr) → offsetExpr i offset ≡ some e → Always e m (offsetValue m (pcValue i) offset)
+  offset-always (MemOffset.Imm value) h e q u g = same-expr (some-same q) (r-uhex (le-trans h (lit≤ tt)))
+  offset-always (MemOffset.Reg rm (Shift.Imm k n)) h e q u g = shifted-always rm k n (h .0) (h .1) e q u g
+  offset-always (MemOffset.Reg rm (Shift.Reg k rs)) h e q u g = absurd (not-none q)
+
+-- where a Mem is lowered, its offset is too
+mem-offset : (b : Expr) (up pre : Bool) (rest : List Plain) (off : Option Expr) (ls : Lines) → memBody b up pre rest off ≡ some ls
+    → (e : Expr) × (off ≡ some e)
+    × (apart (let32 x-base b ∷ let32 x-ob (bin (direction up) (v32 x-base) e) ∷ let32 x-addr (v32 (cond pre x-ob x-base)) ∷ rest) ≡ ls)
+mem-offset b up pre rest none ls q = absurd (not-none q)
+mem-offset b up pre rest (some e) ls q = (e, refl, some-same q)
+
+-- Mem
+module _ (i : Instr) (ld : Bool) (width : MemWidth) (sig : Bool) (rd rn : ℕ) (offset : MemOffset) (pre up writeback : Bool)
+    (r : InRange (Mem ld width sig rd rn offset pre up writeback)) where
+  mem-makes : {z : State} {m : Machine} → Sound m → Agrees z m → any (reasons i (Mem ld width sig rd rn offset pre up writeback) m) ≡ false → rd < 15
+      → (ls : Lines) → memBody (baseExpr (i .thumb) i rn) up pre (access ld width sig rd rn (not pre || writeback)) (offsetExpr i offset) ≡ some ls
+      → Makes (statements ls) (enter z)
+      (let x : ℕ = base (i .thumb) m (pcValue i) rn in
+      let off : ℕ = offsetValue m (pcValue i) offset in
+      cond ld (load width sig rd rn x off pre up writeback m) (store width rd rn x off pre up writeback m))
+  unfolding None
+  mem-makes {z} {m} s a bad hd ls q =
+      let t = mem-offset (baseExpr (i .thumb) i rn) up pre (access ld width sig rd rn (not pre || writeback)) (offsetExpr i offset) ls q in
+      subst (λ (ls : Lines). Makes (statements ls) (enter z) (cond ld (load width sig rd rn x off pre up writeback m) (store width rd rn x off pre up writeback m))) (t .2)
+      (apart-makes _ (go ld (t .0) (offset-always i s offset (r .2) (t .0) (t .1))))
+    where
+      x : ℕ
+      x = base (i .thumb) m (pcValue i) rn
+
+      off : ℕ
+      off = offsetValue m (pcValue i) offset
+
+      wb : Bool
+      wb = not pre || writeback
+
+      no : None (memReasons width rd rn offset wb (address pre up x off))
+      no = none-of (memReasons width rd rn offset wb (address pre up x off)) bad
+
+      hn : wb ≡ true → rn < 15
+      hn e = under rn (r .1) (subst (λ (b : Bool). (b && eqb rn 15) ≡ false) e (no .0))
+
+      hr : wb ≡ true → (rn < 15) × (eqb rn rd ≡ false)
+      hr e = (hn e, subst (λ (b : Bool). (b && eqb rn rd) ≡ false) e (no .1 .0))
+
+      go : (l : Bool) (e : Expr) → Always e m off
+          → Makes (let32 x-base (baseExpr (i .thumb) i rn) ∷ let32 x-ob (bin (direction up) (v32 x-base) e) ∷ let32 x-addr (v32 (cond pre x-ob x-base)) ∷ access l width sig rd rn wb) (enter z)
+          (cond l (load width sig rd rn x off pre up writeback m) (store width rd rn x off pre up writeback m))
+      go true e o =
+          place s a (baseExpr (i .thumb) i rn) x (base-always i s rn (r .1)) pre up e off o
+          (load-access s a (baseExpr (i .thumb) i rn) x (base-always i s rn (r .1)) pre up e off o width sig (no .1 .1 .1 .0) wb rd rn hd hr)
+      go false e o =
+          place s a (baseExpr (i .thumb) i rn) x (base-always i s rn (r .1)) pre up e off o
+          (store-access s a (baseExpr (i .thumb) i rn) x (base-always i s rn (r .1)) pre up e off o width sig (no .1 .1 .1 .0) wb rd rn hd hn)
+
+  pub mem-means : OpMeans i (Mem ld width sig rd rn offset pre up writeback)
+  mem-means ls q z m s a bad next o = go (eqb rd 15) refl q o
+    where
+      n : Machine
+      n =
+          let x : ℕ = base (i .thumb) m (pcValue i) rn in
+          let off : ℕ = offsetValue m (pcValue i) offset in
+          cond ld (load width sig rd rn x off pre up writeback m) (store width rd rn x off pre up writeback m)
+
+      go : (b : Bool) → eqb rd 15 ≡ b
+          → cond b none (memBody (baseExpr (i .thumb) i rn) up pre (access ld width sig rd rn (not pre || writeback)) (offsetExpr i offset)) ≡ some ls
+          → cond b none (some (onward i n)) ≡ some next → Makes (statements ls) (enter z) (next .0)
+      go true e q o = absurd (not-none q)
+      go false e q o = subst (λ (n : Machine × ℕ). Makes (statements ls) (enter z) (n .0)) (some-same o) (mem-makes s a bad (under rd (r .0) e) ls q)

@@ -6,4 +6,6 @@ pub mod Steps
 pub mod Alu
 pub mod Multiply
 pub mod Long
+pub mod Memory
+pub mod Transfer
 pub mod Body
