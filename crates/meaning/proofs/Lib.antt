@@ -9,3 +9,5 @@ pub mod Long
 pub mod Memory
 pub mod Transfer
 pub mod Body
+pub mod Lines
+pub mod Conditions
