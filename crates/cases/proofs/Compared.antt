@@ -8,12 +8,12 @@ use Rattle.plan.specs.Calls.{Outcome}
 use Rattle.emit_units.specs.Calls.{UnitValues}
 use Rattle.recomp.specs.Answer.{withUnit, unitNumbers}
 use Rattle.cases.specs.Same.{sameNumbers}
-use Rattle.cases.specs.UnitCases.{unitAnswer, before, sameUnit}
+use Rattle.cases.specs.UnitCases.{unitAnswer, withRest, sameUnit}
 
 module _ (answer work text : List ℕ) (w t moreWork moreText : List ℕ) where
   -- the comparison with what a call left is these three, whatever it answered
   parts : (a : Answer UnitValues)
-      → (sameNumbers answer (unitAnswer a) && (sameNumbers work (w ++ moreWork) && sameNumbers text (t ++ moreText))) ≡ sameUnit answer work text (before (withUnit a w t) moreWork moreText)
+      → (sameNumbers answer (unitAnswer a) && (sameNumbers work (w ++ moreWork) && sameNumbers text (t ++ moreText))) ≡ sameUnit answer work text (withRest (withUnit a w t) moreWork moreText)
   parts (refusal n i) = refl
   parts (value u) = refl
 
@@ -23,9 +23,9 @@ module _ (answer work text : List ℕ) (w t moreWork moreText : List ℕ) where
       → first ≡ sameNumbers answer got
       → second ≡ sameNumbers work (w ++ moreWork)
       → third ≡ sameNumbers text (t ++ moreText)
-      → (first && (second && third)) ≡ sameUnit answer work text (before (unitNumbers o) moreWork moreText)
+      → (first && (second && third)) ≡ sameUnit answer work text (withRest (unitNumbers o) moreWork moreText)
   compared a got o g h one two three =
       (λ i. one i && (two i && three i))
       ∙ ap (λ (l : List ℕ). sameNumbers answer l && (sameNumbers work (w ++ moreWork) && sameNumbers text (t ++ moreText))) g
       ∙ parts a
-      ∙ ap (λ (p : Outcome UnitValues). sameUnit answer work text (before (unitNumbers p) moreWork moreText)) h
+      ∙ ap (λ (p : Outcome UnitValues). sameUnit answer work text (withRest (unitNumbers p) moreWork moreText)) h

@@ -37,6 +37,14 @@ fn numbers(list: &[u64]) {
     }
 }
 
+// The start of a line on a vector.
+fn vector(section: Section, k: u64) {
+    name(section);
+    text(b" ");
+    number(k);
+    text(b": ");
+}
+
 pub(crate) fn mismatch(section: Section, k: u64, expected: &[u64], got: &[u64]) {
     vector(section, k);
     text(b"expected");
@@ -44,14 +52,6 @@ pub(crate) fn mismatch(section: Section, k: u64, expected: &[u64], got: &[u64]) 
     text(b", got");
     numbers(got);
     text(b"\n");
-}
-
-// The start of a line on a vector.
-fn vector(section: Section, k: u64) {
-    name(section);
-    text(b" ");
-    number(k);
-    text(b": ");
 }
 
 // A place at which a vector of the units expects another number than stands there.

@@ -18,8 +18,8 @@ ghost use Rattle.cases.specs.UnitCases.{unitAnswer, left, sameUnit};
 // The longest file that a vector may hold.
 const LONGEST: usize = 4096;
 
-// Work numbers and bytes of text of which a part is lent. Some stay behind those lent, to show that
-// no call reaches there.
+// How many work numbers and bytes of text there are, of which a vector lends fewer: what stands
+// behind those lent must be as it was.
 const WORK: usize = 576;
 
 const TEXT: usize = 65600;
@@ -112,7 +112,7 @@ fn is_right(
     same_text(k, &expected_text, &text)
 }
 
-// So many times 0, and then numbers that no call leaves, each another one.
+// So many times 0, and then numbers that no call writes, each another one.
 fn work_numbers(cleared: usize) -> [u32; WORK] {
     let mut list = [0u32; WORK];
     let mut i = cleared;
@@ -123,7 +123,7 @@ fn work_numbers(cleared: usize) -> [u32; WORK] {
     list
 }
 
-// Bytes that no text has, each another one than its neighbours.
+// Bytes that no text has, each another one than those beside it.
 fn no_text() -> [u8; TEXT] {
     let mut list = [0u8; TEXT];
     let mut i = 0;
@@ -181,7 +181,7 @@ fn replay_file(k: u64, asked: Asked, cleared: usize) -> Outcome
     }
 }
 
-// A number of 64 bits from its halves.
+// A number of 64 bits from its halves, which have 32 bits each, as all that is read.
 fn whole(low: u64, high: u64) -> u64 {
     low % 4294967296 + 4294967296 * (high % 4294967296)
 }

@@ -1,7 +1,7 @@
--- `cases::unit_cases::is_right` meets its contract: what the three comparisons say, and that what is compared is what the call left, with what was not lent behind it.
-use mathlib.Core.Path.{_≡_, refl, sym, _∙_}
+-- `cases::unit_cases::is_right` meets its contract: what the three comparisons say, and that what is compared is what the call left, with what was not lent behind it. The arrays lent are `t7` and `t8`, those expected `t5` and `t6`.
+use mathlib.Core.Path.{refl, sym, _∙_}
 use denote.Ref.{now}
-use lib.ListN.{length, take, drop}
+use lib.ListN.{take, drop}
 use lib.Seq.{length-take-le, length-front}
 use borrow.Author.Tests.{not-true, not-false}
 use Rattle.block_file.specs.Parse.{parse}
@@ -68,17 +68,17 @@ slice-aggregate-same-work c = search needs
 
 slice-aggregate-same-work-2 : tie.Need-slice-aggregate-same-work-2
 slice-aggregate-same-work-2 c =
-    let args = c .before .before .before .before .before .before .before .before .before .before .before .before .before .args in
-    let whole : length (args .t7) ≡ 576 = search needs in
+    let start = c .before .before .before .before .before .before .before .before .before .before .before .before .before in
+    let args = start .args in
     let call = c .before .before .before .before .before .before .before .before .before .unit in
-    sym (length-front (args .t7) (call .last .1 .1 .1 .0) (args .asked .work) (call .kept .1 .1 .1 .0) ∙ whole)
+    sym (length-front (args .t7) (call .last .1 .1 .1 .0) (args .asked .work) (call .kept .1 .1 .1 .0) ∙ start .good .1 .1 .1 .1 .1 .1 .0 .1 .0 .1)
 
 same-work-requires : tie.Need-same-work-requires
 same-work-requires c κs =
-    let args = c .before .before .before .before .before .before .before .before .before .before .before .before .before .args in
-    let same : length (args .t5) ≡ length (args .t7) = search needs in
+    let start = c .before .before .before .before .before .before .before .before .before .before .before .before .before in
+    let args = start .args in
     let call = c .before .before .before .before .before .before .before .before .before .unit in
-    same ∙ sym (length-front (args .t7) (call .last .1 .1 .1 .0) (args .asked .work) (call .kept .1 .1 .1 .0))
+    start .good .1 .1 .1 .1 .0 .1 .0 .1 ∙ sym (length-front (args .t7) (call .last .1 .1 .1 .0) (args .asked .work) (call .kept .1 .1 .1 .0) ∙ start .good .1 .1 .1 .1 .1 .1 .0 .1 .0 .1)
 
 returns-2 : tie.Need-returns-2
 returns-2 c =
@@ -107,17 +107,17 @@ slice-aggregate-same-text c = search needs
 
 slice-aggregate-same-text-2 : tie.Need-slice-aggregate-same-text-2
 slice-aggregate-same-text-2 c =
-    let args = c .before .before .before .before .before .before .before .before .before .before .before .before .before .before .before .before .before .args in
-    let whole : length (args .t8) ≡ 65600 = c .before .before .before .before .before .before .before .before .before .before .before .before .before .before .before .before .before .good .1 .1 .1 .1 .1 .1 .1 .0 .1 .0 .1 in
+    let start = c .before .before .before .before .before .before .before .before .before .before .before .before .before .before .before .before .before in
+    let args = start .args in
     let call = c .before .before .before .before .before .before .before .before .before .before .before .before .before .unit in
-    sym (length-front (args .t8) (call .last .1 .1 .1 .1 .0) (args .asked .text) (call .kept .1 .1 .1 .1 .0) ∙ whole)
+    sym (length-front (args .t8) (call .last .1 .1 .1 .1 .0) (args .asked .text) (call .kept .1 .1 .1 .1 .0) ∙ start .good .1 .1 .1 .1 .1 .1 .1 .0 .1 .0 .1)
 
 same-text-requires : tie.Need-same-text-requires
 same-text-requires c κs =
-    let args = c .before .before .before .before .before .before .before .before .before .before .before .before .before .before .before .before .before .args in
-    let same : length (args .t6) ≡ length (args .t8) = c .before .before .before .before .before .before .before .before .before .before .before .before .before .before .before .before .before .good .1 .1 .1 .1 .1 .0 .1 .0 .1 ∙ sym (c .before .before .before .before .before .before .before .before .before .before .before .before .before .before .before .before .before .good .1 .1 .1 .1 .1 .1 .1 .0 .1 .0 .1) in
+    let start = c .before .before .before .before .before .before .before .before .before .before .before .before .before .before .before .before .before in
+    let args = start .args in
     let call = c .before .before .before .before .before .before .before .before .before .before .before .before .before .unit in
-    same ∙ sym (length-front (args .t8) (call .last .1 .1 .1 .1 .0) (args .asked .text) (call .kept .1 .1 .1 .1 .0))
+    start .good .1 .1 .1 .1 .1 .0 .1 .0 .1 ∙ sym (length-front (args .t8) (call .last .1 .1 .1 .1 .0) (args .asked .text) (call .kept .1 .1 .1 .1 .0) ∙ start .good .1 .1 .1 .1 .1 .1 .1 .0 .1 .0 .1)
 
 returns-3 : tie.Need-returns-3
 returns-3 c =
