@@ -1,6 +1,5 @@
 -- What the lines of an instruction mean, class by class.
 use mathlib.Core.Path.{_≡_, refl, sym, ap, subst}
-use mathlib.Core.Logic.{_≢_}
 use mathlib.Core.Bool.{Bool, true, false, not, cond, _&&_, _||_}
 use mathlib.Core.List.{List, [], _∷_}
 use mathlib.Core.Option.{Option, none, some}
@@ -33,9 +32,9 @@ use Rattle.manual.specs.Transfer.{offsetValue, address, base, load, store}
 use Rattle.manual.specs.Unpredictable.{any, mulReasons, mulLongReasons, memReasons, reasons}
 use Rattle.manual.specs.Execute.{onward}
 use Rattle.meaning.specs.Agree.{Agrees, Sound, Makes}
-use Rattle.meaning.specs.Claim.{OperandInRange, OffsetInRange, InRange, statements, OpMeans}
+use Rattle.meaning.specs.Claim.{OperandInRange, OffsetInRange, InRange, statements, Leads, OpMeans}
 use Rattle.meaning.proofs.Gives.{Reads, r-word, r-uhex, r-par}
-use Rattle.meaning.proofs.Operands.{ne-of, pc-lt, operand-reads, shifted-reads, value-carries, shifted-carries}
+use Rattle.meaning.proofs.Operands.{under, pc-lt, operand-reads, shifted-reads, value-carries, shifted-carries}
 use Rattle.meaning.proofs.Alu.{Always, alu-ok}
 use Rattle.meaning.proofs.Multiply.{multiply-ok}
 use Rattle.meaning.proofs.Long.{multiply-long-ok}
@@ -46,7 +45,7 @@ from-some : {A : Type 0} → A → Option A → A
 from-some d none = d
 from-some d (some x) = x
 
-some-same : {A : Type 0} {x y : A} → _≡_ {A = Option A} (some x) (some y) → x ≡ y
+pub some-same : {A : Type 0} {x y : A} → _≡_ {A = Option A} (some x) (some y) → x ≡ y
 unfolding from-some
 some-same {x = x} q = ap (from-some x) q
 
@@ -54,31 +53,25 @@ is-some : {A : Type 0} → Option A → Type 0
 is-some none = ⊥
 is-some (some x) = Unit {0}
 
-not-none : {A : Type 0} {x : A} → _≡_ {A = Option A} none (some x) → ⊥
+pub not-none : {A : Type 0} {x : A} → _≡_ {A = Option A} none (some x) → ⊥
 unfolding is-some
 not-none q = subst is-some (sym q) tt
 
 -- none of some tests holds
-None : List Bool → Type 0
+unfoldable pub None : List Bool → Type 0
 None [] = Unit {0}
 None (b ∷ bs) = (b ≡ false) × None bs
 
-none-of : (bs : List Bool) → any bs ≡ false → None bs
+pub none-of : (bs : List Bool) → any bs ≡ false → None bs
 unfolding None
 none-of [] q = tt
 none-of (true ∷ bs) q = absurd (subst T q tt)
 none-of (false ∷ bs) q = (refl, none-of bs q)
 
 -- statements each in a line of its own
-all-of : (ps : List Plain) → statements (apart ps) ≡ ps
+pub all-of : (ps : List Plain) → statements (apart ps) ≡ ps
 all-of [] = refl
 all-of (p ∷ ps) = ap (λ (qs : List Plain). p ∷ qs) (all-of ps)
-
-under : (r : ℕ) → r ≤ 15 → eqb r 15 ≡ false → r < 15
-under r h q = go r h (ne-of r 15 q)
-  where
-    go : (r : ℕ) → r ≤ 15 → r ≢ 15 → r < 15
-    go r h n = omega arith
 
 -- lines of one statement each do what the statements do
 apart-makes : (ps : List Plain) {z : State} {m : Machine} → Makes ps z m → Makes (statements (apart ps)) z m
@@ -103,15 +96,15 @@ module _ (i : Instr) {z : State} {m : Machine} (s : Sound m) (a : Agrees z m) (o
 
   -- Alu, whose rd is not R15 where it is lowered
   alu-outcome : (op2 : Operand2) → OperandInRange op2 → (ls : Lines) → aluBody op w rd (regExpr i rn) (op2Exprs i op2) ≡ some ls
-      → (next : Machine × ℕ) → some (onward i (dataProcessing op w rd rn op2 (pcValue i) m)) ≡ some next → Makes (statements ls) (enter z) (next .0)
-  alu-outcome op2 h ls q next o = subst (λ (n : Machine × ℕ). Makes (statements ls) (enter z) (n .0)) (some-same o) (alu-lines op2 h ls q)
+      → (next : Machine × ℕ) → some (onward i (dataProcessing op w rd rn op2 (pcValue i) m)) ≡ some next → Leads i ls z next
+  alu-outcome op2 h ls q next o = subst (λ (n : Machine × ℕ). Leads i ls z n) (some-same o) ((alu-lines op2 h ls q), refl)
 
 -- Alu
 pub alu-means : (i : Instr) (op : AluOp) (w : Bool) (rd rn : ℕ) (op2 : Operand2) → InRange (Alu op w rd rn op2) → OpMeans i (Alu op w rd rn op2)
 alu-means i op w rd rn op2 r ls q z m s a bad next o = go (eqb rd 15) refl q o
   where
     go : (b : Bool) → eqb rd 15 ≡ b → cond b none (aluBody op w rd (regExpr i rn) (op2Exprs i op2)) ≡ some ls
-        → cond b none (some (onward i (dataProcessing op w rd rn op2 (pcValue i) m))) ≡ some next → Makes (statements ls) (enter z) (next .0)
+        → cond b none (some (onward i (dataProcessing op w rd rn op2 (pcValue i) m))) ≡ some next → Leads i ls z next
     go true e q o = absurd (not-none q)
     go false e q o = alu-outcome i s a op w rd rn (under rd (r .0) e) (r .1) op2 (r .2) ls q next o
 
@@ -126,22 +119,26 @@ mul-means i acc w rd rn rs rm r ls q z m s a bad next o = go (eqb rd 15) q
     hn : acc ≡ true → rn < 15
     hn e = under rn (r .1) (subst (λ (b : Bool). (b && eqb rn 15) ≡ false) e (no .1 .1 .1 .0))
 
-    go : (b : Bool) → cond b none (some (apart (mulBody acc w rd rn rs rm))) ≡ some ls → Makes (statements ls) (enter z) (next .0)
+    go : (b : Bool) → cond b none (some (apart (mulBody acc w rd rn rs rm))) ≡ some ls → Leads i ls z next
     go true q = absurd (not-none q)
     go false q =
-        subst (λ (n : Machine × ℕ). Makes (statements ls) (enter z) (n .0)) (some-same o)
-        (subst (λ (ls : Lines). Makes (statements ls) (enter z) (multiply acc w rd rn rs rm m)) (some-same q)
-        (apart-makes _ (multiply-ok s a rd rn rs rm (under rd (r .0) (no .0)) (under rs (r .2) (no .1 .0)) (under rm (r .3) (no .1 .1 .0)) acc w hn)))
+        subst (λ (n : Machine × ℕ). Leads i ls z n) (some-same o) (
+          (subst (λ (ls : Lines). Makes (statements ls) (enter z) (multiply acc w rd rn rs rm m)) (some-same q)
+              (apart-makes _ (multiply-ok s a rd rn rs rm (under rd (r .0) (no .0)) (under rs (r .2) (no .1 .0)) (under rm (r .3) (no .1 .1 .0)) acc w hn))),
+          refl,
+        )
 
 -- MulLong
 pub mul-long-means : (i : Instr) (sig acc w : Bool) (hi lo rs rm : ℕ) → InRange (MulLong sig acc w hi lo rs rm) → OpMeans i (MulLong sig acc w hi lo rs rm)
 unfolding None
 mul-long-means i sig acc w hi lo rs rm r ls q z m s a bad next o =
     let no : None (mulLongReasons hi lo rs rm) = none-of (mulLongReasons hi lo rs rm) bad in
-    subst (λ (n : Machine × ℕ). Makes (statements ls) (enter z) (n .0)) (some-same o)
-    (subst (λ (ls : Lines). Makes (statements ls) (enter z) (multiplyLong sig acc w hi lo rs rm m)) (some-same q)
-    (apart-makes _
-    (multiply-long-ok s a hi lo rs rm (under hi (r .0) (no .0)) (under lo (r .1) (no .1 .0)) (under rs (r .2) (no .1 .1 .0)) (under rm (r .3) (no .1 .1 .1 .0)) sig acc w)))
+    subst (λ (n : Machine × ℕ). Leads i ls z n) (some-same o) (
+      (subst (λ (ls : Lines). Makes (statements ls) (enter z) (multiplyLong sig acc w hi lo rs rm m)) (some-same q)
+          (apart-makes _
+          (multiply-long-ok s a hi lo rs rm (under hi (r .0) (no .0)) (under lo (r .1) (no .1 .0)) (under rs (r .2) (no .1 .1 .0)) (under rm (r .3) (no .1 .1 .1 .0)) sig acc w))),
+      refl,
+    )
 
 -- what an expression gives, an equal one gives
 same-expr : {d e : Expr} {u : State} {x : ℕ} → d ≡ e → Reads d u x → Reads e u x
@@ -233,6 +230,6 @@ module _ (i : Instr) (ld : Bool) (width : MemWidth) (sig : Bool) (rd rn : ℕ) (
 
       go : (b : Bool) → eqb rd 15 ≡ b
           → cond b none (memBody (baseExpr (i .thumb) i rn) up pre (access ld width sig rd rn (not pre || writeback)) (offsetExpr i offset)) ≡ some ls
-          → cond b none (some (onward i n)) ≡ some next → Makes (statements ls) (enter z) (next .0)
+          → cond b none (some (onward i n)) ≡ some next → Leads i ls z next
       go true e q o = absurd (not-none q)
-      go false e q o = subst (λ (n : Machine × ℕ). Makes (statements ls) (enter z) (n .0)) (some-same o) (mem-makes s a bad (under rd (r .0) e) ls q)
+      go false e q o = subst (λ (n : Machine × ℕ). Leads i ls z n) (some-same o) ((mem-makes s a bad (under rd (r .0) e) ls q), refl)

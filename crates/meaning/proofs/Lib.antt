@@ -11,3 +11,13 @@ pub mod Transfer
 pub mod Body
 pub mod Lines
 pub mod Conditions
+pub mod Wrapped
+pub mod Straight
+pub mod Listed
+pub mod Multiple
+pub mod BodyMultiple
+pub mod Theorem
+pub mod Exits
+pub mod Branches
+pub mod Exchange
+pub mod Pop

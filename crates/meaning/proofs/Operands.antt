@@ -25,6 +25,13 @@ use Rattle.meaning.proofs.Gives.{Reads, to, r-reg, r-udec, r-word, r-pa
 pub ne-of : (i k : ℕ) → eqb i k ≡ false → i ≢ k
 ne-of i k q e = subst T q (subst (λ (j : ℕ). T (eqb i j)) e (eqb-refl i))
 
+-- a register that is not R15
+pub under : (r : ℕ) → r ≤ 15 → eqb r 15 ≡ false → r < 15
+under r h q = go r h (ne-of r 15 q)
+  where
+    go : (r : ℕ) → r ≤ 15 → r ≢ 15 → r < 15
+    go r h n = omega arith
+
 -- the registers are the manual's
 abbrev pub Regs : State → Machine → Type 0
 Regs z m = (i : ℕ) → i < 15 → z .c i ≡ m .r i

@@ -2,3 +2,4 @@
 pub mod Agree
 pub mod Claim
 pub mod Text
+pub mod Branch
