@@ -1,62 +1,10 @@
 //! The calls of the proved library behind safe functions. They test nothing themselves: what each
 //! call answers and leaves in what it is lent is said in include/recomp.h and proved.
 
-extern "C" {
-    fn recomp_check(
-        file: *const u8,
-        file_len: usize,
-        at: *mut u64,
-        blocks: *mut u64,
-        instructions: *mut u64,
-    ) -> u32;
+#[path = "interface.rs"]
+mod interface;
 
-    fn recomp_exits(
-        file: *const u8,
-        file_len: usize,
-        block: u64,
-        at: *mut u64,
-        count: *mut u64,
-        first: *mut u64,
-        second: *mut u64,
-    ) -> u32;
-
-    fn recomp_plan(
-        file: *const u8,
-        file_len: usize,
-        work: *mut u32,
-        work_len: usize,
-        plan: *mut u32,
-        plan_len: usize,
-        at: *mut u64,
-        blocks: *mut u64,
-    ) -> u32;
-
-    fn recomp_listing(
-        file: *const u8,
-        file_len: usize,
-        work: *mut u32,
-        work_len: usize,
-        text: *mut u8,
-        text_len: usize,
-        at: *mut u64,
-        length: *mut u64,
-    ) -> u32;
-
-    fn recomp_unit(
-        file: *const u8,
-        file_len: usize,
-        max_bytes: u64,
-        unit: u64,
-        work: *mut u32,
-        work_len: usize,
-        text: *mut u8,
-        text_len: usize,
-        at: *mut u64,
-        length: *mut u64,
-        done: *mut u64,
-        last: *mut u64,
-    ) -> u32;
-}
+use interface::{recomp_check, recomp_exits, recomp_listing, recomp_plan, recomp_unit};
 
 /// The number of a refusal and the block or instruction that it names, or 0.
 #[derive(Clone, Copy, Debug, PartialEq, Eq)]

@@ -3,67 +3,14 @@
 // Each program calls some of them.
 #![allow(dead_code)]
 
+#[path = "../../host/src/interface.rs"]
+mod interface;
+
+use interface::{recomp_check, recomp_exits, recomp_listing, recomp_plan, recomp_unit};
 use recomp_tools::check::Numbers;
 use recomp_tools::listing::ListingNumbers;
 use recomp_tools::model::{ExitNumbers, PlanNumbers};
 use recomp_tools::units::UnitNumbers;
-
-extern "C" {
-    fn recomp_check(
-        file: *const u8,
-        file_len: usize,
-        at: *mut u64,
-        blocks: *mut u64,
-        instructions: *mut u64,
-    ) -> u32;
-
-    fn recomp_exits(
-        file: *const u8,
-        file_len: usize,
-        block: u64,
-        at: *mut u64,
-        count: *mut u64,
-        first: *mut u64,
-        second: *mut u64,
-    ) -> u32;
-
-    fn recomp_plan(
-        file: *const u8,
-        file_len: usize,
-        work: *mut u32,
-        work_len: usize,
-        plan: *mut u32,
-        plan_len: usize,
-        at: *mut u64,
-        blocks: *mut u64,
-    ) -> u32;
-
-    fn recomp_listing(
-        file: *const u8,
-        file_len: usize,
-        work: *mut u32,
-        work_len: usize,
-        text: *mut u8,
-        text_len: usize,
-        at: *mut u64,
-        length: *mut u64,
-    ) -> u32;
-
-    fn recomp_unit(
-        file: *const u8,
-        file_len: usize,
-        max_bytes: u64,
-        unit: u64,
-        work: *mut u32,
-        work_len: usize,
-        text: *mut u8,
-        text_len: usize,
-        at: *mut u64,
-        length: *mut u64,
-        done: *mut u64,
-        last: *mut u64,
-    ) -> u32;
-}
 
 /// What a lent number holds before a call, so that one left unwritten shows.
 const UNWRITTEN: u64 = 0x5555_5555_5555_5555;
