@@ -5,7 +5,7 @@ use crate::member::is_inside;
 use block_exits::instr_addr;
 use block_exits::key_of;
 use block_file::BlockRecord;
-use emit_flow::emit_closing;
+use block_writer::emit_closing;
 ghost use mathlib.Core.Path.{_≡_};
 ghost use mathlib.Core.List.{List, []};
 ghost use Prim.Native.Nat.{ℕ, _*_, _≤_, _<_};

@@ -125,19 +125,10 @@ pub fn emit_bx(out: &mut [u8], at: usize, cycles: u64, r: u8, pc: u32) -> usize
     )
 }
 
-// The end of a block that goes on at address next, whose key is given too.
-pub fn emit_closing(
-    out: &mut [u8],
-    at: usize,
-    cycles: u64,
-    next: u32,
-    inside: bool,
-    src: u32,
-    key: u32,
-) -> usize
-    ensures { λ r. ⌜ ((ks : List ℕ) → among key ks ≡ inside → Wrote (now (out .entry)) at (codeText (lines common 4 (flushTicks cycles ++ apart (setWord 15 next ∷ [])) (Block·transfer ks src common 4 key end))) (now (out .exit)) r) ⌝ }
+// The end of a block that goes on at address next, whose key is given too, behind its ticks.
+pub fn put_closing(out: &mut [u8], at: usize, next: u32, inside: bool, src: u32, key: u32) -> usize
+    ensures { λ r. ⌜ ((ks : List ℕ) → among key ks ≡ inside → Wrote (now (out .entry)) at (codeText (lines common 4 (apart (setWord 15 next ∷ [])) (Block·transfer ks src common 4 key end))) (now (out .exit)) r) ⌝ }
 {
-    let p = flush_ticks(out, at, cycles);
-    let q = set_pc(out, p, next);
-    transfer(out, q, inside, src, key, false)
+    let p = set_pc(out, at, next);
+    transfer(out, p, inside, src, key, false)
 }

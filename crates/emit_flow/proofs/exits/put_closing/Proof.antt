@@ -1,0 +1,31 @@
+-- `emit_flow::exits::put_closing` meets its contract: what its calls write, one after another. Assumes nothing.
+use borrow.Author.Needs.{needs}
+use Rattle.emit_flow.proofs.Pieces.{lines-behind}
+use mathlib.Core.Path.{sym}
+use mathlib.Core.List.{[], _∷_}
+use Rattle.c_tree.specs.Stmt.{common, end}
+use Rattle.forms.specs.InlineBody.{apart}
+use Rattle.forms.specs.Block.{setWord}
+use Rattle.lowering.specs.Block.{transfer}
+use Rattle.text.proofs.Laws.{seq, said}
+use Rattle.emit_flow.proofs.exits.put_closing.Statement.{statement}
+use Rattle.emit_flow.proofs.exits.put_closing.Tie as tie
+
+set-pc-requires : tie.Need-set-pc-requires
+set-pc-requires c κs = search needs
+
+transfer-requires : tie.Need-transfer-requires
+transfer-requires c κs = search needs
+
+returns : tie.Need-returns
+returns c =
+    let c2 = c .before .before in
+    let c1 = c2 .before .before .before .before in
+    let v = c1 .before .before .before .args in
+    λ ks h. said (seq (c1 .set-pc .ensures) (c2 .transfer .ensures ks common h)) (sym (lines-behind common common 4 (apart (setWord 15 (v .next) ∷ [])) (transfer ks (v .src) common 4 (v .key) end) []))
+
+same-length : tie.Need-same-length
+same-length c = search needs
+
+pub put-closing-spec : {M : Type 1} → statement M
+put-closing-spec = tie.close (tie.spec set-pc-requires transfer-requires same-length returns)
