@@ -1,14 +1,9 @@
 // Replays the stored vectors of standard input, section by section, and prints what differs.
-mod check_cases;
-mod compare;
-mod exits_cases;
-mod input;
-mod plan_cases;
-mod report;
 mod sections;
-mod unit_cases;
 
-use sections::Section;
+use case_io::input;
+use case_io::outcome::Section;
+use case_io::report;
 
 // After a vector that cannot be read nothing can be. What stands behind the last section is
 // vectors that nothing replays.

@@ -1,45 +1,18 @@
 // The sections of the input: a count of vectors, and the vectors.
-use crate::check_cases;
-use crate::exits_cases;
-use crate::input;
-use crate::input::Read;
-use crate::plan_cases;
-use crate::report;
-use crate::unit_cases;
-
-pub(crate) enum Section {
-    Check,
-    Exits,
-    Plan,
-    Units,
-}
-
-// What became of a vector.
-pub(crate) enum Outcome {
-    Right,
-    Wrong,
-    // It could not be read, which has been printed: where the next one starts is not known.
-    Broken,
-}
-
-// The outcome of a vector in which the input ends.
-pub(crate) fn ended(k: u64) -> Outcome {
-    report::ends_early(k);
-    Outcome::Broken
-}
-
-// The outcome of a vector that the buffers do not hold.
-pub(crate) fn too_long(k: u64) -> Outcome {
-    report::too_long(k);
-    Outcome::Broken
-}
+use case_io::input;
+use case_io::input::Read;
+use case_io::outcome::Outcome;
+use case_io::outcome::Section;
+use case_io::report;
+use replay_answers::check_cases;
+use replay_answers::exits_cases;
 
 fn replay_one(section: Section, k: u64) -> Outcome {
     match section {
         Section::Check => check_cases::replay_one(k),
         Section::Exits => exits_cases::replay_one(k),
-        Section::Plan => plan_cases::replay_one(k),
-        Section::Units => unit_cases::replay_one(k),
+        Section::Plan => replay_plan::replay_one(k),
+        Section::Units => replay_units::replay_one(k),
     }
 }
 

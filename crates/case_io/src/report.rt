@@ -1,0 +1,102 @@
+// The lines that the program prints. `k` is the index of a vector in its section.
+use crate::outcome::Section;
+use libc::STDOUT_FILENO;
+
+fn text(bytes: &[u8]) {
+    io::write_all(STDOUT_FILENO, bytes);
+}
+
+fn number(n: u64) {
+    io::print_decimal(STDOUT_FILENO, n);
+}
+
+fn name(section: Section) {
+    match section {
+        Section::Check => {
+            text(b"check");
+        }
+        Section::Exits => {
+            text(b"exits");
+        }
+        Section::Plan => {
+            text(b"plan");
+        }
+        Section::Units => {
+            text(b"units");
+        }
+    }
+}
+
+// Each number with a space in front.
+fn numbers(list: &[u64]) {
+    let mut i = 0;
+    while i < list.len() {
+        text(b" ");
+        number(list[i]);
+        i += 1;
+    }
+}
+
+// The start of a line on a vector.
+fn vector(section: Section, k: u64) {
+    name(section);
+    text(b" ");
+    number(k);
+    text(b": ");
+}
+
+pub fn mismatch(section: Section, k: u64, expected: &[u64], got: &[u64]) {
+    vector(section, k);
+    text(b"expected");
+    numbers(expected);
+    text(b", got");
+    numbers(got);
+    text(b"\n");
+}
+
+// A place at which a vector of the units expects another number than stands there.
+fn place_differs(i: u64, expected: u64, got: u64) {
+    number(i);
+    text(b": expected ");
+    number(expected);
+    text(b", got ");
+    number(got);
+    text(b"\n");
+}
+
+pub fn work_differs(k: u64, i: u64, expected: u32, got: u32) {
+    vector(Section::Units, k);
+    text(b"work number ");
+    place_differs(i, expected as u64, got as u64);
+}
+
+pub fn text_differs(k: u64, i: u64, expected: u8, got: u8) {
+    vector(Section::Units, k);
+    text(b"byte ");
+    place_differs(i, expected as u64, got as u64);
+}
+
+pub fn total(section: Section, cases: u64, mismatches: u64) {
+    name(section);
+    text(b": ");
+    number(cases);
+    text(b" cases, ");
+    number(mismatches);
+    text(b" mismatches\n");
+}
+
+pub fn ends_early(k: u64) {
+    text(b"input ends early at ");
+    number(k);
+    text(b"\n");
+}
+
+pub fn too_long(k: u64) {
+    text(b"vector ");
+    number(k);
+    text(b" is too long\n");
+}
+
+pub fn goes_on() {
+    text(b"input goes on after the last section\n");
+}

@@ -1,0 +1,91 @@
+-- `replay_plan::answer` meets its contract: the three numbers are those of the answer, and behind them stands what the call left in the lent numbers.
+use Prim.Native.Nat.{ℕ, _+_}
+use mathlib.Core.List.{List, _∷_, _++_}
+use mathlib.Core.Path.{_≡_, ap, _∙_}
+use native.Mathlib.Omega.{arith}
+use borrow.Author.Needs.{needs}
+use denote.Ref.{now}
+use lib.ListN.{length, getD, length-set}
+use lib.Seq.{paste}
+use Rattle.plan.specs.Calls.{plannedOf}
+use Rattle.replay_plan.specs.PlanCases.{planAnswer}
+use Rattle.replay_plan.proofs.Gathered.{gathered, with-lent}
+use Rattle.replay_plan.proofs.answer.Statement.{statement}
+use Rattle.replay_plan.proofs.answer.Tie as tie
+
+plan-of-requires : tie.Need-plan-of-requires
+plan-of-requires c κs = search needs
+
+numbers-requires : tie.Need-numbers-requires
+numbers-requires c κs = search needs
+
+array-read-got : tie.Need-array-read-got
+array-read-got c = search needs
+
+slice-write-got : tie.Need-slice-write-got
+slice-write-got c = search needs
+
+array-read-got-2 : tie.Need-array-read-got-2
+array-read-got-2 c = search needs
+
+slice-write-got-2 : tie.Need-slice-write-got-2
+slice-write-got-2 c = simp length-set (omega arith)
+
+array-read-got-3 : tie.Need-array-read-got-3
+array-read-got-3 c = search needs
+
+slice-write-got-3 : tie.Need-slice-write-got-3
+slice-write-got-3 c = simp length-set (omega arith)
+
+put-requires : tie.Need-put-requires
+put-requires c κs = simp length-set (omega arith)
+
+add-put : tie.Need-add-put
+add-put c = search needs
+
+put-requires-2 : tie.Need-put-requires-2
+put-requires-2 c κs = omega (arith, (simp length-set at (c .before .before .before .before .put .kept .0)))
+
+same-length : tie.Need-same-length
+same-length c = c .before .before .put2 .kept .0 ∙ (simp length-set at (c .before .before .before .before .before .before .before .put .kept .0))
+
+same-length-2 : tie.Need-same-length-2
+same-length-2 c = search needs
+
+same-length-3 : tie.Need-same-length-3
+same-length-3 c = search needs
+
+returns : tie.Need-returns
+returns c =
+    let call = c .before .before .before .before .before .before .before .before .before .before .before .before .before .before .before .plan-of in
+    let three = c .before .before .before .before .before .before .before .before .before .before .numbers in
+    let got = now (c .before .before .before .before .before .before .before .before .before .before .before .before .before .before .before .before .before .before .before .before .before .before .args .got) in
+    let work = call .last .1 .0 in
+    let result = call .last .1 .1 .0 in
+    let long : length got ≡ 3 + (length work + length result) = omega arith in
+    c .before .before .put2 .ensures
+    ∙ ap (λ (l : List ℕ). paste l (3 + length work) result (length result)) (c .before .before .before .before .before .before .before .put .ensures)
+    ∙ gathered (getD (three .result) 0 0) (getD (three .result) 1 0) (getD (three .result) 2 0) got work result long
+    ∙ ap (λ (l : List ℕ). getD l 0 0 ∷ getD l 1 0 ∷ getD l 2 0 ∷ (work ++ result)) (three .ensures)
+    ∙ with-lent (plannedOf (call .result)) work result
+    ∙ ap planAnswer (call .ensures)
+
+pub answer-spec : {M : Type 1} → statement M
+answer-spec =
+    tie.close
+    (tie.spec
+    plan-of-requires
+    numbers-requires
+    array-read-got
+    slice-write-got
+    array-read-got-2
+    slice-write-got-2
+    array-read-got-3
+    slice-write-got-3
+    put-requires
+    add-put
+    put-requires-2
+    same-length
+    same-length-2
+    same-length-3
+    returns)
