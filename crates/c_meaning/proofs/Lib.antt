@@ -1,2 +1,3 @@
 -- The laws of what C99 makes of the tree.
 pub mod Append
+pub mod Kept

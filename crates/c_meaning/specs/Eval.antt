@@ -160,8 +160,8 @@ abbrev pub unValue : Un → Ty → ℕ → ℕ
 unValue compl x k = (2 ^ width (promote x) - 1) - convert x (promote x) k
 unValue lnot x k = truth (eqb k 0)
 
--- R: what ror32 answers
-module _ (R : ℕ → ℕ → Option ℕ) where
+-- rorAnswer: what ror32 answers
+module _ (rorAnswer : ℕ → ℕ → Option ℕ) where
   -- the value of an expression, of the type that `ty` gives
   unfoldable pub eval : Expr → State → Option ℕ
   eval (lit s k) z = literal s k
@@ -174,7 +174,7 @@ module _ (R : ℕ → ℕ → Option ℕ) where
   eval (pick c d e) z = bind (eval c z) λ k. cond (eqb k 0)
       (bind (eval e z) λ l. some (convert (ty e) (common (ty d) (ty e)) l))
       (bind (eval d z) λ l. some (convert (ty d) (common (ty d) (ty e)) l))
-  eval (ror d e) z = bind (eval d z) λ k. bind (eval e z) λ l. R (convert (ty d) u32 k) (convert (ty e) u32 l)
+  eval (ror d e) z = bind (eval d z) λ k. bind (eval e z) λ l. rorAnswer (convert (ty d) u32 k) (convert (ty e) u32 l)
   eval (read w e) z = bind (eval e z) λ k. some (load w (z .mem) (convert (ty e) u32 k))
 
   -- the same, converted to a type as in an assignment, an argument or a return

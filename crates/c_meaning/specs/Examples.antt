@@ -1,12 +1,12 @@
 -- What C99 makes of small trees, computed.
-use Prim.Native.Nat.{ℕ}
+use Prim.Native.Nat.{ℕ, _+_}
 use mathlib.Core.Path.{_≡_, refl}
 use mathlib.Core.Bool.{true, false}
 use mathlib.Core.List.{[], _∷_}
 use mathlib.Core.Option.{Option, none, some}
 use Rattle.words.specs.Word.{AND, OR, EOR}
-use Rattle.c_tree.specs.Expr.{s8, s32, u32, s64, word, udec, int, x-r, reg, var, mul, add, sub, shl, shr, land, lor, w8, w32, lit, get, par, bin, cast, ror, read}
-use Rattle.c_tree.specs.Stmt.{is, plus, f-nz, f-c, local, declare, adds, set, drop, run, write, gate, other, common, plain, goto, ret, retIf, interp, end, _⨾_, when, braces}
+use Rattle.c_tree.specs.Expr.{s8, s32, u32, s64, word, udec, int, x-r, x-pc, reg, var, mul, add, sub, shl, shr, land, lor, w8, w32, lit, get, par, bin, cast, ror, read}
+use Rattle.c_tree.specs.Stmt.{is, plus, f-nz, f-c, local, declare, adds, set, drop, run, write, gate, other, common, plain, goto, ret, retIf, interp, retInterp, end, _⨾_, when, braces}
 use Rattle.c_tree.specs.Preamble.{v32}
 use Rattle.c_meaning.specs.State.{bind, update, State, empty}
 use Rattle.c_meaning.specs.Eval.{eval, evalAs}
@@ -14,9 +14,10 @@ use Rattle.c_meaning.specs.Exec.{Goes, to, back, Outcome, exec, others, 
 use Rattle.c_meaning.specs.Helpers.{called, rotated, evaluate, perform}
 use Rattle.c_meaning.specs.Helpers as H
 
--- c[k] is k, but for c[16], the flags, which are clear; memory bytes are 0xfe; the runtime says yes
+-- c[k] is k, but for c[16], the flags, which are clear; memory bytes are 0xfe; the runtime says yes, and its interpreter sets
+-- c[0] to 9 and answers 8, then to 10 and answers 9, and so on
 abbrev begin : State
-begin = record { c = update 16 0 (λ (k : ℕ). k); mem = λ a. 0xfe; scopes = empty ∷ []; answers = λ k. 1 }
+begin = record { c = update 16 0 (λ (k : ℕ). k); mem = λ a. 0xfe; scopes = empty ∷ []; answers = λ k. 1; interpreter = λ k c mem. record { c = update 0 (9 + k) c; mem = mem; answer = 8 + k } }
 
 -- c[k] behind statements
 abbrev after : ℕ → Option State → Option ℕ
@@ -105,10 +106,18 @@ flags : after 16 (perform (run f-c (lit udec 1) ∷ run f-nz (lit udec 0) ∷ []
 unfolding perform eval evalAs rotated called runs step asks exec execs others AND OR
 flags = refl
 
--- a local without a value has none, a name is not declared twice in a scope, and a local not declared has no value
-no-value : after 0 (perform (local (u32, x-r) ∷ drop (u32, x-r) ∷ []) begin) ≡ none
+-- a local without a value has none, and (void) does not ask for one; a name is not declared twice in a scope, and a local not declared has no value
+no-value : after 0 (perform (local (u32, x-r) ∷ set (reg 0) is (v32 x-r) ∷ []) begin) ≡ none
 unfolding perform eval evalAs exec execs others
 no-value = refl
+
+dropped : after 0 (perform (local (u32, x-r) ∷ drop (u32, x-r) ∷ []) begin) ≡ some 0
+unfolding perform eval evalAs exec execs others
+dropped = refl
+
+not-dropped : after 0 (perform (drop (u32, x-r) ∷ []) begin) ≡ none
+unfolding perform eval evalAs exec execs others
+not-dropped = refl
 
 twice : after 0 (perform (local (u32, x-r) ∷ local (u32, x-r) ∷ []) begin) ≡ none
 unfolding perform eval evalAs exec execs others
@@ -147,7 +156,16 @@ denied : afterCode 0 (H.run (when common true gate (ret common (lit udec 8) ⨾ 
 unfolding H.run eval evalAs exec execs others runs step asks
 denied = refl
 
--- the interpreter's step is none of these
-interpreter : afterCode 0 (H.run (interp 0 0 ⨾ end) begin) ≡ none
+-- uint32_t pc; pc = a->interp_one(m); return pc;, and return a->interp_one(m);
+interprets : afterCode 0 (H.run (plain common (local (u32, x-pc)) ⨾ interp 0 0 ⨾ ret common (v32 x-pc) ⨾ end) begin) ≡ some (9, back 8)
 unfolding H.run eval evalAs exec execs others runs step asks
-interpreter = refl
+interprets = refl
+
+interprets-last : afterCode 0 (H.run (retInterp 0 0 ⨾ end) begin) ≡ some (9, back 8)
+unfolding H.run eval evalAs exec execs others runs step asks
+interprets-last = refl
+
+-- the second call is not the first again
+interprets-twice : afterCode 0 (H.run (plain common (local (u32, x-pc)) ⨾ interp 0 0 ⨾ retInterp 0 0 ⨾ end) begin) ≡ some (10, back 9)
+unfolding H.run eval evalAs exec execs others runs step asks
+interprets-twice = refl

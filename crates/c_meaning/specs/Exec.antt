@@ -1,13 +1,13 @@
--- What C's statements do, up to where they lead. None: undefined, or no native text has it.
+-- What C's statements do, up to where they lead. None: undefined, or not written out (a call of a group's function and its switch).
 use Prim.Native.Nat.{ℕ}
 use mathlib.Core.Bool.{Bool, not, cond, Bool·beq}
 use mathlib.Core.List.{List, [], _∷_}
 use mathlib.Core.Option.{Option, none, some}
 use lib.Dec.{eqb}
-use Rattle.c_tree.specs.Expr.{Ty, u32, u64, Name, Var, Place, var, Bin, add, band, bor, Expr}
+use Rattle.c_tree.specs.Expr.{Ty, u32, u64, Name, x-pc, Var, Place, var, Bin, add, band, bor, Expr}
 use Rattle.c_tree.specs.Stmt.{Set, is, plus, and, or, Proc, f-nz, f-c, f-nz64, Plain, registers, local, declare, adds, set, drop, run, write, tick, Test, guard, gate, other, Simple, gap, begin, plain, label, goto, ret, retIf, interp, retInterp, call, switch, Code, end, _⨾_, when, braces, Helper, op-adds, proc}
-use Rattle.c_meaning.specs.Types.{common, convert}
-use Rattle.c_meaning.specs.State.{bind, State, setMem, setScopes, answered, enter, leave, value, declared, put, placeTy, store}
+use Rattle.c_meaning.specs.Types.{sameTy, common, convert}
+use Rattle.c_meaning.specs.State.{bind, index, State, setMem, setScopes, answered, interpretedKey, interpreted, enter, leave, find, value, declared, put, placeTy, store}
 use Rattle.c_meaning.specs.Eval.{ty, binValue, eval, evalAs}
 
 -- where statements lead
@@ -57,11 +57,11 @@ procTy f-nz64 = u64
 abbrev pub declares : Var → State → Option State
 declares x z = bind (declared x (z .scopes)) λ fs. some (setScopes fs z)
 
--- R: what ror32 answers. H: what the other helpers do with c before their arguments
-module _ (R : ℕ → ℕ → Option ℕ) (H : Helper → List ℕ → State → Outcome) where
+-- rorAnswer: what ror32 answers. helperCall: what the other helpers do with c before their arguments
+module _ (rorAnswer : ℕ → ℕ → Option ℕ) (helperCall : Helper → List ℕ → State → Outcome) where
   -- y x = e: the name is declared before its value is computed (6.2.1)
   abbrev pub initialise : Var → Expr → State → Option State
-  initialise x e z = bind (declares x z) λ u. bind (evalAs R (x .0) e u) λ k. put (var x) k u
+  initialise x e z = bind (declares x z) λ u. bind (evalAs rorAnswer (x .0) e u) λ k. put (var x) k u
 
   -- further declarators of the same type
   unfoldable pub others : Ty → List (Name × Expr) → State → Option State
@@ -69,7 +69,7 @@ module _ (R : ℕ → ℕ → Option ℕ) (H : Helper → List ℕ → State →
   others y [] z = some z
   others y (d ∷ ds) z = bind (initialise (y, d .0) (d .1) z) (others y ds)
 
-  -- a plain statement
+  -- a plain statement. (void)x does not use the value, which a uint32_t may lack: it has no trap representation (7.18.1.1)
   unfoldable pub exec : Plain → State → Option State
   unfolding eval evalAs others
   exec registers z = some z
@@ -77,12 +77,12 @@ module _ (R : ℕ → ℕ → Option ℕ) (H : Helper → List ℕ → State →
   exec (declare x e ds) z = bind (initialise x e z) (others (x .0) ds)
   exec (adds x d e f) z =
       bind (declares (u32, x) z) λ u.
-      bind (evalAs R u32 d u) λ k. bind (evalAs R u32 e u) λ l. bind (evalAs R u32 f u) λ i.
-      bind (H op-adds (k ∷ l ∷ i ∷ []) u) λ q. bind (returned (q .1)) λ r. put (var (u32, x)) r (q .0)
-  exec (set p o e) z = bind (eval R e z) λ k. bind (newValue o p (ty e) k z) λ x. put p x z
-  exec (drop x) z = bind (value (var x) z) λ k. some z
-  exec (run p e) z = bind (evalAs R (procTy p) e z) λ k. bind (H (proc p) (k ∷ []) z) λ q. ended (q .1) (q .0)
-  exec (write w d e) z = bind (evalAs R u32 d z) λ a. bind (evalAs R u32 e z) λ x. some (setMem (store w a x (z .mem)) z)
+      bind (evalAs rorAnswer u32 d u) λ k. bind (evalAs rorAnswer u32 e u) λ l. bind (evalAs rorAnswer u32 f u) λ i.
+      bind (helperCall op-adds (k ∷ l ∷ i ∷ []) u) λ q. bind (returned (q .1)) λ r. put (var (u32, x)) r (q .0)
+  exec (set p o e) z = bind (eval rorAnswer e z) λ k. bind (newValue o p (ty e) k z) λ x. put p x z
+  exec (drop x) z = bind (find (index (x .1)) (z .scopes)) λ p. cond (sameTy (x .0) (p .0)) (some z) none
+  exec (run p e) z = bind (evalAs rorAnswer (procTy p) e z) λ k. bind (helperCall (proc p) (k ∷ []) z) λ q. ended (q .1) (q .0)
+  exec (write w d e) z = bind (evalAs rorAnswer u32 d z) λ a. bind (evalAs rorAnswer u32 e z) λ x. some (setMem (store w a x (z .mem)) z)
   exec (tick n) z = some z
 
   -- plain statements one after the other
@@ -96,13 +96,13 @@ module _ (R : ℕ → ℕ → Option ℕ) (H : Helper → List ℕ → State →
   unfolding eval
   asks (guard a l h) z = some (not (eqb (z .answers 0) 0), answered z)
   asks gate z = some (not (eqb (z .answers 0) 0), answered z)
-  asks (other e) z = bind (eval R e z) λ k. some (not (eqb k 0), z)
+  asks (other e) z = bind (eval rorAnswer e z) λ k. some (not (eqb k 0), z)
 
   -- return e
   abbrev pub returns : Expr → State → Outcome
-  returns e z = bind (evalAs R u32 e z) λ k. some (z, back k)
+  returns e z = bind (evalAs rorAnswer u32 e z) λ k. some (z, back k)
 
-  -- a statement without braces. The interpreter's step, a group's call and its switch are in no native text
+  -- a statement without braces
   unfoldable pub step : Simple → State → Outcome
   unfolding evalAs exec asks
   step (gap l n) z = some (z, on)
@@ -112,8 +112,8 @@ module _ (R : ℕ → ℕ → Option ℕ) (H : Helper → List ℕ → State →
   step (goto o k) z = some (z, to k)
   step (ret o e) z = returns e z
   step (retIf o t e) z = bind (asks t z) λ q. cond (q .0) (returns e (q .1)) (some (q .1, on))
-  step (interp k i) z = none
-  step (retInterp k i) z = none
+  step (interp k i) z = bind (put (var (u32, x-pc)) (interpretedKey z) (interpreted z)) λ u. some (u, on)
+  step (retInterp k i) z = some (interpreted z, back (interpretedKey z))
   step (call k n) z = none
   step (switch ks) z = none
 

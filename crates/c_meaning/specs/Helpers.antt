@@ -38,7 +38,7 @@ called h vs z = bind (runs noRor noCall (body h) (setScopes (arguments (params h
 -- ror32 has neither c nor memory: what it answers is the same from each state, and here that of zeros
 unfoldable pub rotated : ℕ → ℕ → Option ℕ
 unfolding called
-rotated x n = bind (called ror32 (x ∷ n ∷ []) (record { c = λ k. 0; mem = λ a. 0; scopes = []; answers = λ k. 0 })) λ q. returned (q .1)
+rotated x n = bind (called ror32 (x ∷ n ∷ []) (record { c = λ k. 0; mem = λ a. 0; scopes = []; answers = λ k. 0; interpreter = λ k c mem. record { c = c; mem = mem; answer = 0 } })) λ q. returned (q .1)
 
 -- an expression of the text
 unfoldable pub evaluate : Expr → State → Option ℕ

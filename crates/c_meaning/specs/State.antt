@@ -1,4 +1,4 @@
--- What C's statements act on: the words c[0] to c[16], the bytes of memory, the locals in their scopes, and what the runtime will answer.
+-- What C's statements act on: the words c[0] to c[16], the bytes of memory, the locals in their scopes, and the runtime.
 use Prim.Native.Nat.{ℕ, suc, _+_, _*_, _/_, _%_, _^_}
 use mathlib.Core.Path.{_≡_, refl}
 use mathlib.Core.Bool.{cond}
@@ -51,25 +51,46 @@ Scope = ℕ → Option Cell
 abbrev pub empty : Scope
 empty k = none
 
--- the state; scopes has the innermost first, and answers are those that guard and chain_gate will give, in order
+-- what interp_one leaves: the words of c and the bytes of memory, and its answer
+pub record Interpreted : Type 0 where
+  pub c : ℕ → ℕ
+  pub mem : ℕ → ℕ
+  pub answer : ℕ
+
+-- what one call of interp_one makes of the words of c and the bytes of memory
+abbrev pub Interpreter : Type 0
+Interpreter = (ℕ → ℕ) → (ℕ → ℕ) → Interpreted
+
+-- the state: scopes has the innermost first; answers are those that guard and chain_gate will give, in order; interpreter is what the calls of interp_one will
+-- make, in order, since it has a state of its own
 pub record State : Type 0 where
   pub c : ℕ → ℕ
   pub mem : ℕ → ℕ
   pub scopes : List Scope
   pub answers : ℕ → ℕ
+  pub interpreter : ℕ → Interpreter
 
 abbrev pub setC : ℕ → ℕ → State → State
-setC k x z = record { c = update k x (z .c); mem = z .mem; scopes = z .scopes; answers = z .answers }
+setC k x z = record { c = update k x (z .c); mem = z .mem; scopes = z .scopes; answers = z .answers; interpreter = z .interpreter }
 
 abbrev pub setMem : (ℕ → ℕ) → State → State
-setMem f z = record { c = z .c; mem = f; scopes = z .scopes; answers = z .answers }
+setMem f z = record { c = z .c; mem = f; scopes = z .scopes; answers = z .answers; interpreter = z .interpreter }
 
 abbrev pub setScopes : List Scope → State → State
-setScopes fs z = record { c = z .c; mem = z .mem; scopes = fs; answers = z .answers }
+setScopes fs z = record { c = z .c; mem = z .mem; scopes = fs; answers = z .answers; interpreter = z .interpreter }
 
 -- the state behind an answer of the runtime
 abbrev pub answered : State → State
-answered z = record { c = z .c; mem = z .mem; scopes = z .scopes; answers = λ k. z .answers (suc k) }
+answered z = record { c = z .c; mem = z .mem; scopes = z .scopes; answers = λ k. z .answers (suc k); interpreter = z .interpreter }
+
+-- the answer of interp_one, and the state behind it
+abbrev pub interpretedKey : State → ℕ
+interpretedKey z = z .interpreter 0 (z .c) (z .mem) .answer
+
+abbrev pub interpreted : State → State
+interpreted z =
+    let q : Interpreted = z .interpreter 0 (z .c) (z .mem) in
+    record { c = q .c; mem = q .mem; scopes = z .scopes; answers = z .answers; interpreter = λ k. z .interpreter (suc k) }
 
 -- at { and at }
 abbrev pub enter : State → State
@@ -155,3 +176,8 @@ wraps = refl
 
 in-order : load w16 (store w32 0x1000 0x12345678 (λ a. 0)) 0x1002 ≡ 0x1234
 in-order = refl
+
+-- the innermost scope has a local, with its type
+abbrev pub Declares : List Scope → Var → Type 0
+Declares [] x = ⊥
+Declares (f ∷ fs) x = (v : Option ℕ) × (f (index (x .1)) ≡ some (x .0, v))

@@ -37,7 +37,7 @@ promote u64 = u64
 abbrev pub wider : Ty → Ty → Ty
 wider x y = cond (ltb (width x) (width y)) y (cond (ltb (width y) (width x)) x (cond (signed x) y x))
 
--- the usual arithmetic conversions (6.3.1.8): of the types here the wider always has all values of the narrower
+-- the usual arithmetic conversions (6.3.1.8): of the types here a wider signed one has all values of a narrower unsigned one
 abbrev pub common : Ty → Ty → Ty
 common x y = wider (promote x) (promote y)
 

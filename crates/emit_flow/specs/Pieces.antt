@@ -5,7 +5,8 @@ use mathlib.Core.List.{[]}
 use Rattle.text.specs.Doc.{Doc, text, _▸_}
 use Rattle.c_tree.specs.Stmt.{common, gap, end, _⨾_, block, group, blank}
 use Rattle.c_tree.specs.Print.{codeText, headText, topText}
-use Rattle.lowering.specs.Block.{nl, sp, line, flags}
+use Rattle.forms.specs.Operands.{flags}
+use Rattle.lowering.specs.Block.{nl, sp, line}
 use Rattle.lowering.specs.Units.{withLocals}
 
 -- the indent of a transfer: 8 where it is conditional

@@ -1,5 +1,22 @@
+-- The laws of the forms that the crates above share, and what the lowered statements mean.
 pub mod Every
 pub mod RecordCount
 pub mod Binds
 pub mod Lengths
 pub mod Cycles
+pub mod Gives
+pub mod Flags
+pub mod Operands
+pub mod Steps
+pub mod Alu
+pub mod Multiply
+pub mod Long
+pub mod Memory
+pub mod Transfer
+pub mod Conditions
+pub mod Body
+pub mod Listed
+pub mod Multiple
+pub mod BodyMultiple
+pub mod Theorem
+pub mod Thumb

@@ -3,4 +3,6 @@ pub mod Forms
 pub mod Operands
 pub mod InlineBody
 pub mod Block
+pub mod Agree
+pub mod Means
 pub mod Examples

@@ -1,6 +1,7 @@
 -- Conditions, registers and shifted operands as expressions.
 use Prim.Native.Nat.{ℕ, zero, suc, _-_, _/_, _%_, _^_}
 use mathlib.Core.Bool.{cond}
+use mathlib.Core.List.{List, [], _∷_}
 use mathlib.Core.Option.{Option, none, some}
 use lib.Dec.{eqb}
 use Rattle.armv4t.specs.declared.Cond.{Cond}
@@ -11,7 +12,8 @@ use Rattle.armv4t.specs.declared.Shift.{Shift}
 use Rattle.armv4t.specs.declared.Operand2.{Operand2}
 use Rattle.armv4t.specs.declared.Instr.{Instr}
 use Rattle.armv4t.specs.Instr.{pcValue}
-use Rattle.c_tree.specs.Expr.{s32, u32, word, udec, int, x-cn, x-cz, x-cc, x-cv, reg, lnot, shl, shr, eq, ne, band, bor, land, lor, Expr, lit, get, par, un, bin, cast, ror}
+use Rattle.c_tree.specs.Expr.{s32, u32, word, udec, int, x-s, x-cn, x-cz, x-cc, x-cv, reg, lnot, shl, shr, eq, ne, band, bor, land, lor, Expr, lit, get, par, un, bin, cast, ror}
+use Rattle.c_tree.specs.Stmt.{Plain, declare}
 use Rattle.c_tree.specs.Preamble.{v32}
 
 -- cond_expr without the parentheses around it: those are printed with the `if`. Nv is taken as Al
@@ -32,6 +34,17 @@ condExpr Gt = bin land (un lnot (v32 x-cz)) (bin eq (v32 x-cn) (v32 x-cv))
 condExpr Le = bin lor (v32 x-cz) (bin ne (v32 x-cn) (v32 x-cv))
 condExpr Al = lit int 1
 condExpr Nv = lit int 1
+
+-- (s_ >> n) & 1u
+abbrev pub flagBit : ℕ → Expr
+flagBit n = bin band (par (bin shr (v32 x-s) (lit int n))) (lit udec 1)
+
+-- the flags, as cond_expr reads them
+abbrev pub flags : List Plain
+flags =
+    declare (u32, x-s) (get (reg 16)) []
+    ∷ declare (u32, x-cn) (bin shr (v32 x-s) (lit int 31)) ((x-cz, flagBit 30) ∷ (x-cc, flagBit 29) ∷ (x-cv, flagBit 28) ∷ [])
+    ∷ []
 
 -- a register, or the value pc in the place of PC
 abbrev pub regOf : ℕ → ℕ → Expr

@@ -1,7 +1,19 @@
--- What is proved of the tree of blocks, groups and units.
+-- What is proved of the tree of blocks, groups and units, and of what the text of records means.
 pub mod Binds
 pub mod Lengths
 pub mod Measured
 pub mod Starred
 pub mod Units
 pub mod Whole
+pub mod Lines
+pub mod Wrapped
+pub mod Straight
+pub mod Exits
+pub mod Branches
+pub mod Exchange
+pub mod Pop
+pub mod Outcome
+pub mod Pairs
+pub mod States
+pub mod Theorem
+pub mod Thumbs

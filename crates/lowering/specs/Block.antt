@@ -10,6 +10,7 @@ use Rattle.c_tree.specs.Stmt.{is, and, or, Plain, declare, set, guard, gate, ot
 use Rattle.c_tree.specs.Preamble.{v32}
 use Rattle.records.specs.BlockRecord.{lengthOf, keyPlus}
 use Rattle.block_file.specs.Address.{outsideRomBios, among}
+use Rattle.forms.specs.Operands.{flags}
 use Rattle.forms.specs.Forms.{Lines, Native, straight, holds, branch, jump, pair, bx, pop, Form, shell, records, Body}
 
 -- the key of a block: its address plus the Thumb bit
@@ -55,17 +56,6 @@ transfer ks a o n k c = cond (among k ks) (chain (leb (clearBit0 k) a) o n k c) 
 -- the closing transfer (document 01), to the key behind the block, with the lines before it
 unfoldable pub closing : List ℕ → Body → Code
 closing ks b = lines common 4 (b .closing) (transfer ks (b .addr) common 4 (keyPlus (bodyEnd b) (b .thumb)) end)
-
--- (s_ >> n) & 1u
-abbrev pub flagBit : ℕ → Expr
-flagBit n = bin band (par (bin shr (v32 x-s) (lit int n))) (lit udec 1)
-
--- the flags, as cond_expr reads them
-abbrev pub flags : List Plain
-flags =
-    declare (u32, x-s) (get (reg 16)) []
-    ∷ declare (u32, x-cn) (bin shr (v32 x-s) (lit int 31)) ((x-cz, flagBit 30) ∷ (x-cc, flagBit 29) ∷ (x-cv, flagBit 28) ∷ [])
-    ∷ []
 
 -- t & ~1u, and t & ~3u
 abbrev pub masked : ℕ → Expr

@@ -1,1 +1,3 @@
--- Definitions and examples only: nothing is proved here.
+-- The laws of the manual's account.
+pub mod Kept
+pub mod Thumb

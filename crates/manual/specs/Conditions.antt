@@ -5,7 +5,7 @@ use Rattle.armv4t.specs.declared.Cond.{Cond}
 use Rattle.armv4t.specs.declared.Cond.the-variants.{Eq, Ne, Cs, Cc, Mi, Pl, Vs, Vc, Hi, Ls, Ge, Lt, Gt, Le, Al, Nv}
 use Rattle.manual.specs.Machine.{Machine, setFlags}
 
--- ConditionPassed (table A3-1). NV is unpredictable, and no ARMv4T instruction: here it never passes
+-- ConditionPassed (table A3-1). NV is unpredictable in ARMv4 (A3.2.1): here it never passes
 abbrev pub passed : Cond → Machine → Bool
 passed Eq m = m .z
 passed Ne m = not (m .z)

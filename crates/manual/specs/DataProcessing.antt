@@ -8,7 +8,7 @@ use Rattle.armv4t.specs.declared.AluOp.{AluOp}
 use Rattle.armv4t.specs.declared.AluOp.the-variants.{And, Eor, Sub, Rsb, Add, Adc, Sbc, Rsc, Tst, Teq, Cmp, Cmn, Orr, Mov, Bic, Mvn}
 use Rattle.armv4t.specs.declared.Operand2.{Operand2}
 use Rattle.armv4t.specs.AluOp.{isCompare}
-use Rattle.manual.specs.Machine.{word, Machine, R, setReg, setFlags}
+use Rattle.manual.specs.Machine.{two32, Machine, R, setReg, setFlags}
 use Rattle.manual.specs.Operators.{NOT, CarryFrom, minus, BorrowFrom, OverflowFromAdd, OverflowFromSub}
 use Rattle.manual.specs.Shifter.{shifter}
 
@@ -18,7 +18,7 @@ logical s co v = (s, co, v)
 
 -- x + y + i with C and V
 abbrev pub plus : ℕ → ℕ → ℕ → ℕ × Bool × Bool
-plus x y i = ((x + y + i) % word, CarryFrom (x + y + i), OverflowFromAdd x y ((x + y + i) % word))
+plus x y i = ((x + y + i) % two32, CarryFrom (x + y + i), OverflowFromAdd x y ((x + y + i) % two32))
 
 -- x - y - i with C, which is the borrow inverted, and V
 abbrev pub less : ℕ → ℕ → ℕ → ℕ × Bool × Bool
@@ -43,13 +43,37 @@ alu Mov x y co c v = logical y co v
 alu Bic x y co c v = logical (AND x (NOT y)) co v
 alu Mvn x y co c v = logical (NOT y) co v
 
+-- whether an operation is ADD
+abbrev pub isAdd : AluOp → Bool
+isAdd And = false
+isAdd Eor = false
+isAdd Sub = false
+isAdd Rsb = false
+isAdd Add = true
+isAdd Adc = false
+isAdd Sbc = false
+isAdd Rsc = false
+isAdd Tst = false
+isAdd Teq = false
+isAdd Cmp = false
+isAdd Cmn = false
+isAdd Orr = false
+isAdd Mov = false
+isAdd Bic = false
+isAdd Mvn = false
+
+-- whether a second operand is a value that is a multiple of 4
+abbrev pub isWordOffset : Operand2 → Bool
+isWordOffset (Operand2.Imm value rot) = eqb (value % 4) 0
+isWordOffset (Operand2.Reg rm s) = false
+
 -- the machine behind an outcome: N and Z from it where S is set, and Rd where the operation is no comparison
 abbrev pub settle : AluOp → Bool → ℕ → ℕ × Bool × Bool → Machine → Machine
 settle op s rd a m =
     let m1 : Machine = cond s (setFlags (bit (a .0) 31) (eqb (a .0) 0) (a .1) (a .2) m) m in
     cond (isCompare op) m1 (setReg rd (a .0) m1)
 
--- Rd not R15
+-- Rd not R15. R15 in an instruction that shifts by a register is open (A5.1.6, A5.1.8, A5.1.10, A5.1.12): no such shift is native
 abbrev pub dataProcessing : AluOp → Bool → ℕ → ℕ → Operand2 → ℕ → Machine → Machine
 dataProcessing op s rd rn op2 pc m =
     let q : ℕ × Bool = shifter m pc op2 in

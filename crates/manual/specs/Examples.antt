@@ -12,19 +12,31 @@ use Rattle.armv4t.specs.declared.MemOffset.{MemOffset}
 use Rattle.armv4t.specs.declared.Cond.{Cond}
 use Rattle.armv4t.specs.declared.Cond.the-variants.{Eq, Al}
 use Rattle.armv4t.specs.declared.Op.{Op}
-use Rattle.armv4t.specs.declared.Op.the-variants.{Alu, Bx, Branch, Mem, BlockMem, Swi}
+use Rattle.armv4t.specs.declared.Op.the-variants.{Alu, Mul, Bx, Branch, ThumbBlHigh, ThumbBlLow, Mem, BlockMem, Swi}
 use Rattle.armv4t.specs.declared.Instr.{Instr}
 use Rattle.manual.specs.Machine.{Machine, cpsr}
 use Rattle.manual.specs.Multiple.{listed}
-use Rattle.manual.specs.Execute.{execute, branchLinkPair}
+use Rattle.manual.specs.Execute.{execute}
 
 -- register k holds 16 * k, flags are clear, and each byte of memory is the low half of its address's low byte
 abbrev begin : Machine
-begin = record { r = λ k. 16 * k; n = false; z = false; c = false; v = false; low = 0; mem = λ a. a % 16 }
+begin = record { r = λ k. 16 * k; n = false; z = false; c = false; v = false; otherBits = 0; mem = λ a. a % 16 }
 
 -- an ARM instruction at 0x08000000
 abbrev at : Cond → Op → Instr
 at c op = record { addr = 0x08000000; cond = c; op = op; thumb = false }
+
+-- a Thumb instruction at an address
+abbrev thumb : ℕ → Op → Instr
+thumb a op = record { addr = a; cond = Al; op = op; thumb = true }
+
+-- two instructions one after the other
+abbrev behind : Instr → Option (Machine × ℕ) → Option (Machine × ℕ)
+behind j none = none
+behind j (some p) = execute j (p .0)
+
+abbrev both : Instr → Instr → Machine → Option (Machine × ℕ)
+both i j m = behind j (execute i m)
 
 -- register k behind an instruction, the status register, and the key where it goes on
 abbrev seen : ℕ → Option (Machine × ℕ) → Option (ℕ × ℕ × ℕ)
@@ -50,7 +62,7 @@ not-passed : seen 0 (execute (at Eq (Alu Mov false 0 0 (Operand2.Imm 1 0))) begi
 unfolding execute
 not-passed = refl
 
--- ldr r0, [r1, #1]!: the word at 0x10, turned right by 8, and r1
+-- ldr r0, [r1, #1]!: the word at 0x10, rotated right by 8, and r1
 loads : seen 0 (execute (at Al (Mem true Word false 0 1 (MemOffset.Imm 1) true true true)) begin) ≡ some (0x00030201, 0, 0x08000004)
 unfolding execute
 loads = refl
@@ -73,9 +85,24 @@ exchanges : seen 0 (execute (at Al (Bx 1)) begin) ≡ some (0, 0, 0x10)
 unfolding execute
 exchanges = refl
 
--- a Thumb BL pair, as fuse computes it
-pair : seen 14 (some (branchLinkPair 0x08000104 3 0x08000102 begin)) ≡ some (0x08000105, 0, 0x0800010b)
+-- both halves of a Thumb BL, one after the other
+pair : seen 14 (both (thumb 0x08000100 (ThumbBlHigh 0x08000104)) (thumb 0x08000102 (ThumbBlLow 3)) begin) ≡ some (0x08000105, 0, 0x0800010b)
+unfolding execute
 pair = refl
+
+-- ADD (5) of Thumb at an address whose PC has bit 1: add r0, pc, #8, with the value as it is and with the bit taken off
+add-pc : seen 0 (execute (thumb 0x08000002 (Alu Add false 0 15 (Operand2.Imm 8 0))) begin) ≡ some (0x0800000c, 0, 0x08000005)
+unfolding execute
+add-pc = refl
+
+add-pc-folded : seen 0 (execute (thumb 0x08000002 (Alu Add false 0 15 (Operand2.Imm 6 0))) begin) ≡ some (0x0800000c, 0, 0x08000005)
+unfolding execute
+add-pc-folded = refl
+
+-- MUL with R15 is not said
+mul-r15 : seen 0 (execute (at Al (Mul false false 0 0 1 15)) begin) ≡ none
+unfolding execute
+mul-r15 = refl
 
 -- SWI is not written out
 swi : seen 0 (execute (at Al (Swi 0)) begin) ≡ none

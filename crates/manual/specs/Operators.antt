@@ -4,33 +4,33 @@ use mathlib.Core.Path.{_≡_, refl}
 use mathlib.Core.Bool.{Bool, true, false, not, _&&_, cond, Bool·beq}
 use lib.Dec.{ltb, leb}
 use Rattle.words.specs.Word.{bit}
-use Rattle.manual.specs.Machine.{word}
+use Rattle.manual.specs.Machine.{two32}
 
 -- by fewer than 32 places
 abbrev pub Logical-Shift-Left : ℕ → ℕ → ℕ
-Logical-Shift-Left x i = x * 2 ^ i % word
+Logical-Shift-Left x i = x * 2 ^ i % two32
 
 abbrev pub Logical-Shift-Right : ℕ → ℕ → ℕ
 Logical-Shift-Right x i = x / 2 ^ i
 
 -- copies of bit 31 come in
 abbrev pub Arithmetic-Shift-Right : ℕ → ℕ → ℕ
-Arithmetic-Shift-Right x i = x / 2 ^ i + cond (bit x 31) (word - 2 ^ (32 - i)) 0
+Arithmetic-Shift-Right x i = x / 2 ^ i + cond (bit x 31) (two32 - 2 ^ (32 - i)) 0
 
 -- bits that leave at the right come in at the left
 abbrev pub Rotate-Right : ℕ → ℕ → ℕ
 Rotate-Right x i = x / 2 ^ i + x % 2 ^ i * 2 ^ (32 - i)
 
 abbrev pub NOT : ℕ → ℕ
-NOT x = (word - 1) - x
+NOT x = (two32 - 1) - x
 
 -- whether a sum does not fit a word
 abbrev pub CarryFrom : ℕ → Bool
-CarryFrom s = leb word s
+CarryFrom s = leb two32 s
 
 -- x - y - i cut to a word, and whether it is below 0
 abbrev pub minus : ℕ → ℕ → ℕ → ℕ
-minus x y i = (x + word + word - y - i) % word
+minus x y i = (x + two32 + two32 - y - i) % two32
 
 abbrev pub BorrowFrom : ℕ → ℕ → ℕ → Bool
 BorrowFrom x y i = ltb x (y + i)
@@ -45,10 +45,10 @@ OverflowFromSub x y s = not (Bool·beq (bit x 31) (bit y 31)) && not (Bool·beq 
 
 -- a byte, and a halfword, with copies of its top bit in front
 abbrev pub SignExtend8 : ℕ → ℕ
-SignExtend8 x = cond (bit x 7) (x + (word - 2 ^ 8)) x
+SignExtend8 x = cond (bit x 7) (x + (two32 - 2 ^ 8)) x
 
 abbrev pub SignExtend16 : ℕ → ℕ
-SignExtend16 x = cond (bit x 15) (x + (word - 2 ^ 16)) x
+SignExtend16 x = cond (bit x 15) (x + (two32 - 2 ^ 16)) x
 
 asr-example : Arithmetic-Shift-Right 0x80000010 4 ≡ 0xf8000001
 asr-example = refl

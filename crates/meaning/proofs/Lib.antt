@@ -1,23 +1,9 @@
--- The proofs of what the lowered text means.
-pub mod Gives
-pub mod Flags
-pub mod Operands
-pub mod Steps
-pub mod Alu
-pub mod Multiply
-pub mod Long
-pub mod Memory
-pub mod Transfer
-pub mod Body
-pub mod Lines
-pub mod Conditions
-pub mod Wrapped
-pub mod Straight
-pub mod Listed
-pub mod Multiple
-pub mod BodyMultiple
-pub mod Theorem
-pub mod Exits
-pub mod Branches
-pub mod Exchange
-pub mod Pop
+-- The proofs of what the text of blocks and of a file means.
+pub mod Ranges
+pub mod Closing
+pub mod Shells
+pub mod Covered
+pub mod Carried
+pub mod Blocks
+pub mod Supposed
+pub mod Meaning

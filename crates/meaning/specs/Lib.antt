@@ -1,5 +1,3 @@
--- When C's state and the manual's machine agree, and what is claimed of lowered instructions.
-pub mod Agree
-pub mod Claim
-pub mod Text
-pub mod Branch
+-- What is claimed of the text of blocks and of a file.
+pub mod Block
+pub mod Meaning

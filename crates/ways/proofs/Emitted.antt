@@ -12,7 +12,8 @@ use Rattle.c_tree.specs.Stmt.{Plain, declare, Test, guard, gate, other, Owner, 
 use Rattle.c_tree.specs.Preamble.{v32}
 use Rattle.forms.specs.Forms.{Lines, Native, straight, holds, branch, jump, pair, bx, pop, Form, shell, records, Body}
 use Rattle.forms.proofs.RecordCount.{recordCounts}
-use Rattle.lowering.specs.Block.{bodyKey, bodyLength, nl, sp, line, lines, chain, transfer, closing, flags, leave, toThumb, toArm, conditional, nativeText, rest, defer, underGuard, blockCode}
+use Rattle.forms.specs.Operands.{flags}
+use Rattle.lowering.specs.Block.{bodyKey, bodyLength, nl, sp, line, lines, chain, transfer, closing, leave, toThumb, toArm, conditional, nativeText, rest, defer, underGuard, blockCode}
 use Rattle.block_file.specs.Address.{among, outsideRomBios}
 use Rattle.ways.specs.Ways.{Event, reach, said, nativeStart, interpreted}
 use Rattle.ways.proofs.Logic.{Logic, Pick, Ok}

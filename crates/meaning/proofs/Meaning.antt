@@ -1,0 +1,37 @@
+-- The text of every accepted file's blocks means what the manual says.
+use Prim.Native.Nat.{ℕ}
+use mathlib.Core.Path.{_≡_}
+use mathlib.Core.List.{List, [], _∷_, _++_, List·Memᴰ}
+use Rattle.instr_records.specs.declared.decode.TimedInstr.{TimedInstr}
+use Rattle.block_file.specs.Address.{region}
+use Rattle.forms.specs.Block.{bodyOf}
+use Rattle.lowering.specs.Records.{RecordMeans, PairMeans, ClosingMeans}
+use Rattle.lowering.proofs.Theorem.{record-means}
+use Rattle.lowering.proofs.Thumbs.{thumb-means, thumb-pair-means}
+use Rattle.lowering.proofs.Pairs.{pair-means}
+use Rattle.meaning.specs.Meaning.{MeaningOf}
+use Rattle.meaning.proofs.Ranges.{accepted-ranges, accepted-consecutive, accepted-some, accepted-end, accepted-aligned}
+use Rattle.meaning.proofs.Closing.{closing-means}
+use Rattle.meaning.proofs.Blocks.{block-means}
+
+pub meaning-of : (multiplier : ℕ) (f : List ℕ) → MeaningOf multiplier f
+unfolding MeaningOf
+meaning-of multiplier f bs accepted b m ks =
+    record {
+      records = records;
+      thumb = λ x h. thumb-means ks (b .addr) (region (b .addr)) x;
+      pairs = pairs;
+      thumbPairs = λ us vs x y e. thumb-pair-means ks (b .addr) x y;
+      closing = closing;
+      whole = block-means multiplier ks b records pairs closing (accepted-ranges f bs accepted b m) (accepted-consecutive f bs accepted b m)
+          (accepted-some f bs accepted b m) (accepted-end f bs accepted b m) (accepted-aligned f bs accepted b m);
+    }
+  where
+    records : (x : TimedInstr) → List·Memᴰ x (b .instrs) → RecordMeans ks (b .addr) (region (b .addr)) x
+    records x h = record-means ks (b .addr) (region (b .addr)) x (accepted-ranges f bs accepted b m x h)
+
+    pairs : (us vs : List TimedInstr) (x y : TimedInstr) → b .instrs ≡ us ++ (x ∷ y ∷ vs) → PairMeans ks (b .addr) x y
+    pairs us vs x y e = pair-means ks (b .addr) x y
+
+    closing : (us : List TimedInstr) (x : TimedInstr) → b .instrs ≡ us ++ (x ∷ []) → ClosingMeans ks (bodyOf multiplier b) (x .instr)
+    closing = closing-means multiplier ks b (accepted-consecutive f bs accepted b m) (accepted-aligned f bs accepted b m)

@@ -1,0 +1,130 @@
+-- What is claimed of the text of a whole block, from its first statement to its transfer.
+use Prim.Native.Nat.{ℕ}
+use mathlib.Core.Path.{_≡_}
+use mathlib.Core.Bool.{Bool, true, false, not, _&&_, _||_}
+use mathlib.Core.List.{List, [], _∷_, List·Memᴰ}
+use mathlib.Core.Option.{none, some}
+use Rattle.armv4t.specs.Bit0.{clearBit0}
+use Rattle.armv4t.specs.declared.Op.{Op}
+use Rattle.armv4t.specs.declared.Op.the-variants.{Alu, Mul, MulLong, Swap, Bx, Branch, ThumbBlHigh, ThumbBlLow, Mem, BlockMem, Mrs, MsrReg, MsrImm, Swi, Undefined}
+use Rattle.armv4t.specs.declared.Instr.{Instr}
+use Rattle.armv4t.specs.declared.Fused.the-variants.{Pair, Nothing}
+use Rattle.armv4t.specs.Fused.{fuse}
+use Rattle.instr_records.specs.declared.decode.TimedInstr.{TimedInstr}
+use Rattle.block_file.specs.Parse.{Block}
+use Rattle.block_file.specs.Address.{region, outsideRomBios}
+use Rattle.c_tree.specs.Expr.{u32, x-pc}
+use Rattle.c_meaning.specs.State.{Interpreter, State, interpretedKey, interpreted, Declares}
+use Rattle.manual.specs.Machine.{Machine, Sound}
+use Rattle.manual.specs.Unsaid.{noInstruction, unpredictable, isNv}
+use Rattle.manual.specs.Execute.{execute, keyBehind}
+use Rattle.forms.specs.Forms.{Form, native, shell}
+use Rattle.forms.specs.Block.{emitInstr, hashOf, bodyOf}
+use Rattle.forms.specs.Agree.{Agrees}
+use Rattle.forms.specs.Means.{differsIn}
+use Rattle.lowering.specs.Block.{blockCode}
+use Rattle.lowering.specs.Text.{Leaves}
+use Rattle.lowering.specs.Records.{isTaken}
+
+-- the next call of interp_one acts as a step of the machine: step relates an address and a machine whose next instruction stands there to what may become of it,
+-- with the key where it goes on; the interpreter finds the address in c[15], and leaves there that of the key which it answers
+pub record Steps (step : ℕ → Machine → Machine × ℕ → Type 0) (z : State) (m : Machine) : Type 0 where
+  pub next : Machine × ℕ
+  pub may : step (z .c 15) m next
+  pub sound : Sound (next .0)
+  pub same : Agrees (interpreted z) (next .0)
+  pub answers : interpretedKey z ≡ next .1
+  pub pc : interpreted z .c 15 ≡ clearBit0 (next .1)
+
+-- one call of interp_one does so from every state that agrees with a machine
+abbrev pub Interprets : (ℕ → Machine → Machine × ℕ → Type 0) → Interpreter → Type 0
+Interprets step f = (z : State) (m : Machine) → z .interpreter 0 ≡ f → Sound m → Agrees z m → Steps step z m
+
+-- whether a form is native
+abbrev pub isNative : Form → Bool
+isNative (native r) = true
+isNative (shell high t k) = false
+
+-- whether an operation is half of a Thumb BL
+abbrev pub isHalf : Op → Bool
+isHalf (Alu op s rd rn op2) = false
+isHalf (Mul acc s rd rn rs rm) = false
+isHalf (MulLong signed acc s hi lo rs rm) = false
+isHalf (Swap b rd rm rn) = false
+isHalf (Bx rm) = false
+isHalf (Branch link target) = false
+isHalf (ThumbBlHigh lr) = true
+isHalf (ThumbBlLow off) = true
+isHalf (Mem ld width signed rd rn offset pre up writeback) = false
+isHalf (BlockMem ld rn rlist pre up s-bit writeback) = false
+isHalf (Mrs spsr rd) = false
+isHalf (MsrReg spsr fields rm) = false
+isHalf (MsrImm spsr fields value) = false
+isHalf (Swi imm) = false
+isHalf (Undefined raw) = false
+
+-- whether an instruction is one of which the manual says what it does, and no named difference
+abbrev pub isSaid : Instr → Bool
+isSaid i = not (noInstruction i || unpredictable (i .op) || isNv (i .cond) || differsIn i (i .op))
+
+-- whether a record of a block in a region is covered: the interpreter carries it out, or the manual says what it does
+abbrev pub isCovered : ℕ → TimedInstr → Bool
+isCovered region x = (not (isNative (emitInstr (x .instr .thumb) region 0 x .0)) && not (isHalf (x .instr .op))) || isSaid (x .instr)
+
+-- a record does not fuse with the one behind it
+abbrev pub Alone : TimedInstr → List TimedInstr → Type 0
+Alone x [] = Unit {0}
+Alone x (y ∷ ys) = fuse (x .instr) (y .instr) ≡ Nothing
+
+-- whether a record of a block in a region leaves the block, whatever its key: a native transfer whose condition passes
+abbrev pub leavesBy : ℕ → TimedInstr → Machine → Bool
+leavesBy region x m = isNative (emitInstr (x .instr .thumb) region 0 x .0) && isTaken (x .instr) m
+
+-- a sequence ends with a record that leads from m to next: no record is behind it, or the key is not the one behind it, or it leaves the block
+pub data Ends (region : ℕ) (x : TimedInstr) (xs : List TimedInstr) (m : Machine) (next : Machine × ℕ) : Type 0 where
+  final : xs ≡ [] → Ends region x xs m next
+  away : (next .1 ≡ keyBehind (x .instr) → ⊥) → Ends region x xs m next
+  transfers : leavesBy region x m ≡ true → Ends region x xs m next
+
+module _ (step : ℕ → Machine → Machine × ℕ → Type 0) (region : ℕ) where
+  -- what becomes of a machine by a record that is not fused: a native one (document 01) by the manual, another by the interpreter
+  pub data CarriedOut (x : TimedInstr) (m : Machine) (next : Machine × ℕ) : Type 0 where
+    byManual : isNative (emitInstr (x .instr .thumb) region 0 x .0) ≡ true → execute (x .instr) m ≡ some next → CarriedOut x m next
+    byInterpreter : isNative (emitInstr (x .instr .thumb) region 0 x .0) ≡ false → step (x .instr .addr) m next → CarriedOut x m next
+
+  -- from a machine to another and a key, by records one after the other from the first on
+  pub data Sequence : List TimedInstr → Machine → Machine × ℕ → Type 0 where
+    -- it ends with a record
+    last : (x : TimedInstr) (xs : List TimedInstr) (m : Machine) (next : Machine × ℕ) → Alone x xs → CarriedOut x m next → Ends region x xs m next
+        → Sequence (x ∷ xs) m next
+    -- or with a pair that fuses
+    pair : (x y : TimedInstr) (xs : List TimedInstr) (target ret : ℕ) (m : Machine) (half next : Machine × ℕ) → fuse (x .instr) (y .instr) ≡ Pair target ret
+        → execute (x .instr) m ≡ some half → execute (y .instr) (half .0) ≡ some next → Sequence (x ∷ y ∷ xs) m next
+    -- or goes on behind a record that leads to the one behind it, and does not leave the block
+    more : (x : TimedInstr) (xs : List TimedInstr) (m : Machine) (next out : Machine × ℕ) → Alone x xs → CarriedOut x m next
+        → leavesBy region x m ≡ false → next .1 ≡ keyBehind (x .instr) → Sequence xs (next .0) out → Sequence (x ∷ xs) m out
+
+  -- what becomes of a machine by a block, where z is the state that its text starts in: in ROM or BIOS its records one after the other; elsewhere the same where
+  -- it has code bytes and the guard says yes, and one step of the interpreter where it has none or the guard says no
+  pub data Carries (multiplier : ℕ) (b : Block) (z : State) (m : Machine) (out : Machine × ℕ) : Type 0 where
+    inOrder : outsideRomBios (b .addr) ≡ false → Sequence (b .instrs) m out → Carries multiplier b z m out
+    granted : (hash : ℕ) → outsideRomBios (b .addr) ≡ true → hashOf multiplier b ≡ some hash → (z .answers 0 ≡ 0 → ⊥) → Sequence (b .instrs) m out
+        → Carries multiplier b z m out
+    absent : outsideRomBios (b .addr) ≡ true → hashOf multiplier b ≡ none → step (b .addr) m out → Carries multiplier b z m out
+    refused : (hash : ℕ) → outsideRomBios (b .addr) ≡ true → hashOf multiplier b ≡ some hash → z .answers 0 ≡ 0 → step (b .addr) m out
+        → Carries multiplier b z m out
+
+-- what may become of a machine by numbered steps, where the interpreter's own state decides which one is taken
+abbrev pub oneOf : (ℕ → ℕ → Machine → Machine × ℕ) → ℕ → Machine → Machine × ℕ → Type 0
+oneOf step a m next = (own : ℕ) × (step own a m ≡ next)
+
+-- the text of a block whose records are covered, in a function that declares pc, leaves as the manual and the interpreter say; what it asks of a state holds where
+-- it ends, so the same can be said of the block that a goto leads to
+abbrev pub BlockMeans : ℕ → List ℕ → Block → Type 0
+BlockMeans multiplier ks b =
+    ((x : TimedInstr) → List·Memᴰ x (b .instrs) → isCovered (region (b .addr)) x ≡ true)
+    → (step : ℕ → ℕ → Machine → Machine × ℕ) (z : State) (m : Machine)
+    → ((k : ℕ) → Interprets (oneOf step) (z .interpreter k)) → Declares (z .scopes) (u32, x-pc) → Sound m → Agrees z m
+    → (out : Machine × ℕ) × Carries (oneOf step) (region (b .addr)) multiplier b z m out
+    × Sound (out .0) × (l : Leaves (λ c. blockCode ks (bodyOf multiplier b)) z out)
+    × Declares (l .end .scopes) (u32, x-pc) × ((k : ℕ) → Interprets (oneOf step) (l .end .interpreter k))
