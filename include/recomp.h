@@ -72,7 +72,10 @@ uint32_t recomp_listing(const uint8_t *file, size_t file_len, uint32_t *work, si
  * that along every way through the units, at every size, at most 8,192 instructions are carried out
  * between two calls of the chain gate in a group of several blocks, that a block alone in its group
  * carries out no instruction twice, and that native code of a block outside ROM and BIOS is reached
- * only after the guard said yes to it: `Demand3Of` in crates/ways/specs/Demand3.antt. */
+ * only after the guard said yes to it: `Demand3Of` in crates/ways/specs/Demand3.antt; and that the
+ * text of each block, read by C99, does what the ARM manual says of the instructions that are lowered
+ * to C, and what interp_one does for the others, but for the records that docs/DIFFERENCES.md names
+ * and, as a whole, the blocks that hold one: `MeaningOf` in crates/meaning/specs/Meaning.antt. */
 uint32_t recomp_unit(const uint8_t *file, size_t file_len, uint64_t max_bytes, uint64_t unit,
                      uint32_t *work, size_t work_len, uint8_t *text, size_t text_len,
                      uint64_t *at, uint64_t *length, uint64_t *done, uint64_t *last);

@@ -7,6 +7,7 @@ ghost use Rattle.block_file.specs.Parse.{parse};
 ghost use Rattle.plan.specs.Calls.{partLimit};
 ghost use Rattle.emit_units.specs.Calls.{unitCall};
 ghost use Rattle.ways.specs.Demand3.{Demand3Of};
+ghost use Rattle.meaning.specs.Meaning.{MeaningOf};
 ghost use Rattle.recomp.specs.Answer.{unitNumbers};
 
 // The text of a unit, its length, the blocks done up to its end, and 1 if it is the last. The answer is 0, or the number of the refusal.
@@ -24,6 +25,7 @@ pub extern "C" fn recomp_unit(
 ) -> u32
     ensures { λ r. ⌜ record { number = r; at = now (at .exit); length = now (length .exit); done = now (done .exit); last = now (last .exit); work = now (work .exit); text = now (text .exit) } ≡ unitNumbers (unitCall «max_bytes» k (parse (now (file .entry))) (now (work .entry)) (now (text .entry))) ⌝ }
     ensures { λ r. ⌜ Demand3Of hashMultiplier partLimit «max_bytes» (now (file .entry)) ⌝ }
+    ensures { λ r. ⌜ MeaningOf hashMultiplier (now (file .entry)) ⌝ }
 {
     match unit(file, max_bytes, k, work, text) {
         Translated::Unit {

@@ -1,4 +1,4 @@
-// The public call for a unit, with demand 3 in its promise.
+// The public call for a unit, with demand 3 and the text's meaning in its promise.
 use crate::Translated;
 use emit_units::unit_of;
 ghost use mathlib.Core.Path.{_≡_};
@@ -7,11 +7,14 @@ ghost use Rattle.block_file.specs.Parse.{parse};
 ghost use Rattle.plan.specs.Calls.{partLimit};
 ghost use Rattle.emit_units.specs.Calls.{translatedOf, unitCall};
 ghost use Rattle.ways.specs.Demand3.{Demand3Of};
+ghost use Rattle.meaning.specs.Meaning.{MeaningOf};
 
-// Unit k of a file at a wished size: its text in the front of `text`. Every way through the units of that file at that size keeps demand 3.
+// Unit k of a file at a wished size: its text in the front of `text`. Every way through the units of that file at that size keeps demand 3, and the text
+// of its blocks, read by C99, does what the manual says of their native records.
 pub fn unit(file: &[u8], max_bytes: u64, k: u64, work: &mut [u32], text: &mut [u8]) -> Translated
     ensures { λ r. ⌜ record { answer = translatedOf r; work = now (work .exit); result = now (text .exit) } ≡ unitCall «max_bytes» k (parse (now (file .entry))) (now (work .entry)) (now (text .entry)) ⌝ }
     ensures { λ r. ⌜ Demand3Of hashMultiplier partLimit «max_bytes» (now (file .entry)) ⌝ }
+    ensures { λ r. ⌜ MeaningOf hashMultiplier (now (file .entry)) ⌝ }
 {
     unit_of(file, max_bytes, k, work, text)
 }

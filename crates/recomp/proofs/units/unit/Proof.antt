@@ -1,9 +1,10 @@
--- `recomp::units::unit` meets its contract: the call below it gives the equation, and the theorem on ways gives demand 3.
+-- `recomp::units::unit` meets its contract: the call below it gives the equation, the theorem on ways gives demand 3, and the theorem on the text's meaning that.
 -- Assumes nothing.
 use denote.Ref.{now}
 use Rattle.fnv.specs.Fnv.{hashMultiplier}
 use Rattle.plan.specs.Calls.{partLimit}
 use Rattle.ways.proofs.Demand3.{demand-3-of}
+use Rattle.meaning.proofs.Meaning.{meaning-of}
 use borrow.Author.Needs.{needs}
 use Rattle.recomp.proofs.units.unit.Statement.{statement}
 use Rattle.recomp.proofs.units.unit.Tie as tie
@@ -18,7 +19,8 @@ same-length-2 : tie.Need-same-length-2
 same-length-2 c = search needs
 
 returns : tie.Need-returns
-returns c = (c .before .before .before .before .unit-of .ensures, demand-3-of hashMultiplier partLimit (c .before .before .before .before .before .before .before .before .before .before .args .max-bytes) (now (c .before .before .before .before .before .before .before .before .before .before .args .file)))
+returns c = let file = now (c .before .before .before .before .before .before .before .before .before .before .args .file) in
+    (c .before .before .before .before .unit-of .ensures, (demand-3-of hashMultiplier partLimit (c .before .before .before .before .before .before .before .before .before .before .args .max-bytes) file, meaning-of hashMultiplier file))
 
 pub unit-spec : {M : Type 1} → statement M
 unit-spec = tie.close (tie.spec unit-of-requires same-length same-length-2 returns)
