@@ -72,7 +72,7 @@ pub(crate) fn emit_branch(
 }
 
 // Whether a Bx is carried out here, in a block of a region.
-pub(crate) fn is_bx(region: u32, i: Instr) -> bool
+pub(crate) fn is_native_exit(region: u32, i: Instr) -> bool
     ensures { λ r. ⌜ r ≡ nativeExit region i ⌝ }
 {
     let condition = i.cond;

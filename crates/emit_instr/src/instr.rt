@@ -1,7 +1,7 @@
 // An instruction of a block, by its operation.
 use crate::cycles::with_cost;
 use crate::exits::emit_branch;
-use crate::exits::is_bx;
+use crate::exits::is_native_exit;
 use crate::exits::leave_by_bx;
 use crate::exits::leave_by_pop;
 use crate::shells::emit_half;
@@ -33,7 +33,7 @@ fn emit_any_bx(
     ensures { λ r. ⌜ ((ks : List ℕ) (b : Body) (j : ℕ) (fs : List Form) → last ≡ empty fs → cycles + x .cost < 2 ^ 64 → Steps (now (out .entry)) at ks b j (emitOp thumb region cycles x (Bx rm)) fs (now (out .exit)) r) ⌝ }
 {
     let i = x.instr;
-    if is_bx(region, i) {
+    if is_native_exit(region, i) {
         leave_by_bx(out, at, with_cost(cycles, x.cost), i, rm)
     } else {
         emit_straight(out, at, thumb, false, cycles, x, last)

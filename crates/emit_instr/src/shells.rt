@@ -36,7 +36,7 @@ fn put_shell(out: &mut [u8], at: usize, thumb: bool, cycles: u64, i: Instr, last
 }
 
 // An instruction that is not inlined.
-pub(crate) fn emit_left(
+pub(crate) fn emit_interpreted(
     out: &mut [u8],
     at: usize,
     thumb: bool,

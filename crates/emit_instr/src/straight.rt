@@ -2,7 +2,7 @@
 use crate::bodies::is_inlined;
 use crate::bodies::put_body;
 use crate::cycles::pending;
-use crate::shells::emit_left;
+use crate::shells::emit_interpreted;
 use crate::step::Step;
 use armv4t::Instr;
 use block_file::TimedInstr;
@@ -111,6 +111,6 @@ pub(crate) fn emit_straight(
     if is_inlined(thumb, i) {
         emit_lowered(out, at, thumb, bus, cycles, x)
     } else {
-        emit_left(out, at, thumb, cycles, i, last)
+        emit_interpreted(out, at, thumb, cycles, i, last)
     }
 }

@@ -11,8 +11,8 @@ use borrow.Author.Needs.{needs}
 use Rattle.emit_instr.proofs.instr.emit_any_bx.Statement.{statement}
 use Rattle.emit_instr.proofs.instr.emit_any_bx.Tie as tie
 
-is-bx-requires : tie.Need-is-bx-requires
-is-bx-requires c κs = search needs
+is-native-exit-requires : tie.Need-is-native-exit-requires
+is-native-exit-requires c κs = search needs
 
 with-cost-requires : tie.Need-with-cost-requires
 with-cost-requires c κs = search needs
@@ -34,7 +34,7 @@ returns c =
     λ ks b j fs h g.
     same-form _ _
     (ap (λ (n : ℕ). (Form.native (bx (flushTicks n) (regExpr (a .x .instr) (a .rm))), 0)) (c2 .before .with-cost .ensures g)
-    ∙ chosen (nativeExit (a .region) (a .x .instr)) _ (emitStraight (a .thumb) false (a .cycles) (a .x)) (sym (c1 .before .is-bx .ensures) ∙ c1 .if1 .taken))
+    ∙ chosen (nativeExit (a .region) (a .x .instr)) _ (emitStraight (a .thumb) false (a .cycles) (a .x)) (sym (c1 .before .is-native-exit .ensures) ∙ c1 .if1 .taken))
     (c2 .leave-by-bx .ensures ks b j fs)
 
 same-length-2 : tie.Need-same-length-2
@@ -46,14 +46,14 @@ returns-2 c =
     let c1 = c2 .before .before in
     let a = c1 .before .before .before .before .args in
     λ ks b j fs h g.
-    same-form _ _ (refused (nativeExit (a .region) (a .x .instr)) _ (emitStraight (a .thumb) false (a .cycles) (a .x)) (sym (c1 .before .is-bx .ensures) ∙ c1 .if1 .left))
+    same-form _ _ (refused (nativeExit (a .region) (a .x .instr)) _ (emitStraight (a .thumb) false (a .cycles) (a .x)) (sym (c1 .before .is-native-exit .ensures) ∙ c1 .if1 .left))
     (c2 .emit-straight .ensures ks b j fs h g)
 
 pub emit-any-bx-spec : {M : Type 1} → statement M
 emit-any-bx-spec =
     tie.close
     (tie.spec
-    is-bx-requires
+    is-native-exit-requires
     with-cost-requires
     leave-by-bx-requires
     emit-straight-requires

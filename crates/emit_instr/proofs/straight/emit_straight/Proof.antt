@@ -15,8 +15,8 @@ is-inlined-requires c κs = search needs
 emit-lowered-requires : tie.Need-emit-lowered-requires
 emit-lowered-requires c κs = search needs
 
-emit-left-requires : tie.Need-emit-left-requires
-emit-left-requires c κs = search needs
+emit-interpreted-requires : tie.Need-emit-interpreted-requires
+emit-interpreted-requires c κs = search needs
 
 same-length : tie.Need-same-length
 same-length c = search needs
@@ -42,7 +42,7 @@ returns-2 c =
     λ ks b j fs h g.
     same-form (emitLines (a .thumb) (a .bus) (a .cycles) (a .x) none) _
     (ap (emitLines (a .thumb) (a .bus) (a .cycles) (a .x)) (missing (inlineBody (a .thumb) (a .x .instr)) (sym (c1 .before .is-inlined .ensures) ∙ c1 .if1 .left)))
-    (c2 .emit-left .ensures ks b j fs h)
+    (c2 .emit-interpreted .ensures ks b j fs h)
 
 pub emit-straight-spec : {M : Type 1} → statement M
 emit-straight-spec =
@@ -50,7 +50,7 @@ emit-straight-spec =
     (tie.spec
     is-inlined-requires
     emit-lowered-requires
-    emit-left-requires
+    emit-interpreted-requires
     same-length
     returns
     same-length-2
