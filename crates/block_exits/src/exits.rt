@@ -48,7 +48,7 @@ pub fn key_of(addr: u32, thumb: bool) -> u32
 }
 
 // The key after an instruction.
-fn fall_through(thumb: bool, instr: Instr) -> u32
+pub fn fall_through(thumb: bool, instr: Instr) -> u32
     ensures { λ r. ⌜ r ≡ fallThrough thumb instr ⌝ }
 {
     key_of(std::num::wrapping_add_u32(instr.addr, instr.size()), thumb)

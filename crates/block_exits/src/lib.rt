@@ -6,6 +6,7 @@ pub use calls::Exiting;
 pub use calls::exits_of;
 pub use exits::Exits;
 pub use exits::exits_at;
+pub use exits::fall_through;
 pub use exits::instr_addr;
 pub use exits::instr_of;
 pub use exits::key_of;

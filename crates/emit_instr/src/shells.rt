@@ -1,7 +1,7 @@
 // Instructions left to the interpreter.
 use crate::step::Step;
 use armv4t::Instr;
-use block_exits::key_of;
+use block_exits::fall_through;
 use emit_flow::emit_last_shell;
 use emit_flow::emit_shell;
 ghost use mathlib.Core.Path.{_≡_};
@@ -9,19 +9,11 @@ ghost use mathlib.Core.Bool.{Bool, true, false, not, cond, _&&_};
 ghost use mathlib.Core.List.{List, _∷_};
 ghost use Prim.Native.Nat.{ℕ, _+_};
 ghost use Rattle.c_tree.specs.Stmt.{end};
-ghost use Rattle.block_exits.specs.Exits.{fallThrough};
 ghost use Rattle.forms.specs.Forms.{Form, Body};
 ghost use Rattle.forms.specs.Block.{emitShell};
 ghost use Rattle.lowering.specs.Block.{rest};
 ghost use Rattle.emit_instr.specs.Onward.{Onward};
 ghost use Rattle.emit_instr.specs.Steps.{empty, Steps};
-
-// The key after an instruction.
-fn fall_through(thumb: bool, i: Instr) -> u32
-    ensures { λ r. ⌜ r ≡ fallThrough thumb i ⌝ }
-{
-    key_of(std::num::wrapping_add_u32(i.addr, i.size()), thumb)
-}
 
 // A shell, also for an unfused ThumbBlHigh (high), behind which the closing transfer stands where it is the last of its block.
 fn put_shell(out: &mut [u8], at: usize, thumb: bool, cycles: u64, i: Instr, last: bool) -> usize
