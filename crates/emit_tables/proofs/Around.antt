@@ -17,7 +17,7 @@ use Rattle.c_tree.specs.Print.{casesText, rowText, topText, unitText}
 use Rattle.forms.specs.Forms.{Body}
 use Rattle.forms.specs.Block.{bodyOf}
 use Rattle.lowering.specs.Block.{bodyKey, sp}
-use Rattle.lowering.specs.Units.{forwarders, lastUnitEnd, defaultBody, membersOf}
+use Rattle.lowering.specs.Units.{forwarders, lastUnitEnd, defaultBody, bodiesOf}
 use Rattle.lowering.specs.Measured.{seen}
 use Rattle.lowering.proofs.Measured.{seen-keys}
 use Rattle.emit_flow.specs.Pieces.{tableOpen, tableEnd}
@@ -31,8 +31,8 @@ body-keys multiplier [] = refl
 body-keys multiplier (b ∷ bs) = ap (λ (ks : List ℕ). blockKey b ∷ ks) (body-keys multiplier bs)
 
 -- and so have those of some of them, by their numbers
-pub member-keys : (multiplier : ℕ) (bs : List Block) (is : List ℕ) → HaveKeys (membersOf (map (bodyOf multiplier) bs) is) (keysOf bs is)
-unfolding bodyOf membersOf
+pub member-keys : (multiplier : ℕ) (bs : List Block) (is : List ℕ) → HaveKeys (bodiesOf (map (bodyOf multiplier) bs) is) (keysOf bs is)
+unfolding bodyOf bodiesOf
 member-keys multiplier bs [] = refl
 member-keys multiplier bs (i ∷ is) = ap₂ (λ (k : ℕ) (ks : List ℕ). k ∷ ks) (at bs i) (member-keys multiplier bs is)
   where
@@ -46,8 +46,8 @@ pub seen-body-keys : (written : Bool) (multiplier : ℕ) (bs : List Block) → H
 seen-body-keys written multiplier bs = seen-keys written (map (bodyOf multiplier) bs) ∙ body-keys multiplier bs
 
 pub seen-member-keys : (written : Bool) (multiplier : ℕ) (bs : List Block) (is : List ℕ)
-    → HaveKeys (map (seen written) (membersOf (map (bodyOf multiplier) bs) is)) (keysOf bs is)
-seen-member-keys written multiplier bs is = seen-keys written (membersOf (map (bodyOf multiplier) bs) is) ∙ member-keys multiplier bs is
+    → HaveKeys (map (seen written) (bodiesOf (map (bodyOf multiplier) bs) is)) (keysOf bs is)
+seen-member-keys written multiplier bs is = seen-keys written (bodiesOf (map (bodyOf multiplier) bs) is) ∙ member-keys multiplier bs is
 
 -- the end of the last unit
 pub end-keys : (bs : List Body) (ks : List ℕ) (n : ℕ) (k : List ℕ) → HaveKeys bs ks → n ≡ length ks

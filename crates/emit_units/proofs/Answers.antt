@@ -13,7 +13,7 @@ use Rattle.block_file.specs.Parse.{Block, Parsed, blocksOf, Accepted}
 use Rattle.records.specs.Trailer.{blockCount}
 use Rattle.block_file.proofs.Accepted.{length-of}
 use Rattle.plan.specs.Calls.{cleared, Made, Outcome, handOver, callOnBlocks, callOnFile}
-use Rattle.lowering.specs.Units.{UnitAnswer, answerOf, unit, textOf, fileUnits}
+use Rattle.lowering.specs.Units.{UnitAnswer, unitAnswer, unit, textOf, fileUnits}
 use Rattle.emit_units.specs.declared.extents.Extent.{Extent}
 use Rattle.emit_units.specs.Calls.{UnitValues, madeUnit}
 use Rattle.emit_units.specs.Units.{IsUnit}
@@ -39,11 +39,11 @@ module _ (f : List ℕ) (limit max k : ℕ) (work result : List ℕ) where
   -- there is no such unit
   pub unit-none : getElem? (fileUnits hashMultiplier limit max (blocksOf f)) k ≡ none
       → record { answer = refusal 9 0; work = work; result = result } ≡ handOver (madeUnit (unit hashMultiplier limit max (blocksOf f) k)) work result
-  unit-none e = sym (ap over (get-none answerOf (fileUnits hashMultiplier limit max (blocksOf f)) k e))
+  unit-none e = sym (ap over (get-none unitAnswer (fileUnits hashMultiplier limit max (blocksOf f)) k e))
 
   module _ {e : Extent} (is : IsUnit f limit max k e) where
-    there : unit hashMultiplier limit max (blocksOf f) k ≡ some (answerOf (is .unit))
-    there = get-some answerOf (fileUnits hashMultiplier limit max (blocksOf f)) k (is .unit) (is .found)
+    there : unit hashMultiplier limit max (blocksOf f) k ≡ some (unitAnswer (is .unit))
+    there = get-some unitAnswer (fileUnits hashMultiplier limit max (blocksOf f)) k (is .unit) (is .found)
 
     -- the result is too short for its text
     pub unit-long : length result < e .length

@@ -19,32 +19,32 @@ use Rattle.members.specs.Prepared.{Ready}
 use Rattle.members.proofs.Places.{start-next, start-inside, group-left, group-has}
 use Rattle.c_tree.specs.Stmt.{Top}
 use Rattle.forms.specs.Forms.{Body}
-use Rattle.lowering.specs.Units.{TranslationUnit, emitGroup, unitHead, lastUnitEnd, textOf, cut, defaultBody, membersOf, unitsOf, unitsFor, fileUnits}
+use Rattle.lowering.specs.Units.{TranslationUnit, emitGroup, unitHead, lastUnitEnd, textOf, cut, defaultBody, bodiesOf, unitsOf, unitsFor, fileUnits}
 use Rattle.lowering.proofs.Lengths.{text-append, units-short}
 use Rattle.emit_units.specs.declared.extents.Extent.{Extent}
-use Rattle.emit_units.specs.Groups.{bodiesOf}
+use Rattle.emit_units.specs.Groups.{fileBodies}
 use Rattle.emit_units.specs.Units.{after, grown, unitGroups, unitTree, unitsWith, unitsFrom, FirstUnit, IsUnit}
 
 -- a group behind some
-pub grown-last : (bs : List Body) (ts : List Top) (gs : List (List ℕ)) (is : List ℕ) → grown bs ts (gs ++ (is ∷ [])) ≡ grown bs ts gs ++ emitGroup (membersOf bs is)
+pub grown-last : (bs : List Body) (ts : List Top) (gs : List (List ℕ)) (is : List ℕ) → grown bs ts (gs ++ (is ∷ [])) ≡ grown bs ts gs ++ emitGroup (bodiesOf bs is)
 unfolding grown
 grown-last bs ts [] is = refl
-grown-last bs ts (js ∷ gs) is = grown-last bs (ts ++ emitGroup (membersOf bs js)) gs is
+grown-last bs ts (js ∷ gs) is = grown-last bs (ts ++ emitGroup (bodiesOf bs js)) gs is
 
 -- one group more from group g on
 pub grown-next : (bs : List Body) (ts : List Top) (gs : List (List ℕ)) (g size : ℕ) → g + size < length gs
-    → grown bs ts (take (suc size) (drop g gs)) ≡ grown bs ts (take size (drop g gs)) ++ emitGroup (membersOf bs (getD gs (g + size) []))
+    → grown bs ts (take (suc size) (drop g gs)) ≡ grown bs ts (take size (drop g gs)) ++ emitGroup (bodiesOf bs (getD gs (g + size) []))
 grown-next bs ts gs g size h =
     ap (grown bs ts) (take-suc (drop g gs) size [] (omega (arith, length-drop g gs)))
     ∙ grown-last bs ts (take size (drop g gs)) (getD (drop g gs) size [])
-    ∙ ap (λ (is : List ℕ). grown bs ts (take size (drop g gs)) ++ emitGroup (membersOf bs is)) (getD-drop g gs size [])
+    ∙ ap (λ (is : List ℕ). grown bs ts (take size (drop g gs)) ++ emitGroup (bodiesOf bs is)) (getD-drop g gs size [])
 
 module _ (f : List ℕ) (limit max : ℕ) where
   abbrev gs : List (List ℕ)
   gs = groups limit (blocksOf f)
 
   abbrev groupTree : ℕ → List Top
-  groupTree j = emitGroup (membersOf (bodiesOf f) (getD gs j []))
+  groupTree j = emitGroup (bodiesOf (fileBodies f) (getD gs j []))
 
   -- the unit that is handed on after group j
   abbrev handed : List Top → ℕ → TranslationUnit
@@ -54,39 +54,39 @@ module _ (f : List ℕ) (limit max : ℕ) where
   cut-group : (ts : List Top) (j : ℕ) → j < length gs
       → unitsWith f limit max ts j
       ≡ cond (leb max (length (textOf (ts ++ groupTree j)))) (handed ts j ∷ unitsFrom f limit max (suc j)) (unitsWith f limit max (ts ++ groupTree j) (suc j))
-  unfolding cut membersOf
+  unfolding cut bodiesOf
   cut-group ts j h =
-      let size : startOf gs j + length (membersOf (bodiesOf f) (getD gs j [])) ≡ startOf gs (suc j) = omega (arith, start-next gs j, length-map (getD gs j []) (λ (i : ℕ). getD (bodiesOf f) i defaultBody)) in
-      ap (λ (hs : List (List ℕ)). cut max (lastUnitEnd (bodiesOf f)) ts (startOf gs j) (map (membersOf (bodiesOf f)) hs)) (drop-cons gs j [] h)
+      let size : startOf gs j + length (bodiesOf (fileBodies f) (getD gs j [])) ≡ startOf gs (suc j) = omega (arith, start-next gs j, length-map (getD gs j []) (λ (i : ℕ). getD (fileBodies f) i defaultBody)) in
+      ap (λ (hs : List (List ℕ)). cut max (lastUnitEnd (fileBodies f)) ts (startOf gs j) (map (bodiesOf (fileBodies f)) hs)) (drop-cons gs j [] h)
       ∙ ap
       (λ (n : ℕ).
       cond (leb max (length (textOf (ts ++ groupTree j))))
-      (record { tree = ts ++ groupTree j; done = n; last = false } ∷ cut max (lastUnitEnd (bodiesOf f)) unitHead n (map (membersOf (bodiesOf f)) (drop (suc j) gs)))
-      (cut max (lastUnitEnd (bodiesOf f)) (ts ++ groupTree j) n (map (membersOf (bodiesOf f)) (drop (suc j) gs))))
+      (record { tree = ts ++ groupTree j; done = n; last = false } ∷ cut max (lastUnitEnd (fileBodies f)) unitHead n (map (bodiesOf (fileBodies f)) (drop (suc j) gs)))
+      (cut max (lastUnitEnd (fileBodies f)) (ts ++ groupTree j) n (map (bodiesOf (fileBodies f)) (drop (suc j) gs))))
       size
 
   pub cut-handed : (ts : List Top) (j : ℕ) → j < length (groups limit (blocksOf f))
-      → max ≤ length (textOf (ts ++ emitGroup (membersOf (bodiesOf f) (getD (groups limit (blocksOf f)) j []))))
+      → max ≤ length (textOf (ts ++ emitGroup (bodiesOf (fileBodies f) (getD (groups limit (blocksOf f)) j []))))
       → unitsWith f limit max ts j
-      ≡ record { tree = ts ++ emitGroup (membersOf (bodiesOf f) (getD (groups limit (blocksOf f)) j [])); done = startOf (groups limit (blocksOf f)) (suc j); last = false }
+      ≡ record { tree = ts ++ emitGroup (bodiesOf (fileBodies f) (getD (groups limit (blocksOf f)) j [])); done = startOf (groups limit (blocksOf f)) (suc j); last = false }
       ∷ unitsFrom f limit max (suc j)
   cut-handed ts j h long =
       cut-group ts j h
       ∙ ap (λ (x : Bool). cond x (handed ts j ∷ unitsFrom f limit max (suc j)) (unitsWith f limit max (ts ++ groupTree j) (suc j))) (le-leb _ _ long)
 
   pub cut-on : (ts : List Top) (j : ℕ) → j < length (groups limit (blocksOf f))
-      → length (textOf (ts ++ emitGroup (membersOf (bodiesOf f) (getD (groups limit (blocksOf f)) j [])))) < max
-      → unitsWith f limit max ts j ≡ unitsWith f limit max (ts ++ emitGroup (membersOf (bodiesOf f) (getD (groups limit (blocksOf f)) j []))) (suc j)
+      → length (textOf (ts ++ emitGroup (bodiesOf (fileBodies f) (getD (groups limit (blocksOf f)) j [])))) < max
+      → unitsWith f limit max ts j ≡ unitsWith f limit max (ts ++ emitGroup (bodiesOf (fileBodies f) (getD (groups limit (blocksOf f)) j []))) (suc j)
   cut-on ts j h short =
       cut-group ts j h
       ∙ ap (λ (x : Bool). cond x (handed ts j ∷ unitsFrom f limit max (suc j)) (unitsWith f limit max (ts ++ groupTree j) (suc j))) (lt-leb _ _ short)
 
   -- behind the last group
   pub cut-end : (ts : List Top) (j : ℕ) → j ≡ length (groups limit (blocksOf f))
-      → unitsWith f limit max ts j ≡ record { tree = ts ++ lastUnitEnd (bodiesOf f); done = startOf (groups limit (blocksOf f)) j; last = true } ∷ []
+      → unitsWith f limit max ts j ≡ record { tree = ts ++ lastUnitEnd (fileBodies f); done = startOf (groups limit (blocksOf f)) j; last = true } ∷ []
   unfolding cut
   cut-end ts j e =
-      ap (λ (hs : List (List ℕ)). cut max (lastUnitEnd (bodiesOf f)) ts (startOf gs j) (map (membersOf (bodiesOf f)) hs)) (ap (λ (i : ℕ). drop i gs) e ∙ drop-length gs)
+      ap (λ (hs : List (List ℕ)). cut max (lastUnitEnd (fileBodies f)) ts (startOf gs j) (map (bodiesOf (fileBodies f)) hs)) (ap (λ (i : ℕ). drop i gs) e ∙ drop-length gs)
 
   -- the units from group 0 on are all
   pub units-all : unitsFrom f limit max 0 ≡ fileUnits hashMultiplier limit max (blocksOf f)
@@ -126,10 +126,10 @@ module _ {f : List ℕ} {n limit : ℕ} {work : List ℕ} (ready : Ready f n lim
   sofar = unitGroups f limit g (w .size)
 
   abbrev next : List Top
-  next = emitGroup (membersOf (bodiesOf f) (getD (groups limit (blocksOf f)) (g + w .size) []))
+  next = emitGroup (bodiesOf (fileBodies f) (getD (groups limit (blocksOf f)) (g + w .size) []))
 
   module _ (left : q < n) (end at′ : ℕ) (ends : end ≡ startOf (groups limit (blocksOf f)) (suc (g + w .size)))
-      (long : at′ ≡ after at (emitGroup (membersOf (bodiesOf f) (getD (groups limit (blocksOf f)) (g + w .size) [])))) (most : max ≤ top) where
+      (long : at′ ≡ after at (emitGroup (bodiesOf (fileBodies f) (getD (groups limit (blocksOf f)) (g + w .size) [])))) (most : max ≤ top) where
     inside : g + w .size < length (groups limit (blocksOf f))
     inside = group-left ready (g + w .size) (omega (arith, w .here))
 
@@ -140,7 +140,7 @@ module _ {f : List ℕ} {n limit : ℕ} {work : List ℕ} (ready : Ready f n lim
     bytes = long ∙ ap (λ (m : ℕ). after m next) (w .bytes) ∙ after-both sofar next
 
     tree : sofar ++ next ≡ unitGroups f limit g (suc (w .size))
-    tree = sym (grown-next (bodiesOf f) unitHead (groups limit (blocksOf f)) g (w .size) inside)
+    tree = sym (grown-next (fileBodies f) unitHead (groups limit (blocksOf f)) g (w .size) inside)
 
     -- a group after which the unit goes on
     pub walked-more : at′ < max → Walked f limit max g end at′
@@ -169,17 +169,17 @@ module _ {f : List ℕ} {n limit : ℕ} {work : List ℕ} (ready : Ready f n lim
         }
 
   -- where no row is left
-  pub walked-end : (start length : ℕ) → start ≡ startOf (groups limit (blocksOf f)) g → n ≤ q → length ≡ after at (lastUnitEnd (bodiesOf f))
+  pub walked-end : (start length : ℕ) → start ≡ startOf (groups limit (blocksOf f)) g → n ≤ q → length ≡ after at (lastUnitEnd (fileBodies f))
       → FirstUnit f limit max g (record { start = start; end = q; length = length; last = true })
   walked-end start length first none-left long =
       record {
         size = w .size;
         takes = record { within = w .within; start = first; end = w .here };
-        bytes = long ∙ ap (λ (m : ℕ). after m (lastUnitEnd (bodiesOf f))) (w .bytes) ∙ after-both sofar (lastUnitEnd (bodiesOf f));
+        bytes = long ∙ ap (λ (m : ℕ). after m (lastUnitEnd (fileBodies f))) (w .bytes) ∙ after-both sofar (lastUnitEnd (fileBodies f));
         units =
             w .units
             ∙ cut-end f limit max sofar (g + w .size) all
-            ∙ ap (λ (d : ℕ). record { tree = sofar ++ lastUnitEnd (bodiesOf f); done = d; last = true } ∷ []) (sym (w .here));
+            ∙ ap (λ (d : ℕ). record { tree = sofar ++ lastUnitEnd (fileBodies f); done = d; last = true } ∷ []) (sym (w .here));
       }
     where
       all : g + w .size ≡ ListN·length (groups limit (blocksOf f))

@@ -19,10 +19,10 @@ use Rattle.c_tree.specs.Stmt.{Top}
 use Rattle.c_tree.specs.Print.{topText, unitText}
 use Rattle.forms.specs.Forms.{Body}
 use Rattle.lowering.specs.Measured.{seen}
-use Rattle.lowering.specs.Units.{emitGroup, unitHead, lastUnitEnd, membersOf}
+use Rattle.lowering.specs.Units.{emitGroup, unitHead, lastUnitEnd, bodiesOf}
 use Rattle.lowering.proofs.Measured.{seen-written}
 use Rattle.emit_units.specs.declared.extents.Extent.{Extent}
-use Rattle.emit_units.specs.Groups.{bodiesOf, groupText}
+use Rattle.emit_units.specs.Groups.{fileBodies, groupText}
 use Rattle.emit_units.specs.Units.{grown, unitGroups, unitTree, Takes}
 
 -- bodies as they are written are themselves
@@ -32,11 +32,11 @@ all-written (b ∷ bs) = ap₂ (λ (c : Body) (cs : List Body). c ∷ cs) (seen-
 
 -- a tree with some groups behind it
 grown-text : (f : List ℕ) (ts : List Top) (gs : List (List ℕ)) (k : List ℕ)
-    → flat (unitText ts ▸ each (groupText true f) gs) k ≡ flat (unitText (grown (bodiesOf f) ts gs)) k
+    → flat (unitText ts ▸ each (groupText true f) gs) k ≡ flat (unitText (grown (fileBodies f) ts gs)) k
 unfolding grown
 grown-text f ts [] k = refl
 grown-text f ts (is ∷ gs) k =
-    let ms : List Body = membersOf (bodiesOf f) is in
+    let ms : List Body = bodiesOf (fileBodies f) is in
     ap (λ (bs : List Body). flat (unitText ts ▸ unitText (emitGroup bs)) (flat (each (groupText true f) gs) k)) (all-written ms)
     ∙ each-append topText ts (emitGroup ms) (flat (each (groupText true f) gs) k)
     ∙ grown-text f (ts ++ emitGroup ms) gs k
@@ -54,11 +54,11 @@ module _ (f : List ℕ) (limit g size : ℕ) {o o₁ o₂ : List ℕ} {r₁ r₂
       ∙ ap (λ (ts : List Top). flat (unitText ts) []) (sym (is ∙ ap (unitTree f limit g size) e)))
 
   -- the last
-  pub unit-last : {o₃ : List ℕ} {r₃ : ℕ} → last ≡ true → Wrote o₂ r₂ (unitText (lastUnitEnd (bodiesOf f))) o₃ r₃ → Wrote o 0 (unitText tree) o₃ r₃
+  pub unit-last : {o₃ : List ℕ} {r₃ : ℕ} → last ≡ true → Wrote o₂ r₂ (unitText (lastUnitEnd (fileBodies f))) o₃ r₃ → Wrote o 0 (unitText tree) o₃ r₃
   unit-last e end =
       said (seq head (seq body end))
-      (grown-text f unitHead gs (flat (unitText (lastUnitEnd (bodiesOf f))) [])
-      ∙ each-append topText (unitGroups f limit g size) (lastUnitEnd (bodiesOf f)) []
+      (grown-text f unitHead gs (flat (unitText (lastUnitEnd (fileBodies f))) [])
+      ∙ each-append topText (unitGroups f limit g size) (lastUnitEnd (fileBodies f)) []
       ∙ ap (λ (ts : List Top). flat (unitText ts) []) (sym (is ∙ ap (unitTree f limit g size) e)))
 
 -- a later group starts no earlier

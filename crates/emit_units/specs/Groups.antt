@@ -12,29 +12,29 @@ use Rattle.forms.specs.Block.{bodyOf}
 use Rattle.forms.specs.Forms.{Body}
 use Rattle.lowering.specs.Block.{bodyKey, nl, blockCode}
 use Rattle.lowering.specs.Measured.{seen}
-use Rattle.lowering.specs.Units.{emitGroup, labelled, defaultBody, membersOf}
+use Rattle.lowering.specs.Units.{emitGroup, labelled, defaultBody, bodiesOf}
 use Rattle.emit_tables.specs.Tables.{groupKeys}
 
 -- the bodies of a file's blocks
-abbrev pub bodiesOf : List ℕ → List Body
-bodiesOf f = map (bodyOf hashMultiplier) (blocksOf f)
+abbrev pub fileBodies : List ℕ → List Body
+fileBodies f = map (bodyOf hashMultiplier) (blocksOf f)
 
 -- the code of block i, written or measured, where ks are the keys of its group
 abbrev pub memberText : Bool → List ℕ → List ℕ → ℕ → Doc
-memberText written f ks i = codeText (blockCode ks (seen written (getD (bodiesOf f) i defaultBody)))
+memberText written f ks i = codeText (blockCode ks (seen written (getD (fileBodies f) i defaultBody)))
 
 -- the same with its label before it and a line end behind
 abbrev pub labelledText : Bool → List ℕ → List ℕ → ℕ → Doc
 labelledText written f ks i =
-    codeText (label (bodyKey (getD (bodiesOf f) i defaultBody)) ⨾ nl ⨾ end) ▸ memberText written f ks i ▸ codeText (nl ⨾ end)
+    codeText (label (bodyKey (getD (fileBodies f) i defaultBody)) ⨾ nl ⨾ end) ▸ memberText written f ks i ▸ codeText (nl ⨾ end)
 
 -- the labelled code of some blocks, written or measured, where ks are the keys of their group
 abbrev pub membersText : Bool → List ℕ → List ℕ → List ℕ → Doc
-membersText written f ks is = codeText (labelled ks (map (seen written) (membersOf (bodiesOf f) is)))
+membersText written f ks is = codeText (labelled ks (map (seen written) (bodiesOf (fileBodies f) is)))
 
 -- the functions of a group of some blocks, written or measured
 abbrev pub groupText : Bool → List ℕ → List ℕ → Doc
-groupText written f is = unitText (emitGroup (map (seen written) (membersOf (bodiesOf f) is)))
+groupText written f is = unitText (emitGroup (map (seen written) (bodiesOf (fileBodies f) is)))
 
 -- the keys that a member of group g transfers to by a goto: none where it is alone
 abbrev pub keysWithin : Bool → ℕ → List ℕ → ℕ → List ℕ

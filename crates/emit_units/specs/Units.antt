@@ -12,10 +12,10 @@ use Rattle.plan.specs.Plan.{groups}
 use Rattle.members.specs.Members.{startOf}
 use Rattle.c_tree.specs.Stmt.{Top}
 use Rattle.forms.specs.Forms.{Body}
-use Rattle.lowering.specs.Units.{TranslationUnit, emitGroup, unitHead, lastUnitEnd, textOf, cut, membersOf, fileUnits}
+use Rattle.lowering.specs.Units.{TranslationUnit, emitGroup, unitHead, lastUnitEnd, textOf, cut, bodiesOf, fileUnits}
 use Rattle.emit_units.specs.declared.extents.Extent.{Extent}
 use Rattle.emit_units.specs.declared.extents.Found.{Found}
-use Rattle.emit_units.specs.Groups.{bodiesOf}
+use Rattle.emit_units.specs.Groups.{fileBodies}
 
 -- the length of at bytes and the text of a tree, or the largest `usize` where that is less
 abbrev pub after : ℕ → List Top → ℕ
@@ -24,20 +24,20 @@ after at ts = min (at + length (textOf ts)) top
 -- a tree with some groups behind it
 unfoldable pub grown : List Body → List Top → List (List ℕ) → List Top
 grown bs ts [] = ts
-grown bs ts (is ∷ gs) = grown bs (ts ++ emitGroup (membersOf bs is)) gs
+grown bs ts (is ∷ gs) = grown bs (ts ++ emitGroup (bodiesOf bs is)) gs
 
 -- so many groups of a file from group g on, as a unit has them
 abbrev pub unitGroups : List ℕ → ℕ → ℕ → ℕ → List Top
-unitGroups f limit g size = grown (bodiesOf f) unitHead (take size (drop g (groups limit (blocksOf f))))
+unitGroups f limit g size = grown (fileBodies f) unitHead (take size (drop g (groups limit (blocksOf f))))
 
 -- the tree of a unit with so many groups from group g on
 abbrev pub unitTree : List ℕ → ℕ → ℕ → ℕ → Bool → List Top
-unitTree f limit g size last = cond last (unitGroups f limit g size ++ lastUnitEnd (bodiesOf f)) (unitGroups f limit g size)
+unitTree f limit g size last = cond last (unitGroups f limit g size ++ lastUnitEnd (fileBodies f)) (unitGroups f limit g size)
 
 -- the units of the groups from group g on, where the tree of the one reached is ts
 abbrev pub unitsWith : List ℕ → ℕ → ℕ → List Top → ℕ → List TranslationUnit
 unitsWith f limit max ts g =
-    cut max (lastUnitEnd (bodiesOf f)) ts (startOf (groups limit (blocksOf f)) g) (map (membersOf (bodiesOf f)) (drop g (groups limit (blocksOf f))))
+    cut max (lastUnitEnd (fileBodies f)) ts (startOf (groups limit (blocksOf f)) g) (map (bodiesOf (fileBodies f)) (drop g (groups limit (blocksOf f))))
 
 -- where nothing of one is reached yet
 abbrev pub unitsFrom : List ℕ → ℕ → ℕ → ℕ → List TranslationUnit

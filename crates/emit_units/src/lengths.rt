@@ -7,10 +7,10 @@ ghost use Prim.Native.Nat.{ℕ, _*_, _≤_, _<_};
 ghost use lib.ListN.{length};
 ghost use Rattle.records.specs.Trailer.{blockCount};
 ghost use Rattle.block_file.specs.Parse.{blocksOf, Accepted};
-ghost use Rattle.lowering.specs.Units.{emitGroup, unitHead, lastUnitEnd, membersOf as Units·membersOf};
+ghost use Rattle.lowering.specs.Units.{emitGroup, unitHead, lastUnitEnd, bodiesOf};
 ghost use Rattle.members.specs.Members.{membersOf};
 ghost use Rattle.emit_tables.specs.Tables.{IsGroup};
-ghost use Rattle.emit_units.specs.Groups.{bodiesOf};
+ghost use Rattle.emit_units.specs.Groups.{fileBodies};
 ghost use Rattle.emit_units.specs.Units.{after};
 
 // The length of PREAMBLE and the empty line.
@@ -31,7 +31,7 @@ pub(crate) fn after_group(
     end: usize,
 ) -> usize
     requires { ⌜ (4 * n ≤ length (now work)) × (n ≤ 65536) × (n ≡ blockCount (now file)) × (p < end) × (end ≤ n) ⌝ }
-    ensures { λ r. ⌜ ((limit g : ℕ) → IsGroup (now (file .entry)) n limit (now (work .entry)) g p end → r ≡ after at (emitGroup (Units·membersOf (bodiesOf (now (file .entry))) (membersOf limit (blocksOf (now (file .entry))) g)))) ⌝ }
+    ensures { λ r. ⌜ ((limit g : ℕ) → IsGroup (now (file .entry)) n limit (now (work .entry)) g p end → r ≡ after at (emitGroup (bodiesOf (fileBodies (now (file .entry))) (membersOf limit (blocksOf (now (file .entry))) g)))) ⌝ }
 {
     let mut nothing = [0u8; 0];
     emit_group(&mut nothing, at, file, work, n, p, end, false)
@@ -40,7 +40,7 @@ pub(crate) fn after_group(
 // The length of at bytes and the end of the last unit.
 pub(crate) fn after_tail(at: usize, file: &[u8], n: usize) -> usize
     requires { ⌜ (n ≡ blockCount (now file)) × Accepted (now file) ⌝ }
-    ensures { λ r. ⌜ r ≡ after at (lastUnitEnd (bodiesOf (now (file .entry)))) ⌝ }
+    ensures { λ r. ⌜ r ≡ after at (lastUnitEnd (fileBodies (now (file .entry)))) ⌝ }
 {
     let mut nothing = [0u8; 0];
     put_tail(&mut nothing, at, file, n)

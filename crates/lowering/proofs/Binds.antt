@@ -19,7 +19,7 @@ use Rattle.forms.proofs.Binds.{plainsBind, linesBind, nativeBinds, formBinds, f
 use Rattle.forms.proofs.Every.{Each}
 use Rattle.lowering.specs.Block.{bodyKey, nl, sp, leave, line, lines, chain, transfer, closing, conditional, nativeText, rest, underGuard, blockCode}
 use Rattle.block_file.specs.Address.{among, outsideRomBios}
-use Rattle.lowering.specs.Units.{withLocals, emitBlock, labelled, groupCode, forwarders, emitGroup, unitHead, lastUnitEnd, TranslationUnit, textOf, cut, defaultBody, membersOf, unitsOf}
+use Rattle.lowering.specs.Units.{withLocals, emitBlock, labelled, groupCode, forwarders, emitGroup, unitHead, lastUnitEnd, TranslationUnit, textOf, cut, defaultBody, bodiesOf, unitsOf}
 
 left : (a b : Bool) → (a && b) ≡ true → a ≡ true
 left true b e = refl
@@ -207,12 +207,12 @@ body-binds [] h i = (tt, refl)
 body-binds (b ∷ bs) h zero = h .0
 body-binds (b ∷ bs) h (suc i) = body-binds bs (h .1) i
 
-members-bind : (bs : List Body) → AllBinding bs → (is : List ℕ) → AllBinding (membersOf bs is)
-unfolding membersOf
+members-bind : (bs : List Body) → AllBinding bs → (is : List ℕ) → AllBinding (bodiesOf bs is)
+unfolding bodiesOf
 members-bind bs h [] = tt
 members-bind bs h (i ∷ is) = (body-binds bs h i, members-bind bs h is)
 
-groups-bind : (bs : List Body) → AllBinding bs → (gs : List (List ℕ)) → Each AllBinding (map (membersOf bs) gs)
+groups-bind : (bs : List Body) → AllBinding bs → (gs : List (List ℕ)) → Each AllBinding (map (bodiesOf bs) gs)
 groups-bind bs h [] = tt
 groups-bind bs h (g ∷ gs) = (members-bind bs h g, groups-bind bs h gs)
 
@@ -227,4 +227,4 @@ unfolding unitsOf
 units-bind multiplier max bs gs u m =
     let bodies = map (bodyOf multiplier) bs in
     tree-binds (u .tree)
-    (cut-binds max (lastUnitEnd bodies) unitHead 0 (map (membersOf bodies) gs) (end-binds bodies) head-binds (groups-bind bodies (bodies-bind multiplier bs) gs) u m)
+    (cut-binds max (lastUnitEnd bodies) unitHead 0 (map (bodiesOf bodies) gs) (end-binds bodies) head-binds (groups-bind bodies (bodies-bind multiplier bs) gs) u m)

@@ -35,7 +35,7 @@ use Rattle.forms.proofs.Lengths.{plainsMost, linesMost, nativeMost, formMost, f
 use Rattle.lowering.specs.Block.{bodyKey, bodyEnd, nl, sp, line, lines, chain, transfer, closing, conditional, leave, toThumb, toArm, nativeText, shellCode, rest, underGuard, blockCode}
 use Rattle.records.specs.BlockRecord.{keyPlus}
 use Rattle.block_file.specs.Address.{among, outsideRomBios}
-use Rattle.lowering.specs.Units.{withLocals, emitBlock, labelled, groupCode, forwarders, emitGroup, unitHead, lastUnitEnd, TranslationUnit, textOf, cut, defaultBody, membersOf, unitsOf}
+use Rattle.lowering.specs.Units.{withLocals, emitBlock, labelled, groupCode, forwarders, emitGroup, unitHead, lastUnitEnd, TranslationUnit, textOf, cut, defaultBody, bodiesOf, unitsOf}
 
 -- the most bytes of the text of code
 abbrev codeMost : Code → ℕ
@@ -259,8 +259,8 @@ pub text-append : (ts us : List Top) → length (textOf (ts ++ us)) ≡ length (
 unfolding textOf
 text-append ts us = length-unit ts us
 
-group-below : (bs : List Body) (g : List ℕ) (gs : List (List ℕ)) → List·Memᴰ g gs → membersMost (membersOf bs g) ≤ groupsMost (map (membersOf bs) gs)
-group-below bs g (h ∷ gs) (List·Memᴰ·head e) = omega (arith, ap (λ (k : List ℕ). membersMost (membersOf bs k)) e)
+group-below : (bs : List Body) (g : List ℕ) (gs : List (List ℕ)) → List·Memᴰ g gs → membersMost (bodiesOf bs g) ≤ groupsMost (map (bodiesOf bs) gs)
+group-below bs g (h ∷ gs) (List·Memᴰ·head e) = omega (arith, ap (λ (k : List ℕ). membersMost (bodiesOf bs k)) e)
 group-below bs g (h ∷ gs) (List·Memᴰ·tail m) = omega (arith, group-below bs g gs m)
 
 -- tops with a text of at most n bytes
@@ -298,12 +298,12 @@ member-short [] h i = record { forms = tt; closing = omega arith; count = omega 
 member-short (b ∷ bs) h zero = h .0
 member-short (b ∷ bs) h (suc i) = member-short bs (h .1) i
 
-members-short : (bs : List Body) → Each Short bs → (is : List ℕ) → Each Short (membersOf bs is)
-unfolding membersOf
+members-short : (bs : List Body) → Each Short bs → (is : List ℕ) → Each Short (bodiesOf bs is)
+unfolding bodiesOf
 members-short bs h [] = tt
 members-short bs h (i ∷ is) = (member-short bs h i, members-short bs h is)
 
-groups-short : (bs : List Body) → Each Short bs → (gs : List (List ℕ)) → Each (Each Short) (map (membersOf bs) gs)
+groups-short : (bs : List Body) → Each Short bs → (gs : List (List ℕ)) → Each (Each Short) (map (bodiesOf bs) gs)
 groups-short bs h [] = tt
 groups-short bs h (g ∷ gs) = (members-short bs h g, groups-short bs h gs)
 
@@ -311,8 +311,8 @@ groups-short bs h (g ∷ gs) = (members-short bs h g, groups-short bs h gs)
 costs : List Body → List ℕ
 costs bs = map (λ (b : Body). membersMost (b ∷ [])) bs
 
-members-cost : (bs : List Body) (is : List ℕ) → ((i : ℕ) → List·Memᴰ i is → i < length bs) → membersMost (membersOf bs is) ≡ instructions (costs bs) is
-unfolding membersOf instructions costs
+members-cost : (bs : List Body) (is : List ℕ) → ((i : ℕ) → List·Memᴰ i is → i < length bs) → membersMost (bodiesOf bs is) ≡ instructions (costs bs) is
+unfolding bodiesOf instructions costs
 members-cost bs [] h = refl
 members-cost bs (i ∷ is) h =
     omega (
@@ -322,7 +322,7 @@ members-cost bs (i ∷ is) h =
     )
 
 groups-cost : (bs : List Body) (gs : List (List ℕ)) → ((g : List ℕ) → List·Memᴰ g gs → (i : ℕ) → List·Memᴰ i g → i < length bs)
-    → groupsMost (map (membersOf bs) gs) ≡ instructions (costs bs) (flatten gs)
+    → groupsMost (map (bodiesOf bs) gs) ≡ instructions (costs bs) (flatten gs)
 unfolding flatten instructions
 groups-cost bs [] h = refl
 groups-cost bs (g ∷ gs) h =
@@ -363,7 +363,7 @@ module _ (limit : ℕ) (bs : List Block) where
       listed h = subst (λ (k : ℕ). List·Memᴰ k (range (length bs) 0)) (range-own (length bs) i h) (member-at (range (length bs) 0) i (omega (arith, length-range (length bs) 0)))
 
   -- so the members of all groups take no more than the blocks of the file
-  all-members : (multiplier : ℕ) → groupsMost (map (membersOf (map (bodyOf multiplier) bs)) (groups limit bs)) ≤ length bs * 700 + instrTotal bs * 2600
+  all-members : (multiplier : ℕ) → groupsMost (map (bodiesOf (map (bodyOf multiplier) bs)) (groups limit bs)) ≤ length bs * 700 + instrTotal bs * 2600
   all-members multiplier =
       let bodies : List Body = map (bodyOf multiplier) bs in
       omega (
@@ -375,12 +375,12 @@ module _ (limit : ℕ) (bs : List Block) where
 
   -- the text of a group of the file
   pub group-short : (multiplier : ℕ) (g : List ℕ) → List·Memᴰ g (groups limit bs)
-      → length (textOf (emitGroup (membersOf (map (bodyOf multiplier) bs) g))) ≤ length bs * 700 + instrTotal bs * 2600
+      → length (textOf (emitGroup (bodiesOf (map (bodyOf multiplier) bs) g))) ≤ length bs * 700 + instrTotal bs * 2600
   group-short multiplier g m =
       let bodies : List Body = map (bodyOf multiplier) bs in
       omega (
         arith,
-        group-most (membersOf bodies g) (members-short bodies (bodies-short multiplier bs) g),
+        group-most (bodiesOf bodies g) (members-short bodies (bodies-short multiplier bs) g),
         group-below bodies g (groups limit bs) m,
         all-members multiplier,
       )
@@ -393,7 +393,7 @@ module _ (limit : ℕ) (bs : List Block) where
       let bodies : List Body = map (bodyOf multiplier) bs in
       omega (
         arith,
-        cut-most max (lastUnitEnd bodies) unitHead 0 0 (map (membersOf bodies) (groups limit bs)) (groups-short bodies (bodies-short multiplier bs) (groups limit bs))
+        cut-most max (lastUnitEnd bodies) unitHead 0 0 (map (bodiesOf bodies) (groups limit bs)) (groups-short bodies (bodies-short multiplier bs) (groups limit bs))
             (omega (arith, head-most)) u m,
         end-most bodies,
         length-map bs (bodyOf multiplier),

@@ -13,7 +13,7 @@ use Rattle.c_tree.specs.Print.{casesText, codeText, unitText}
 use Rattle.forms.specs.Forms.{Form, shell, records, Body}
 use Rattle.lowering.specs.Block.{bodyKey, nl, sp, lines, closing, nativeText, shellCode, rest, underGuard, blockCode}
 use Rattle.block_file.specs.Address.{outsideRomBios}
-use Rattle.lowering.specs.Units.{withLocals, emitBlock, labelled, groupCode, forwarders, emitGroup, lastUnitEnd, textOf, defaultBody, membersOf}
+use Rattle.lowering.specs.Units.{withLocals, emitBlock, labelled, groupCode, forwarders, emitGroup, lastUnitEnd, textOf, defaultBody, bodiesOf}
 use Rattle.lowering.specs.Measured.{seenHash, seen, measured}
 
 -- the length of a doc by its pieces: that of a hash is 16, whatever it is
@@ -140,8 +140,8 @@ module _ (written : Bool) where
       externs (c ∷ cs) = ap (λ (ts : List Top). extern (bodyKey c) ∷ ts) (externs cs)
 
   -- the members of a group
-  pub seen-members : (bs : List Body) (is : List ℕ) → membersOf (map (seen written) bs) is ≡ map (seen written) (membersOf bs is)
-  unfolding membersOf
+  pub seen-members : (bs : List Body) (is : List ℕ) → bodiesOf (map (seen written) bs) is ≡ map (seen written) (bodiesOf bs is)
+  unfolding bodiesOf
   seen-members bs [] = refl
   seen-members bs (i ∷ is) = ap₂ (λ (c : Body) (cs : List Body). c ∷ cs) (at bs i) (seen-members bs is)
     where

@@ -25,7 +25,7 @@ use Rattle.forms.specs.Block.{emitInstr, emitInstrs, bodyOf}
 use Rattle.forms.specs.InlineBody.{inlineBody}
 use Rattle.lowering.specs.Block.{chain, transfer, closing, nativeText, rest, underGuard, blockCode}
 use Rattle.block_file.specs.Address.{outsideRomBios}
-use Rattle.lowering.specs.Units.{withLocals, emitBlock, emitGroup, lastUnitEnd, textOf, cut, membersOf, unitsOf}
+use Rattle.lowering.specs.Units.{withLocals, emitBlock, emitGroup, lastUnitEnd, textOf, cut, bodiesOf, unitsOf}
 use Rattle.search.specs.Target.{target}
 use Rattle.plan.specs.Plan.{joinExits, joinBlocks, parents, members, insert, sortByKey, parts, groupsFrom, groups, rowsFrom, plan}
 
@@ -121,5 +121,5 @@ each g h (List·Memᴰ·tail m) e = each g h m (cc)
 
 -- each starred case holds
 pub starred : (c : Case) → List·Memᴰ c cases → defined c ≡ stated c
-unfolding exits instrExits fuse cases one pair long short two timed swi from lone defined stated bodyOf emitInstrs emitInstr inlineBody blockCode outsideRomBios underGuard rest nativeText transfer chain closing unitsOf cut membersOf lastUnitEnd textOf emitGroup emitBlock withLocals print decimal numeral hexadecimal hexadecimal8 hexadecimal16 fixed plan rowsFrom groups groupsFrom parts sortByKey insert members parents joinBlocks joinExits target follow
+unfolding exits instrExits fuse cases one pair long short two timed swi from lone defined stated bodyOf emitInstrs emitInstr inlineBody blockCode outsideRomBios underGuard rest nativeText transfer chain closing unitsOf cut bodiesOf lastUnitEnd textOf emitGroup emitBlock withLocals print decimal numeral hexadecimal hexadecimal8 hexadecimal16 fixed plan rowsFrom groups groupsFrom parts sortByKey insert members parents joinBlocks joinExits target follow
 starred c m = each defined stated m refl

@@ -12,7 +12,7 @@ use Rattle.plan.proofs.PlanLength.{groups-length}
 use Rattle.plan.specs.Plan.{groups}
 use Rattle.c_tree.specs.Stmt.{Top}
 use Rattle.forms.specs.Forms.{Body}
-use Rattle.lowering.specs.Units.{TranslationUnit, emitGroup, unitHead, lastUnitEnd, textOf, cut, defaultBody, membersOf, unitsOf, unitsFor}
+use Rattle.lowering.specs.Units.{TranslationUnit, emitGroup, unitHead, lastUnitEnd, textOf, cut, defaultBody, bodiesOf, unitsOf, unitsFor}
 
 -- how many blocks some groups have
 abbrev pub blocksIn : {A : Type 0} → List (List A) → ℕ
@@ -103,8 +103,8 @@ length-map : {A B : Type 0} (f : A → B) (xs : List A) → length (map f xs) �
 length-map f [] = refl
 length-map f (x ∷ xs) = ap suc (length-map f xs)
 
-blocks-of : (bs : List Body) (gs : List (List ℕ)) → blocksIn (map (membersOf bs) gs) ≡ blocksIn gs
-unfolding membersOf
+blocks-of : (bs : List Body) (gs : List (List ℕ)) → blocksIn (map (bodiesOf bs) gs) ≡ blocksIn gs
+unfolding bodiesOf
 blocks-of bs [] = refl
 blocks-of bs (g ∷ gs) = omega (arith, length-map (λ (i : ℕ). getD bs i defaultBody) g, blocks-of bs gs)
 
@@ -112,13 +112,13 @@ blocks-of bs (g ∷ gs) = omega (arith, length-map (λ (i : ℕ). getD bs i defa
 pub units-end : (max : ℕ) (bs : List Body) (gs : List (List ℕ)) → Ends max (lastUnitEnd bs) (blocksIn gs) (unitsOf max bs gs)
 unfolding unitsOf
 units-end max bs gs =
-    let same : 0 + blocksIn (map (membersOf bs) gs) ≡ blocksIn gs = omega (arith, blocks-of bs gs) in
-    subst (λ (n : ℕ). Ends max (lastUnitEnd bs) n (unitsOf max bs gs)) same (cut-ends max (lastUnitEnd bs) (map (membersOf bs) gs) unitHead 0)
+    let same : 0 + blocksIn (map (bodiesOf bs) gs) ≡ blocksIn gs = omega (arith, blocks-of bs gs) in
+    subst (λ (n : ℕ). Ends max (lastUnitEnd bs) n (unitsOf max bs gs)) same (cut-ends max (lastUnitEnd bs) (map (bodiesOf bs) gs) unitHead 0)
 
 -- every unit opens with PREAMBLE and a newline
 pub unit-opens : (max : ℕ) (bs : List Body) (gs : List (List ℕ)) (u : TranslationUnit) → List·Memᴰ u (unitsOf max bs gs) → (r : List Top) × (u .tree ≡ unitHead ++ r)
 unfolding unitsOf
-unit-opens max bs gs u m = cut-opens max (lastUnitEnd bs) (map (membersOf bs) gs) unitHead 0 [] refl u m
+unit-opens max bs gs u m = cut-opens max (lastUnitEnd bs) (map (bodiesOf bs) gs) unitHead 0 [] refl u m
 
 blocks-flat : (gs : List (List ℕ)) → blocksIn gs ≡ length (flatten gs)
 unfolding flatten

@@ -28,7 +28,7 @@ use Rattle.forms.specs.Block.{emitInstr, emitInstrs, bodyOf}
 use Rattle.forms.specs.InlineBody.{inlineBody}
 use Rattle.lowering.specs.Block.{chain, transfer, closing, nativeText, rest, underGuard, blockCode}
 use Rattle.block_file.specs.Address.{outsideRomBios}
-use Rattle.lowering.specs.Units.{withLocals, emitBlock, labelled, groupCode, forwarders, emitGroup, unitHead, lastUnitEnd, answerOf, textOf, cut, membersOf, unitsOf, unitsFor, fileUnits}
+use Rattle.lowering.specs.Units.{withLocals, emitBlock, labelled, groupCode, forwarders, emitGroup, unitHead, lastUnitEnd, unitAnswer, textOf, cut, bodiesOf, unitsOf, unitsFor, fileUnits}
 
 timed : ℕ → Bool → Cond → Op → ℕ → TimedInstr
 timed at thumb k op cost = record { instr = record { addr = at; cond = k; op = op; thumb = thumb }; cost = cost }
@@ -44,7 +44,7 @@ blocks =
     ∷ record { addr = 0x08000300; thumb = false; code = none; instrs = timed 0x08000300 false Al (Alu Mov false 0 0 (Operand2.Reg 1 (Shift.Imm Lsl 0))) 1 ∷ timed 0x08000304 false Al (Bx 14) 3 ∷ [] }
     ∷ []
 
-whole : map answerOf (fileUnits hashMultiplier partLimit 1_000_000 blocks)
+whole : map unitAnswer (fileUnits hashMultiplier partLimit 1_000_000 blocks)
     ≡ record {
       text = textOf unitHead
           ++ print
@@ -55,5 +55,5 @@ whole : map answerOf (fileUnits hashMultiplier partLimit 1_000_000 blocks)
       last = true;
     }
     ∷ []
-unfolding blocks timed fuse fnv64 fnvFrom bodyOf emitInstrs emitInstr inlineBody blockCode outsideRomBios underGuard rest nativeText transfer chain closing unitsOf unitsFor cut membersOf lastUnitEnd textOf emitGroup emitBlock labelled groupCode forwarders withLocals print decimal numeral hexadecimal hexadecimal8 hexadecimal16 fixed groups groupsFrom parts sortByKey insert members parents joinBlocks joinExits target follow exits instrExits
+unfolding blocks timed fuse fnv64 fnvFrom bodyOf emitInstrs emitInstr inlineBody blockCode outsideRomBios underGuard rest nativeText transfer chain closing unitsOf unitsFor cut bodiesOf lastUnitEnd textOf emitGroup emitBlock labelled groupCode forwarders withLocals print decimal numeral hexadecimal hexadecimal8 hexadecimal16 fixed groups groupsFrom parts sortByKey insert members parents joinBlocks joinExits target follow exits instrExits
 whole = refl

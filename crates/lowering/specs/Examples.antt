@@ -15,7 +15,7 @@ use Rattle.c_tree.specs.Preamble.{v32}
 use Rattle.forms.specs.Forms.{Lines, straight, holds, branch, jump, pair, bx, pop, native, shell, Body}
 use Rattle.lowering.specs.Block.{chain, transfer, closing, nativeText, rest, underGuard, blockCode}
 use Rattle.block_file.specs.Address.{outsideRomBios}
-use Rattle.lowering.specs.Units.{TranslationUnit, withLocals, emitBlock, labelled, groupCode, forwarders, emitGroup, textOf, cut, membersOf, unitsOf}
+use Rattle.lowering.specs.Units.{TranslationUnit, withLocals, emitBlock, labelled, groupCode, forwarders, emitGroup, textOf, cut, bodiesOf, unitsOf}
 
 -- c[15] = a, and that behind a tick
 abbrev to : ℕ → Lines
@@ -238,5 +238,5 @@ zero-leb n = le-leb 0 n zero-le
 
 -- a group of two is done at once
 one-pair : (a b : Body) → map ends (unitsOf 0 (a ∷ b ∷ []) ((0 ∷ 1 ∷ []) ∷ [])) ≡ (2, false) ∷ (2, true) ∷ []
-unfolding unitsOf cut membersOf
+unfolding unitsOf cut bodiesOf
 one-pair a b = rw zero-leb

@@ -84,13 +84,13 @@ cut max closed ts n (g ∷ gs) =
 abbrev pub defaultBody : Body
 defaultBody = record { addr = 0; thumb = false; count = 0; hash = none; forms = []; closing = [] }
 
--- the members of a group, by their numbers
-unfoldable pub membersOf : List Body → List ℕ → List Body
-membersOf bs is = map (λ (i : ℕ). getD bs i defaultBody) is
+-- the bodies of a group's members, by their numbers
+unfoldable pub bodiesOf : List Body → List ℕ → List Body
+bodiesOf bs is = map (λ (i : ℕ). getD bs i defaultBody) is
 
 -- emit_c_chunked: the units of some blocks at a wished size (document 01), the groups being lists of block numbers
 unfoldable pub unitsOf : ℕ → List Body → List (List ℕ) → List TranslationUnit
-unitsOf max bs gs = cut max (lastUnitEnd bs) unitHead 0 (map (membersOf bs) gs)
+unitsOf max bs gs = cut max (lastUnitEnd bs) unitHead 0 (map (bodiesOf bs) gs)
 
 -- the units of some blocks, where bodyOf says how one is printed: grouped by a limit, cut at a wished size
 unfoldable pub unitsFor : (Block → Body) → ℕ → ℕ → List Block → List TranslationUnit
@@ -107,12 +107,12 @@ pub record UnitAnswer : Type 0 where
   pub done : ℕ
   pub last : Bool
 
-abbrev pub answerOf : TranslationUnit → UnitAnswer
-answerOf u = record { text = textOf (u .tree); length = length (textOf (u .tree)); done = u .done; last = u .last }
+abbrev pub unitAnswer : TranslationUnit → UnitAnswer
+unitAnswer u = record { text = textOf (u .tree); length = length (textOf (u .tree)); done = u .done; last = u .last }
 
 -- unit k of a file's blocks, if there is one
 abbrev pub unit : ℕ → ℕ → ℕ → List Block → ℕ → Option UnitAnswer
-unit multiplier limit max bs k = getElem? (map answerOf (fileUnits multiplier limit max bs)) k
+unit multiplier limit max bs k = getElem? (map unitAnswer (fileUnits multiplier limit max bs)) k
 
 -- how many units there are
 abbrev pub unitCount : ℕ → ℕ → ℕ → List Block → ℕ

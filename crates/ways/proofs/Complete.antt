@@ -14,7 +14,7 @@ use Rattle.c_tree.specs.Stmt.{block, function}
 use Rattle.forms.specs.Forms.{Body}
 use Rattle.forms.proofs.RecordCount.{recordCounts}
 use Rattle.lowering.specs.Block.{bodyKey}
-use Rattle.lowering.specs.Units.{emitGroup, unitHead, lastUnitEnd, defaultBody, membersOf, unitsOf, unitsFor}
+use Rattle.lowering.specs.Units.{emitGroup, unitHead, lastUnitEnd, defaultBody, bodiesOf, unitsOf, unitsFor}
 use Rattle.ways.proofs.Faithful.{Faithful}
 use Rattle.ways.specs.Claim.{times, allUnits}
 use Rattle.ways.specs.Complete.{functions, Found, Complete}
@@ -50,22 +50,22 @@ module _ (F : File) (i : ℕ) (h : i < length (F .bs)) where
   body-is : (j : ℕ) → j < length bs → getD (bodies F) j defaultBody ≡ bodyOf (getD bs j nowhere)
   body-is j l = map-at bodyOf bs j nowhere defaultBody l
 
-  keys-of : (g : List ℕ) → ((j : ℕ) → List·Memᴰ j g → j < length bs) → map bodyKey (membersOf (bodies F) g) ≡ map key g
-  unfolding membersOf
+  keys-of : (g : List ℕ) → ((j : ℕ) → List·Memᴰ j g → j < length bs) → map bodyKey (bodiesOf (bodies F) g) ≡ map key g
+  unfolding bodiesOf
   keys-of [] inside = refl
   keys-of (j ∷ g) inside =
       ap₂ (λ (k : ℕ) (ks : List ℕ). k ∷ ks) (ap bodyKey (body-is j (inside j (List·Memᴰ·head refl)))) (keys-of g (λ x m. inside x (List·Memᴰ·tail m)))
 
   -- the key of block i stands in a group as often as the block
-  count-key : (g : List ℕ) → ((j : ℕ) → List·Memᴰ j g → j < length bs) → count (key i) (map bodyKey (membersOf (bodies F) g)) ≡ count i g
+  count-key : (g : List ℕ) → ((j : ℕ) → List·Memᴰ j g → j < length bs) → count (key i) (map bodyKey (bodiesOf (bodies F) g)) ≡ count i g
   count-key g inside = ap (count (key i)) (keys-of g inside) ∙ count-map key i g (λ j m e. same-place F i j h (inside j m) e)
 
   in-groups : (gs : List (List ℕ)) → ((g : List ℕ) → List·Memᴰ g gs → (j : ℕ) → List·Memᴰ j g → j < length bs)
-      → inGroups (key i) (map (membersOf (bodies F)) gs) ≡ count i (flatten gs)
+      → inGroups (key i) (map (bodiesOf (bodies F)) gs) ≡ count i (flatten gs)
   unfolding flatten count
   in-groups [] inside = refl
   in-groups (g ∷ gs) inside =
-      let one = group-count (key i) (membersOf (bodies F) g) ∙ count-key g (inside g (List·Memᴰ·head refl)) in
+      let one = group-count (key i) (bodiesOf (bodies F) g) ∙ count-key g (inside g (List·Memᴰ·head refl)) in
       let more = in-groups gs (λ x m. inside x (List·Memᴰ·tail m)) in
       omega (arith, one, more, count-append i g (flatten gs))
 
@@ -74,20 +74,20 @@ module _ (F : File) (i : ℕ) (h : i < length (F .bs)) where
     unfolding allUnits unitsFor unitsOf
     one-function =
         let none : functions (key i) unitHead ≡ 0 = refl in
-        functions-cut (key i) max (lastUnitEnd (bodies F)) (no-end (key i) (bodies F)) (map (membersOf (bodies F)) (groups limit bs)) unitHead 0
+        functions-cut (key i) max (lastUnitEnd (bodies F)) (no-end (key i) (bodies F)) (map (bodiesOf (bodies F)) (groups limit bs)) unitHead 0
         ∙ omega (arith, none, in-groups (groups limit bs) (group-inside limit bs), groups-once limit bs i h)
 
     abbrev mine : List ℕ
     mine = group-of limit bs i h .0
 
-    part : Part (emitGroup (membersOf (bodies F) mine)) (unitsFor bodyOf limit max bs)
+    part : Part (emitGroup (bodiesOf (bodies F) mine)) (unitsFor bodyOf limit max bs)
     unfolding unitsFor unitsOf
     part =
-        group-part max (lastUnitEnd (bodies F)) (membersOf (bodies F) mine) (map (membersOf (bodies F)) (groups limit bs)) unitHead 0
-        (Memᴰ·map (membersOf (bodies F)) (group-of limit bs i h .1))
+        group-part max (lastUnitEnd (bodies F)) (bodiesOf (bodies F) mine) (map (bodiesOf (bodies F)) (groups limit bs)) unitHead 0
+        (Memᴰ·map (bodiesOf (bodies F)) (group-of limit bs i h .1))
 
-    here : List·Memᴰ (bodyOf (getD bs i nowhere)) (membersOf (bodies F) mine)
-    unfolding membersOf
+    here : List·Memᴰ (bodyOf (getD bs i nowhere)) (bodiesOf (bodies F) mine)
+    unfolding bodiesOf
     here = Memᴰ·cast (sym (body-is i h)) (Memᴰ·map (λ (j : ℕ). getD (bodies F) j defaultBody) (group-of limit bs i h .2))
 
     filled : 1 ≤ recordCounts (bodyOf (getD bs i nowhere) .forms)
@@ -96,8 +96,8 @@ module _ (F : File) (i : ℕ) (h : i < length (F .bs)) where
     pub found : (b : Block) → getD bs i nowhere ≡ b → Found bodyOf limit max bs i b
     unfolding allUnits
     found b e =
-        let w = entered (allUnits bodyOf limit max bs) (bodyOf (getD bs i nowhere)) filled (membersOf (bodies F) mine) here
-        (λ t m. in-part t (emitGroup (membersOf (bodies F) mine)) (unitsFor bodyOf limit max bs) part m) in
+        let w = entered (allUnits bodyOf limit max bs) (bodyOf (getD bs i nowhere)) filled (bodiesOf (bodies F) mine) here
+        (λ t m. in-part t (emitGroup (bodiesOf (bodies F) mine)) (unitsFor bodyOf limit max bs) part m) in
         let k : key i ≡ blockKey b = key-of F (getD bs i nowhere) ∙ ap blockKey e in
         record {
           single = subst (λ n. functions n (allUnits bodyOf limit max bs) ≡ 1) k one-function;
@@ -110,7 +110,7 @@ module _ (F : File) (i : ℕ) (h : i < length (F .bs)) where
           after = part .after;
           piece = part .piece;
           code = w .0;
-          stands = subst (λ n. List·Memᴰ (function (block n) (w .0)) (emitGroup (membersOf (bodies F) mine))) k (w .1);
+          stands = subst (λ n. List·Memᴰ (function (block n) (w .0)) (emitGroup (bodiesOf (bodies F) mine))) k (w .1);
           answers = w .2 .0;
           events = w .2 .1;
           way = w .2 .2;

@@ -10,7 +10,7 @@ use Rattle.c_tree.specs.Preamble.{v32}
 use Rattle.forms.specs.Forms.{branch, Form, shell, Body, straight}
 use Rattle.lowering.specs.Block.{bodyKey, nl, chain, transfer, nativeText, rest, blockCode, underGuard}
 use Rattle.block_file.specs.Address.{outsideRomBios}
-use Rattle.lowering.specs.Units.{withLocals, labelled, groupCode, emitGroup, unitHead, lastUnitEnd, membersOf, unitsOf}
+use Rattle.lowering.specs.Units.{withLocals, labelled, groupCode, emitGroup, unitHead, lastUnitEnd, bodiesOf, unitsOf}
 use Rattle.ways.specs.Ways.{LabelAt, here, later, Event, reach, said, nativeStart, interpreted, Way, w-gap, w-begin, w-plain, w-goto, w-leave, w-stay, w-call, w-retInterp, w-entry, w-when, w-braces, stop}
 use Rattle.ways.specs.Claim.{carried, times}
 use Rattle.ways.proofs.Functions.{trees, forwarder}
@@ -49,7 +49,7 @@ units max = trees (unitsOf max both ((0 ∷ 1 ∷ []) ∷ []))
 
 -- the group's function stands in them
 there : (max : ℕ) → List·Memᴰ (function (group 0x08000100) (groupCode both)) (units max)
-unfolding unitsOf emitGroup membersOf
+unfolding unitsOf emitGroup bodiesOf
 there max =
     in-part (function (group 0x08000100) (groupCode both)) (emitGroup both) (unitsOf max both ((0 ∷ 1 ∷ []) ∷ []))
     (group-part max (lastUnitEnd both) both (both ∷ []) unitHead 0 (List·Memᴰ·head refl)) (List·Memᴰ·head refl)

@@ -14,7 +14,7 @@ use Rattle.plan.proofs.GroupLaws.{group-limit, group-inside}
 use Rattle.plan.proofs.Listing.{map-at}
 use Rattle.forms.specs.Forms.{Body}
 use Rattle.lowering.specs.Block.{bodyKey}
-use Rattle.lowering.specs.Units.{defaultBody, membersOf}
+use Rattle.lowering.specs.Units.{defaultBody, bodiesOf}
 use Rattle.ways.proofs.Faithful.{Faithful}
 use Rattle.ways.proofs.Bounded.{Member, total}
 use Rattle.ways.proofs.Behind.{Apart}
@@ -53,9 +53,9 @@ module _ (F : File) where
   key-of b = ap₂ (λ (a : ℕ) (t : Bool). a + cond t 1 0) (faithful .addr b) (faithful .thumb b)
 
   -- the members of a group are blocks of the file
-  pub member-of : (g : List ℕ) → List·Memᴰ g (groups limit bs) → (b : Body) → List·Memᴰ b (membersOf bodies g)
+  pub member-of : (g : List ℕ) → List·Memᴰ g (groups limit bs) → (b : Body) → List·Memᴰ b (bodiesOf bodies g)
       → (i : ℕ) × List·Memᴰ i g × (i < length bs) × (bodyOf (getD bs i nowhere) ≡ b)
-  unfolding membersOf
+  unfolding bodiesOf
   member-of g m b n =
       let r = Memᴰ·of-map (λ (i : ℕ). getD bodies i defaultBody) g n in
       let inside : r .0 < length bs = group-inside limit bs g m (r .0) (r .1) in
@@ -78,24 +78,24 @@ module _ (F : File) where
   count-at (c ∷ cs) zero = faithful .count c
   count-at (c ∷ cs) (suc i) = count-at cs i
 
-  total-of : (g : List ℕ) → total (membersOf bodies g) ≡ instructions (countsOf bs) g
-  unfolding membersOf instructions
+  total-of : (g : List ℕ) → total (bodiesOf bodies g) ≡ instructions (countsOf bs) g
+  unfolding bodiesOf instructions
   total-of [] = refl
   total-of (i ∷ g) = omega (arith, count-at bs i, total-of g)
 
-  pub several : (g : List ℕ) → Many (membersOf bodies g) → 2 ≤ length g
-  unfolding membersOf
+  pub several : (g : List ℕ) → Many (bodiesOf bodies g) → 2 ≤ length g
+  unfolding bodiesOf
   several [] v = absurd v
   several (i ∷ []) v = absurd v
   several (i ∷ j ∷ g) v = omega arith
 
-  pub one : (g : List ℕ) (b : Body) → membersOf bodies g ≡ b ∷ [] → length g ≡ 1
-  unfolding membersOf
+  pub one : (g : List ℕ) (b : Body) → bodiesOf bodies g ≡ b ∷ [] → length g ≡ 1
+  unfolding bodiesOf
   one [] b e = absurd (let z : _≡_ {A = ℕ} 0 1 = ap length e in omega arith)
   one (i ∷ []) b e = refl
-  one (i ∷ j ∷ g) b e = absurd (let z : suc (suc (length (membersOf bodies g))) ≡ 1 = ap length e in omega arith)
+  one (i ∷ j ∷ g) b e = absurd (let z : suc (suc (length (bodiesOf bodies g))) ≡ 1 = ap length e in omega arith)
 
-  pub good : (g : List ℕ) → List·Memᴰ g (groups limit bs) → Good limit bodies (membersOf bodies g)
+  pub good : (g : List ℕ) → List·Memᴰ g (groups limit bs) → Good limit bodies (bodiesOf bodies g)
   good g m =
       record {
         members = λ b n. let r = member-of g m b n in subst Member (r .3) (is-member (r .0) (r .2));

@@ -17,7 +17,7 @@ use Rattle.c_tree.specs.Stmt.{guard, Code, block, group, Top, function}
 use Rattle.forms.specs.Forms.{Body}
 use Rattle.lowering.specs.Block.{bodyKey, blockCode}
 use Rattle.block_file.specs.Address.{outsideRomBios}
-use Rattle.lowering.specs.Units.{withLocals, groupCode, emitGroup, unitHead, lastUnitEnd, membersOf, unitsOf, unitsFor}
+use Rattle.lowering.specs.Units.{withLocals, groupCode, emitGroup, unitHead, lastUnitEnd, bodiesOf, unitsOf, unitsFor}
 use Rattle.ways.specs.Ways.{Event, said, Way, stop, w-gap, w-call}
 use Rattle.ways.proofs.Faithful.{Faithful}
 use Rattle.ways.specs.Claim.{AtNative, allUnits, Passed, WayClaim, ClaimOf, Claim}
@@ -57,15 +57,15 @@ module _ (F : File) (max : ℕ) where
   open File F using (hashOf, bodyOf, faithful, bs, limit)
 
   -- a function of the units stands in a group of the plan
-  in-group : (t : Top) → Own t → List·Memᴰ t (allUnits bodyOf limit max bs) → (g : List ℕ) × List·Memᴰ g (groups limit bs) × List·Memᴰ t (emitGroup (membersOf (bodies F) g))
+  in-group : (t : Top) → Own t → List·Memᴰ t (allUnits bodyOf limit max bs) → (g : List ℕ) × List·Memᴰ g (groups limit bs) × List·Memᴰ t (emitGroup (bodiesOf (bodies F) g))
   unfolding allUnits unitsFor unitsOf
-  in-group t o m = go (from-cut max (lastUnitEnd (bodies F)) (end-foreign (bodies F)) t o (map (membersOf (bodies F)) (groups limit bs)) unitHead 0 m)
+  in-group t o m = go (from-cut max (lastUnitEnd (bodies F)) (end-foreign (bodies F)) t o (map (bodiesOf (bodies F)) (groups limit bs)) unitHead 0 m)
     where
-      go : List·Memᴰ t unitHead ⊎ InGroup t (map (membersOf (bodies F)) (groups limit bs))
-          → (g : List ℕ) × List·Memᴰ g (groups limit bs) × List·Memᴰ t (emitGroup (membersOf (bodies F) g))
+      go : List·Memᴰ t unitHead ⊎ InGroup t (map (bodiesOf (bodies F)) (groups limit bs))
+          → (g : List ℕ) × List·Memᴰ g (groups limit bs) × List·Memᴰ t (emitGroup (bodiesOf (bodies F) g))
       go (inl k) = absurd (head-foreign t o k)
       go (inr h) =
-          let r = Memᴰ·of-map (membersOf (bodies F)) (groups limit bs) (h .1) in
+          let r = Memᴰ·of-map (bodiesOf (bodies F)) (groups limit bs) (h .1) in
           (r .0, r .1, subst (λ g. List·Memᴰ t (emitGroup g)) (sym (r .2)) (h .2))
 
   -- a way from a forwarder
@@ -78,9 +78,9 @@ module _ (F : File) (max : ℕ) where
       go (inl e) = ([], subst (Both limit (bodies F) (apart F) []) (sym e) (tt, tt))
       go (inr r) =
           let q = in-group (function (group k) (r .0)) tt (r .1) in
-          let p = group-stands k (r .0) (membersOf (bodies F) (q .0)) (q .2) in (
-            membersOf (bodies F) (q .0),
-            group-both limit (bodies F) (apart F) (membersOf (bodies F) (q .0)) (p .0) (good F (q .0) (q .1))
+          let p = group-stands k (r .0) (bodiesOf (bodies F) (q .0)) (q .2) in (
+            bodiesOf (bodies F) (q .0),
+            group-both limit (bodies F) (apart F) (bodiesOf (bodies F) (q .0)) (p .0) (good F (q .0) (q .1))
                 (subst (λ c. Way (allUnits bodyOf limit max bs) c c xs es) (p .1) (r .2)),
           )
 
@@ -106,7 +106,7 @@ module _ (F : File) (max : ℕ) where
       (subst (λ k. AtNative k e) (sym (key-of F b)) n) (is-guarded b t))
 
   -- block i stands in the group of its function
-  here : (i : ℕ) → i < length bs → (g : List ℕ) → List·Memᴰ g (groups limit bs) → (b : Body) → List·Memᴰ b (membersOf (bodies F) g)
+  here : (i : ℕ) → i < length bs → (g : List ℕ) → List·Memᴰ g (groups limit bs) → (b : Body) → List·Memᴰ b (bodiesOf (bodies F) g)
       → bodyKey b ≡ blockKey (getD bs i nowhere) → List·Memᴰ i g
   here i h g m b n e =
       let r = member-of F g m b n in
@@ -114,10 +114,10 @@ module _ (F : File) (max : ℕ) where
       Memᴰ·cast (sym same) (r .1)
 
   module _ (i : ℕ) (h : i < length bs) (g : List ℕ) (m : List·Memᴰ g (groups limit bs)) (es : List Event) where
-    kept-lone : (b : Body) → membersOf (bodies F) g ≡ b ∷ [] → bodyKey b ≡ blockKey (getD bs i nowhere)
+    kept-lone : (b : Body) → bodiesOf (bodies F) g ≡ b ∷ [] → bodyKey b ≡ blockKey (getD bs i nowhere)
         → {xs : List Bool} → Way (allUnits bodyOf limit max bs) (withLocals (blockCode [] b)) (withLocals (blockCode [] b)) xs es → WayClaim hashOf limit bs i es
     kept-lone b e k w =
-        let there : List·Memᴰ b (membersOf (bodies F) g) = subst (λ l. List·Memᴰ b l) (sym e) (List·Memᴰ·head refl) in
+        let there : List·Memᴰ b (bodiesOf (bodies F) g) = subst (λ l. List·Memᴰ b l) (sym e) (List·Memᴰ·head refl) in
         let single : length g ≡ 1 = one F g b e in
         let mine : List·Memᴰ i g = here i h g m b there k in
         record {
@@ -128,7 +128,7 @@ module _ (F : File) (max : ℕ) where
           behind = λ us vs e′ p. seen es us vs e′ p (lone-seen (bodies F) (apart F) b (good F g m .inside b there) w);
         }
 
-    kept-several : Many (membersOf (bodies F) g) → (b : Body) → List·Memᴰ b (membersOf (bodies F) g) → bodyKey b ≡ blockKey (getD bs i nowhere)
+    kept-several : Many (bodiesOf (bodies F) g) → (b : Body) → List·Memᴰ b (bodiesOf (bodies F) g) → bodyKey b ≡ blockKey (getD bs i nowhere)
         → (g′ : List Body) → Both limit (bodies F) (apart F) g′ es → WayClaim hashOf limit bs i es
     kept-several v b n k g′ q =
         let mine : List·Memᴰ i g = here i h g m b n k in
@@ -140,7 +140,7 @@ module _ (F : File) (max : ℕ) where
           behind = λ us vs e p. seen es us vs e p (q .1);
         }
 
-    kept : (c : Code) → Alone (blockKey (getD bs i nowhere)) c (membersOf (bodies F) g) ⊎ Among (blockKey (getD bs i nowhere)) c (membersOf (bodies F) g)
+    kept : (c : Code) → Alone (blockKey (getD bs i nowhere)) c (bodiesOf (bodies F) g) ⊎ Among (blockKey (getD bs i nowhere)) c (bodiesOf (bodies F) g)
         → (xs : List Bool) → Way (allUnits bodyOf limit max bs) c c xs es → WayClaim hashOf limit bs i es
     kept c (inl a) xs w = kept-lone (a .0) (a .1) (a .2) (subst (λ d. Way (allUnits bodyOf limit max bs) d d xs es) (a .3) w)
     kept c (inr a) xs w =
@@ -155,4 +155,4 @@ theorem hashOf bodyOf faithful limit max f bs accepted i b e c m xs es w =
     let at = found-at bs i nowhere b e in
     let k : ℕ = blockKey (getD bs i nowhere) in
     let g = in-group F max (function (block k) c) tt (subst (λ d. List·Memᴰ (function (block (blockKey d)) c) (allUnits bodyOf limit max bs)) (sym (at .1)) m) in
-    kept F max i (at .0) (g .0) (g .1) es c (block-stands k c (membersOf (bodies F) (g .0)) (g .2)) xs w
+    kept F max i (at .0) (g .0) (g .1) es c (block-stands k c (bodiesOf (bodies F) (g .0)) (g .2)) xs w

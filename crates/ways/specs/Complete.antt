@@ -10,7 +10,7 @@ use Rattle.block_file.specs.Parse.{Block, Parsed, parse, blockKey}
 use Rattle.plan.specs.Plan.{groups}
 use Rattle.c_tree.specs.Stmt.{Code, helper, block, group, Top, opening, function, blank, extern, table, count}
 use Rattle.forms.specs.Forms.{Body}
-use Rattle.lowering.specs.Units.{TranslationUnit, emitGroup, membersOf, unitsFor}
+use Rattle.lowering.specs.Units.{TranslationUnit, emitGroup, bodiesOf, unitsFor}
 use Rattle.ways.specs.Ways.{Event, Way}
 use Rattle.ways.specs.Claim.{times, allUnits}
 
@@ -43,9 +43,9 @@ module _ (bodyOf : Block → Body) where
     pub made : List·Memᴰ unit (unitsFor bodyOf limit max bs)
     pub before : List Top
     pub after : List Top
-    pub piece : unit .tree ≡ before ++ (emitGroup (membersOf (map bodyOf bs) members) ++ after)
+    pub piece : unit .tree ≡ before ++ (emitGroup (bodiesOf (map bodyOf bs) members) ++ after)
     pub code : Code
-    pub stands : List·Memᴰ (function (block (blockKey b)) code) (emitGroup (membersOf (map bodyOf bs) members))
+    pub stands : List·Memᴰ (function (block (blockKey b)) code) (emitGroup (bodiesOf (map bodyOf bs) members))
     -- a way from it carries out the block's first instruction
     pub answers : List Bool
     pub events : List Event

@@ -7,10 +7,10 @@ use Rattle.emit_tables.proofs.Around.{seen-member-keys}
 use Rattle.emit_tables.specs.Tables.{groupKeys}
 use Rattle.fnv.specs.Fnv.{hashMultiplier}
 use Rattle.lowering.specs.Measured.{seen}
-use Rattle.lowering.specs.Units.{membersOf as Units·membersOf}
+use Rattle.lowering.specs.Units.{bodiesOf}
 use Rattle.members.specs.Members.{membersOf}
 use Rattle.block_file.specs.Parse.{blocksOf}
-use Rattle.emit_units.specs.Groups.{bodiesOf}
+use Rattle.emit_units.specs.Groups.{fileBodies}
 use Rattle.emit_units.proofs.Functions.{members-count, several-wrote}
 use Rattle.emit_units.proofs.groups.put_several.Statement.{statement}
 use Rattle.emit_units.proofs.groups.put_several.Tie as tie
@@ -50,7 +50,7 @@ returns c = λ limit g is some.
     let a = c1 .before .before .before .before .before .before .args in
     let f = a .file .now in
     let is′ = membersOf limit (blocksOf f) g in
-    let ms = map (seen (a .hashing)) (Units·membersOf (bodiesOf f) is′) in
+    let ms = map (seen (a .hashing)) (bodiesOf (fileBodies f) is′) in
     let keys = seen-member-keys (a .hashing) hashMultiplier (blocksOf f) is′ in
     several-wrote ms (groupKeys limit f g) _ (omega (arith, members-count (a .hashing) f is′)) keys
     (c1 .before .row-key .ensures _ limit g 0 (is .ready) (omega (arith, is .first)) (omega arith)) (c1 .put-group-head .ensures)

@@ -4,11 +4,11 @@ use Prim.Native.Nat.{ℕ, _+_, min}
 use borrow.Author.Needs.{needs}
 use mathlib.Core.Path.{ap, _∙_}
 use Rattle.lowering.proofs.Measured.{measured-length}
-use Rattle.lowering.specs.Units.{membersOf as Units·membersOf, textOf}
+use Rattle.lowering.specs.Units.{bodiesOf, textOf}
 use Rattle.members.specs.Members.{membersOf}
 use Rattle.block_file.specs.Parse.{blocksOf}
 use Rattle.text.specs.Wrote.{top}
-use Rattle.emit_units.specs.Groups.{bodiesOf}
+use Rattle.emit_units.specs.Groups.{fileBodies}
 use Rattle.emit_units.proofs.lengths.after_group.Statement.{statement}
 use Rattle.emit_units.proofs.lengths.after_group.Tie as tie
 
@@ -23,7 +23,7 @@ unfolding textOf
 returns c = λ limit g is.
     let a = c .before .before .before .before .before .args in
     let f = a .file .now in
-    c .before .emit-group .ensures limit g is .next ∙ ap (λ (m : ℕ). min (a .at + m) top) (measured-length (Units·membersOf (bodiesOf f) (membersOf limit (blocksOf f) g)))
+    c .before .emit-group .ensures limit g is .next ∙ ap (λ (m : ℕ). min (a .at + m) top) (measured-length (bodiesOf (fileBodies f) (membersOf limit (blocksOf f) g)))
 
 pub after-group-spec : {M : Type 1} → statement M
 after-group-spec = tie.close (tie.spec slice-aggregate-emit-group emit-group-requires returns)

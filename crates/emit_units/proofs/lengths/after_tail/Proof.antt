@@ -5,7 +5,7 @@ use Rattle.emit_tables.proofs.Around.{body-keys}
 use Rattle.fnv.specs.Fnv.{hashMultiplier}
 use Rattle.lowering.specs.Units.{textOf}
 use Rattle.block_file.specs.Parse.{blocksOf}
-use Rattle.emit_units.specs.Groups.{bodiesOf}
+use Rattle.emit_units.specs.Groups.{fileBodies}
 use Rattle.emit_units.proofs.lengths.after_tail.Statement.{statement}
 use Rattle.emit_units.proofs.lengths.after_tail.Tie as tie
 
@@ -19,7 +19,7 @@ returns : tie.Need-returns
 unfolding textOf
 returns c =
     let f = c .before .before .before .before .args .file .now in
-    c .before .put-tail .ensures (bodiesOf f) (body-keys hashMultiplier (blocksOf f)) .next
+    c .before .put-tail .ensures (fileBodies f) (body-keys hashMultiplier (blocksOf f)) .next
 
 pub after-tail-spec : {M : Type 1} → statement M
 after-tail-spec = tie.close (tie.spec slice-aggregate-put-tail put-tail-requires returns)

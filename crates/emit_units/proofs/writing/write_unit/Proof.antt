@@ -4,7 +4,7 @@ use borrow.Author.Needs.{needs}
 use Rattle.emit_tables.proofs.Around.{body-keys}
 use Rattle.fnv.specs.Fnv.{hashMultiplier}
 use Rattle.block_file.specs.Parse.{blocksOf}
-use Rattle.emit_units.specs.Groups.{bodiesOf}
+use Rattle.emit_units.specs.Groups.{fileBodies}
 use Rattle.emit_units.proofs.Written.{unit-handed, unit-last}
 use Rattle.emit_units.proofs.writing.write_unit.Statement.{statement}
 use Rattle.emit_units.proofs.writing.write_unit.Tie as tie
@@ -29,7 +29,7 @@ returns c = λ limit max k ready is.
     let f = a .file .now in
     unit-last f limit (is .group) (is .size) (is .unit .tree) (a .e .last) (is .tree) (head .put-preamble .ensures)
     (groups .put-groups .ensures limit (is .group) (is .size) ready (is .takes)) (c .before .before .before .before .if1 .taken)
-    (c .before .before .put-tail .ensures (bodiesOf f) (body-keys hashMultiplier (blocksOf f)))
+    (c .before .before .put-tail .ensures (fileBodies f) (body-keys hashMultiplier (blocksOf f)))
 
 same-length-2 : tie.Need-same-length-2
 same-length-2 c = search needs
