@@ -6,7 +6,7 @@ use mathlib.Core.Bool.{Bool, true, false}
 use mathlib.Core.List.{List}
 use lib.ListN.{length}
 use Rattle.block_file.specs.Parse.{blocksOf}
-use Rattle.members.specs.Members.{membersOf, keysOf}
+use Rattle.members.specs.Members.{membersOf, memberKeys}
 use Rattle.block_file.specs.Address.{among}
 use Rattle.members.specs.Prepared.{Ready}
 use Rattle.emit_block.specs.declared.member.Member.{Member}
@@ -15,10 +15,10 @@ use Rattle.emit_block.specs.Walk.{Stands}
 module _ {f work : List ℕ} {m : Member} {ks : List ℕ} (s : Stands f work m ks) (key : ℕ) where
   -- a block with others in its group
   pub inside-group : (r : Bool) → m .several ≡ true
-      → ((limit : ℕ) → Ready f (m .blocks) limit work → 2 ≤ length (membersOf limit (blocksOf f) (m .group)) → r ≡ among key (keysOf (blocksOf f) (membersOf limit (blocksOf f) (m .group))))
+      → ((limit : ℕ) → Ready f (m .blocks) limit work → 2 ≤ length (membersOf limit (blocksOf f) (m .group)) → r ≡ among key (memberKeys (blocksOf f) (membersOf limit (blocksOf f) (m .group))))
       → among key ks ≡ r
   inside-group r e found =
-      let all : List ℕ = keysOf (blocksOf f) (membersOf (s .limit) (blocksOf f) (m .group)) in
+      let all : List ℕ = memberKeys (blocksOf f) (membersOf (s .limit) (blocksOf f) (m .group)) in
       let same : ks ≡ all = rw e at (s .keys) in
       ap (among key) same
       ∙ sym (found (s .limit) (s .ready) (s .several e))

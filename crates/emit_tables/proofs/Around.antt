@@ -11,7 +11,7 @@ use Rattle.text.specs.Doc.{Doc, nothing, text, _▸_, flat, each}
 use Rattle.text.specs.Wrote.{Wrote}
 use Rattle.text.proofs.Laws.{seq, said}
 use Rattle.block_file.specs.Parse.{Block, blockKey}
-use Rattle.members.specs.Members.{keysOf}
+use Rattle.members.specs.Members.{memberKeys}
 use Rattle.c_tree.specs.Stmt.{call, end, _⨾_, block, function, extern, count}
 use Rattle.c_tree.specs.Print.{casesText, rowText, topText, unitText}
 use Rattle.forms.specs.Forms.{Body}
@@ -31,7 +31,7 @@ body-keys multiplier [] = refl
 body-keys multiplier (b ∷ bs) = ap (λ (ks : List ℕ). blockKey b ∷ ks) (body-keys multiplier bs)
 
 -- and so have those of some of them, by their numbers
-pub member-keys : (multiplier : ℕ) (bs : List Block) (is : List ℕ) → HaveKeys (bodiesOf (map (bodyOf multiplier) bs) is) (keysOf bs is)
+pub member-keys : (multiplier : ℕ) (bs : List Block) (is : List ℕ) → HaveKeys (bodiesOf (map (bodyOf multiplier) bs) is) (memberKeys bs is)
 unfolding bodyOf bodiesOf
 member-keys multiplier bs [] = refl
 member-keys multiplier bs (i ∷ is) = ap₂ (λ (k : ℕ) (ks : List ℕ). k ∷ ks) (at bs i) (member-keys multiplier bs is)
@@ -46,7 +46,7 @@ pub seen-body-keys : (written : Bool) (multiplier : ℕ) (bs : List Block) → H
 seen-body-keys written multiplier bs = seen-keys written (map (bodyOf multiplier) bs) ∙ body-keys multiplier bs
 
 pub seen-member-keys : (written : Bool) (multiplier : ℕ) (bs : List Block) (is : List ℕ)
-    → HaveKeys (map (seen written) (bodiesOf (map (bodyOf multiplier) bs) is)) (keysOf bs is)
+    → HaveKeys (map (seen written) (bodiesOf (map (bodyOf multiplier) bs) is)) (memberKeys bs is)
 seen-member-keys written multiplier bs is = seen-keys written (bodiesOf (map (bodyOf multiplier) bs) is) ∙ member-keys multiplier bs is
 
 -- the end of the last unit

@@ -19,7 +19,7 @@ use Rattle.plan.proofs.GroupLaws.{group-of, group-inside, group-joinable}
 use Rattle.block_file.proofs.Keys.{block-key, keys-rise}
 use Rattle.search.proofs.Searching.{target-some}
 use Rattle.plan.proofs.Listing.{map-at}
-use Rattle.members.specs.Members.{membersOf, keysOf}
+use Rattle.members.specs.Members.{membersOf, memberKeys}
 use Rattle.block_file.specs.Address.{among}
 use Rattle.members.specs.Prepared.{Ready}
 use Rattle.members.proofs.GroupOf.{group-listed}
@@ -33,11 +33,11 @@ or-right false c e = e
 abbrev keyOf : List Block → ℕ → ℕ
 keyOf bs i = getD (map blockKey bs) i 0
 
-among-member : (bs : List Block) (i : ℕ) {is : List ℕ} → List·Memᴰ i is → among (keyOf bs i) (keysOf bs is) ≡ true
+among-member : (bs : List Block) (i : ℕ) {is : List ℕ} → List·Memᴰ i is → among (keyOf bs i) (memberKeys bs is) ≡ true
 among-member bs i (List·Memᴰ·head {x = x} e) = rw (eq-eqb (keyOf bs i) (keyOf bs x) (ap (keyOf bs) e))
 among-member bs i (List·Memᴰ·tail {x = x} m) = or-right (eqb (keyOf bs i) (keyOf bs x)) _ (among-member bs i m)
 
-among-none : (bs : List Block) (key : ℕ) (is : List ℕ) → ((i : ℕ) → List·Memᴰ i is → keyOf bs i ≡ key → ⊥) → among key (keysOf bs is) ≡ false
+among-none : (bs : List Block) (key : ℕ) (is : List ℕ) → ((i : ℕ) → List·Memᴰ i is → keyOf bs i ≡ key → ⊥) → among key (memberKeys bs is) ≡ false
 among-none bs key [] no-such = refl
 among-none bs key (i ∷ is) no-such =
     rw (ne-eqb key (keyOf bs i) (λ e. no-such i (List·Memᴰ·head refl) (sym e))) (among-none bs key is (λ j m. no-such j (List·Memᴰ·tail m)))
@@ -101,7 +101,7 @@ module _ {f : List ℕ} {n limit : ℕ} {work : List ℕ} (ready : Ready f n lim
     member-inside = group-inside limit bs (membersOf limit bs g) listed
 
     -- no block of page 8 has the key
-    pub among-missing : target key (blocksOf f) 0 ≡ none → false ≡ among key (keysOf (blocksOf f) (membersOf limit (blocksOf f) g))
+    pub among-missing : target key (blocksOf f) 0 ≡ none → false ≡ among key (memberKeys (blocksOf f) (membersOf limit (blocksOf f) g))
     among-missing e = sym (among-none bs key (membersOf limit bs g) no-such)
       where
         no-such : (i : ℕ) → List·Memᴰ i (membersOf limit (blocksOf f) g) → keyOf bs i ≡ key → ⊥
@@ -114,14 +114,14 @@ module _ {f : List ℕ} {n limit : ℕ} {work : List ℕ} (ready : Ready f n lim
             omega arith
 
     -- block j has it
-    pub among-found : (j : ℕ) → target key (blocksOf f) 0 ≡ some j → eqb (getD work (n + j) 0) g ≡ among key (keysOf (blocksOf f) (membersOf limit (blocksOf f) g))
+    pub among-found : (j : ℕ) → target key (blocksOf f) 0 ≡ some j → eqb (getD work (n + j) 0) g ≡ among key (memberKeys (blocksOf f) (membersOf limit (blocksOf f) g))
     among-found j e =
         let there = target-key key bs 0 j e in
         let same : there .0 ≡ j = omega (arith, there .1) in
         let h : j < length bs = omega (arith, there .2) in
         let key-of : keyOf bs j ≡ key = ap (keyOf bs) (sym same) ∙ there .3 in
         elim (ℕ-discrete (getD work (n + j) 0) g) [
-          | yes at ↦ eq-eqb _ _ at ∙ sym (ap (λ (k : ℕ). among k (keysOf bs (membersOf limit bs g))) (sym key-of) ∙ among-member bs j (its-own j h at))
+          | yes at ↦ eq-eqb _ _ at ∙ sym (ap (λ (k : ℕ). among k (memberKeys bs (membersOf limit bs g))) (sym key-of) ∙ among-member bs j (its-own j h at))
           | no d ↦ ne-eqb _ _ d
               ∙ sym (among-none bs key (membersOf limit bs g)
               (λ i m k. d (ap (λ (a : ℕ). getD work (n + a) 0) (sym (key-once i j (member-inside i m) h (k ∙ sym key-of))) ∙ number-is i g (member-inside i m) m)))

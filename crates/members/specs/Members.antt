@@ -10,8 +10,8 @@ abbrev pub membersOf : ℕ → List Block → ℕ → List ℕ
 membersOf limit bs g = getD (groups limit bs) g []
 
 -- the keys of some blocks, by their numbers
-abbrev pub keysOf : List Block → List ℕ → List ℕ
-keysOf bs is = map (λ (i : ℕ). getD (map blockKey bs) i 0) is
+abbrev pub memberKeys : List Block → List ℕ → List ℕ
+memberKeys bs is = map (λ (i : ℕ). getD (map blockKey bs) i 0) is
 
 -- the row of the first member of a group
 unfoldable pub startOf : List (List ℕ) → ℕ → ℕ
