@@ -16,7 +16,7 @@ use Rattle.forms.proofs.RecordCount.{recordCounts}
 use Rattle.lowering.specs.Block.{bodyKey}
 use Rattle.lowering.specs.Units.{emitGroup, unitHead, lastUnitEnd, defaultBody, bodiesOf, unitsOf, unitsFor}
 use Rattle.ways.proofs.Faithful.{Faithful}
-use Rattle.ways.specs.Claim.{times, allUnits}
+use Rattle.ways.specs.Claim.{timesCarried, allUnits}
 use Rattle.ways.specs.Complete.{functions, Found, Complete}
 use Rattle.ways.proofs.Places.{found-at}
 use Rattle.ways.proofs.Members.{nowhere, File, bodies, key-of, is-member, same-place}
@@ -114,7 +114,7 @@ module _ (F : File) (i : ℕ) (h : i < length (F .bs)) where
           answers = w .2 .0;
           events = w .2 .1;
           way = w .2 .2;
-          first = subst (λ n. 1 ≤ times n 0 (w .2 .1)) k (w .2 .3);
+          first = subst (λ n. 1 ≤ timesCarried n 0 (w .2 .1)) k (w .2 .3);
         }
 
 pub complete : (hashOf : Block → Option ℕ) (bodyOf : Block → Body) → Faithful hashOf bodyOf → Complete bodyOf

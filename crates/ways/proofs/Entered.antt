@@ -13,7 +13,7 @@ use Rattle.lowering.specs.Block.{bodyKey, nl, line, lines, rest, underGuard, bl
 use Rattle.block_file.specs.Address.{outsideRomBios}
 use Rattle.lowering.specs.Units.{withLocals, emitBlock, labelled, groupCode, forwarders, emitGroup}
 use Rattle.ways.specs.Ways.{LabelAt, here, later, past-when, past-braces, Event, nativeStart, interpreted, negated, taken, Way, stop, w-gap, w-begin, w-plain, w-label, w-goto, w-lost, w-ret, w-leave, w-stay, w-unsaid, w-call, w-interp, w-retInterp, w-entry, w-default, w-past, w-when, w-unanswered, w-braces}
-use Rattle.ways.specs.Claim.{times}
+use Rattle.ways.specs.Claim.{timesCarried}
 use Rattle.ways.proofs.Functions.{forwarder}
 
 assoc : (b c d : Code) → (b ⧺ c) ⧺ d ≡ b ⧺ (c ⧺ d)
@@ -60,7 +60,7 @@ past (braces b c) d e p = past-braces (past c d e p)
 module _ (ts : List Top) (f : Code) (k : ℕ) where
   -- some way from c on carries out the first instruction of the block with the key k
   abbrev pub Carries : Code → Type 0
-  Carries c = (xs : List Bool) × (es : List Event) × Way ts f c xs es × (1 ≤ times k 0 es)
+  Carries c = (xs : List Bool) × (es : List Event) × Way ts f c xs es × (1 ≤ timesCarried k 0 es)
 
   over-gap : (l : Bool) (n : ℕ) (c : Code) → Carries c → Carries (gap l n ⨾ c)
   over-gap l n c r = (r .0, r .1, w-gap (r .2), r .3)
@@ -86,7 +86,7 @@ module _ (ts : List Top) (f : Code) (k : ℕ) where
       over-gap true 4 _ (over-plain common _ _ (over-gap true 4 _ (over-plain common _ _ (over-gap false 1 _ (over-plain common _ _ (over-gap true 0 c r))))))
 
 module _ (ts : List Top) (f : Code) (ks : List ℕ) (b : Body) where
-  counts : (r : Native) → 1 ≤ times (bodyKey b) 0 (nativeStart (bodyKey b) 0 (records r) ∷ [])
+  counts : (r : Native) → 1 ≤ timesCarried (bodyKey b) 0 (nativeStart (bodyKey b) 0 (records r) ∷ [])
   counts (straight t l) = rw (eq-eqb (bodyKey b) (bodyKey b) refl) (omega arith)
   counts (holds t e l) = rw (eq-eqb (bodyKey b) (bodyKey b) refl) (omega arith)
   counts (branch t e s k) = rw (eq-eqb (bodyKey b) (bodyKey b) refl) (omega arith)
@@ -95,7 +95,7 @@ module _ (ts : List Top) (f : Code) (ks : List ℕ) (b : Body) where
   counts (bx t e) = rw (eq-eqb (bodyKey b) (bodyKey b) refl) (omega arith)
   counts (pop t s l u e) = rw (eq-eqb (bodyKey b) (bodyKey b) refl) (omega arith)
 
-  shell-counts : 1 ≤ times (bodyKey b) 0 (interpreted (bodyKey b) 0 ∷ [])
+  shell-counts : 1 ≤ timesCarried (bodyKey b) 0 (interpreted (bodyKey b) 0 ∷ [])
   shell-counts = rw (eq-eqb (bodyKey b) (bodyKey b) refl) (omega arith)
 
   from-rest : (rs : List Form) → 1 ≤ recordCounts rs → Carries ts f (bodyKey b) (rest ks b 0 rs)

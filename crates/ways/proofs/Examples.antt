@@ -12,7 +12,7 @@ use Rattle.lowering.specs.Block.{bodyKey, nl, chain, transfer, nativeText, rest
 use Rattle.block_file.specs.Address.{outsideRomBios}
 use Rattle.lowering.specs.Units.{withLocals, labelled, groupCode, emitGroup, unitHead, lastUnitEnd, bodiesOf, unitsOf}
 use Rattle.ways.specs.Ways.{LabelAt, here, later, Event, reach, said, nativeStart, interpreted, Way, w-gap, w-begin, w-plain, w-goto, w-leave, w-stay, w-call, w-retInterp, w-entry, w-when, w-braces, stop}
-use Rattle.ways.specs.Claim.{carried, times}
+use Rattle.ways.specs.Claim.{carried, timesCarried}
 use Rattle.ways.proofs.Functions.{trees, forwarder}
 use Rattle.ways.proofs.Pieces.{group-part, in-part}
 
@@ -96,7 +96,7 @@ twice max =
     (w-plain (w-gap (w-plain (w-gap (w-plain (w-gap (w-gap (w-entry (List·Memᴰ·head refl) to-loop (goes-on (units max) (leaves (units max)))))))))))))
 
 -- it carries out two instructions, and the one of the loop twice: in a group of several only gates bound that
-pub two : (carried events ≡ 2) × (times 0x08000100 0 events ≡ 2)
+pub two : (carried events ≡ 2) × (timesCarried 0x08000100 0 events ≡ 2)
 two = (refl, refl)
 
 -- swi by itself: the interpreter carries out one instruction

@@ -10,7 +10,7 @@ use Rattle.forms.specs.Forms.{Body}
 use Rattle.lowering.specs.Block.{blockCode}
 use Rattle.lowering.specs.Units.{withLocals}
 use Rattle.ways.specs.Ways.{Event, reach, said, nativeStart, interpreted, Way}
-use Rattle.ways.specs.Claim.{times}
+use Rattle.ways.specs.Claim.{timesCarried}
 use Rattle.ways.proofs.Logic.{Logic, Follow}
 use Rattle.ways.proofs.Emitted.{Quiet, q-native, q-none, q-other, q-gate, Rules}
 use Rattle.ways.proofs.Followed.{lone-follows}
@@ -71,11 +71,11 @@ hits : (h k j p : ℕ) → T (eqb h k && eqb p j) → p ≡ j
 hits h k j p t = eqb→eq p j (both (eqb h k) (eqb p j) t .1)
 
 record Few (h j s : ℕ) (es : List Event) : Type 0 where
-  below : j < s → times h j es ≤ 0
-  twice : times h j es ≤ 1
+  below : j < s → timesCarried h j es ≤ 0
+  twice : timesCarried h j es ≤ 1
 
 add : (h j s r : ℕ) (es : List Event) (x : Bool) → (T x → (s ≤ j) × (j < r)) → s ≤ r → Few h j r es
-    → (j < s → cond x 1 0 + times h j es ≤ 0) × (cond x 1 0 + times h j es ≤ 1)
+    → (j < s → cond x 1 0 + timesCarried h j es ≤ 0) × (cond x 1 0 + timesCarried h j es ≤ 1)
 add h j s r es true f l k = let c = f tt in (λ m. omega arith, omega (arith, k .below (c .1)))
 add h j s r es false f l k = (λ m. omega (arith, k .below (omega arith)), omega (arith, k .twice))
 
@@ -92,5 +92,5 @@ few h j (interpreted k p ∷ es) s f =
     let a = add h j s (p + 1) es (eqb h k && eqb p j) (λ t. omega (arith, hits h k j p t)) (omega arith) (few h j es (p + 1) (f .1)) in
     record { below = a .0; twice = a .1 }
 
-pub once-of : (h j : ℕ) (es : List Event) → Follow Rising es 0 → times h j es ≤ 1
+pub once-of : (h j : ℕ) (es : List Event) → Follow Rising es 0 → timesCarried h j es ≤ 1
 once-of h j es f = (few h j es 0 f) .twice

@@ -38,12 +38,12 @@ Gateless (nativeStart k i n ∷ es) = Gateless es
 Gateless (interpreted k i ∷ es) = Gateless es
 
 -- how often they carry out the instruction with index j of the block with the key h
-abbrev pub times : ℕ → ℕ → List Event → ℕ
-times h j [] = 0
-times h j (reach o ∷ es) = times h j es
-times h j (said t x ∷ es) = times h j es
-times h j (nativeStart k i n ∷ es) = cond (eqb h k && leb i j && ltb j (i + n)) 1 0 + times h j es
-times h j (interpreted k i ∷ es) = cond (eqb h k && eqb i j) 1 0 + times h j es
+abbrev pub timesCarried : ℕ → ℕ → List Event → ℕ
+timesCarried h j [] = 0
+timesCarried h j (reach o ∷ es) = timesCarried h j es
+timesCarried h j (said t x ∷ es) = timesCarried h j es
+timesCarried h j (nativeStart k i n ∷ es) = cond (eqb h k && leb i j && ltb j (i + n)) 1 0 + timesCarried h j es
+timesCarried h j (interpreted k i ∷ es) = cond (eqb h k && eqb i j) 1 0 + timesCarried h j es
 
 -- an event at the native statements (document 01) of the block with the key h
 abbrev pub AtNative : ℕ → Event → Type 0
@@ -79,7 +79,7 @@ module _ (hashOf : Block → Option ℕ) where
     -- a part without a consultation of the gate, in a group of several
     pub bounded : Several limit bs i → (us ps vs : List Event) → es ≡ us ++ (ps ++ vs) → Gateless ps → carried ps ≤ limit
     -- a lone block
-    pub once : Lone limit bs i → (h j : ℕ) → times h j es ≤ 1
+    pub once : Lone limit bs i → (h j : ℕ) → timesCarried h j es ≤ 1
     -- native statements
     pub behind : (us vs : List Event) (e : Event) → es ≡ us ++ (e ∷ vs) → (b : Block) → List·Memᴰ b bs → AtNative (blockKey b) e → T (outsideRomBios (b .addr)) → Passed b us
 

@@ -12,7 +12,7 @@ use Rattle.c_tree.specs.Stmt.{Code, helper, block, group, Top, opening, functio
 use Rattle.forms.specs.Forms.{Body}
 use Rattle.lowering.specs.Units.{TranslationUnit, emitGroup, bodiesOf, unitsFor}
 use Rattle.ways.specs.Ways.{Event, Way}
-use Rattle.ways.specs.Claim.{times, allUnits}
+use Rattle.ways.specs.Claim.{timesCarried, allUnits}
 
 -- 1 for the function of the block with the key k, else 0
 abbrev pub functionCount : ℕ → Top → ℕ
@@ -50,7 +50,7 @@ module _ (bodyOf : Block → Body) where
     pub answers : List Bool
     pub events : List Event
     pub way : Way (allUnits bodyOf limit max bs) code code answers events
-    pub first : 1 ≤ times (blockKey b) 0 events
+    pub first : 1 ≤ timesCarried (blockKey b) 0 events
 
   -- each block of each accepted file, at each limit and wished size
   unfoldable pub Complete : Type 0
