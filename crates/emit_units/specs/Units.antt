@@ -14,7 +14,7 @@ use Rattle.c_tree.specs.Stmt.{Top}
 use Rattle.forms.specs.Forms.{Body}
 use Rattle.lowering.specs.Units.{TranslationUnit, emitGroup, unitHead, lastUnitEnd, textOf, cut, bodiesOf, fileUnits}
 use Rattle.emit_units.specs.declared.extents.Extent.{Extent}
-use Rattle.emit_units.specs.declared.extents.Found.{Found}
+use Rattle.emit_units.specs.declared.extents.FoundUnit.{FoundUnit}
 use Rattle.emit_units.specs.Groups.{fileBodies}
 
 -- the length of at bytes and the text of a tree, or the largest `usize` where that is less
@@ -70,6 +70,6 @@ pub record IsUnit (f : List ℕ) (limit max k : ℕ) (e : Extent) : Type 0 where
   pub tree : unit .tree ≡ unitTree f limit group size (e .last)
 
 -- what is found is unit k, or there is none
-unfoldable pub describes : List ℕ → ℕ → ℕ → ℕ → Found → Type 0
-describes f limit max k Found.Nothing = getElem? (fileUnits hashMultiplier limit max (blocksOf f)) k ≡ none
-describes f limit max k (Found.At e) = IsUnit f limit max k e
+unfoldable pub describes : List ℕ → ℕ → ℕ → ℕ → FoundUnit → Type 0
+describes f limit max k FoundUnit.Nothing = getElem? (fileUnits hashMultiplier limit max (blocksOf f)) k ≡ none
+describes f limit max k (FoundUnit.At e) = IsUnit f limit max k e

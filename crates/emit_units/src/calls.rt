@@ -1,5 +1,5 @@
 // The public call for a unit. It checks its file and its lent buffers itself.
-use crate::extents::Found;
+use crate::extents::FoundUnit;
 use crate::extents::find_unit;
 use crate::writing::write_unit;
 use block_file::Checked;
@@ -31,7 +31,7 @@ fn answer_unit(file: &[u8], max: u64, k: u64, work: &[u32], out: &mut [u8], n: u
     requires { ⌜ Ready (now file) n partLimit (now work) ⌝ }
     ensures { λ r. ⌜ ((w : List ℕ) → record { answer = translatedOf r; work = w; result = now (out .exit) } ≡ handOver (madeUnit (unit hashMultiplier partLimit max (blocksOf (now (file .entry))) k)) w (now (out .entry))) ⌝ }
 {
-    let Found::At(e) = find_unit(file, work, n, max, k) else {
+    let FoundUnit::At(e) = find_unit(file, work, n, max, k) else {
         return Translated::Refused { number: 9, at: 0 };
     };
     if out.len() < e.length {
