@@ -1,5 +1,6 @@
 // The code of a block: what stands between its head, or label, and its close.
 use crate::member::Member;
+use crate::region::region_of;
 use crate::walk::emit_records;
 use block_file::BlockRecord;
 use block_file::FoundBlock;
@@ -35,7 +36,7 @@ const MULTIPLIER: u64 = 4294967731;
 fn is_guarded(addr: u32) -> bool
     ensures { λ r. ⌜ r ≡ outsideRomBios addr ⌝ }
 {
-    let region = addr / 16777216 % 16;
+    let region = region_of(addr);
     if region == 8 {
         return false;
     }

@@ -1,6 +1,7 @@
 // One record of a block, or the fused pair that begins with it.
 use crate::member::Member;
 use crate::member::is_inside;
+use crate::region::region_of;
 use armv4t::Fused;
 use armv4t::Instr;
 use armv4t::Op;
@@ -129,7 +130,7 @@ fn emit_alone(
     let op = instr.op;
     let inside = branch_inside(file, work, m, block.thumb, op);
     let last = j + 1 == block.count;
-    let region = block.addr / 16777216 % 16;
+    let region = region_of(block.addr);
     emit_instr(
         out,
         at,

@@ -2,6 +2,7 @@
 mod block;
 mod instrs;
 mod member;
+mod region;
 mod walk;
 
 pub use block::emit_block;
