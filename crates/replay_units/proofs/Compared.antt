@@ -8,17 +8,17 @@ use Rattle.plan.specs.Calls.{Outcome}
 use Rattle.emit_units.specs.Calls.{UnitValues}
 use Rattle.recomp.specs.Answer.{withUnit, unitNumbers}
 use Rattle.case_io.specs.Same.{sameNumbers}
-use Rattle.replay_units.specs.UnitCases.{unitAnswer, withRest, sameUnit}
+use Rattle.replay_units.specs.UnitCases.{unitAnswerNumbers, withRest, sameUnit}
 
 module _ (answer work text : List ℕ) (w t moreWork moreText : List ℕ) where
   -- the comparison with what a call left is these three, whatever it answered
   parts : (a : Answer UnitValues)
-      → (sameNumbers answer (unitAnswer a) && (sameNumbers work (w ++ moreWork) && sameNumbers text (t ++ moreText))) ≡ sameUnit answer work text (withRest (withUnit a w t) moreWork moreText)
+      → (sameNumbers answer (unitAnswerNumbers a) && (sameNumbers work (w ++ moreWork) && sameNumbers text (t ++ moreText))) ≡ sameUnit answer work text (withRest (withUnit a w t) moreWork moreText)
   parts (refusal n i) = refl
   parts (value u) = refl
 
   -- what the three come to, where `got` was made of the answer, and w and t are what the call left
-  pub compared : (a : Answer UnitValues) (got : List ℕ) (o : Outcome UnitValues) {first second third : Bool} → got ≡ unitAnswer a
+  pub compared : (a : Answer UnitValues) (got : List ℕ) (o : Outcome UnitValues) {first second third : Bool} → got ≡ unitAnswerNumbers a
       → record { answer = a; work = w; result = t } ≡ o
       → first ≡ sameNumbers answer got
       → second ≡ sameNumbers work (w ++ moreWork)

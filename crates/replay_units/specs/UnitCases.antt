@@ -14,8 +14,8 @@ abbrev pub unitInOrder : UnitNumbers → List ℕ
 unitInOrder n = n .number ∷ n .at ∷ n .length ∷ n .done ∷ n .last ∷ []
 
 -- the numbers of an answer, with nothing lent
-abbrev pub unitAnswer : Answer UnitValues → List ℕ
-unitAnswer a = unitInOrder (withUnit a [] [])
+abbrev pub unitAnswerNumbers : Answer UnitValues → List ℕ
+unitAnswerNumbers a = unitInOrder (withUnit a [] [])
 
 -- with more work numbers and more text behind what was lent
 abbrev pub withRest : UnitNumbers → List ℕ → List ℕ → UnitNumbers

@@ -13,7 +13,7 @@ ghost use Prim.Native.Nat.{_≤_};
 ghost use lib.ListN.{length};
 ghost use Rattle.emit_units.specs.Calls.{translatedOf};
 ghost use Rattle.case_io.specs.Same.{sameNumbers};
-ghost use Rattle.replay_units.specs.UnitCases.{unitAnswer, left, sameUnit};
+ghost use Rattle.replay_units.specs.UnitCases.{unitAnswerNumbers, left, sameUnit};
 
 // The longest file that a vector may hold.
 const LONGEST: usize = 4096;
@@ -38,7 +38,7 @@ struct Asked {
 
 // The refusal's number or 0, its i, the text's length, the blocks done, and 1 for the last unit.
 fn answer(translated: Translated) -> [u64; 5]
-    ensures { λ r. ⌜ r ≡ unitAnswer (translatedOf translated) ⌝ }
+    ensures { λ r. ⌜ r ≡ unitAnswerNumbers (translatedOf translated) ⌝ }
 {
     match translated {
         Translated::Unit { length, done, last } => [0, 0, length, done, last as u64],
