@@ -39,10 +39,10 @@ start-below true a n h l = omega arith
 start-below false a n h l = omega arith
 
 -- where a record of a set stands
-record Placed (t : Bool) (x : TimedInstr) : Type 0 where
-  set : x .instr .thumb ≡ t
-  aligned : x .instr .addr % sizeOf t ≡ 0
-  below : x .instr .addr < 4294967296
+pub record Placed (t : Bool) (x : TimedInstr) : Type 0 where
+  pub set : x .instr .thumb ≡ t
+  pub aligned : x .instr .addr % sizeOf t ≡ 0
+  pub below : x .instr .addr < 4294967296
 
 first-placed : (a : ℕ) (t : Bool) (n : ℕ) (x : TimedInstr) → x .instr .addr ≡ a → x .instr .thumb ≡ t → a % sizeOf t ≡ 0 → a + suc n * sizeOf t ≤ 4294967296 → Placed t x
 first-placed a t n x p q h l = record { set = q; aligned = rw p h; below = rw p (start-below t a (suc n) (omega arith) l) }
@@ -56,7 +56,7 @@ next-inside true a n h = omega arith
 next-inside false a n h = omega arith
 
 -- by where the first stands, where each does
-placed : (a : ℕ) (t : Bool) (xs : List TimedInstr) → Consecutive a t xs → a % sizeOf t ≡ 0 → a + length xs * sizeOf t ≤ 4294967296
+pub placed : (a : ℕ) (t : Bool) (xs : List TimedInstr) → Consecutive a t xs → a % sizeOf t ≡ 0 → a + length xs * sizeOf t ≤ 4294967296
     → (x : TimedInstr) → List·Memᴰ x xs → Placed t x
 placed a t [] p h l x i = absurd (List·Memᴰ·not-nil i)
 placed a t (y ∷ ys) p h l x i = go (placed (a + sizeOf t) t ys (p .2) (next-aligned t a h) (next-inside t a (length ys) l) x) (List·Memᴰ·cases-cons i)

@@ -1,9 +1,13 @@
 -- The text of every accepted file's blocks means what the manual says.
-use Prim.Native.Nat.{ℕ}
+use Prim.Native.Nat.{ℕ, _%_}
 use mathlib.Core.Path.{_≡_}
+use mathlib.Core.Bool.{Bool, true, false}
 use mathlib.Core.List.{List, [], _∷_, _++_, List·Memᴰ}
+use native.Mathlib.Omega.{arith}
+use Rattle.armv4t.specs.Instr.{sizeOf}
 use Rattle.instr_records.specs.declared.decode.TimedInstr.{TimedInstr}
 use Rattle.block_file.specs.Address.{region}
+use Rattle.manual.proofs.Kept.{execute-sound}
 use Rattle.forms.specs.Block.{bodyOf}
 use Rattle.lowering.specs.Records.{RecordMeans, PairMeans, ClosingMeans}
 use Rattle.lowering.proofs.Theorem.{record-means}
@@ -12,12 +16,20 @@ use Rattle.lowering.proofs.Pairs.{pair-means}
 use Rattle.meaning.specs.Meaning.{MeaningOf}
 use Rattle.meaning.proofs.Ranges.{accepted-ranges, accepted-consecutive, accepted-some, accepted-end, accepted-aligned}
 use Rattle.meaning.proofs.Closing.{closing-means}
-use Rattle.meaning.proofs.Blocks.{block-means}
+use Rattle.meaning.proofs.Blocks.{Placed, placed, block-means}
+
+-- an aligned address is even
+aligned-even : (t : Bool) (a : ℕ) → a % sizeOf t ≡ 0 → a % 2 ≡ 0
+aligned-even true a h = omega arith
+aligned-even false a h = omega arith
 
 pub meaning-of : (multiplier : ℕ) (f : List ℕ) → MeaningOf multiplier f
 unfolding MeaningOf
 meaning-of multiplier f bs accepted b m ks =
     record {
+      ownSet = λ x h. stands x h .set;
+      even = λ x h. aligned-even (b .thumb) (x .instr .addr) (stands x h .aligned);
+      sound = λ x h n next s e. execute-sound (x .instr) n (accepted-ranges f bs accepted b m x h) s next e;
       records = records;
       thumb = λ x h. thumb-means ks (b .addr) (region (b .addr)) x;
       pairs = pairs;
@@ -27,6 +39,9 @@ meaning-of multiplier f bs accepted b m ks =
           (accepted-some f bs accepted b m) (accepted-end f bs accepted b m) (accepted-aligned f bs accepted b m);
     }
   where
+    stands : (x : TimedInstr) → List·Memᴰ x (b .instrs) → Placed (b .thumb) x
+    stands = placed (b .addr) (b .thumb) (b .instrs) (accepted-consecutive f bs accepted b m) (accepted-aligned f bs accepted b m) (accepted-end f bs accepted b m)
+
     records : (x : TimedInstr) → List·Memᴰ x (b .instrs) → RecordMeans ks (b .addr) (region (b .addr)) x
     records x h = record-means ks (b .addr) (region (b .addr)) x (accepted-ranges f bs accepted b m x h)
 

@@ -1,17 +1,23 @@
 -- What the text of a file's blocks means (document 01, Meaning): demand 2's second half, as one statement about a file.
-use Prim.Native.Nat.{ℕ}
+use Prim.Native.Nat.{ℕ, _%_}
 use mathlib.Core.Path.{_≡_}
 use mathlib.Core.List.{List, [], _∷_, _++_, List·Memᴰ}
+use mathlib.Core.Option.{some}
 use Rattle.instr_records.specs.declared.decode.TimedInstr.{TimedInstr}
 use Rattle.block_file.specs.Parse.{Block, Parsed, parse}
 use Rattle.block_file.specs.Address.{region}
+use Rattle.manual.specs.Machine.{Machine, Sound}
+use Rattle.manual.specs.Execute.{execute}
 use Rattle.forms.specs.Block.{bodyOf}
 use Rattle.lowering.specs.Records.{RecordMeans, ThumbMeans, PairMeans, ThumbPairMeans, ClosingMeans}
 use Rattle.meaning.specs.Block.{BlockMeans}
 
--- a block, ks being the keys of its group: each record, and each two records that stand side by side, by A7.1 too where they decode Thumb instructions, the closing
--- transfer, and the whole
+-- a block, ks being the keys of its group: each record is of its set, at an even address, and leads by the manual from a sound machine to a sound one, as the
+-- claims below ask; each record, and each two records that stand side by side, by A7.1 too where they decode Thumb instructions, the closing transfer, and the whole
 pub record BlockMeaning (multiplier : ℕ) (ks : List ℕ) (b : Block) : Type 0 where
+  pub ownSet : (x : TimedInstr) → List·Memᴰ x (b .instrs) → x .instr .thumb ≡ b .thumb
+  pub even : (x : TimedInstr) → List·Memᴰ x (b .instrs) → x .instr .addr % 2 ≡ 0
+  pub sound : (x : TimedInstr) → List·Memᴰ x (b .instrs) → (m : Machine) (next : Machine × ℕ) → Sound m → execute (x .instr) m ≡ some next → Sound (next .0)
   pub records : (x : TimedInstr) → List·Memᴰ x (b .instrs) → RecordMeans ks (b .addr) (region (b .addr)) x
   pub thumb : (x : TimedInstr) → List·Memᴰ x (b .instrs) → ThumbMeans ks (b .addr) (region (b .addr)) x
   pub pairs : (us vs : List TimedInstr) (x y : TimedInstr) → b .instrs ≡ us ++ (x ∷ y ∷ vs) → PairMeans ks (b .addr) x y
