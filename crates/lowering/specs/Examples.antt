@@ -224,6 +224,11 @@ fused-marks : marks (blockCode [] fused) ≡ (0x08000221, 0, 2) ∷ []
 unfolding blockCode outsideRomBios rest nativeText transfer
 fused-marks = refl
 
+-- an unconditional native exit drops what would stand behind it
+dropped : (c : Code) → nativeText [] 0x08000000 common (jump (to 8) 8) c ≡ nativeText [] 0x08000000 common (jump (to 8) 8) end
+unfolding nativeText
+dropped c = refl
+
 -- a block of page 0x18 is of region 8
 mirror : outsideRomBios 0x18000000 ≡ false
 unfolding outsideRomBios
