@@ -1,14 +1,14 @@
--- Whatever code runs, it uses the interpreter's calls up in order, and keeps what the scopes that it starts in declare.
-use Prim.Native.Nat.{ℕ, suc}
+-- Whatever code runs, it keeps what the scopes that it starts in declare; and code that does not call the interpreter uses none of its calls up.
+use Prim.Native.Nat.{ℕ}
 use mathlib.Core.Path.{_≡_, refl, sym, ap, _∙_, subst}
-use mathlib.Core.Bool.{Bool, true, false, cond, _&&_, Bool·beq}
+use mathlib.Core.Bool.{Bool, true, false, cond, _&&_, Bool·beq, true≢false}
 use mathlib.Core.List.{List, [], _∷_}
 use mathlib.Core.Option.{Option, none, some, Option·some-injective}
 use lib.Dec.{T, leb, eqb, eqb→eq}
 use Rattle.c_tree.specs.Expr.{Ty, s8, s16, s32, u32, s64, u64, Name, x-pc, Var, Place, reg, var, Expr}
-use Rattle.c_tree.specs.Stmt.{Plain, registers, local, declare, adds, set, drop, run, write, tick, Test, guard, gate, other, Simple, gap, begin, plain, label, goto, ret, retIf, interp, retInterp, call, switch, Code, end, _⨾_, when, braces, Helper, op-adds, proc, params}
+use Rattle.c_tree.specs.Stmt.{Plain, registers, local, declare, adds, set, drop, run, write, tick, Test, guard, gate, other, Simple, gap, begin, plain, label, goto, ret, retIf, interp, retInterp, call, switch, Code, end, _⨾_, when, braces, Helper, ror32, op-adds, proc, f-nz, f-c, f-nz64, params}
 use Rattle.c_meaning.specs.Types.{width, signed, sameTy}
-use Rattle.c_meaning.specs.State.{bind, update, index, Cell, Scope, Interpreter, State, setScopes, enter, outer, leave, declareIn, declared, assignIn, assigned, put, interpretedKey, interpreted, find, Declares}
+use Rattle.c_meaning.specs.State.{bind, update, index, Cell, Scope, State, setScopes, enter, outer, leave, declareIn, declared, assignIn, assigned, put, interpretedKey, interpreted, find, Declares}
 use Rattle.c_meaning.specs.Eval.{ty, eval, evalAs}
 use Rattle.c_meaning.specs.Exec.{Goes, on, to, back, Outcome, next, ended, returned, newValue, procTy, declares, initialise, others, exec, asks, returns, step, runs}
 use Rattle.c_meaning.specs.Helpers.{body, arguments, noRor, noCall, called, rotated}
@@ -128,151 +128,189 @@ assigned-over : (y : Ty) (k v : ℕ) (fs : List Scope) → All (Over fs) (assign
 assigned-over y k v [] = undefined
 assigned-over y k v (f ∷ fs) = assignIn-over (f k) y k v f fs (assigned y k v fs) refl (assigned-over y k v fs)
 
--- calls of the interpreter, and the same from one on
-data From (f : ℕ → Interpreter) : (ℕ → Interpreter) → Type 0 where
-  all : From f f
-  later : {g : ℕ → Interpreter} → From f g → From f (λ k. g (suc k))
+-- a statement calls the interpreter only if it may
+abbrev Permits : Bool → Simple → Type 0
+Permits may (gap l n) = Unit {0}
+Permits may (begin k i n) = Unit {0}
+Permits may (plain o s) = Unit {0}
+Permits may (label k) = Unit {0}
+Permits may (goto o k) = Unit {0}
+Permits may (ret o e) = Unit {0}
+Permits may (retIf o t e) = Unit {0}
+Permits may (interp k i) = may ≡ true
+Permits may (retInterp k i) = may ≡ true
+Permits may (call k n) = Unit {0}
+Permits may (switch ks) = Unit {0}
 
-from-trans : {f g h : ℕ → Interpreter} → From f g → From g h → From f h
-from-trans p all = p
-from-trans p (later q) = later (from-trans p q)
+-- the same of each statement of code
+abbrev Allows : Bool → Code → Type 0
+Allows may end = Unit {0}
+Allows may (s ⨾ c) = Permits may s × Allows may c
+Allows may (when o n t b c) = Allows may b × Allows may c
+Allows may (braces b c) = Allows may b × Allows may c
 
--- what each call has, each from one on has
-from-each : {f g : ℕ → Interpreter} → From f g → (P : Interpreter → Type 0) → ((k : ℕ) → P (f k)) → (k : ℕ) → P (g k)
-from-each all P h k = h k
-from-each (later p) P h k = from-each p P h (suc k)
+-- code that does not call the interpreter
+abbrev pub Quiet : Code → Type 0
+Quiet c = Allows false c
 
--- the interpreter's calls are the same from one on, and what the scopes had they have with the same types
-abbrev Kept : State → State → Type 0
-Kept z y = From (z .interpreter) (y .interpreter) × Over (z .scopes) (y .scopes)
+any-permits : (s : Simple) → Permits true s
+any-permits (gap l n) = tt
+any-permits (begin k i n) = tt
+any-permits (plain o s) = tt
+any-permits (label k) = tt
+any-permits (goto o k) = tt
+any-permits (ret o e) = tt
+any-permits (retIf o t e) = tt
+any-permits (interp k i) = refl
+any-permits (retInterp k i) = refl
+any-permits (call k n) = tt
+any-permits (switch ks) = tt
 
--- the same of an outcome
-abbrev KeptBy : State → State × Goes → Type 0
-KeptBy z q = Kept z (q .0)
+any-allows : (c : Code) → Allows true c
+any-allows end = tt
+any-allows (s ⨾ c) = (any-permits s, any-allows c)
+any-allows (when o n t b c) = (any-allows b, any-allows c)
+any-allows (braces b c) = (any-allows b, any-allows c)
 
-kept-refl : (z : State) → Kept z z
-kept-refl z = (all, over-refl (z .scopes))
+-- no function of PREAMBLE calls it
+body-allows : (may : Bool) (h : Helper) → Allows may (body h)
+body-allows may ror32 = (tt, (tt, (tt, (tt, (tt, tt)))))
+body-allows may op-adds = (tt, (tt, (tt, (tt, (tt, (tt, (tt, (tt, (tt, tt)))))))))
+body-allows may (proc f-nz) = (tt, (tt, (tt, tt)))
+body-allows may (proc f-c) = (tt, (tt, (tt, tt)))
+body-allows may (proc f-nz64) = (tt, (tt, (tt, tt)))
 
-setScopes-kept : (z : State) (fs : List Scope) → Over (z .scopes) fs → Kept z (setScopes fs z)
-setScopes-kept z fs p = (all, p)
+module _ (may : Bool) where
+  -- the interpreter's calls are the same if none may be made, and what the scopes had they have with the same types
+  abbrev Kept : State → State → Type 0
+  Kept z y = (may ≡ false → y .interpreter ≡ z .interpreter) × Over (z .scopes) (y .scopes)
 
-kept-trans : (z u y : State) → Kept z u → Kept u y → Kept z y
-kept-trans z u y p q = (from-trans (p .0) (q .0), over-trans (p .1) (q .1))
+  -- the same of an outcome
+  abbrev KeptBy : State → State × Goes → Type 0
+  KeptBy z q = Kept z (q .0)
 
--- a call of the interpreter
-interpreted-kept : (z : State) → Kept z (interpreted z)
-interpreted-kept z = (later all, over-refl (z .scopes))
+  kept-refl : (z : State) → Kept z z
+  kept-refl z = (λ h. refl, over-refl (z .scopes))
 
--- what is kept from a state is kept from one before it
-behind : (z u : State) {o : Option State} → Kept z u → All (Kept u) o → All (Kept z) o
-behind z u p undefined = undefined
-behind z u p (defined {x} q) = defined (kept-trans z u x p q)
+  setScopes-kept : (z : State) (fs : List Scope) → Over (z .scopes) fs → Kept z (setScopes fs z)
+  setScopes-kept z fs p = (λ h. refl, p)
 
-behindBy : (z u : State) {o : Outcome} → Kept z u → All (KeptBy u) o → All (KeptBy z) o
-behindBy z u p undefined = undefined
-behindBy z u p (defined {x} q) = defined (kept-trans z u (x .0) p q)
+  kept-trans : (z u y : State) → Kept z u → Kept u y → Kept z y
+  kept-trans z u y p q = (λ h. q .0 h ∙ p .0 h, over-trans (p .1) (q .1))
 
-put-kept : (p : Place) (v : ℕ) (z : State) → All (Kept z) (put p v z)
-put-kept (reg k) v z = all-cond (leb k 16) (defined (kept-refl z)) undefined
-put-kept (var x) v z = all-bind (assigned-over (x .0) (index (x .1)) v (z .scopes)) λ fs p. defined (setScopes-kept z fs p)
+  -- a call of the interpreter
+  interpreted-kept : may ≡ true → (z : State) → Kept z (interpreted z)
+  interpreted-kept a z = (λ h. absurd (true≢false (sym a ∙ h)), over-refl (z .scopes))
 
-declares-kept : (x : Var) (z : State) → All (Kept z) (declares x z)
-declares-kept x z = all-bind (declared-over x (z .scopes)) λ fs p. defined (setScopes-kept z fs p)
+  -- what is kept from a state is kept from one before it
+  behind : (z u : State) {o : Option State} → Kept z u → All (Kept u) o → All (Kept z) o
+  behind z u p undefined = undefined
+  behind z u p (defined {x} q) = defined (kept-trans z u x p q)
 
-ended-kept : (g : Goes) (z u : State) → Kept z u → All (Kept z) (ended g u)
-ended-kept on z u p = defined p
-ended-kept (to k) z u p = undefined
-ended-kept (back x) z u p = undefined
+  behindBy : (z u : State) {o : Outcome} → Kept z u → All (KeptBy u) o → All (KeptBy z) o
+  behindBy z u p undefined = undefined
+  behindBy z u p (defined {x} q) = defined (kept-trans z u (x .0) p q)
 
-next-kept : (g : Goes) (z u : State) (f : State → Outcome) → Kept z u → ((y : State) → All (KeptBy y) (f y)) → All (KeptBy z) (next g u f)
-next-kept on z u f p h = behindBy z u p (h u)
-next-kept (to k) z u f p h = defined p
-next-kept (back x) z u f p h = defined p
+  put-kept : (p : Place) (v : ℕ) (z : State) → All (Kept z) (put p v z)
+  put-kept (reg k) v z = all-cond (leb k 16) (defined (kept-refl z)) undefined
+  put-kept (var x) v z = all-bind (assigned-over (x .0) (index (x .1)) v (z .scopes)) λ fs p. defined (setScopes-kept z fs p)
 
--- from { to }
-leave-kept : (z u : State) → Kept (enter z) u → Kept z (leave u)
-leave-kept z u p = (p .0, over-outer (p .1))
+  declares-kept : (x : Var) (z : State) → All (Kept z) (declares x z)
+  declares-kept x z = all-bind (declared-over x (z .scopes)) λ fs p. defined (setScopes-kept z fs p)
 
--- with helpers that keep
-module _ (R : ℕ → ℕ → Option ℕ) (C : Helper → List ℕ → State → Outcome) (call-kept : (h : Helper) (vs : List ℕ) (z : State) → All (KeptBy z) (C h vs z)) where
-  initialise-kept : (x : Var) (e : Expr) (z : State) → All (Kept z) (initialise R C x e z)
-  initialise-kept x e z = all-bind (declares-kept x z) λ u p. all-value (evalAs R (x .0) e u) λ k. behind z u p (put-kept (var x) k u)
+  ended-kept : (g : Goes) (z u : State) → Kept z u → All (Kept z) (ended g u)
+  ended-kept on z u p = defined p
+  ended-kept (to k) z u p = undefined
+  ended-kept (back x) z u p = undefined
 
-  others-kept : (y : Ty) (ds : List (Name × Expr)) (z : State) → All (Kept z) (others R C y ds z)
-  unfolding others
-  others-kept y [] z = defined (kept-refl z)
-  others-kept y (d ∷ ds) z = all-bind (initialise-kept (y, d .0) (d .1) z) λ u p. behind z u p (others-kept y ds u)
+  next-kept : (g : Goes) (z u : State) (f : State → Outcome) → Kept z u → ((y : State) → All (KeptBy y) (f y)) → All (KeptBy z) (next g u f)
+  next-kept on z u f p h = behindBy z u p (h u)
+  next-kept (to k) z u f p h = defined p
+  next-kept (back x) z u f p h = defined p
 
-  exec-kept : (s : Plain) (z : State) → All (Kept z) (exec R C s z)
-  unfolding exec
-  exec-kept registers z = defined (kept-refl z)
-  exec-kept (local x) z = declares-kept x z
-  exec-kept (declare x e ds) z = all-bind (initialise-kept x e z) λ u p. behind z u p (others-kept (x .0) ds u)
-  exec-kept (adds x d e f) z =
-      all-bind (declares-kept (u32, x) z) λ u p.
-      all-value (evalAs R u32 d u) λ k. all-value (evalAs R u32 e u) λ l. all-value (evalAs R u32 f u) λ i.
-      all-bind (call-kept op-adds (k ∷ l ∷ i ∷ []) u) λ q h. all-value (returned (q .1)) λ r.
-      behind z u p (behind u (q .0) h (put-kept (var (u32, x)) r (q .0)))
-  exec-kept (set p o e) z = all-value (eval R e z) λ k. all-value (newValue o p (ty e) k z) λ x. put-kept p x z
-  exec-kept (drop x) z = all-value (find (index (x .1)) (z .scopes)) λ p. all-cond (sameTy (x .0) (p .0)) (defined (kept-refl z)) undefined
-  exec-kept (run p e) z =
-      all-value (evalAs R (procTy p) e z) λ k. all-bind (call-kept (proc p) (k ∷ []) z) λ q h. ended-kept (q .1) z (q .0) h
-  exec-kept (write w d e) z = all-value (evalAs R u32 d z) λ a. all-value (evalAs R u32 e z) λ x. defined (kept-refl z)
-  exec-kept (tick n) z = defined (kept-refl z)
+  -- from { to }
+  leave-kept : (z u : State) → Kept (enter z) u → Kept z (leave u)
+  leave-kept z u p = (p .0, over-outer (p .1))
 
-  asks-kept : (t : Test) (z : State) → All (λ q. Kept z (q .1)) (asks R C t z)
-  unfolding asks
-  asks-kept (guard a l h) z = defined (kept-refl z)
-  asks-kept gate z = defined (kept-refl z)
-  asks-kept (other e) z = all-value (eval R e z) λ k. defined (kept-refl z)
+  -- with helpers that keep
+  module _ (R : ℕ → ℕ → Option ℕ) (C : Helper → List ℕ → State → Outcome) (call-kept : (h : Helper) (vs : List ℕ) (z : State) → All (KeptBy z) (C h vs z)) where
+    initialise-kept : (x : Var) (e : Expr) (z : State) → All (Kept z) (initialise R C x e z)
+    initialise-kept x e z = all-bind (declares-kept x z) λ u p. all-value (evalAs R (x .0) e u) λ k. behind z u p (put-kept (var x) k u)
 
-  returns-kept : (e : Expr) (z : State) → All (KeptBy z) (returns R C e z)
-  returns-kept e z = all-value (evalAs R u32 e z) λ k. defined (kept-refl z)
+    others-kept : (y : Ty) (ds : List (Name × Expr)) (z : State) → All (Kept z) (others R C y ds z)
+    unfolding others
+    others-kept y [] z = defined (kept-refl z)
+    others-kept y (d ∷ ds) z = all-bind (initialise-kept (y, d .0) (d .1) z) λ u p. behind z u p (others-kept y ds u)
 
-  step-kept : (s : Simple) (z : State) → All (KeptBy z) (step R C s z)
-  unfolding step
-  step-kept (gap l n) z = defined (kept-refl z)
-  step-kept (begin k i n) z = defined (kept-refl z)
-  step-kept (plain o s) z = all-bind (exec-kept s z) λ u p. defined p
-  step-kept (label k) z = defined (kept-refl z)
-  step-kept (goto o k) z = defined (kept-refl z)
-  step-kept (ret o e) z = returns-kept e z
-  step-kept (retIf o t e) z = all-bind (asks-kept t z) λ q p. all-cond (q .0) (behindBy z (q .1) p (returns-kept e (q .1))) (defined p)
-  step-kept (interp k i) z =
-      all-bind (put-kept (var (u32, x-pc)) (interpretedKey z) (interpreted z)) λ u p. defined (kept-trans z (interpreted z) u (interpreted-kept z) p)
-  step-kept (retInterp k i) z = defined (interpreted-kept z)
-  step-kept (call k n) z = undefined
-  step-kept (switch ks) z = undefined
+    exec-kept : (s : Plain) (z : State) → All (Kept z) (exec R C s z)
+    unfolding exec
+    exec-kept registers z = defined (kept-refl z)
+    exec-kept (local x) z = declares-kept x z
+    exec-kept (declare x e ds) z = all-bind (initialise-kept x e z) λ u p. behind z u p (others-kept (x .0) ds u)
+    exec-kept (adds x d e f) z =
+        all-bind (declares-kept (u32, x) z) λ u p.
+        all-value (evalAs R u32 d u) λ k. all-value (evalAs R u32 e u) λ l. all-value (evalAs R u32 f u) λ i.
+        all-bind (call-kept op-adds (k ∷ l ∷ i ∷ []) u) λ q h. all-value (returned (q .1)) λ r.
+        behind z u p (behind u (q .0) h (put-kept (var (u32, x)) r (q .0)))
+    exec-kept (set p o e) z = all-value (eval R e z) λ k. all-value (newValue o p (ty e) k z) λ x. put-kept p x z
+    exec-kept (drop x) z = all-value (find (index (x .1)) (z .scopes)) λ p. all-cond (sameTy (x .0) (p .0)) (defined (kept-refl z)) undefined
+    exec-kept (run p e) z =
+        all-value (evalAs R (procTy p) e z) λ k. all-bind (call-kept (proc p) (k ∷ []) z) λ q h. ended-kept (q .1) z (q .0) h
+    exec-kept (write w d e) z = all-value (evalAs R u32 d z) λ a. all-value (evalAs R u32 e z) λ x. defined (kept-refl z)
+    exec-kept (tick n) z = defined (kept-refl z)
 
-  -- braces, and the code behind them
-  braces-kept : (b c : Code) (z : State) → ((u : State) → All (KeptBy u) (runs R C b u)) → ((u : State) → All (KeptBy u) (runs R C c u))
-      → All (KeptBy z) (bind (runs R C b (enter z)) λ r. next (r .1) (leave (r .0)) (runs R C c))
-  braces-kept b c z f g = all-bind (f (enter z)) λ r p. next-kept (r .1) z (leave (r .0)) (runs R C c) (leave-kept z (r .0) p) g
+    asks-kept : (t : Test) (z : State) → All (λ q. Kept z (q .1)) (asks R C t z)
+    unfolding asks
+    asks-kept (guard a l h) z = defined (kept-refl z)
+    asks-kept gate z = defined (kept-refl z)
+    asks-kept (other e) z = all-value (eval R e z) λ k. defined (kept-refl z)
 
-  runs-kept : (c : Code) (z : State) → All (KeptBy z) (runs R C c z)
-  unfolding runs
-  runs-kept end z = defined (kept-refl z)
-  runs-kept (s ⨾ c) z = all-bind (step-kept s z) λ q p. next-kept (q .1) z (q .0) (runs R C c) p (runs-kept c)
-  runs-kept (when o n t b c) z =
-      all-bind (asks-kept t z) λ q p.
-      all-cond (Bool·beq n (q .0)) (behindBy z (q .1) p (runs-kept c (q .1))) (behindBy z (q .1) p (braces-kept b c (q .1) (runs-kept b) (runs-kept c)))
-  runs-kept (braces b c) z = braces-kept b c z (runs-kept b) (runs-kept c)
+    returns-kept : (e : Expr) (z : State) → All (KeptBy z) (returns R C e z)
+    returns-kept e z = all-value (evalAs R u32 e z) λ k. defined (kept-refl z)
 
-called-kept : (h : Helper) (vs : List ℕ) (z : State) → All (KeptBy z) (called h vs z)
-unfolding called
-called-kept h vs z =
-    all-bind (runs-kept noRor noCall (λ i ws u. undefined) (body h) (setScopes (arguments (params h) vs ∷ []) z)) λ q p.
-    defined (p .0, over-refl (z .scopes))
+    step-kept : (s : Simple) → Permits may s → (z : State) → All (KeptBy z) (step R C s z)
+    unfolding step
+    step-kept (gap l n) a z = defined (kept-refl z)
+    step-kept (begin k i n) a z = defined (kept-refl z)
+    step-kept (plain o s) a z = all-bind (exec-kept s z) λ u p. defined p
+    step-kept (label k) a z = defined (kept-refl z)
+    step-kept (goto o k) a z = defined (kept-refl z)
+    step-kept (ret o e) a z = returns-kept e z
+    step-kept (retIf o t e) a z = all-bind (asks-kept t z) λ q p. all-cond (q .0) (behindBy z (q .1) p (returns-kept e (q .1))) (defined p)
+    step-kept (interp k i) a z =
+        all-bind (put-kept (var (u32, x-pc)) (interpretedKey z) (interpreted z)) λ u p. defined (kept-trans z (interpreted z) u (interpreted-kept a z) p)
+    step-kept (retInterp k i) a z = defined (interpreted-kept a z)
+    step-kept (call k n) a z = undefined
+    step-kept (switch ks) a z = undefined
 
-run-kept : (c : Code) (z y : State) (w : Goes) → H.run c z ≡ some (y, w) → Kept z y
-unfolding H.run
-run-kept c z y w e = all-of (runs-kept rotated called called-kept c z) e
+    -- braces, and the code behind them
+    braces-kept : (b c : Code) (z : State) → ((u : State) → All (KeptBy u) (runs R C b u)) → ((u : State) → All (KeptBy u) (runs R C c u))
+        → All (KeptBy z) (bind (runs R C b (enter z)) λ r. next (r .1) (leave (r .0)) (runs R C c))
+    braces-kept b c z f g = all-bind (f (enter z)) λ r p. next-kept (r .1) z (leave (r .0)) (runs R C c) (leave-kept z (r .0) p) g
 
--- what each call of the interpreter has, each that is left has
-pub run-interpreter : (c : Code) (z y : State) (w : Goes) → H.run c z ≡ some (y, w)
-    → (P : Interpreter → Type 0) → ((k : ℕ) → P (z .interpreter k)) → (k : ℕ) → P (y .interpreter k)
-run-interpreter c z y w e = from-each (run-kept c z y w e .0)
+    runs-kept : (c : Code) → Allows may c → (z : State) → All (KeptBy z) (runs R C c z)
+    unfolding runs
+    runs-kept end a z = defined (kept-refl z)
+    runs-kept (s ⨾ c) a z = all-bind (step-kept s (a .0) z) λ q p. next-kept (q .1) z (q .0) (runs R C c) p (runs-kept c (a .1))
+    runs-kept (when o n t b c) a z =
+        all-bind (asks-kept t z) λ q p.
+        all-cond (Bool·beq n (q .0)) (behindBy z (q .1) p (runs-kept c (a .1) (q .1))) (behindBy z (q .1) p (braces-kept b c (q .1) (runs-kept b (a .0)) (runs-kept c (a .1))))
+    runs-kept (braces b c) a z = braces-kept b c z (runs-kept b (a .0)) (runs-kept c (a .1))
+
+  called-kept : (h : Helper) (vs : List ℕ) (z : State) → All (KeptBy z) (called h vs z)
+  unfolding called
+  called-kept h vs z =
+      all-bind (runs-kept noRor noCall (λ i ws u. undefined) (body h) (body-allows may h) (setScopes (arguments (params h) vs ∷ []) z)) λ q p.
+      defined (p .0, over-refl (z .scopes))
+
+  run-kept : (c : Code) → Allows may c → (z y : State) (w : Goes) → H.run c z ≡ some (y, w) → Kept z y
+  unfolding H.run
+  run-kept c a z y w e = all-of (runs-kept rotated called called-kept c a z) e
+
+-- the calls of the interpreter that are to come
+pub run-quiet : (c : Code) → Quiet c → (z y : State) (w : Goes) → H.run c z ≡ some (y, w) → y .interpreter ≡ z .interpreter
+run-quiet c q z y w e = run-kept false c q z y w e .0 refl
 
 -- the locals of the scope that code starts in
 pub run-declares : (c : Code) (z y : State) (w : Goes) (x : Var) → H.run c z ≡ some (y, w) → Declares (z .scopes) x → Declares (y .scopes) x
-run-declares c z y w x e d = over-declares x (run-kept c z y w e .1) d
+run-declares c z y w x e d = over-declares x (run-kept true c (any-allows c) z y w e .1) d

@@ -20,7 +20,7 @@ use Rattle.c_meaning.specs.State.{State, setC, setScopes, answered, enter, inte
 use Rattle.c_meaning.specs.Eval.{eval}
 use Rattle.c_meaning.specs.Exec.{back, exec, asks, step, runs}
 use Rattle.c_meaning.specs.Helpers.{run}
-use Rattle.c_meaning.proofs.Kept.{run-interpreter, run-declares}
+use Rattle.c_meaning.proofs.Kept.{run-declares}
 use Rattle.manual.specs.Machine.{Machine, Sound}
 use Rattle.manual.specs.InRange.{InRange}
 use Rattle.forms.specs.Block.{emitInstrs, hashOf, bodyOf}
@@ -28,10 +28,10 @@ use Rattle.forms.proofs.Gives.{lt-true}
 use Rattle.lowering.specs.Block.{nl, sp, rest, defer, underGuard, blockCode}
 use Rattle.lowering.specs.Text.{Leaves}
 use Rattle.lowering.specs.Records.{RecordMeans, PairMeans, ClosingMeans}
-use Rattle.meaning.specs.Block.{Interprets, isCovered, Sequence, Carries, inOrder, granted, absent, refused, oneOf, BlockMeans}
+use Rattle.meaning.specs.Block.{isCovered, Sequence, Carries, inOrder, granted, absent, refused, BlockMeans}
 use Rattle.lowering.proofs.Exits.{moved-on}
 use Rattle.meaning.proofs.Ranges.{Consecutive}
-use Rattle.meaning.proofs.Carried.{through, KnownFrom, Ready, Done, stepped, interpreter-leaves, carries}
+use Rattle.meaning.proofs.Carried.{through, KnownFrom, Left, left-all, left-now, left-later, Ready, Done, stepped, interpreter-leaves, carries}
 
 -- some instructions that end inside 2^32 start below it
 start-below : (t : Bool) (a n : ℕ) → 1 ≤ n → a + n * sizeOf t ≤ 4294967296 → a < 4294967296
@@ -106,47 +106,58 @@ run-block : (multiplier : ℕ) (ks : List ℕ) (b : Block) (z : State) (o : Bool
 unfolding blockCode bodyOf
 run-block multiplier ks b z o h e f = rw (e, f)
 
-module _ (multiplier : ℕ) (ks : List ℕ) (b : Block) (step : ℕ → Machine → Machine × ℕ → Type 0) where
+module _ (multiplier : ℕ) (ks : List ℕ) (b : Block) (step : ℕ → ℕ → Machine → Machine × ℕ) where
   -- records from the first on
-  all-done : (xs : List TimedInstr) → KnownFrom multiplier ks b xs → 1 ≤ length xs → (z : State) (m : Machine) → Ready step z m
-      → Done step multiplier ks b xs m 0 (emitInstrs (b .thumb) (region (b .addr)) 0 xs .0) z
+  all-done : (xs : List TimedInstr) → KnownFrom multiplier ks b xs → 1 ≤ length xs → (z : State) (m : Machine) → Ready step 0 z m
+      → Done step 0 multiplier ks b xs m 0 (emitInstrs (b .thumb) (region (b .addr)) 0 xs .0) z
   all-done [] k h z m q = absurd (not-suc-le-zero h)
-  all-done (x ∷ xs) k h z m q = carries multiplier ks b step xs x k 0 0 z m q
+  all-done (x ∷ xs) k h z m q = carries multiplier ks b step xs x k 0 0 0 z m q
 
   module _ (k : KnownFrom multiplier ks b (b .instrs)) (some-instr : 1 ≤ length (b .instrs)) (below : b .addr < 4294967296)
-      (z : State) (m : Machine) (q : Ready step z m) where
+      (z : State) (m : Machine) (q : Ready step 0 z m) where
+    -- what is claimed of it
+    abbrev Claim : Type 0
+    Claim =
+        (out : Machine × ℕ) × (used : ℕ) × Carries step (region (b .addr)) multiplier b z m out used × Sound (out .0)
+        × (l : Leaves (λ c. blockCode ks (bodyOf multiplier b)) z out) × Left step used (l .end)
+
     -- its records, from a state that its text leads to
-    in-order : ((out : Machine × ℕ) → Sequence step (region (b .addr)) (b .instrs) m out → Carries step (region (b .addr)) multiplier b z m out)
-        → (y : State) → Ready step y m
+    in-order : ((out : Machine × ℕ) (n : ℕ) → Sequence step (region (b .addr)) 0 n (b .instrs) m out → Carries step (region (b .addr)) multiplier b z m out n)
+        → (y : State) → Ready step 0 y m
         → run (blockCode ks (bodyOf multiplier b)) z ≡ run (rest ks (bodyOf multiplier b) 0 (bodyOf multiplier b .forms)) y
-        → (out : Machine × ℕ) × Carries step (region (b .addr)) multiplier b z m out × Sound (out .0) × Leaves (λ c. blockCode ks (bodyOf multiplier b)) z out
+        → Claim
     unfolding bodyOf
     in-order by y p e =
         let d = all-done (b .instrs) k some-instr y m p in
-        (d .out, by (d .out) (d .sequence), d .sound, through (λ c. e) (d .leaves))
+        (d .out, d .after, by (d .out) (d .after) (d .sequence), d .sound, through (λ c. e) (d .leaves), d .left)
 
     -- the block, by whether it stands in ROM or BIOS, whether it has code bytes, and what the guard says
     block-done : (o : Bool) (h : Option ℕ) (t : Bool) → outsideRomBios (b .addr) ≡ o → hashOf multiplier b ≡ h → eqb (z .answers 0) 0 ≡ t
-        → (out : Machine × ℕ) × Carries step (region (b .addr)) multiplier b z m out × Sound (out .0) × Leaves (λ c. blockCode ks (bodyOf multiplier b)) z out
+        → Claim
     unfolding underGuard
-    block-done false h t e f g = in-order (λ out s. inOrder e s) z q (run-block multiplier ks b z false h e f)
+    block-done false h t e f g = in-order (λ out n s. inOrder n e s) z q (run-block multiplier ks b z false h e f)
     block-done true none t e f g =
-        let s = stepped (b .addr) z m (q .interprets 0) (q .sound) (q .agrees) in (
-          s .next,
-          absent e f (s .may),
+        let s = stepped (b .addr) z m (left-now (q .left)) (q .sound) (q .agrees) in (
+          step 0 (b .addr) m,
+          1,
+          absent e f refl,
           s .sound,
-          interpreter-leaves (b .addr) z m (q .interprets 0) (q .sound) (q .agrees) (z .scopes) λ c. run-block multiplier ks b z true none e f ∙ run-defer multiplier b 4 (nl ⨾ end) z below,
+          interpreter-leaves (b .addr) z m (left-now (q .left)) (q .sound) (q .agrees) (z .scopes) λ c. run-block multiplier ks b z true none e f ∙ run-defer multiplier b 4 (nl ⨾ end) z below,
+          left-later (q .left) refl,
         )
     block-done true (some h) true e f g =
-        let s = stepped (b .addr) (enter (answered z)) m (q .interprets 0) (q .sound) (moved-on (q .agrees) refl refl) in (
-          s .next,
-          refused h e f (eqb-true _ _ g) (s .may),
+        let s = stepped (b .addr) (enter (answered z)) m (left-now (q .left)) (q .sound) (moved-on (q .agrees) refl refl) in (
+          step 0 (b .addr) m,
+          1,
+          refused h e f (eqb-true _ _ g) refl,
           s .sound,
-          interpreter-leaves (b .addr) (enter (answered z)) m (q .interprets 0) (q .sound) (moved-on (q .agrees) refl refl) (z .scopes) λ c.
+          interpreter-leaves (b .addr) (enter (answered z)) m (left-now (q .left)) (q .sound) (moved-on (q .agrees) refl refl) (z .scopes) λ c.
               run-block multiplier ks b z true (some h) e f ∙ run-refused multiplier ks b h z below g,
+          left-later (q .left) refl,
         )
     block-done true (some h) false e f g =
-        in-order (λ out s. granted h e f (eqb-false _ _ g) s) (answered z) (record { interprets = q .interprets; declares = q .declares; sound = q .sound; agrees = moved-on (q .agrees) refl refl })
+        in-order (λ out n s. granted n h e f (eqb-false _ _ g) s) (answered z)
+        (record { left = record { each = q .left .each }; declares = q .declares; sound = q .sound; agrees = moved-on (q .agrees) refl refl })
         (run-block multiplier ks b z true (some h) e f ∙ run-granted multiplier ks b h z g)
 
 -- the text of a block means what its records do, if each does, and each two, and the closing transfer
@@ -159,16 +170,17 @@ pub block-means : (multiplier : ℕ) (ks : List ℕ) (b : Block)
     → b .addr % sizeOf (b .thumb) ≡ 0 → BlockMeans multiplier ks b
 block-means multiplier ks b means pairs closing ranges consecutive some-instr inside aligned covered step z m interprets declares sound agrees =
     let d =
-    block-done multiplier ks b (oneOf step) (known multiplier ks b means pairs closing ranges consecutive inside aligned covered) some-instr
+    block-done multiplier ks b step (known multiplier ks b means pairs closing ranges consecutive inside aligned covered) some-instr
     (start-below (b .thumb) (b .addr) (length (b .instrs)) some-instr inside) z m
-    (record { interprets = interprets; declares = declares; sound = sound; agrees = agrees }) (outsideRomBios (b .addr)) (hashOf multiplier b) (eqb (z .answers 0) 0) refl
-    refl refl
+    (record { left = left-all interprets; declares = declares; sound = sound; agrees = agrees }) (outsideRomBios (b .addr)) (hashOf multiplier b)
+    (eqb (z .answers 0) 0) refl refl refl
     in
-    let l : Leaves (λ c. blockCode ks (bodyOf multiplier b)) z (d .0) = d .3 in (
+    let l : Leaves (λ c. blockCode ks (bodyOf multiplier b)) z (d .0) = d .4 in (
       d .0,
       d .1,
       d .2,
+      d .3,
       l,
       run-declares (blockCode ks (bodyOf multiplier b)) z (l .end) (l .way) (u32, x-pc) (l .ends end) declares,
-      run-interpreter (blockCode ks (bodyOf multiplier b)) z (l .end) (l .way) (l .ends end) (Interprets (oneOf step)) interprets,
+      d .5 .each,
     )

@@ -4,7 +4,7 @@ use mathlib.Core.Path.{_≡_, refl, sym, ap, _∙_, subst}
 use mathlib.Core.Bool.{Bool, true, false, cond}
 use mathlib.Core.List.{List, [], _∷_, _++_, List·Memᴰ, List·Memᴰ·head, List·Memᴰ·tail}
 use mathlib.Core.Option.{some}
-use native.Mathlib.Nat.{mod-lt}
+use native.Mathlib.Nat.{add-zero, zero-add, mod-lt}
 use native.Mathlib.Omega.{arith}
 use borrow.Author.Tests.{eqb-true, eqb-false}
 use lib.Dec.{eqb, lit<}
@@ -19,10 +19,10 @@ use Rattle.block_file.specs.Address.{region}
 use Rattle.block_exits.specs.Exits.{keyOf, fallThrough}
 use Rattle.c_tree.specs.Expr.{u32, x-pc}
 use Rattle.c_tree.specs.Stmt.{Owner, Code, end, _⨾_}
-use Rattle.c_meaning.specs.State.{Scope, State, setC, setScopes, interpretedKey, interpreted, Declares}
-use Rattle.c_meaning.specs.Exec.{Outcome, back, on, runs}
+use Rattle.c_meaning.specs.State.{Scope, Interpreter, State, setC, setScopes, interpretedKey, interpreted, Declares}
+use Rattle.c_meaning.specs.Exec.{Goes, Outcome, back, on, runs}
 use Rattle.c_meaning.specs.Helpers.{run}
-use Rattle.c_meaning.proofs.Kept.{run-interpreter, run-declares}
+use Rattle.c_meaning.proofs.Kept.{Quiet, run-quiet, run-declares}
 use Rattle.manual.specs.Machine.{Machine, Sound}
 use Rattle.manual.specs.InRange.{InRange}
 use Rattle.manual.specs.Conditions.{passed}
@@ -39,6 +39,7 @@ use Rattle.meaning.specs.Block.{Steps, Interprets, isNative, isCovered, 
 use Rattle.lowering.proofs.Exits.{with-pc}
 use Rattle.meaning.proofs.Closing.{behind-even}
 use Rattle.meaning.proofs.Shells.{Emitted, as-native, as-shell, emitted, some-form, Half, halves, behind-address, run-return, GoesOn, goes-on}
+use Rattle.meaning.proofs.Quiet.{closing-quiet, native-quiet}
 use Rattle.meaning.proofs.Covered.{Said, covered-native, covered-half, no-difference}
 
 -- an even address with the Thumb bit
@@ -51,7 +52,7 @@ key-of-lt true a h = omega arith
 key-of-lt false a h = omega arith
 
 -- text that does what other text does from another state leaves as that does
-pub through : {text other : Code → Code} {z y : State} {out : Machine × ℕ} → ((c : Code) → run (text c) z ≡ run (other c) y) → Leaves other y out → Leaves text z out
+abbrev pub through : {text other : Code → Code} {z y : State} {out : Machine × ℕ} → ((c : Code) → run (text c) z ≡ run (other c) y) → Leaves other y out → Leaves text z out
 through p l = record { end = l .end; way = l .way; ends = λ c. p c ∙ l .ends c; leads = l .leads; pc = l .pc; same = l .same }
 
 -- what is known of a record of a block
@@ -81,41 +82,70 @@ module _ {multiplier : ℕ} {ks : List ℕ} {b : Block} {x : TimedInstr} {xs : L
         closing = λ us y e. k .closing (x ∷ us) y (ap (λ (ys : List TimedInstr). x ∷ ys) e);
       }
 
--- a state and a machine between two records
-pub record Ready (step : ℕ → Machine → Machine × ℕ → Type 0) (z : State) (m : Machine) : Type 0 where
-  pub interprets : (k : ℕ) → Interprets step (z .interpreter k)
+-- the calls of the interpreter that are to come from a state are the steps from a number on
+pub record Left (step : ℕ → ℕ → Machine → Machine × ℕ) (n : ℕ) (z : State) : Type 0 where
+  pub each : (k : ℕ) → Interprets (step (n + k)) (z .interpreter k)
+
+-- at the start they are all the steps
+pub left-all : {step : ℕ → ℕ → Machine → Machine × ℕ} {z : State} → ((k : ℕ) → Interprets (step k) (z .interpreter k)) → Left step 0 z
+left-all {step} {z} h = record { each = λ k. subst (λ (i : ℕ). Interprets (step i) (z .interpreter k)) (sym (zero-add k)) (h k) }
+
+module _ {step : ℕ → ℕ → Machine → Machine × ℕ} {n : ℕ} {z : State} (l : Left step n z) where
+  -- the next of them
+  pub left-now : Interprets (step n) (z .interpreter 0)
+  left-now = subst (λ (i : ℕ). Interprets (step i) (z .interpreter 0)) (add-zero n) (l .each 0)
+
+  -- those behind it
+  pub left-later : {y : State} → y .interpreter ≡ (λ (k : ℕ). z .interpreter (suc k)) → Left step (suc n) y
+  left-later {y} e = record {
+    each = λ k.
+        let shift : n + suc k ≡ suc n + k = omega arith in
+        subst (λ (f : ℕ → Interpreter). Interprets (step (suc n + k)) (f k)) (sym e)
+        (subst (λ (i : ℕ). Interprets (step i) (z .interpreter (suc k))) shift (l .each (suc k)));
+  }
+
+  -- those from behind code that does not call
+  left-behind : (c : Code) → Quiet c → {y : State} (w : Goes) → run c z ≡ some (y, w) → Left step n y
+  left-behind c q {y} w e = record { each = λ k. subst (λ (f : ℕ → Interpreter). Interprets (step (n + k)) (f k)) (sym (run-quiet c q z y w e)) (l .each k) }
+
+-- a state and a machine between two records, and the number of calls before
+pub record Ready (step : ℕ → ℕ → Machine → Machine × ℕ) (n : ℕ) (z : State) (m : Machine) : Type 0 where
+  pub left : Left step n z
   pub declares : Declares (z .scopes) (u32, x-pc)
   pub sound : Sound m
   pub agrees : Agrees z m
 
 -- behind text that continues
-ready-behind : {step : ℕ → Machine → Machine × ℕ → Type 0} {text : Code → Code} {z : State} {m next : Machine} → Ready step z m → Sound next
-    → (c : Continues text z next) → Ready step (c .end) next
+ready-behind : {step : ℕ → ℕ → Machine → Machine × ℕ} {n : ℕ} {text : Code → Code} {z : State} {m next : Machine} → Ready step n z m → Sound next
+    → Quiet (text end) → (c : Continues text z next) → Ready step n (c .end) next
 unfolding run runs
-ready-behind {step} {text} {z} q s c =
+ready-behind {step} {n} {text} {z} q s quiet c =
     record {
-      interprets = run-interpreter (text end) z (c .end) on (c .goes end) (Interprets step) (q .interprets);
+      left = left-behind (q .left) (text end) quiet on (c .goes end);
       declares = run-declares (text end) z (c .end) on (u32, x-pc) (c .goes end) (q .declares);
       sound = s;
       agrees = c .same;
     }
 
--- the text of forms, from the record with index i on, carries records out and leaves
-pub record Done (step : ℕ → Machine → Machine × ℕ → Type 0) (multiplier : ℕ) (ks : List ℕ) (b : Block) (xs : List TimedInstr) (m : Machine) (i : ℕ) (fs : List Form) (z : State) : Type 0 where
+-- the text of forms, from the record with index i on, carries records out and leaves; before: the number of calls before it
+pub record Done (step : ℕ → ℕ → Machine → Machine × ℕ) (before multiplier : ℕ) (ks : List ℕ) (b : Block) (xs : List TimedInstr) (m : Machine) (i : ℕ)
+    (fs : List Form) (z : State) : Type 0 where
   pub out : Machine × ℕ
-  pub sequence : Sequence step (region (b .addr)) xs m out
+  pub after : ℕ
+  pub sequence : Sequence step (region (b .addr)) before after xs m out
   pub sound : Sound (out .0)
   pub leaves : Leaves (λ c. rest ks (bodyOf multiplier b) i fs) z out
+  pub left : Left step after (leaves .end)
 
 -- the interpreter at an address, from a state that agrees with a machine
-module _ {step : ℕ → Machine → Machine × ℕ → Type 0} (a : ℕ) (z : State) (m : Machine) (interprets : Interprets step (z .interpreter 0))
+module _ {step : ℕ → Machine → Machine × ℕ} (a : ℕ) (z : State) (m : Machine) (interprets : Interprets step (z .interpreter 0))
     (sound : Sound m) (agrees : Agrees z m) where
   pub stepped : Steps step (setC 15 a z) m
   stepped = interprets (setC 15 a z) m refl sound (with-pc agrees a)
 
   -- text that returns its answer
-  pub interpreter-leaves : {text : Code → Code} {y : State} (fs : List Scope)
-      → ((c : Code) → run (text c) y ≡ some (setScopes fs (interpreted (setC 15 a z)), back (interpretedKey (setC 15 a z)))) → Leaves text y (stepped .next)
+  abbrev pub interpreter-leaves : {text : Code → Code} {y : State} (fs : List Scope)
+      → ((c : Code) → run (text c) y ≡ some (setScopes fs (interpreted (setC 15 a z)), back (interpretedKey (setC 15 a z)))) → Leaves text y (step a m)
   interpreter-leaves fs ends =
       record {
         end = setScopes fs (interpreted (setC 15 a z));
@@ -126,12 +156,13 @@ module _ {step : ℕ → Machine → Machine × ℕ → Type 0} (a : ℕ) (z : S
         same = with-scopes (stepped .same) fs;
       }
 
-module _ (multiplier : ℕ) (ks : List ℕ) (b : Block) (step : ℕ → Machine → Machine × ℕ → Type 0) where
+module _ (multiplier : ℕ) (ks : List ℕ) (b : Block) (step : ℕ → ℕ → Machine → Machine × ℕ) where
   -- what the forms behind a record do, if that leads to them
   abbrev Behind : TimedInstr → List TimedInstr → List Form → Type 0
   Behind x xs fs =
-      (m : Machine) (next : Machine × ℕ) → CarriedOut step (region (b .addr)) x m next → leavesBy (region (b .addr)) x m ≡ false → next .1 ≡ keyBehind (x .instr)
-      → (i : ℕ) (z : State) → Ready step z (next .0) → Done step multiplier ks b (x ∷ xs) m i fs z
+      (before after : ℕ) (m : Machine) (next : Machine × ℕ) → CarriedOut step (region (b .addr)) x m next before after
+      → leavesBy (region (b .addr)) x m ≡ false → next .1 ≡ keyBehind (x .instr)
+      → (i : ℕ) (z : State) → Ready step after z (next .0) → Done step before multiplier ks b (x ∷ xs) m i fs z
 
   module _ (x : TimedInstr) (k : Known ks b x) where
     -- the key that a shell compares with
@@ -152,9 +183,9 @@ module _ (multiplier : ℕ) (ks : List ℕ) (b : Block) (step : ℕ → Machine 
 
       native-done : (xs : List TimedInstr) (fs : List Form) → Alone x xs → Behind x xs fs
           → (i cycles : ℕ) (r : Native) → emitInstr (b .thumb) (region (b .addr)) cycles x .0 ≡ Form.native r
-          → (z : State) (m : Machine) → Ready step z m → Done step multiplier ks b (x ∷ xs) m i (Form.native r ∷ fs) z
+          → (before : ℕ) (z : State) (m : Machine) → Ready step before z m → Done step before multiplier ks b (x ∷ xs) m i (Form.native r ∷ fs) z
       unfolding bodyOf rest run runs
-      native-done xs fs alone behind i cycles r e z m q =
+      native-done xs fs alone behind i cycles r e before z m q =
           go (k .means .acts cycles r (own-set cycles ∙ e) owner z m (q .sound) (q .agrees) (no-difference _ (passed (x .instr .cond) m) _ (said .condition) (said .same)) next (outcome .1))
         where
           owner : Owner
@@ -166,8 +197,8 @@ module _ (multiplier : ℕ) (ks : List ℕ) (b : Block) (step : ℕ → Machine 
           next : Machine × ℕ
           next = outcome .0
 
-          carried : CarriedOut step (region (b .addr)) x m next
-          carried = byManual (ap isNative (own-set 0) ∙ natively) (outcome .1)
+          carried : CarriedOut step (region (b .addr)) x m next before before
+          carried = byManual before (ap isNative (own-set 0) ∙ natively) (outcome .1)
 
           still : Sound (next .0)
           still = execute-sound (x .instr) m (k .ranged) (q .sound) next (outcome .1)
@@ -179,46 +210,57 @@ module _ (multiplier : ℕ) (ks : List ℕ) (b : Block) (step : ℕ → Machine 
           stays : isTaken (x .instr) m ≡ false → leavesBy (region (b .addr)) x m ≡ false
           stays t = rw (ap isNative (own-set 0) ∙ natively) t
 
-          go : Acts (nativeText ks (b .addr) owner r) (isTaken (x .instr) m) z next (keyBehind (x .instr)) → Done step multiplier ks b (x ∷ xs) m i (Form.native r ∷ fs) z
+          go : Acts (nativeText ks (b .addr) owner r) (isTaken (x .instr) m) z next (keyBehind (x .instr)) → Done step before multiplier ks b (x ∷ xs) m i (Form.native r ∷ fs) z
           go (continues t to-next c) =
-              let d = behind m next carried (stays t) to-next (i + records r) (c .end) (ready-behind q still c) in
-              record { out = d .out; sequence = d .sequence; sound = d .sound; leaves = through (λ d. c .goes (rest ks (bodyOf multiplier b) (i + records r) fs)) (d .leaves) }
+              let d = behind before before m next carried (stays t) to-next (i + records r) (c .end) (ready-behind q still (native-quiet ks (b .addr) owner r end tt) c) in
+              record {
+                out = d .out;
+                after = d .after;
+                sequence = d .sequence;
+                sound = d .sound;
+                leaves = through (λ d. c .goes (rest ks (bodyOf multiplier b) (i + records r) fs)) (d .leaves);
+                left = d .left;
+              }
           go (leaves t l) =
               record {
                 out = next;
-                sequence = last x xs m next alone carried (transfers (leaving t));
+                after = before;
+                sequence = last before before x xs m next alone carried (transfers (leaving t));
                 sound = still;
                 leaves = record { end = l .end; way = l .way; ends = λ c. l .ends (rest ks (bodyOf multiplier b) (i + records r) fs); leads = l .leads; pc = l .pc; same = l .same };
+                left = left-behind (q .left) (nativeText ks (b .addr) owner r end) (native-quiet ks (b .addr) owner r end tt) (l .way) (l .ends end);
               }
 
     -- a shell
     module _ (not-native : isNative (emitInstr (b .thumb) (region (b .addr)) 0 x .0) ≡ false) where
-      shell-carried : (m : Machine) (next : Machine × ℕ) → step (x .instr .addr) m next → CarriedOut step (region (b .addr)) x m next
-      shell-carried m next s = byInterpreter (ap isNative (own-set 0) ∙ not-native) s
+      shell-carried : (n : ℕ) (m : Machine) → CarriedOut step (region (b .addr)) x m (step n (x .instr .addr) m) n (suc n)
+      shell-carried n m = byInterpreter n (ap isNative (own-set 0) ∙ not-native) refl
 
       shell-stays : (m : Machine) → leavesBy (region (b .addr)) x m ≡ false
       shell-stays m = rw (ap isNative (own-set 0) ∙ not-native)
 
-      module _ (high : Bool) (i cycles : ℕ) (z : State) (m : Machine) (q : Ready step z m) where
+      module _ (high : Bool) (i cycles before : ℕ) (z : State) (m : Machine) (q : Ready step before z m) where
         -- what the interpreter makes of it
-        abbrev by-step : Steps step (setC 15 (x .instr .addr) z) m
-        by-step = stepped (x .instr .addr) z m (q .interprets 0) (q .sound) (q .agrees)
+        abbrev by-step : Steps (step before) (setC 15 (x .instr .addr) z) m
+        by-step = stepped (x .instr .addr) z m (left-now (q .left)) (q .sound) (q .agrees)
 
-        shell-last : Done step multiplier ks b (x ∷ []) m i (emitShell (b .thumb) high cycles (x .instr) ∷ []) z
+        shell-last : Done step before multiplier ks b (x ∷ []) m i (emitShell (b .thumb) high cycles (x .instr) ∷ []) z
         unfolding rest
         shell-last =
             record {
-              out = by-step .next;
-              sequence = last x [] m (by-step .next) tt (shell-carried m (by-step .next) (by-step .may)) (final refl);
+              out = step before (x .instr .addr) m;
+              after = suc before;
+              sequence = last before (suc before) x [] m (step before (x .instr .addr) m) tt (shell-carried before m) (final refl);
               sound = by-step .sound;
               leaves =
-                  interpreter-leaves (x .instr .addr) z m (q .interprets 0) (q .sound) (q .agrees) (z .scopes) λ c.
+                  interpreter-leaves (x .instr .addr) z m (left-now (q .left)) (q .sound) (q .agrees) (z .scopes) λ c.
                   behind-address cycles (x .instr .addr) _ z (k .below)
                   ∙ run-return (bodyKey (bodyOf multiplier b)) i (nl ⨾ cond high (closing ks (bodyOf multiplier b)) end) (setC 15 (x .instr .addr) z);
+              left = left-later (q .left) refl;
             }
 
         shell-done : (xs : List TimedInstr) (r : Form) (rs : List Form) → Alone x xs → Behind x xs (r ∷ rs)
-            → Done step multiplier ks b (x ∷ xs) m i (emitShell (b .thumb) high cycles (x .instr) ∷ r ∷ rs) z
+            → Done step before multiplier ks b (x ∷ xs) m i (emitShell (b .thumb) high cycles (x .instr) ∷ r ∷ rs) z
         unfolding rest
         shell-done xs r rs alone behind = go (eqb (interpretedKey (setC 15 (x .instr .addr) z)) (fallThrough (b .thumb) (x .instr))) refl
           where
@@ -240,34 +282,38 @@ module _ (multiplier : ℕ) (ks : List ℕ) (b : Block) (step : ℕ → Machine 
                 ∙ ap branches e
 
             go : (t : Bool) → eqb (interpretedKey (setC 15 (x .instr .addr) z)) (fallThrough (b .thumb) (x .instr)) ≡ t
-                → Done step multiplier ks b (x ∷ xs) m i (emitShell (b .thumb) high cycles (x .instr) ∷ r ∷ rs) z
+                → Done step before multiplier ks b (x ∷ xs) m i (emitShell (b .thumb) high cycles (x .instr) ∷ r ∷ rs) z
             go true e =
                 let to-next = sym (by-step .answers) ∙ eqb-true _ _ e ∙ fall in
                 let d =
-                behind m (by-step .next) (shell-carried m (by-step .next) (by-step .may)) (shell-stays m) to-next (i + 1) after
-                (record { interprets = λ k. q .interprets (suc k); declares = g .declares; sound = by-step .sound; agrees = with-scopes (by-step .same) (g .scopes) })
+                behind before (suc before) m (step before (x .instr .addr) m) (shell-carried before m) (shell-stays m) to-next (i + 1) after
+                (record { left = left-later (q .left) refl; declares = g .declares; sound = by-step .sound; agrees = with-scopes (by-step .same) (g .scopes) })
                 in
-                record { out = d .out; sequence = d .sequence; sound = d .sound; leaves = through (λ c. starts true e) (d .leaves) }
+                record { out = d .out; after = d .after; sequence = d .sequence; sound = d .sound; leaves = through (λ c. starts true e) (d .leaves); left = d .left }
             go false e =
                 record {
-                  out = by-step .next;
-                  sequence = last x xs m (by-step .next) alone (shell-carried m (by-step .next) (by-step .may)) (away (λ p. eqb-false _ _ e (by-step .answers ∙ p ∙ sym fall)));
+                  out = step before (x .instr .addr) m;
+                  after = suc before;
+                  sequence = last before (suc before) x xs m (step before (x .instr .addr) m) alone (shell-carried before m)
+                      (away (λ p. eqb-false _ _ e (by-step .answers ∙ p ∙ sym fall)));
                   sound = by-step .sound;
-                  leaves = interpreter-leaves (x .instr .addr) z m (q .interprets 0) (q .sound) (q .agrees) (g .scopes) (λ c. starts false e);
+                  leaves = interpreter-leaves (x .instr .addr) z m (left-now (q .left)) (q .sound) (q .agrees) (g .scopes) (λ c. starts false e);
+                  left = left-later (q .left) refl;
                 }
 
   -- a fused pair, whatever stands behind it
   pair-done : (x y : TimedInstr) → Known ks b x → Known ks b y → PairMeans ks (b .addr) x y
       → (target ret : ℕ) → fuse (x .instr) (y .instr) ≡ Pair target ret
-      → (xs : List TimedInstr) (fs : List Form) (i cycles : ℕ) (z : State) (m : Machine) → Ready step z m
-      → Done step multiplier ks b (x ∷ y ∷ xs) m i (Form.native (emitPair cycles target ret) ∷ fs) z
+      → (xs : List TimedInstr) (fs : List Form) (i cycles before : ℕ) (z : State) (m : Machine) → Ready step before z m
+      → Done step before multiplier ks b (x ∷ y ∷ xs) m i (Form.native (emitPair cycles target ret) ∷ fs) z
   unfolding bodyOf rest run runs
-  pair-done x y k l means target ret e xs fs i cycles z m q =
+  pair-done x y k l means target ret e xs fs i cycles before z m q =
       let o : Owner = Owner.native (bodyKey (bodyOf multiplier b)) in
       let t = means target ret e cycles o z m (q .sound) (q .agrees) (half .0) (next .0) (half .1) (next .1) in
       record {
         out = next .0;
-        sequence = pair x y xs target ret m (half .0) (next .0) e (half .1) (next .1);
+        after = before;
+        sequence = pair before x y xs target ret m (half .0) (next .0) e (half .1) (next .1);
         sound = execute-sound (y .instr) (half .0 .0) (l .ranged) still (next .0) (next .1);
         leaves =
             record {
@@ -278,6 +324,9 @@ module _ (multiplier : ℕ) (ks : List ℕ) (b : Block) (step : ℕ → Machine 
               pc = t .pc;
               same = t .same;
             };
+        left =
+            let r : Native = emitPair cycles target ret in
+            left-behind (q .left) (nativeText ks (b .addr) o r end) (native-quiet ks (b .addr) o r end tt) (t .way) (t .ends end);
       }
     where
       both : Half (x .instr .op) × Half (y .instr .op)
@@ -301,52 +350,61 @@ module _ (multiplier : ℕ) (ks : List ℕ) (b : Block) (step : ℕ → Machine 
   -- behind the last record stands the closing transfer
   behind-last : (x : TimedInstr) → ClosingMeans ks (bodyOf multiplier b) (x .instr) → Behind x [] []
   unfolding rest
-  behind-last x means m next carried stays to-next i z q =
+  behind-last x means before after m next carried stays to-next i z q =
+      let l = means z (next .0) (q .agrees) in
       record {
         out = next;
-        sequence = last x [] m next tt carried (final refl);
+        after = after;
+        sequence = last before after x [] m next tt carried (final refl);
         sound = q .sound;
         leaves =
-            let l = means z (next .0) (q .agrees) in
             record { end = l .end; way = l .way; ends = l .ends; leads = l .leads ∙ ap some (sym to-next); pc = l .pc ∙ ap clearBit0 (sym to-next); same = l .same };
+        left = left-behind (q .left) (closing ks (bodyOf multiplier b)) (closing-quiet ks (bodyOf multiplier b)) (l .way) (l .ends end);
       }
 
   -- behind another stand those that follow
   behind-more : (x y : TimedInstr) (ys : List TimedInstr) (fs : List Form) → Alone x (y ∷ ys)
-      → ((i : ℕ) (z : State) (m : Machine) → Ready step z m → Done step multiplier ks b (y ∷ ys) m i fs z) → Behind x (y ∷ ys) fs
-  behind-more x y ys fs alone follow m next carried stays to-next i z q =
-      let d = follow i z (next .0) q in
-      record { out = d .out; sequence = more x (y ∷ ys) m next (d .out) alone carried stays to-next (d .sequence); sound = d .sound; leaves = d .leaves }
+      → ((i before : ℕ) (z : State) (m : Machine) → Ready step before z m → Done step before multiplier ks b (y ∷ ys) m i fs z) → Behind x (y ∷ ys) fs
+  behind-more x y ys fs alone follow before after m next carried stays to-next i z q =
+      let d = follow i after z (next .0) q in
+      record {
+        out = d .out;
+        after = d .after;
+        sequence = more before after (d .after) x (y ∷ ys) m next (d .out) alone carried stays to-next (d .sequence);
+        sound = d .sound;
+        leaves = d .leaves;
+        left = d .left;
+      }
 
-  module _ (x : TimedInstr) (k : Known ks b x) (i cycles : ℕ) (z : State) (m : Machine) (q : Ready step z m) where
+  module _ (x : TimedInstr) (k : Known ks b x) (i cycles before : ℕ) (z : State) (m : Machine) (q : Ready step before z m) where
     -- the last record
     last-done : ClosingMeans ks (bodyOf multiplier b) (x .instr)
-        → Done step multiplier ks b (x ∷ []) m i (emitInstr (b .thumb) (region (b .addr)) cycles x .0 ∷ []) z
+        → Done step before multiplier ks b (x ∷ []) m i (emitInstr (b .thumb) (region (b .addr)) cycles x .0 ∷ []) z
     last-done means = go (emitted (b .thumb) (region (b .addr)) cycles x) refl refl
       where
         go : {f : Form} {n : Bool} → Emitted (b .thumb) cycles (x .instr) f n
             → emitInstr (b .thumb) (region (b .addr)) cycles x .0 ≡ f → isNative (emitInstr (b .thumb) (region (b .addr)) 0 x .0) ≡ n
-            → Done step multiplier ks b (x ∷ []) m i (f ∷ []) z
-        go (as-native r) e t = native-done x k t [] [] tt (behind-last x means) i cycles r e z m q
-        go (as-shell high) e t = shell-last x k t high i cycles z m q
+            → Done step before multiplier ks b (x ∷ []) m i (f ∷ []) z
+        go (as-native r) e t = native-done x k t [] [] tt (behind-last x means) i cycles r e before z m q
+        go (as-shell high) e t = shell-last x k t high i cycles before z m q
 
     -- another that is not fused
     alone-done : (y : TimedInstr) (ys : List TimedInstr) (r : Form) (rs : List Form) → Alone x (y ∷ ys) → Behind x (y ∷ ys) (r ∷ rs)
-        → Done step multiplier ks b (x ∷ y ∷ ys) m i (emitInstr (b .thumb) (region (b .addr)) cycles x .0 ∷ r ∷ rs) z
+        → Done step before multiplier ks b (x ∷ y ∷ ys) m i (emitInstr (b .thumb) (region (b .addr)) cycles x .0 ∷ r ∷ rs) z
     alone-done y ys r rs alone behind = go (emitted (b .thumb) (region (b .addr)) cycles x) refl refl
       where
         go : {f : Form} {n : Bool} → Emitted (b .thumb) cycles (x .instr) f n
             → emitInstr (b .thumb) (region (b .addr)) cycles x .0 ≡ f → isNative (emitInstr (b .thumb) (region (b .addr)) 0 x .0) ≡ n
-            → Done step multiplier ks b (x ∷ y ∷ ys) m i (f ∷ r ∷ rs) z
-        go (as-native s) e t = native-done x k t (y ∷ ys) (r ∷ rs) alone behind i cycles s e z m q
-        go (as-shell high) e t = shell-done x k t high i cycles z m q (y ∷ ys) r rs alone behind
+            → Done step before multiplier ks b (x ∷ y ∷ ys) m i (f ∷ r ∷ rs) z
+        go (as-native s) e t = native-done x k t (y ∷ ys) (r ∷ rs) alone behind i cycles s e before z m q
+        go (as-shell high) e t = shell-done x k t high i cycles before z m q (y ∷ ys) r rs alone behind
 
   -- the text of records, from one on
-  pub carries : (xs : List TimedInstr) (x : TimedInstr) → KnownFrom multiplier ks b (x ∷ xs) → (i cycles : ℕ) (z : State) (m : Machine) → Ready step z m
-      → Done step multiplier ks b (x ∷ xs) m i (emitInstrs (b .thumb) (region (b .addr)) cycles (x ∷ xs) .0) z
+  pub carries : (xs : List TimedInstr) (x : TimedInstr) → KnownFrom multiplier ks b (x ∷ xs) → (i cycles before : ℕ) (z : State) (m : Machine) → Ready step before z m
+      → Done step before multiplier ks b (x ∷ xs) m i (emitInstrs (b .thumb) (region (b .addr)) cycles (x ∷ xs) .0) z
   unfolding emitInstrs
-  carries [] x k i cycles z m q = last-done x (first k) i cycles z m q (k .closing [] x refl)
-  carries (y ∷ ys) x k i cycles z m q = go (carries ys y (others k)) (fuse (x .instr) (y .instr)) refl
+  carries [] x k i cycles before z m q = last-done x (first k) i cycles before z m q (k .closing [] x refl)
+  carries (y ∷ ys) x k i cycles before z m q = go (carries ys y (others k)) (fuse (x .instr) (y .instr)) refl
     where
       s : Form × ℕ
       s = emitInstr (b .thumb) (region (b .addr)) cycles x
@@ -354,17 +412,17 @@ module _ (multiplier : ℕ) (ks : List ℕ) (b : Block) (step : ℕ → Machine 
       fs : List Form × ℕ
       fs = emitInstrs (b .thumb) (region (b .addr)) (s .1) (y ∷ ys)
 
-      go : ((i cycles : ℕ) (z : State) (m : Machine) → Ready step z m
-          → Done step multiplier ks b (y ∷ ys) m i (emitInstrs (b .thumb) (region (b .addr)) cycles (y ∷ ys) .0) z)
+      go : ((i cycles before : ℕ) (z : State) (m : Machine) → Ready step before z m
+          → Done step before multiplier ks b (y ∷ ys) m i (emitInstrs (b .thumb) (region (b .addr)) cycles (y ∷ ys) .0) z)
           → (f : Fused) → fuse (x .instr) (y .instr) ≡ f
-          → Done step multiplier ks b (x ∷ y ∷ ys) m i
+          → Done step before multiplier ks b (x ∷ y ∷ ys) m i
           (fusedOr f (consForm (s .0) fs)
           (λ target ret. consForm (Form.native (emitPair (cycles + (x .cost + y .cost)) target ret)) (emitInstrs (b .thumb) (region (b .addr)) 0 ys)) .0) z
       go follow Nothing e =
           let f = some-form (b .thumb) (region (b .addr)) (s .1) y ys in
-          subst (λ (rs : List Form). Done step multiplier ks b (x ∷ y ∷ ys) m i (s .0 ∷ rs) z) (sym (f .2))
-          (alone-done x (first k) i cycles z m q y ys (f .0) (f .1) e
-          (subst (λ (rs : List Form). Behind x (y ∷ ys) rs) (f .2) (behind-more x y ys (fs .0) e (λ j u n. follow j (s .1) u n))))
+          subst (λ (rs : List Form). Done step before multiplier ks b (x ∷ y ∷ ys) m i (s .0 ∷ rs) z) (sym (f .2))
+          (alone-done x (first k) i cycles before z m q y ys (f .0) (f .1) e
+          (subst (λ (rs : List Form). Behind x (y ∷ ys) rs) (f .2) (behind-more x y ys (fs .0) e (λ j n u. follow j (s .1) n u))))
       go follow (Pair target ret) e =
           pair-done x y (first k) (first (others k)) (k .pairs [] ys x y refl) target ret e ys (emitInstrs (b .thumb) (region (b .addr)) 0 ys .0) i
-          (cycles + (x .cost + y .cost)) z m q
+          (cycles + (x .cost + y .cost)) before z m q

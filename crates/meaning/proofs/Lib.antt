@@ -3,6 +3,7 @@ pub mod Ranges
 pub mod Closing
 pub mod Shells
 pub mod Covered
+pub mod Quiet
 pub mod Carried
 pub mod Blocks
 pub mod Supposed

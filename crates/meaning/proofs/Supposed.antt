@@ -12,20 +12,18 @@ use Rattle.c_meaning.specs.Helpers.{run}
 use Rattle.manual.specs.Machine.{Machine}
 use Rattle.forms.proofs.Steps.{ne}
 use Rattle.lowering.specs.Units.{withLocals}
-use Rattle.meaning.specs.Block.{Interprets, oneOf}
+use Rattle.meaning.specs.Block.{Interprets}
 
--- steps that change nothing and go on where they stand, and a call of an interpreter that does so
-abbrev pub still : ℕ → ℕ → Machine → Machine × ℕ
-still own a m = (m, a)
+-- a step that changes nothing and goes on where it stands, and a call of an interpreter that does so
+abbrev pub still : ℕ → Machine → Machine × ℕ
+still a m = (m, a)
 
 abbrev pub idle : Interpreter
 idle c mem = record { c = update 15 (clearBit0 (c 15)) c; mem = mem; answer = c 15 }
 
-pub an-interpreter : Interprets (oneOf still) idle
+pub an-interpreter : Interprets still idle
 an-interpreter z m e s a =
     record {
-      next = (m, z .c 15);
-      may = (0, refl);
       sound = s;
       same =
           record {

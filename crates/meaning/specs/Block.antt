@@ -1,5 +1,5 @@
 -- What is claimed of the text of a whole block, from its first statement to its transfer.
-use Prim.Native.Nat.{ℕ}
+use Prim.Native.Nat.{ℕ, suc, _+_}
 use mathlib.Core.Path.{_≡_}
 use mathlib.Core.Bool.{Bool, true, false, not, _&&_, _||_}
 use mathlib.Core.List.{List, [], _∷_, List·Memᴰ}
@@ -26,18 +26,16 @@ use Rattle.lowering.specs.Block.{blockCode}
 use Rattle.lowering.specs.Text.{Leaves}
 use Rattle.lowering.specs.Records.{isTaken}
 
--- the next call of interp_one acts as a step of the machine: step relates an address and a machine whose next instruction stands there to what may become of it,
--- with the key where it goes on; the interpreter finds the address in c[15], and leaves there that of the key which it answers
-pub record Steps (step : ℕ → Machine → Machine × ℕ → Type 0) (z : State) (m : Machine) : Type 0 where
-  pub next : Machine × ℕ
-  pub may : step (z .c 15) m next
-  pub sound : Sound (next .0)
-  pub same : Agrees (interpreted z) (next .0)
-  pub answers : interpretedKey z ≡ next .1
-  pub pc : interpreted z .c 15 ≡ clearBit0 (next .1)
+-- the next call of interp_one acts as a step of the machine: step says what becomes of a machine whose next instruction stands at an address, and the key where it
+-- goes on; the interpreter finds the address in c[15], and leaves there that of the key which it answers
+pub record Steps (step : ℕ → Machine → Machine × ℕ) (z : State) (m : Machine) : Type 0 where
+  pub sound : Sound (step (z .c 15) m .0)
+  pub same : Agrees (interpreted z) (step (z .c 15) m .0)
+  pub answers : interpretedKey z ≡ step (z .c 15) m .1
+  pub pc : interpreted z .c 15 ≡ clearBit0 (step (z .c 15) m .1)
 
 -- one call of interp_one does so from every state that agrees with a machine
-abbrev pub Interprets : (ℕ → Machine → Machine × ℕ → Type 0) → Interpreter → Type 0
+abbrev pub Interprets : (ℕ → Machine → Machine × ℕ) → Interpreter → Type 0
 Interprets step f = (z : State) (m : Machine) → z .interpreter 0 ≡ f → Sound m → Agrees z m → Steps step z m
 
 -- whether a form is native
@@ -86,45 +84,43 @@ pub data Ends (region : ℕ) (x : TimedInstr) (xs : List TimedInstr) (m : Machin
   away : (next .1 ≡ keyBehind (x .instr) → ⊥) → Ends region x xs m next
   transfers : leavesBy region x m ≡ true → Ends region x xs m next
 
-module _ (step : ℕ → Machine → Machine × ℕ → Type 0) (region : ℕ) where
-  -- what becomes of a machine by a record that is not fused: a native one (document 01) by the manual, another by the interpreter
-  pub data CarriedOut (x : TimedInstr) (m : Machine) (next : Machine × ℕ) : Type 0 where
-    byManual : isNative (emitInstr (x .instr .thumb) region 0 x .0) ≡ true → execute (x .instr) m ≡ some next → CarriedOut x m next
-    byInterpreter : isNative (emitInstr (x .instr .thumb) region 0 x .0) ≡ false → step (x .instr .addr) m next → CarriedOut x m next
+-- step k is what the call of interp_one with the number k does, from 0 on
+module _ (step : ℕ → ℕ → Machine → Machine × ℕ) (region : ℕ) where
+  -- what becomes of a machine by a record that is not fused, with the number of calls before it and behind it: a native one (document 01) by the manual, another by
+  -- the interpreter
+  pub data CarriedOut (x : TimedInstr) (m : Machine) (next : Machine × ℕ) : (before after : ℕ) → Type 0 where
+    byManual : (n : ℕ) → isNative (emitInstr (x .instr .thumb) region 0 x .0) ≡ true → execute (x .instr) m ≡ some next → CarriedOut x m next n n
+    byInterpreter : (n : ℕ) → isNative (emitInstr (x .instr .thumb) region 0 x .0) ≡ false → step n (x .instr .addr) m ≡ next → CarriedOut x m next n (suc n)
 
-  -- from a machine to another and a key, by records one after the other from the first on
-  pub data Sequence : List TimedInstr → Machine → Machine × ℕ → Type 0 where
+  -- from a machine to another and a key, by records one after the other from the first on, with the number of calls before them and behind them
+  pub data Sequence : (before after : ℕ) → List TimedInstr → Machine → Machine × ℕ → Type 0 where
     -- it ends with a record
-    last : (x : TimedInstr) (xs : List TimedInstr) (m : Machine) (next : Machine × ℕ) → Alone x xs → CarriedOut x m next → Ends region x xs m next
-        → Sequence (x ∷ xs) m next
+    last : (i j : ℕ) (x : TimedInstr) (xs : List TimedInstr) (m : Machine) (next : Machine × ℕ) → Alone x xs → CarriedOut x m next i j → Ends region x xs m next
+        → Sequence i j (x ∷ xs) m next
     -- or with a pair that fuses
-    pair : (x y : TimedInstr) (xs : List TimedInstr) (target ret : ℕ) (m : Machine) (half next : Machine × ℕ) → fuse (x .instr) (y .instr) ≡ Pair target ret
-        → execute (x .instr) m ≡ some half → execute (y .instr) (half .0) ≡ some next → Sequence (x ∷ y ∷ xs) m next
+    pair : (n : ℕ) (x y : TimedInstr) (xs : List TimedInstr) (target ret : ℕ) (m : Machine) (half next : Machine × ℕ) → fuse (x .instr) (y .instr) ≡ Pair target ret
+        → execute (x .instr) m ≡ some half → execute (y .instr) (half .0) ≡ some next → Sequence n n (x ∷ y ∷ xs) m next
     -- or goes on behind a record that leads to the one behind it, and does not leave the block
-    more : (x : TimedInstr) (xs : List TimedInstr) (m : Machine) (next out : Machine × ℕ) → Alone x xs → CarriedOut x m next
-        → leavesBy region x m ≡ false → next .1 ≡ keyBehind (x .instr) → Sequence xs (next .0) out → Sequence (x ∷ xs) m out
+    more : (i j k : ℕ) (x : TimedInstr) (xs : List TimedInstr) (m : Machine) (next out : Machine × ℕ) → Alone x xs → CarriedOut x m next i j
+        → leavesBy region x m ≡ false → next .1 ≡ keyBehind (x .instr) → Sequence j k xs (next .0) out → Sequence i k (x ∷ xs) m out
 
-  -- what becomes of a machine by a block, where z is the state that its text starts in: in ROM or BIOS its records one after the other; elsewhere the same where
-  -- it has code bytes and the guard says yes, and one step of the interpreter where it has none or the guard says no
-  pub data Carries (multiplier : ℕ) (b : Block) (z : State) (m : Machine) (out : Machine × ℕ) : Type 0 where
-    inOrder : outsideRomBios (b .addr) ≡ false → Sequence (b .instrs) m out → Carries multiplier b z m out
-    granted : (hash : ℕ) → outsideRomBios (b .addr) ≡ true → hashOf multiplier b ≡ some hash → (z .answers 0 ≡ 0 → ⊥) → Sequence (b .instrs) m out
-        → Carries multiplier b z m out
-    absent : outsideRomBios (b .addr) ≡ true → hashOf multiplier b ≡ none → step (b .addr) m out → Carries multiplier b z m out
-    refused : (hash : ℕ) → outsideRomBios (b .addr) ≡ true → hashOf multiplier b ≡ some hash → z .answers 0 ≡ 0 → step (b .addr) m out
-        → Carries multiplier b z m out
-
--- what may become of a machine by numbered steps, where the interpreter's own state decides which one is taken
-abbrev pub oneOf : (ℕ → ℕ → Machine → Machine × ℕ) → ℕ → Machine → Machine × ℕ → Type 0
-oneOf step a m next = (own : ℕ) × (step own a m ≡ next)
+  -- what becomes of a machine by a block, where z is the state that its text starts in, and how many calls it makes: in ROM or BIOS its records one after the other;
+  -- elsewhere the same where it has code bytes and the guard says yes, and one step of the interpreter where it has none or the guard says no
+  pub data Carries (multiplier : ℕ) (b : Block) (z : State) (m : Machine) (out : Machine × ℕ) : (used : ℕ) → Type 0 where
+    inOrder : (n : ℕ) → outsideRomBios (b .addr) ≡ false → Sequence 0 n (b .instrs) m out → Carries multiplier b z m out n
+    granted : (n hash : ℕ) → outsideRomBios (b .addr) ≡ true → hashOf multiplier b ≡ some hash → (z .answers 0 ≡ 0 → ⊥) → Sequence 0 n (b .instrs) m out
+        → Carries multiplier b z m out n
+    absent : outsideRomBios (b .addr) ≡ true → hashOf multiplier b ≡ none → step 0 (b .addr) m ≡ out → Carries multiplier b z m out 1
+    refused : (hash : ℕ) → outsideRomBios (b .addr) ≡ true → hashOf multiplier b ≡ some hash → z .answers 0 ≡ 0 → step 0 (b .addr) m ≡ out
+        → Carries multiplier b z m out 1
 
 -- the text of a block whose records are covered, in a function that declares pc, leaves as the manual and the interpreter say; what it asks of a state holds where
--- it ends, so the same can be said of the block that a goto leads to
+-- it ends, of the calls that are left, so the same can be said of the block that a goto leads to
 abbrev pub BlockMeans : ℕ → List ℕ → Block → Type 0
 BlockMeans multiplier ks b =
     ((x : TimedInstr) → List·Memᴰ x (b .instrs) → isCovered (region (b .addr)) x ≡ true)
     → (step : ℕ → ℕ → Machine → Machine × ℕ) (z : State) (m : Machine)
-    → ((k : ℕ) → Interprets (oneOf step) (z .interpreter k)) → Declares (z .scopes) (u32, x-pc) → Sound m → Agrees z m
-    → (out : Machine × ℕ) × Carries (oneOf step) (region (b .addr)) multiplier b z m out
+    → ((k : ℕ) → Interprets (step k) (z .interpreter k)) → Declares (z .scopes) (u32, x-pc) → Sound m → Agrees z m
+    → (out : Machine × ℕ) × (used : ℕ) × Carries step (region (b .addr)) multiplier b z m out used
     × Sound (out .0) × (l : Leaves (λ c. blockCode ks (bodyOf multiplier b)) z out)
-    × Declares (l .end .scopes) (u32, x-pc) × ((k : ℕ) → Interprets (oneOf step) (l .end .interpreter k))
+    × Declares (l .end .scopes) (u32, x-pc) × ((k : ℕ) → Interprets (step (used + k)) (l .end .interpreter k))
