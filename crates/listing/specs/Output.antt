@@ -1,5 +1,6 @@
 -- What the program prints.
 use Prim.Native.Nat.{ℕ}
+use mathlib.Core.Path.{_≡_}
 use mathlib.Core.Bool.{cond}
 use mathlib.Core.List.{List}
 use lib.Dec.{ltb}
@@ -25,3 +26,8 @@ answerText (Parsed.accepted bs) = listing partLimit bs
 -- what is printed for a file, of which no more than one byte past the longest need be known
 unfoldable pub output : List ℕ → Doc
 output f = cond (ltb longest (length f)) (text "too long\n") (answerText (parse f))
+
+-- a file that is one byte too long
+too-long : (f : List ℕ) → length f ≡ 65537 → output f ≡ text "too long\n"
+unfolding output
+too-long f e = rw e

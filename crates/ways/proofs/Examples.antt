@@ -1,17 +1,18 @@
--- Ways: round a loop twice, up to where the chain gate says so, at any wished size; through a shell; behind the guard's yes and its no.
+-- Ways: round a loop twice, up to where the chain gate says so, at any wished size; through a shell; behind the guard's yes and its no; to a goto without its
+-- label, and to a condition without an answer.
 use Prim.Native.Nat.{ℕ}
 use mathlib.Core.Path.{_≡_, refl}
 use mathlib.Core.Bool.{Bool, true, false}
 use mathlib.Core.List.{List, [], _∷_, _++_, map, List·Memᴰ, List·Memᴰ·head}
 use mathlib.Core.Option.{none, some}
 use Rattle.c_tree.specs.Expr.{word, x-cz, reg, lit}
-use Rattle.c_tree.specs.Stmt.{is, set, tick, gate, other, Owner, Code, _⨾_, _⧺_, group, Top, function, Test, guard}
+use Rattle.c_tree.specs.Stmt.{is, set, tick, gate, other, Owner, goto, retIf, Code, end, _⨾_, when, _⧺_, group, Top, function, Test, guard}
 use Rattle.c_tree.specs.Preamble.{v32}
 use Rattle.forms.specs.Forms.{branch, Form, shell, Body, straight}
 use Rattle.lowering.specs.Block.{bodyKey, nl, chain, transfer, nativeText, rest, blockCode, underGuard}
 use Rattle.block_file.specs.Address.{outsideRomBios}
 use Rattle.lowering.specs.Units.{withLocals, labelled, groupCode, emitGroup, unitHead, lastUnitEnd, bodiesOf, unitsOf}
-use Rattle.ways.specs.Ways.{LabelAt, here, later, Event, reach, said, nativeStart, interpreted, Way, w-gap, w-begin, w-plain, w-goto, w-leave, w-stay, w-call, w-retInterp, w-entry, w-when, w-braces, stop}
+use Rattle.ways.specs.Ways.{LabelAt, here, later, Event, reach, said, nativeStart, interpreted, Way, w-gap, w-begin, w-plain, w-goto, w-lost, w-leave, w-stay, w-unsaid, w-call, w-retInterp, w-entry, w-when, w-unanswered, w-braces, stop}
 use Rattle.ways.specs.Claim.{carried, timesCarried}
 use Rattle.ways.proofs.Functions.{trees, forwarder}
 use Rattle.ways.proofs.Pieces.{group-part, in-part}
@@ -98,6 +99,17 @@ twice max =
 -- it carries out two instructions, and the one of the loop twice: in a group of several only gates bound that
 pub two : (carried events ≡ 2) × (timesCarried 0x08000100 0 events ≡ 2)
 two = (refl, refl)
+
+-- a goto whose function has no such label ends the way
+pub lost : (ts : List Top) → Way ts (goto Owner.common 8 ⨾ end) (goto Owner.common 8 ⨾ end) (true ∷ []) (reach Owner.common ∷ [])
+lost ts = w-lost
+
+-- and so does a condition with no answer left: an if's, and a gate's
+pub unanswered : (ts : List Top) (b c : Code) → Way ts c (when Owner.common true gate b c) [] (reach Owner.common ∷ [])
+unanswered ts b c = w-unanswered
+
+pub unsaid : (ts : List Top) (c : Code) → Way ts c (retIf Owner.common gate (lit word 8) ⨾ c) [] (reach Owner.common ∷ [])
+unsaid ts c = w-unsaid
 
 -- swi by itself: the interpreter carries out one instruction
 abbrev shelling : List Event
