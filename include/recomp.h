@@ -74,7 +74,8 @@ uint32_t recomp_listing(const uint8_t *file, size_t file_len, uint32_t *work, si
  * carries out no instruction twice, and that native code of a block outside ROM and BIOS is reached
  * only after the guard said yes to it: `Demand3Of` in crates/ways/specs/Demand3.antt; and that the
  * text of each block, read by C99, does what the ARM manual says of the instructions that are lowered
- * to C, and what interp_one does for the others, but for the records that docs/DIFFERENCES.md names
+ * to C, and what interp_one does for the others (supposed to be a step of the machine that leaves in
+ * c[15] the address of the key which it answers), but for the records that docs/DIFFERENCES.md names
  * and, as a whole, the blocks that hold one: `MeaningOf` in crates/meaning/specs/Meaning.antt. */
 uint32_t recomp_unit(const uint8_t *file, size_t file_len, uint64_t max_bytes, uint64_t unit,
                      uint32_t *work, size_t work_len, uint8_t *text, size_t text_len,

@@ -1,4 +1,4 @@
--- Every operation that is lowered to plain statements means what the manual says.
+-- Every operation that is lowered to plain statements means what the manual says, named differences and what is left out aside.
 use Rattle.armv4t.specs.declared.Op.{Op}
 use Rattle.armv4t.specs.declared.Op.the-variants.{Alu, Mul, MulLong, Swap, Bx, Branch, ThumbBlHigh, ThumbBlLow, Mem, BlockMem, Mrs, MsrReg, MsrImm, Swi, Undefined}
 use Rattle.armv4t.specs.declared.Instr.{Instr}

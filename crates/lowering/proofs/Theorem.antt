@@ -1,4 +1,4 @@
--- Every native record: the manual says what it does, and its text acts as the manual says.
+-- Every native record: the manual says what it does, but for those that Unsaid names, and its text acts so, named differences aside.
 use Prim.Native.Nat.{ℕ, _+_}
 use mathlib.Core.Path.{_≡_, refl, sym, _∙_, subst}
 use mathlib.Core.Bool.{Bool, true, false, not, cond, _&&_, _||_, true≢false}

@@ -1,4 +1,4 @@
--- The text of every accepted file's blocks means what the manual says.
+-- What is claimed of the text of a file's blocks holds of every accepted file.
 use Prim.Native.Nat.{ℕ, _%_}
 use mathlib.Core.Path.{_≡_}
 use mathlib.Core.Bool.{Bool, true, false}
