@@ -22,27 +22,6 @@ no-high high low addr o = arm enum (λ op. Nothing ≡ fuseOps op low addr) (oth
 no-low : (lr : ℕ) (low : Op) (addr : ℕ) → OneOf (others 15 (7 ∷ [])) (tagOf the-type low) → Nothing ≡ fuseLow lr low addr
 no-low lr low addr o = arm enum (λ op. Nothing ≡ fuseLow lr op addr) (others 15 (7 ∷ [])) low o (search depth 16)
 
-enum-known-first : tie.Need-enum-known-first
-enum-known-first c = search needs
-
-enum-known-second : tie.Need-enum-known-second
-enum-known-second c = search needs
-
-cast-wrapping-add-u32 : tie.Need-cast-wrapping-add-u32
-cast-wrapping-add-u32 c = search needs
-
-mul-wrapping-add-u32 : tie.Need-mul-wrapping-add-u32
-mul-wrapping-add-u32 c = search needs
-
-wrapping-add-u32-requires : tie.Need-wrapping-add-u32-requires
-wrapping-add-u32-requires c κs = search needs
-
-wrapping-add-u32-requires-2 : tie.Need-wrapping-add-u32-requires-2
-wrapping-add-u32-requires-2 c κs = search needs
-
-set-bit0-requires : tie.Need-set-bit0-requires
-set-bit0-requires c κs = search needs
-
 returns : tie.Need-returns
 unfolding fuse
 returns c =
@@ -67,14 +46,5 @@ returns-3 c = no-high (c .before .args .high .op) (c .before .args .low .op) _ (
 pub fuse-thumb-bl-spec : {M : Type 1} → statement M
 fuse-thumb-bl-spec =
     tie.close
-    (tie.spec
-    enum-known-first
-    enum-known-second
-    cast-wrapping-add-u32
-    mul-wrapping-add-u32
-    wrapping-add-u32-requires
-    wrapping-add-u32-requires-2
-    set-bit0-requires
-    returns
-    returns-2
-    returns-3)
+    (tie.spec (search needs) (search needs) (search needs) (search needs) (search needs) (search needs) (search needs)
+    returns returns-2 returns-3)

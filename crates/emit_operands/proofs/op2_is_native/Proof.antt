@@ -5,15 +5,6 @@ use borrow.Author.Needs.{needs}
 use Rattle.emit_operands.proofs.op2_is_native.Statement.{statement}
 use Rattle.emit_operands.proofs.op2_is_native.Tie as tie
 
-enum-known-op2 : tie.Need-enum-known-op2
-enum-known-op2 c = search needs
-
-enum-known-op2-2 : tie.Need-enum-known-op2-2
-enum-known-op2-2 c = search needs
-
-shift-is-native-requires : tie.Need-shift-is-native-requires
-shift-is-native-requires c κs = search needs
-
 returns : tie.Need-returns
 returns c = λ i. rw (c .before .op2 .given .1) refl
 
@@ -21,4 +12,4 @@ returns-2 : tie.Need-returns-2
 returns-2 c = λ i. rw (c .before .before .op22 .given .1) (c .shift-is-native .ensures i (c .before .before .op22 .given .0 .0))
 
 pub op2-is-native-spec : {M : Type 1} → statement M
-op2-is-native-spec = tie.close (tie.spec enum-known-op2 enum-known-op2-2 shift-is-native-requires returns returns-2)
+op2-is-native-spec = tie.close (tie.spec (search needs) (search needs) (search needs) returns returns-2)

@@ -5,15 +5,6 @@ use Rattle.text.proofs.Laws.{seq, said, kept}
 use Rattle.emit_operands.proofs.put_around.Statement.{statement}
 use Rattle.emit_operands.proofs.put_around.Tie as tie
 
-put-requires : tie.Need-put-requires
-put-requires c κs = search needs
-
-put-reg-requires : tie.Need-put-reg-requires
-put-reg-requires c κs = search needs
-
-put-requires-2 : tie.Need-put-requires-2
-put-requires-2 c κs = search needs
-
 returns : tie.Need-returns
 returns c =
     let c3 = c .before .before in
@@ -21,8 +12,5 @@ returns c =
     let c1 = c2 .before .before .before .before in
     said (seq (c1 .put .ensures) (seq (c2 .put-reg .ensures) (c3 .put2 .ensures))) refl
 
-same-length : tie.Need-same-length
-same-length c = kept (returns c)
-
 pub put-around-spec : {M : Type 1} → statement M
-put-around-spec = tie.close (tie.spec put-requires put-reg-requires put-requires-2 same-length returns)
+put-around-spec = tie.close (tie.spec (search needs) (search needs) (search needs) (λ c. kept (returns c)) returns)

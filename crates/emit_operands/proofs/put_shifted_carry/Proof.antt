@@ -5,23 +5,11 @@ use Rattle.text.proofs.Laws.{none, said, kept}
 use Rattle.emit_operands.proofs.put_shifted_carry.Statement.{statement}
 use Rattle.emit_operands.proofs.put_shifted_carry.Tie as tie
 
-enum-known-shift : tie.Need-enum-known-shift
-enum-known-shift c = search needs
-
-put-shift-carry-requires : tie.Need-put-shift-carry-requires
-put-shift-carry-requires c κs = search needs
-
-enum-known-shift-2 : tie.Need-enum-known-shift-2
-enum-known-shift-2 c = search needs
-
 returns : tie.Need-returns
 returns c =
     let c2 = c .before .before in
     let c1 = c2 .before .before .before in
     rw (c1 .shift .given .1) (said (c2 .put-shift-carry .ensures) refl)
-
-same-length : tie.Need-same-length
-same-length c = kept (returns c)
 
 returns-2 : tie.Need-returns-2
 returns-2 c =
@@ -29,4 +17,6 @@ returns-2 c =
     rw (c1 .shift2 .given .1) (none (search needs) (search needs))
 
 pub put-shifted-carry-spec : {M : Type 1} → statement M
-put-shifted-carry-spec = tie.close (tie.spec enum-known-shift put-shift-carry-requires enum-known-shift-2 same-length returns returns-2)
+put-shifted-carry-spec =
+    tie.close
+    (tie.spec (search needs) (search needs) (search needs) (λ c. kept (returns c)) returns returns-2)

@@ -10,18 +10,6 @@ returns : tie.Need-returns
 returns c =
     rw (eq-eqb _ _ (c .if1 .taken)) (none (search needs) (search needs))
 
-cast-put-dec : tie.Need-cast-put-dec
-cast-put-dec c = search needs
-
-put-dec-requires : tie.Need-put-dec-requires
-put-dec-requires c κs = search needs
-
-slice-aggregate-put : tie.Need-slice-aggregate-put
-slice-aggregate-put c = search needs
-
-put-requires : tie.Need-put-requires
-put-requires c κs = search needs
-
 returns-2 : tie.Need-returns-2
 returns-2 c =
     let c3 = c .before .before in
@@ -29,8 +17,7 @@ returns-2 c =
     let c1 = c2 .before .before in
     rw (ne-eqb _ _ (c1 .if1 .left)) (said (seq (c2 .put-dec .ensures) (c3 .put .ensures)) refl)
 
-same-length : tie.Need-same-length
-same-length c = kept (returns-2 c)
-
 pub put-sign-spec : {M : Type 1} → statement M
-put-sign-spec = tie.close (tie.spec returns cast-put-dec put-dec-requires slice-aggregate-put put-requires same-length returns-2)
+put-sign-spec =
+    tie.close
+    (tie.spec returns (search needs) (search needs) (search needs) (search needs) (λ c. kept (returns-2 c)) returns-2)

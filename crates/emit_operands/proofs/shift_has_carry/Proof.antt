@@ -5,15 +5,6 @@ use borrow.Author.Needs.{needs}
 use Rattle.emit_operands.proofs.shift_has_carry.Statement.{statement}
 use Rattle.emit_operands.proofs.shift_has_carry.Tie as tie
 
-enum-known-shift : tie.Need-enum-known-shift
-enum-known-shift c = search needs
-
-kind-has-carry-requires : tie.Need-kind-has-carry-requires
-kind-has-carry-requires c κs = search needs
-
-enum-known-shift-2 : tie.Need-enum-known-shift-2
-enum-known-shift-2 c = search needs
-
 returns : tie.Need-returns
 returns c = λ pc rm. rw (c .before .before .shift .given .1) (c .kind-has-carry .ensures _)
 
@@ -21,4 +12,4 @@ returns-2 : tie.Need-returns-2
 returns-2 c = λ pc rm. rw (c .before .shift2 .given .1) refl
 
 pub shift-has-carry-spec : {M : Type 1} → statement M
-shift-has-carry-spec = tie.close (tie.spec enum-known-shift kind-has-carry-requires enum-known-shift-2 returns returns-2)
+shift-has-carry-spec = tie.close (tie.spec (search needs) (search needs) (search needs) returns returns-2)

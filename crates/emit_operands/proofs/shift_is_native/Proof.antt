@@ -5,12 +5,6 @@ use borrow.Author.Needs.{needs}
 use Rattle.emit_operands.proofs.shift_is_native.Statement.{statement}
 use Rattle.emit_operands.proofs.shift_is_native.Tie as tie
 
-enum-known-shift : tie.Need-enum-known-shift
-enum-known-shift c = search needs
-
-enum-known-shift-2 : tie.Need-enum-known-shift-2
-enum-known-shift-2 c = search needs
-
 returns : tie.Need-returns
 returns c = λ i rm. rw (c .before .shift .given .1) refl
 
@@ -18,4 +12,4 @@ returns-2 : tie.Need-returns-2
 returns-2 c = λ i rm. rw (c .before .shift2 .given .1) refl
 
 pub shift-is-native-spec : {M : Type 1} → statement M
-shift-is-native-spec = tie.close (tie.spec enum-known-shift enum-known-shift-2 returns returns-2)
+shift-is-native-spec = tie.close (tie.spec (search needs) (search needs) returns returns-2)

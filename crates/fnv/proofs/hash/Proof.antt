@@ -23,20 +23,8 @@ loop-holds : tie.Need-loop-holds Inv-loop μ-loop
 unfolding fnv64
 loop-holds c = (zero-le, refl)
 
-shared-slice-read-wrapping-mul : tie.Need-shared-slice-read-wrapping-mul Inv-loop μ-loop
-shared-slice-read-wrapping-mul c = omega arith
-
 cast-wrapping-mul : tie.Need-cast-wrapping-mul Inv-loop μ-loop
 cast-wrapping-mul c = omega (arith, c .shared-slice-known2 .given (c .before .before .loop .i))
-
-wrapping-mul-requires : tie.Need-wrapping-mul-requires Inv-loop μ-loop
-wrapping-mul-requires c κs = search needs
-
-add-i : tie.Need-add-i Inv-loop μ-loop
-add-i c = omega arith
-
-loop-less : tie.Need-loop-less Inv-loop μ-loop
-loop-less c = omega arith
 
 loop-again : tie.Need-loop-again Inv-loop μ-loop
 unfolding fnvFrom
@@ -53,14 +41,5 @@ returns c = let end : drop (c .before .loop .i) (c .before .before .before .args
 pub hash-spec : {M : Type 1} → statement M
 hash-spec =
     tie.close
-    (tie.spec
-    Inv-loop
-    μ-loop
-    loop-holds
-    shared-slice-read-wrapping-mul
-    cast-wrapping-mul
-    wrapping-mul-requires
-    add-i
-    loop-less
-    loop-again
-    returns)
+    (tie.spec Inv-loop μ-loop loop-holds (λ c. omega arith) cast-wrapping-mul (search needs) (λ c. omega arith)
+    (λ c. omega arith) loop-again returns)

@@ -55,9 +55,6 @@ abbrev μ-loop : tie.MeasureT-loop
 loop-holds : tie.Need-loop-holds Inv-loop μ-loop
 loop-holds c = starts (c .pre .0) (c .args .i) (c .pre .1)
 
-mul-up : tie.Need-mul-up Inv-loop μ-loop
-mul-up c = omega arith
-
 slice-read-up : tie.Need-slice-read-up Inv-loop μ-loop
 slice-read-up c = c .before .loop .inv .inside
 
@@ -69,9 +66,6 @@ mul-next c = omega (arith, parent-inside (c .before .before .loop .inv .left))
 
 slice-read-next : tie.Need-slice-read-next Inv-loop μ-loop
 slice-read-next c = omega (arith, parent-inside (c .before .before .before .loop .inv .left))
-
-mul-p : tie.Need-mul-p Inv-loop μ-loop
-mul-p c = omega arith
 
 slice-write-p : tie.Need-slice-write-p Inv-loop μ-loop
 slice-write-p c = c .before .before .before .loop .inv .inside
@@ -94,19 +88,5 @@ returns c = ends (c .before .before .loop .inv) (c .before .before .before .pre 
 pub find-spec : {M : Type 1} → statement M
 find-spec =
     tie.close
-    (tie.spec
-    Inv-loop
-    μ-loop
-    loop-holds
-    mul-up
-    slice-read-up
-    cast-up
-    mul-next
-    slice-read-next
-    mul-p
-    slice-write-p
-    cast-at
-    loop-less
-    loop-again
-    same-length
-    returns)
+    (tie.spec Inv-loop μ-loop loop-holds (λ c. omega arith) slice-read-up cast-up mul-next slice-read-next
+    (λ c. omega arith) slice-write-p cast-at loop-less loop-again same-length returns)

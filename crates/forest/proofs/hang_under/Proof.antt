@@ -40,9 +40,6 @@ module _ {p p₁ p₂ : List ℕ} {i j source target : ℕ} (full : Forest (2 * 
         roots = λ d q small same. same-hang (same-flatter both same) (rw (both .lengths) small) (here inside-i) (here inside-j);
       })
 
-find-requires : tie.Need-find-requires
-find-requires c κs = search needs
-
 find-requires-2 : tie.Need-find-requires-2
 find-requires-2 c κs =
     let flat = c .before .before .before .find .ensures .kept in
@@ -70,4 +67,4 @@ same-length : tie.Need-same-length
 same-length c = returns c .lengths
 
 pub hang-under-spec : {M : Type 1} → statement M
-hang-under-spec = tie.close (tie.spec find-requires find-requires-2 set-parent-requires same-length returns)
+hang-under-spec = tie.close (tie.spec (λ c κs. search needs) find-requires-2 set-parent-requires same-length returns)

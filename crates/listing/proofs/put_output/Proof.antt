@@ -8,23 +8,8 @@ use borrow.Author.Needs.{needs}
 use mathlib.Core.Path.{refl}
 use native.Mathlib.Omega.{arith}
 
-slice-aggregate-put : tie.Need-slice-aggregate-put
-slice-aggregate-put c = search needs
-
-put-requires : tie.Need-put-requires
-put-requires c κs = search needs
-
-same-length : tie.Need-same-length
-same-length c = search needs
-
 returns : tie.Need-returns
 returns c = long-shown _ (c .before .before .before .before .before .before .before .before .pre) (omega arith) (said (c .before .before .put .ensures) refl)
-
-put-answer-requires : tie.Need-put-answer-requires
-put-answer-requires c κs = search needs
-
-same-length-2 : tie.Need-same-length-2
-same-length-2 c = search needs
 
 returns-2 : tie.Need-returns-2
 returns-2 c = short-shown _ _ _ (omega arith) (c .before .before .put-answer .ensures)
@@ -32,11 +17,4 @@ returns-2 c = short-shown _ _ _ (omega arith) (c .before .before .put-answer .en
 pub put-output-spec : {M : Type 1} → statement M
 put-output-spec =
     tie.close
-    (tie.spec
-    slice-aggregate-put
-    put-requires
-    same-length
-    returns
-    put-answer-requires
-    same-length-2
-    returns-2)
+    (tie.spec (search needs) (search needs) (search needs) returns (search needs) (search needs) returns-2)

@@ -13,26 +13,8 @@ use Rattle.replay_plan.proofs.Gathered.{gathered, with-lent}
 use Rattle.replay_plan.proofs.answer.Statement.{statement}
 use Rattle.replay_plan.proofs.answer.Tie as tie
 
-plan-of-requires : tie.Need-plan-of-requires
-plan-of-requires c κs = search needs
-
-numbers-requires : tie.Need-numbers-requires
-numbers-requires c κs = search needs
-
-array-read-got : tie.Need-array-read-got
-array-read-got c = search needs
-
-slice-write-got : tie.Need-slice-write-got
-slice-write-got c = search needs
-
-array-read-got-2 : tie.Need-array-read-got-2
-array-read-got-2 c = search needs
-
 slice-write-got-2 : tie.Need-slice-write-got-2
 slice-write-got-2 c = simp length-set (omega arith)
-
-array-read-got-3 : tie.Need-array-read-got-3
-array-read-got-3 c = search needs
 
 slice-write-got-3 : tie.Need-slice-write-got-3
 slice-write-got-3 c = simp length-set (omega arith)
@@ -40,20 +22,11 @@ slice-write-got-3 c = simp length-set (omega arith)
 put-requires : tie.Need-put-requires
 put-requires c κs = simp length-set (omega arith)
 
-add-put : tie.Need-add-put
-add-put c = search needs
-
 put-requires-2 : tie.Need-put-requires-2
 put-requires-2 c κs = omega (arith, (simp length-set at (c .before .before .before .before .put .kept .0)))
 
 same-length : tie.Need-same-length
 same-length c = c .before .before .put2 .kept .0 ∙ (simp length-set at (c .before .before .before .before .before .before .before .put .kept .0))
-
-same-length-2 : tie.Need-same-length-2
-same-length-2 c = search needs
-
-same-length-3 : tie.Need-same-length-3
-same-length-3 c = search needs
 
 returns : tie.Need-returns
 returns c =
@@ -73,19 +46,6 @@ returns c =
 pub answer-spec : {M : Type 1} → statement M
 answer-spec =
     tie.close
-    (tie.spec
-    plan-of-requires
-    numbers-requires
-    array-read-got
-    slice-write-got
-    array-read-got-2
-    slice-write-got-2
-    array-read-got-3
-    slice-write-got-3
-    put-requires
-    add-put
-    put-requires-2
-    same-length
-    same-length-2
-    same-length-3
-    returns)
+    (tie.spec (search needs) (search needs) (search needs) (search needs) (search needs) slice-write-got-2
+    (search needs) slice-write-got-3 put-requires (search needs) put-requires-2 same-length (search needs)
+    (search needs) returns)

@@ -6,51 +6,6 @@ use borrow.Author.Needs.{needs}
 use Rattle.replay_plan.proofs.replay_one.Statement.{statement}
 use Rattle.replay_plan.proofs.replay_one.Tie as tie
 
-slice-aggregate-numbers : tie.Need-slice-aggregate-numbers
-slice-aggregate-numbers c = search needs
-
-numbers-requires : tie.Need-numbers-requires
-numbers-requires c κs = search needs
-
-ended-requires : tie.Need-ended-requires
-ended-requires c κs = search needs
-
-returns : tie.Need-returns
-returns c = search needs
-
-array-read-work-length : tie.Need-array-read-work-length
-array-read-work-length c = search needs
-
-array-read-result-length : tie.Need-array-read-result-length
-array-read-result-length c = search needs
-
-array-read-cleared : tie.Need-array-read-cleared
-array-read-cleared c = search needs
-
-too-long-requires : tie.Need-too-long-requires
-too-long-requires c κs = search needs
-
-returns-2 : tie.Need-returns-2
-returns-2 c = search needs
-
-too-long-requires-2 : tie.Need-too-long-requires-2
-too-long-requires-2 c κs = search needs
-
-returns-3 : tie.Need-returns-3
-returns-3 c = search needs
-
-too-long-requires-3 : tie.Need-too-long-requires-3
-too-long-requires-3 c κs = search needs
-
-returns-4 : tie.Need-returns-4
-returns-4 c = search needs
-
-add-n : tie.Need-add-n
-add-n c = search needs
-
-add-n-2 : tie.Need-add-n-2
-add-n-2 c = search needs
-
 array-borrow-prefix-expected : tie.Need-array-borrow-prefix-expected
 array-borrow-prefix-expected c = search needs
 
@@ -76,33 +31,11 @@ replay-file-requires c κs =
     let result = slice-aggregate-replay-file-3 c in
     (omega (arith, expected, work, result), omega (arith, expected), omega (arith, work))
 
-returns-5 : tie.Need-returns-5
-returns-5 c = search needs
-
 pub replay-one-spec : {M : Type 1} → statement M
 replay-one-spec =
     tie.close
-    (tie.spec
-    slice-aggregate-numbers
-    numbers-requires
-    ended-requires
-    returns
-    array-read-work-length
-    array-read-result-length
-    array-read-cleared
-    too-long-requires
-    returns-2
-    too-long-requires-2
-    returns-3
-    too-long-requires-3
-    returns-4
-    add-n
-    add-n-2
-    array-borrow-prefix-expected
-    slice-aggregate-replay-file
-    array-borrow-prefix-work
-    slice-aggregate-replay-file-2
-    array-borrow-prefix-result
-    slice-aggregate-replay-file-3
-    replay-file-requires
-    returns-5)
+    (tie.spec (search needs) (search needs) (search needs) (search needs) (search needs) (search needs) (search needs)
+    (search needs) (search needs) (search needs) (search needs) (search needs) (search needs) (search needs)
+    (search needs) array-borrow-prefix-expected slice-aggregate-replay-file array-borrow-prefix-work
+    slice-aggregate-replay-file-2 array-borrow-prefix-result slice-aggregate-replay-file-3 replay-file-requires
+    (search needs))

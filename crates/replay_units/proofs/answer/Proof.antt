@@ -12,18 +12,6 @@ bit : (b : Bool) → boolByte b ≡ cond b 1 0
 bit true = refl
 bit false = refl
 
-enum-known-translated : tie.Need-enum-known-translated
-enum-known-translated c = search needs
-
-cast-t8 : tie.Need-cast-t8
-cast-t8 c = search needs
-
-enum-known-translated-2 : tie.Need-enum-known-translated-2
-enum-known-translated-2 c = search needs
-
-cast-t9 : tie.Need-cast-t9
-cast-t9 c = search needs
-
 returns : tie.Need-returns
 unfolding translatedOf
 returns c = rw (c .before .translated .given .1, bit (c .before .translated .given .0 .1 .1 .0))
@@ -33,12 +21,4 @@ unfolding translatedOf
 returns-2 c = rw (c .before .translated2 .given .1)
 
 pub answer-spec : {M : Type 1} → statement M
-answer-spec =
-    tie.close
-    (tie.spec
-    enum-known-translated
-    cast-t8
-    enum-known-translated-2
-    cast-t9
-    returns
-    returns-2)
+answer-spec = tie.close (tie.spec (search needs) (search needs) (search needs) (search needs) returns returns-2)

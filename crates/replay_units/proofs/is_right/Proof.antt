@@ -23,24 +23,6 @@ array-borrow-prefix-text c = search needs
 slice-aggregate-unit-2 : tie.Need-slice-aggregate-unit-2
 slice-aggregate-unit-2 c = sym (length-take-le _ _ (array-borrow-prefix-text (c .before)))
 
-unit-requires : tie.Need-unit-requires
-unit-requires c κs = search needs
-
-answer-requires : tie.Need-answer-requires
-answer-requires c κs = search needs
-
-slice-aggregate-same : tie.Need-slice-aggregate-same
-slice-aggregate-same c = search needs
-
-same-requires : tie.Need-same-requires
-same-requires c κs = search needs
-
-slice-aggregate-mismatch : tie.Need-slice-aggregate-mismatch
-slice-aggregate-mismatch c = search needs
-
-mismatch-requires : tie.Need-mismatch-requires
-mismatch-requires c κs = search needs
-
 returns : tie.Need-returns
 returns c =
     let args = c .before .before .before .before .before .before .before .before .before .before .before .before .before .before .args in
@@ -62,9 +44,6 @@ returns c =
     (sym (not-true _ (c .before .before .before .if1 .taken)) ∙ c .before .before .before .before .same .ensures)
     refl
     refl
-
-slice-aggregate-same-work : tie.Need-slice-aggregate-same-work
-slice-aggregate-same-work c = search needs
 
 slice-aggregate-same-work-2 : tie.Need-slice-aggregate-same-work-2
 slice-aggregate-same-work-2 c =
@@ -101,9 +80,6 @@ returns-2 c =
     (sym (not-false _ (c .before .before .before .before .if1 .left)) ∙ c .before .before .before .before .before .same .ensures)
     (sym (not-true _ (c .if2 .taken)) ∙ c .before .same-work .ensures)
     refl
-
-slice-aggregate-same-text : tie.Need-slice-aggregate-same-text
-slice-aggregate-same-text c = search needs
 
 slice-aggregate-same-text-2 : tie.Need-slice-aggregate-same-text-2
 slice-aggregate-same-text-2 c =
@@ -144,23 +120,7 @@ returns-3 c =
 pub is-right-spec : {M : Type 1} → statement M
 is-right-spec =
     tie.close
-    (tie.spec
-    array-borrow-prefix-work
-    slice-aggregate-unit
-    array-borrow-prefix-text
-    slice-aggregate-unit-2
-    unit-requires
-    answer-requires
-    slice-aggregate-same
-    same-requires
-    slice-aggregate-mismatch
-    mismatch-requires
-    returns
-    slice-aggregate-same-work
-    slice-aggregate-same-work-2
-    same-work-requires
-    returns-2
-    slice-aggregate-same-text
-    slice-aggregate-same-text-2
-    same-text-requires
-    returns-3)
+    (tie.spec array-borrow-prefix-work slice-aggregate-unit array-borrow-prefix-text slice-aggregate-unit-2
+    (search needs) (search needs) (search needs) (search needs) (search needs) (search needs) returns (search needs)
+    slice-aggregate-same-work-2 same-work-requires returns-2 (search needs) slice-aggregate-same-text-2
+    same-text-requires returns-3)

@@ -5,75 +5,15 @@ use borrow.Author.Needs.{needs}
 use Rattle.replay_units.proofs.replay_file.Statement.{statement}
 use Rattle.replay_units.proofs.replay_file.Tie as tie
 
-slice-aggregate-numbers : tie.Need-slice-aggregate-numbers
-slice-aggregate-numbers c = search needs
-
-numbers-requires : tie.Need-numbers-requires
-numbers-requires c κs = search needs
-
-ended-requires : tie.Need-ended-requires
-ended-requires c κs = search needs
-
-returns : tie.Need-returns
-returns c = search needs
-
-slice-aggregate-file : tie.Need-slice-aggregate-file
-slice-aggregate-file c = search needs
-
-file-requires : tie.Need-file-requires
-file-requires c κs = search needs
-
-enum-known-n : tie.Need-enum-known-n
-enum-known-n c = search needs
-
 array-share-prefix-buffer : tie.Need-array-share-prefix-buffer
 array-share-prefix-buffer c = rw (c .before .before .n .given .1) at (c .before .before .before .before .before .file .ensures)
 
 slice-aggregate-replay-text : tie.Need-slice-aggregate-replay-text
 slice-aggregate-replay-text c = sym (length-take-le _ _ (array-share-prefix-buffer (c .before)))
 
-replay-text-requires : tie.Need-replay-text-requires
-replay-text-requires c κs = search needs
-
-enum-told : tie.Need-enum-told
-enum-told c = search needs
-
-ended-requires-2 : tie.Need-ended-requires-2
-ended-requires-2 c κs = search needs
-
-enum-told-2 : tie.Need-enum-told-2
-enum-told-2 c = search needs
-
-too-long-requires : tie.Need-too-long-requires
-too-long-requires c κs = search needs
-
-returns-2 : tie.Need-returns-2
-returns-2 c = search needs
-
-returns-3 : tie.Need-returns-3
-returns-3 c = search needs
-
-returns-4 : tie.Need-returns-4
-returns-4 c = search needs
-
 pub replay-file-spec : {M : Type 1} → statement M
 replay-file-spec =
     tie.close
-    (tie.spec
-    slice-aggregate-numbers
-    numbers-requires
-    ended-requires
-    returns
-    slice-aggregate-file
-    file-requires
-    enum-known-n
-    array-share-prefix-buffer
-    slice-aggregate-replay-text
-    replay-text-requires
-    enum-told
-    ended-requires-2
-    enum-told-2
-    too-long-requires
-    returns-2
-    returns-3
-    returns-4)
+    (tie.spec (search needs) (search needs) (search needs) (search needs) (search needs) (search needs) (search needs)
+    array-share-prefix-buffer slice-aggregate-replay-text (search needs) (search needs) (search needs) (search needs)
+    (search needs) (search needs) (search needs) (search needs))

@@ -20,31 +20,10 @@ abbrev μ-loop : tie.MeasureT-loop
 loop-holds : tie.Need-loop-holds Inv-loop μ-loop
 loop-holds c = (search needs, search needs, refl)
 
-shared-slice-read-if1 : tie.Need-shared-slice-read-if1 Inv-loop μ-loop
-shared-slice-read-if1 c = search needs
-
-shared-slice-read-if1-2 : tie.Need-shared-slice-read-if1-2 Inv-loop μ-loop
-shared-slice-read-if1-2 c = search needs
-
-shared-slice-read-text-differs : tie.Need-shared-slice-read-text-differs Inv-loop μ-loop
-shared-slice-read-text-differs c = search needs
-
-shared-slice-read-text-differs-2 : tie.Need-shared-slice-read-text-differs-2 Inv-loop μ-loop
-shared-slice-read-text-differs-2 c = search needs
-
-text-differs-requires : tie.Need-text-differs-requires Inv-loop μ-loop
-text-differs-requires c κs = search needs
-
 returns : tie.Need-returns Inv-loop μ-loop
 returns c =
     let at = c .before .before .before .before .before .before .before .loop in
     place-differs _ _ (at .i) (search needs) (search needs) (c .before .before .before .if1 .taken) ∙ sym (at .inv .2)
-
-add-i : tie.Need-add-i Inv-loop μ-loop
-add-i c = search needs
-
-loop-less : tie.Need-loop-less Inv-loop μ-loop
-loop-less c = search needs
 
 loop-again : tie.Need-loop-again Inv-loop μ-loop
 loop-again c =
@@ -59,17 +38,5 @@ returns-2 c =
 pub same-text-spec : {M : Type 1} → statement M
 same-text-spec =
     tie.close
-    (tie.spec
-    Inv-loop
-    μ-loop
-    loop-holds
-    shared-slice-read-if1
-    shared-slice-read-if1-2
-    shared-slice-read-text-differs
-    shared-slice-read-text-differs-2
-    text-differs-requires
-    returns
-    add-i
-    loop-less
-    loop-again
-    returns-2)
+    (tie.spec Inv-loop μ-loop loop-holds (search needs) (search needs) (search needs) (search needs) (search needs)
+    returns (search needs) (search needs) loop-again returns-2)

@@ -20,43 +20,10 @@ abbrev μ-loop : tie.MeasureT-loop
 loop-holds : tie.Need-loop-holds Inv-loop μ-loop
 loop-holds c = (search needs, search needs, refl)
 
-mul-if1 : tie.Need-mul-if1 Inv-loop μ-loop
-mul-if1 c = search needs
-
-shared-slice-read-if1 : tie.Need-shared-slice-read-if1 Inv-loop μ-loop
-shared-slice-read-if1 c = search needs
-
-mul-if1-2 : tie.Need-mul-if1-2 Inv-loop μ-loop
-mul-if1-2 c = search needs
-
-shared-slice-read-if1-2 : tie.Need-shared-slice-read-if1-2 Inv-loop μ-loop
-shared-slice-read-if1-2 c = search needs
-
-mul-work-differs : tie.Need-mul-work-differs Inv-loop μ-loop
-mul-work-differs c = search needs
-
-shared-slice-read-work-differs : tie.Need-shared-slice-read-work-differs Inv-loop μ-loop
-shared-slice-read-work-differs c = search needs
-
-mul-work-differs-2 : tie.Need-mul-work-differs-2 Inv-loop μ-loop
-mul-work-differs-2 c = search needs
-
-shared-slice-read-work-differs-2 : tie.Need-shared-slice-read-work-differs-2 Inv-loop μ-loop
-shared-slice-read-work-differs-2 c = search needs
-
-work-differs-requires : tie.Need-work-differs-requires Inv-loop μ-loop
-work-differs-requires c κs = search needs
-
 returns : tie.Need-returns Inv-loop μ-loop
 returns c =
     let at = c .before .before .before .before .before .before .before .loop in
     place-differs _ _ (at .i) (search needs) (search needs) (c .before .before .before .if1 .taken) ∙ sym (at .inv .2)
-
-add-i : tie.Need-add-i Inv-loop μ-loop
-add-i c = search needs
-
-loop-less : tie.Need-loop-less Inv-loop μ-loop
-loop-less c = search needs
 
 loop-again : tie.Need-loop-again Inv-loop μ-loop
 loop-again c =
@@ -71,21 +38,6 @@ returns-2 c =
 pub same-work-spec : {M : Type 1} → statement M
 same-work-spec =
     tie.close
-    (tie.spec
-    Inv-loop
-    μ-loop
-    loop-holds
-    mul-if1
-    shared-slice-read-if1
-    mul-if1-2
-    shared-slice-read-if1-2
-    mul-work-differs
-    shared-slice-read-work-differs
-    mul-work-differs-2
-    shared-slice-read-work-differs-2
-    work-differs-requires
-    returns
-    add-i
-    loop-less
-    loop-again
+    (tie.spec Inv-loop μ-loop loop-holds (search needs) (search needs) (search needs) (search needs) (search needs)
+    (search needs) (search needs) (search needs) (search needs) returns (search needs) (search needs) loop-again
     returns-2)

@@ -6,29 +6,11 @@ use borrow.Author.Needs.{needs}
 use Rattle.search.proofs.find_target.Statement.{statement}
 use Rattle.search.proofs.find_target.Tie as tie
 
-first-from-requires : tie.Need-first-from-requires
-first-from-requires c κs = search needs
-
-block-at-requires : tie.Need-block-at-requires
-block-at-requires c κs = search needs
-
-enum-known-block : tie.Need-enum-known-block
-enum-known-block c = search needs
-
-enum-told : tie.Need-enum-told
-enum-told c = search needs
-
 returns : tie.Need-returns
 returns c = (tt, λ a. searching.search-missing _ _ _ a (c .before .before .before .first-from .ensures a) (sym (c .before .before .block-at .ensures) ∙ c .enum-told .given .1))
 
-key-plus-requires : tie.Need-key-plus-requires
-key-plus-requires c κs = search needs
-
 returns-2 : tie.Need-returns-2
 returns-2 c = (tt, λ a. searching.search-other _ _ _ a (c .before .before .before .before .before .before .first-from .ensures a) _ (sym (c .before .before .before .before .before .block-at .ensures) ∙ c .before .before .before .block .given .1) (λ e. c .if1 .taken (c .before .key-plus .ensures .0 ∙ e)))
-
-on-page-8-requires : tie.Need-on-page-8-requires
-on-page-8-requires c κs = search needs
 
 returns-3 : tie.Need-returns-3
 returns-3 c =
@@ -47,14 +29,5 @@ returns-4 c =
 pub find-target-spec : {M : Type 1} → statement M
 find-target-spec =
     tie.close
-    (tie.spec
-    first-from-requires
-    block-at-requires
-    enum-known-block
-    enum-told
-    returns
-    key-plus-requires
-    returns-2
-    on-page-8-requires
-    returns-3
-    returns-4)
+    (tie.spec (search needs) (search needs) (search needs) (search needs) returns (search needs) returns-2
+    (search needs) returns-3 returns-4)

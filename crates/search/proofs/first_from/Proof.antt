@@ -16,26 +16,8 @@ Inv-loop file key i low₀ high₀ low high = Between file key low high
 abbrev μ-loop : tie.MeasureT-loop
 μ-loop file key i low₀ high₀ low high = high - low
 
-near-requires : tie.Need-near-requires Inv-loop μ-loop
-near-requires c κs = search needs
-
 loop-holds : tie.Need-loop-holds Inv-loop μ-loop
 loop-holds c = c .near .ensures
-
-sub-mid : tie.Need-sub-mid Inv-loop μ-loop
-sub-mid c = omega arith
-
-add-mid : tie.Need-add-mid Inv-loop μ-loop
-add-mid c = omega arith
-
-block-at-requires : tie.Need-block-at-requires Inv-loop μ-loop
-block-at-requires c κs = search needs
-
-enum-known-block : tie.Need-enum-known-block Inv-loop μ-loop
-enum-known-block c = search needs
-
-enum-told : tie.Need-enum-told Inv-loop μ-loop
-enum-told c = search needs
 
 returns : tie.Need-returns Inv-loop μ-loop
 returns c = λ a.
@@ -43,21 +25,9 @@ returns c = λ a.
     let nothing = sym (c .before .before .block-at .ensures) ∙ c .enum-told .given .1 in
     absurd (omega (arith, missing _ a (at .low + (at .high - at .low) / 2) nothing))
 
-key-plus-requires : tie.Need-key-plus-requires Inv-loop μ-loop
-key-plus-requires c κs = search needs
-
-add-low : tie.Need-add-low Inv-loop μ-loop
-add-low c = omega arith
-
-loop-less : tie.Need-loop-less Inv-loop μ-loop
-loop-less c = omega arith
-
 loop-again : tie.Need-loop-again Inv-loop μ-loop
 loop-again c = let at = c .before .before .before .before .before .before .before .loop in
     searching.between-after _ _ _ _ _ (at .inv) (omega arith) (omega arith) (λ _. searching.key-below _ (at .low + (at .high - at .low) / 2) _ _ _ (c .before .before .before .before .before .block-at .ensures) (c .before .before .before .block .given .1) (c .before .key-plus .ensures .0) _ (c .if1 .taken))
-
-loop-less-2 : tie.Need-loop-less-2 Inv-loop μ-loop
-loop-less-2 c = omega arith
 
 loop-again-2 : tie.Need-loop-again-2 Inv-loop μ-loop
 loop-again-2 c = let at = c .before .before .before .before .before .before .before .loop in
@@ -69,21 +39,6 @@ returns-2 c = searching.between-none _ _ _ _ (c .before .loop .inv) (c .loop-tes
 pub first-from-spec : {M : Type 1} → statement M
 first-from-spec =
     tie.close
-    (tie.spec
-    Inv-loop
-    μ-loop
-    near-requires
-    loop-holds
-    sub-mid
-    add-mid
-    block-at-requires
-    enum-known-block
-    enum-told
-    returns
-    key-plus-requires
-    add-low
-    loop-less
-    loop-again
-    loop-less-2
-    loop-again-2
-    returns-2)
+    (tie.spec Inv-loop μ-loop (search needs) loop-holds (λ c. omega arith) (λ c. omega arith) (search needs)
+    (search needs) (search needs) returns (search needs) (λ c. omega arith) (λ c. omega arith) loop-again
+    (λ c. omega arith) loop-again-2 returns-2)

@@ -10,24 +10,6 @@ use Rattle.search.proofs.Searching as searching
 use Rattle.search.proofs.near.Statement.{statement}
 use Rattle.search.proofs.near.Tie as tie
 
-block-count-requires : tie.Need-block-count-requires
-block-count-requires c κs = search needs
-
-block-at-requires : tie.Need-block-at-requires
-block-at-requires c κs = search needs
-
-enum-known-block : tie.Need-enum-known-block
-enum-known-block c = search needs
-
-enum-told : tie.Need-enum-told
-enum-told c = search needs
-
-returns : tie.Need-returns
-returns c = search needs
-
-key-plus-requires : tie.Need-key-plus-requires
-key-plus-requires c κs = search needs
-
 returns-2 : tie.Need-returns-2
 returns-2 c =
     let count = c .before .before .before .before .before .before .block-count .ensures in
@@ -35,18 +17,6 @@ returns-2 c =
     searching.between-before _ _ _ _ (start .args .i) (searching.between-all _ _ _ (count .0) (count .1)) zero-le (omega arith)
     (λ _. searching.key-not-below _ _ _ _ _ (c .before .before .before .before .before .block-at .ensures) (c .before .before .before .block .given .1)
     (c .before .key-plus .ensures .0) _ (c .if1 .taken))
-
-add-next : tie.Need-add-next
-add-next c = search needs
-
-block-at-requires-2 : tie.Need-block-at-requires-2
-block-at-requires-2 c κs = search needs
-
-enum-known-after : tie.Need-enum-known-after
-enum-known-after c = search needs
-
-enum-told-2 : tie.Need-enum-told-2
-enum-told-2 c = search needs
 
 returns-3 : tie.Need-returns-3
 returns-3 c =
@@ -57,9 +27,6 @@ returns-3 c =
     let start = own .before .before .before .before .before .before .before .before in
     searching.between-after _ _ _ _ (start .args .i) (searching.between-all _ _ _ (count .0) (count .1)) zero-le (omega arith)
     (λ _. searching.key-below _ _ _ _ _ reads found (own .before .key-plus .ensures .0) _ (own .if1 .left))
-
-key-plus-requires-2 : tie.Need-key-plus-requires-2
-key-plus-requires-2 c κs = search needs
 
 returns-4 : tie.Need-returns-4
 returns-4 c =
@@ -75,9 +42,6 @@ returns-4 c =
     (λ _. searching.key-below _ _ _ _ _ reads found (own .before .key-plus .ensures .0) _ (own .if1 .left)) in
     searching.between-before _ _ _ _ _ past (le-refl _) (omega (arith, inside))
     (λ _. searching.key-not-below _ _ _ _ _ read next (c .before .key-plus2 .ensures .0) _ (c .if2 .taken))
-
-add-t12 : tie.Need-add-t12
-add-t12 c = search needs
 
 returns-5 : tie.Need-returns-5
 returns-5 c =
@@ -97,20 +61,6 @@ returns-5 c =
 pub near-spec : {M : Type 1} → statement M
 near-spec =
     tie.close
-    (tie.spec
-    block-count-requires
-    block-at-requires
-    enum-known-block
-    enum-told
-    returns
-    key-plus-requires
-    returns-2
-    add-next
-    block-at-requires-2
-    enum-known-after
-    enum-told-2
-    returns-3
-    key-plus-requires-2
-    returns-4
-    add-t12
+    (tie.spec (search needs) (search needs) (search needs) (search needs) (search needs) (search needs) returns-2
+    (search needs) (search needs) (search needs) (search needs) returns-3 (search needs) returns-4 (search needs)
     returns-5)

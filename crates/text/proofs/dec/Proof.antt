@@ -19,30 +19,12 @@ Inv-loop part₀ n k rest₀ at₀ part rest at =
 abbrev μ-loop : tie.MeasureT-loop
 μ-loop part₀ n k rest₀ at₀ part rest at = at
 
-decimal-length-requires : tie.Need-decimal-length-requires Inv-loop μ-loop
-decimal-length-requires c κs = search needs
-
 returns : tie.Need-returns Inv-loop μ-loop
 unfolding print
 returns c = measured (c .if1 .taken) (c .before .decimal-length .ensures)
 
 loop-holds : tie.Need-loop-holds Inv-loop μ-loop
 loop-holds c = (refl, refl)
-
-sub-at : tie.Need-sub-at Inv-loop μ-loop
-sub-at c = omega arith
-
-add-store : tie.Need-add-store Inv-loop μ-loop
-add-store c = omega arith
-
-cast-store : tie.Need-cast-store Inv-loop μ-loop
-cast-store c = omega arith
-
-store-requires : tie.Need-store-requires Inv-loop μ-loop
-store-requires c κs = search needs
-
-loop-less : tie.Need-loop-less Inv-loop μ-loop
-loop-less c = omega arith
 
 loop-again : tie.Need-loop-again Inv-loop μ-loop
 loop-again c =
@@ -52,9 +34,6 @@ loop-again c =
           (store-more 10 (l .at) (l .rest) _ _ (c .before .before .before .before .loop-test .taken) (l .inv .0)),
       search needs,
     )
-
-same-length : tie.Need-same-length Inv-loop μ-loop
-same-length c = search needs
 
 returns-2 : tie.Need-returns-2 Inv-loop μ-loop
 unfolding print decimal
@@ -67,17 +46,5 @@ returns-2 c =
 pub dec-spec : {M : Type 1} → statement M
 dec-spec =
     tie.close
-    (tie.spec
-    Inv-loop
-    μ-loop
-    decimal-length-requires
-    returns
-    loop-holds
-    sub-at
-    add-store
-    cast-store
-    store-requires
-    loop-less
-    loop-again
-    same-length
-    returns-2)
+    (tie.spec Inv-loop μ-loop (search needs) returns loop-holds (λ c. omega arith) (λ c. omega arith) (λ c. omega arith)
+    (search needs) (λ c. omega arith) loop-again (search needs) returns-2)

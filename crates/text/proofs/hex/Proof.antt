@@ -6,18 +6,9 @@ use Rattle.text.proofs.Printers.{measured, stored}
 use Rattle.text.proofs.hex.Statement.{statement}
 use Rattle.text.proofs.hex.Tie as tie
 
-hexadecimal-length-requires : tie.Need-hexadecimal-length-requires
-hexadecimal-length-requires c κs = search needs
-
 returns : tie.Need-returns
 unfolding print
 returns c = measured (c .if1 .taken) (c .before .hexadecimal-length .ensures)
-
-last-digits-requires : tie.Need-last-digits-requires
-last-digits-requires c κs = search needs
-
-same-length : tie.Need-same-length
-same-length c = search needs
 
 returns-2 : tie.Need-returns-2
 unfolding print hexadecimal
@@ -27,4 +18,4 @@ returns-2 c =
     (c .before .before .last-digits .ensures)
 
 pub hex-spec : {M : Type 1} → statement M
-hex-spec = tie.close (tie.spec hexadecimal-length-requires returns last-digits-requires same-length returns-2)
+hex-spec = tie.close (tie.spec (search needs) returns (search needs) (search needs) returns-2)

@@ -11,16 +11,10 @@ returns : tie.Need-returns
 unfolding print hexadecimal16
 returns c = measured (c .if1 .taken) (sym (length-fixed 16 16 (c .before .before .args .n)))
 
-last-digits-requires : tie.Need-last-digits-requires
-last-digits-requires c κs = search needs
-
-same-length : tie.Need-same-length
-same-length c = search needs
-
 returns-2 : tie.Need-returns-2
 unfolding print hexadecimal16
 returns-2 c =
     spelt 16 16 (c .before .before .before .before .before .before .args .n) refl (c .before .before .last-digits .ensures)
 
 pub hex16-spec : {M : Type 1} → statement M
-hex16-spec = tie.close (tie.spec returns last-digits-requires same-length returns-2)
+hex16-spec = tie.close (tie.spec returns (search needs) (search needs) returns-2)

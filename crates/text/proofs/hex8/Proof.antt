@@ -12,33 +12,6 @@ returns : tie.Need-returns
 unfolding print hexadecimal8
 returns c = measured (c .if1 .taken) (sym (length-fixed 16 8 (c .before .before .args .n)))
 
-digit-requires : tie.Need-digit-requires
-digit-requires c κs = search needs
-
-digit-requires-2 : tie.Need-digit-requires-2
-digit-requires-2 c κs = search needs
-
-digit-requires-3 : tie.Need-digit-requires-3
-digit-requires-3 c κs = search needs
-
-digit-requires-4 : tie.Need-digit-requires-4
-digit-requires-4 c κs = search needs
-
-digit-requires-5 : tie.Need-digit-requires-5
-digit-requires-5 c κs = search needs
-
-digit-requires-6 : tie.Need-digit-requires-6
-digit-requires-6 c κs = search needs
-
-digit-requires-7 : tie.Need-digit-requires-7
-digit-requires-7 c κs = search needs
-
-digit-requires-8 : tie.Need-digit-requires-8
-digit-requires-8 c κs = search needs
-
-same-length : tie.Need-same-length
-same-length c = search needs
-
 returns-2 : tie.Need-returns-2
 unfolding print hexadecimal8
 returns-2 c =
@@ -64,15 +37,5 @@ returns-2 c =
 pub hex8-spec : {M : Type 1} → statement M
 hex8-spec =
     tie.close
-    (tie.spec
-    returns
-    digit-requires
-    digit-requires-2
-    digit-requires-3
-    digit-requires-4
-    digit-requires-5
-    digit-requires-6
-    digit-requires-7
-    digit-requires-8
-    same-length
-    returns-2)
+    (tie.spec returns (search needs) (search needs) (search needs) (search needs) (search needs) (search needs)
+    (search needs) (search needs) (search needs) returns-2)

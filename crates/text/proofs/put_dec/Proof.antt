@@ -4,27 +4,6 @@ use Rattle.text.proofs.Printers.{lent}
 use Rattle.text.proofs.put_dec.Statement.{statement}
 use Rattle.text.proofs.put_dec.Tie as tie
 
-least-requires : tie.Need-least-requires
-least-requires c κs = search needs
-
-sub-dec : tie.Need-sub-dec
-sub-dec c = search needs
-
-part-dec-start : tie.Need-part-dec-start
-part-dec-start c = search needs
-
-part-dec-end : tie.Need-part-dec-end
-part-dec-end c = search needs
-
-dec-requires : tie.Need-dec-requires
-dec-requires c κs = search needs
-
-after-requires : tie.Need-after-requires
-after-requires c κs = search needs
-
-same-length : tie.Need-same-length
-same-length c = search needs
-
 returns : tie.Need-returns
 returns c =
     lent (search needs) (c .before .before .before .before .before .least .ensures)
@@ -33,4 +12,5 @@ returns c =
 pub put-dec-spec : {M : Type 1} → statement M
 put-dec-spec =
     tie.close
-    (tie.spec least-requires sub-dec part-dec-start part-dec-end dec-requires after-requires same-length returns)
+    (tie.spec (search needs) (search needs) (search needs) (search needs) (search needs) (search needs) (search needs)
+    returns)

@@ -5,20 +5,11 @@ use Rattle.text.proofs.Laws.{seq, said, kept}
 use Rattle.text.proofs.put_then_dec.Statement.{statement}
 use Rattle.text.proofs.put_then_dec.Tie as tie
 
-put-requires : tie.Need-put-requires
-put-requires c κs = search needs
-
-put-dec-requires : tie.Need-put-dec-requires
-put-dec-requires c κs = search needs
-
 returns : tie.Need-returns
 returns c =
     let c2 = c .before .before in
     let c1 = c2 .before .before .before .before in
     said (seq (c1 .put .ensures) (c2 .put-dec .ensures)) refl
 
-same-length : tie.Need-same-length
-same-length c = kept (returns c)
-
 pub put-then-dec-spec : {M : Type 1} → statement M
-put-then-dec-spec = tie.close (tie.spec put-requires put-dec-requires same-length returns)
+put-then-dec-spec = tie.close (tie.spec (search needs) (search needs) (λ c. kept (returns c)) returns)

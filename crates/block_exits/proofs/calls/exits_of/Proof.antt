@@ -7,17 +7,8 @@ use Rattle.block_exits.proofs.calls.exits_of.Statement.{statement}
 use Rattle.block_exits.proofs.calls.exits_of.Tie as tie
 use Rattle.block_exits.specs.Calls.{exitingOf, exitsCall}
 
-check-requires : tie.Need-check-requires
-check-requires c κs = search needs
-
-enum-told : tie.Need-enum-told
-enum-told c = search needs
-
 found-or-9-requires : tie.Need-found-or-9-requires
 found-or-9-requires c κs = accepted-file _ _ (c .before .before .check .ensures) _ _ (c .enum-told .given .1)
-
-enum-known-number : tie.Need-enum-known-number
-enum-known-number c = search needs
 
 returns : tie.Need-returns
 unfolding exitsCall
@@ -28,6 +19,4 @@ unfolding exitingOf exitsCall
 returns-2 c = rw (refused-file _ _ (c .before .before .before .check .ensures) _ _ (c .before .number .given .1))
 
 pub exits-of-spec : {M : Type 1} → statement M
-exits-of-spec =
-    tie.close
-    (tie.spec check-requires enum-told found-or-9-requires enum-known-number returns returns-2)
+exits-of-spec = tie.close (tie.spec (search needs) (search needs) found-or-9-requires (search needs) returns returns-2)

@@ -7,15 +7,6 @@ use Rattle.block_exits.proofs.calls.found_or_9.Tie as tie
 use Rattle.block_exits.specs.Calls.{exitingOf, foundOr9}
 use Rattle.block_exits.specs.Found.{foundKeys}
 
-block-exits-requires : tie.Need-block-exits-requires
-block-exits-requires c κs = search needs
-
-enum-known-e : tie.Need-enum-known-e
-enum-known-e c = search needs
-
-enum-told : tie.Need-enum-told
-enum-told c = search needs
-
 returns : tie.Need-returns
 unfolding exitingOf
 returns c = ap foundOr9 (sym (ap foundKeys (c .before .e .given .1)) ∙ c .before .before .before .block-exits .ensures (c .before .before .before .before .before .pre))
@@ -25,5 +16,4 @@ unfolding exitingOf
 returns-2 c = ap foundOr9 (sym (ap foundKeys (c .enum-told .given .1)) ∙ c .before .before .block-exits .ensures (c .before .before .before .before .pre))
 
 pub found-or-9-spec : {M : Type 1} → statement M
-found-or-9-spec =
-    tie.close (tie.spec block-exits-requires enum-known-e enum-told returns returns-2)
+found-or-9-spec = tie.close (tie.spec (search needs) (search needs) (search needs) returns returns-2)

@@ -17,9 +17,6 @@ use Rattle.block_exits.proofs.exits.branch_exits.Tie as tie
 other : (k : Cond) → OneOf (others 16 (14 ∷ [])) (tagOf the-type k) → isAl k ≡ false
 other k o = arm enum (λ k′. isAl k′ ≡ false) (others 16 (14 ∷ [])) k o (λ _. refl, (λ _. refl, (λ _. refl, search depth 16)))
 
-enum-told : tie.Need-enum-told
-enum-told c = search needs
-
 returns : tie.Need-returns
 returns c = rw (c .enum-told .given .1)
 
@@ -27,4 +24,4 @@ returns-2 : tie.Need-returns-2
 returns-2 c = rw (other (c .before .args .condition) (c .match .keys2))
 
 pub branch-exits-spec : {M : Type 1} → statement M
-branch-exits-spec = tie.close (tie.spec enum-told returns returns-2)
+branch-exits-spec = tie.close (tie.spec (search needs) returns returns-2)

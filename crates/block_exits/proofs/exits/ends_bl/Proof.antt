@@ -35,9 +35,6 @@ unpaired (Op.MsrImm _ _ _) low addr o = refl
 unpaired (Op.Swi _) low addr o = refl
 unpaired (Op.Undefined _) low addr o = refl
 
-enum-told : tie.Need-enum-told
-enum-told c = search needs
-
 returns : tie.Need-returns
 returns c e before = absurd (let z : _≡_ {A = ℕ} 0 1 = cc in omega arith)
 
@@ -46,4 +43,4 @@ unfolding fuse
 returns-2 c e before = unpaired (before .op) (c .before .args .instr .op) _ (c .match .keys2)
 
 pub ends-bl-spec : {M : Type 1} → statement M
-ends-bl-spec = tie.close (tie.spec enum-told returns returns-2)
+ends-bl-spec = tie.close (tie.spec (search needs) returns returns-2)

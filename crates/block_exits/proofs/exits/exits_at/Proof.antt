@@ -12,37 +12,16 @@ use Rattle.block_exits.proofs.exits.exits_at.Tie as tie
 returns : tie.Need-returns
 returns c i is = absurd (omega (arith, some-instr is))
 
-sub-instr-of : tie.Need-sub-instr-of
-sub-instr-of c = search needs
-
-instr-of-requires : tie.Need-instr-of-requires
-instr-of-requires c κs = search needs
-
-enum-known-last : tie.Need-enum-known-last
-enum-known-last c = search needs
-
-enum-told : tie.Need-enum-told
-enum-told c = search needs
-
 returns-2 : tie.Need-returns-2
 returns-2 c i is =
     absurd
     (not-missing is _ _ (omega (arith, some-instr is)) (c .before .before .instr-of .ensures) (c .enum-told .given .1))
-
-last-exits-requires : tie.Need-last-exits-requires
-last-exits-requires c κs = search needs
 
 returns-3 : tie.Need-returns-3
 returns-3 c i is =
     let known = c .before .before .before in
     c .last-exits .ensures
     ∙ exits-alone is _ _ (c .before .if2 .taken) (known .before .before .instr-of .ensures) (known .last .given .1)
-
-ends-bl-requires : tie.Need-ends-bl-requires
-ends-bl-requires c κs = search needs
-
-last-exits-requires-2 : tie.Need-last-exits-requires-2
-last-exits-requires-2 c κs = search needs
 
 returns-4 : tie.Need-returns-4
 returns-4 c i is =
@@ -52,25 +31,10 @@ returns-4 c i is =
     (known .before .before .instr-of .ensures)
     (known .last .given .1)
 
-sub-instr-of-2 : tie.Need-sub-instr-of-2
-sub-instr-of-2 c = search needs
-
-instr-of-requires-2 : tie.Need-instr-of-requires-2
-instr-of-requires-2 c κs = search needs
-
-enum-known-previous : tie.Need-enum-known-previous
-enum-known-previous c = search needs
-
-enum-told-2 : tie.Need-enum-told-2
-enum-told-2 c = search needs
-
 returns-5 : tie.Need-returns-5
 returns-5 c i is =
     absurd
     (not-missing is _ _ (omega (arith, some-instr is)) (c .before .before .instr-of2 .ensures) (c .enum-told2 .given .1))
-
-closing-exits-requires : tie.Need-closing-exits-requires
-closing-exits-requires c κs = search needs
 
 returns-6 : tie.Need-returns-6
 returns-6 c i is =
@@ -85,22 +49,6 @@ returns-6 c i is =
 pub exits-at-spec : {M : Type 1} → statement M
 exits-at-spec =
     tie.close
-    (tie.spec
-    returns
-    sub-instr-of
-    instr-of-requires
-    enum-known-last
-    enum-told
-    returns-2
-    last-exits-requires
-    returns-3
-    ends-bl-requires
-    last-exits-requires-2
-    returns-4
-    sub-instr-of-2
-    instr-of-requires-2
-    enum-known-previous
-    enum-told-2
-    returns-5
-    closing-exits-requires
-    returns-6)
+    (tie.spec returns (search needs) (search needs) (search needs) (search needs) returns-2 (search needs) returns-3
+    (search needs) (search needs) returns-4 (search needs) (search needs) (search needs) (search needs) returns-5
+    (search needs) returns-6)

@@ -4,17 +4,8 @@ use borrow.Author.Needs.{needs}
 use Rattle.block_exits.proofs.exits.fall_through.Statement.{statement}
 use Rattle.block_exits.proofs.exits.fall_through.Tie as tie
 
-size-requires : tie.Need-size-requires
-size-requires c κs = search needs
-
-wrapping-add-u32-requires : tie.Need-wrapping-add-u32-requires
-wrapping-add-u32-requires c κs = search needs
-
-key-of-requires : tie.Need-key-of-requires
-key-of-requires c κs = search needs
-
 returns : tie.Need-returns
 returns c = rw (c .key-of .ensures, c .before .wrapping-add-u32 .ensures, c .before .before .size .ensures)
 
 pub fall-through-spec : {M : Type 1} → statement M
-fall-through-spec = tie.close (tie.spec size-requires wrapping-add-u32-requires key-of-requires returns)
+fall-through-spec = tie.close (tie.spec (search needs) (search needs) (search needs) returns)

@@ -4,11 +4,8 @@ use borrow.Author.Needs.{needs}
 use Rattle.block_exits.proofs.exits.falls_unless.Statement.{statement}
 use Rattle.block_exits.proofs.exits.falls_unless.Tie as tie
 
-returns : tie.Need-returns
-returns c = search needs
-
 returns-2 : tie.Need-returns-2
 returns-2 c = rw (c .if1 .left)
 
 pub falls-unless-spec : {M : Type 1} → statement M
-falls-unless-spec = tie.close (tie.spec returns returns-2)
+falls-unless-spec = tie.close (tie.spec (λ c. search needs) returns-2)

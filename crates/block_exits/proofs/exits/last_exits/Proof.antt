@@ -31,39 +31,6 @@ module _ (op : Op) (k : Cond) (thumb : Bool) (fall : ℕ) where
   falls : OneOf falling (tagOf the-type op) → fall ∷ [] ≡ opExits op k thumb fall
   falls o = arm enum (λ x. fall ∷ [] ≡ opExits x k thumb fall) falling op o (search depth 16)
 
-fall-through-requires : tie.Need-fall-through-requires
-fall-through-requires c κs = search needs
-
-enum-known-op : tie.Need-enum-known-op
-enum-known-op c = search needs
-
-key-of-requires : tie.Need-key-of-requires
-key-of-requires c κs = search needs
-
-branch-exits-requires : tie.Need-branch-exits-requires
-branch-exits-requires c κs = search needs
-
-enum-known-op-2 : tie.Need-enum-known-op-2
-enum-known-op-2 c = search needs
-
-falls-unless-requires : tie.Need-falls-unless-requires
-falls-unless-requires c κs = search needs
-
-enum-known-op-3 : tie.Need-enum-known-op-3
-enum-known-op-3 c = search needs
-
-falls-unless-requires-2 : tie.Need-falls-unless-requires-2
-falls-unless-requires-2 c κs = search needs
-
-enum-known-op-4 : tie.Need-enum-known-op-4
-enum-known-op-4 c = search needs
-
-lists-pc-requires : tie.Need-lists-pc-requires
-lists-pc-requires c κs = search needs
-
-falls-unless-requires-3 : tie.Need-falls-unless-requires-3
-falls-unless-requires-3 c κs = search needs
-
 returns : tie.Need-returns
 returns c =
     let known = c .before .before .before in
@@ -95,21 +62,6 @@ returns-6 c = rw (c .before .fall-through .ensures) (falls (c .before .before .a
 pub last-exits-spec : {M : Type 1} → statement M
 last-exits-spec =
     tie.close
-    (tie.spec
-    fall-through-requires
-    enum-known-op
-    key-of-requires
-    branch-exits-requires
-    enum-known-op-2
-    falls-unless-requires
-    enum-known-op-3
-    falls-unless-requires-2
-    enum-known-op-4
-    lists-pc-requires
-    falls-unless-requires-3
-    returns
-    returns-2
-    returns-3
-    returns-4
-    returns-5
+    (tie.spec (search needs) (search needs) (search needs) (search needs) (search needs) (search needs) (search needs)
+    (search needs) (search needs) (search needs) (search needs) returns returns-2 returns-3 returns-4 returns-5
     returns-6)

@@ -7,32 +7,11 @@ use borrow.Author.Needs.{needs}
 use Rattle.block_file.proofs.read.instr_at.Statement.{statement}
 use Rattle.block_file.proofs.read.instr_at.Tie as tie
 
-trailer-word-requires : tie.Need-trailer-word-requires
-trailer-word-requires c κs = search needs
-
-cast-if1 : tie.Need-cast-if1
-cast-if1 c = search needs
-
 returns : tie.Need-returns
 returns c = reading.no-instr _ _ 0 _ _ (omega arith)
 
-section-start-requires : tie.Need-section-start-requires
-section-start-requires c κs = search needs
-
-mul-at : tie.Need-mul-at
-mul-at c = search needs
-
-add-at : tie.Need-add-at
-add-at c = search needs
-
-add-if2 : tie.Need-add-if2
-add-if2 c = search needs
-
 returns-2 : tie.Need-returns-2
 returns-2 c = reading.instr-past _ _ _ _ _ (c .before .section-start .ensures) (c .if2 .taken)
-
-timed-instr-requires : tie.Need-timed-instr-requires
-timed-instr-requires c κs = search needs
 
 returns-3 : tie.Need-returns-3
 returns-3 c = ap FoundInstr.At (c .timed-instr .ensures) ∙ reading.instr-there _ _ _ _ _ (omega arith) (c .before .before .section-start .ensures) (c .before .if2 .left)
@@ -40,14 +19,5 @@ returns-3 c = ap FoundInstr.At (c .timed-instr .ensures) ∙ reading.instr-there
 pub instr-at-spec : {M : Type 1} → statement M
 instr-at-spec =
     tie.close
-    (tie.spec
-    trailer-word-requires
-    cast-if1
-    returns
-    section-start-requires
-    mul-at
-    add-at
-    add-if2
-    returns-2
-    timed-instr-requires
-    returns-3)
+    (tie.spec (search needs) (search needs) returns (search needs) (search needs) (search needs) (search needs)
+    returns-2 (search needs) returns-3)

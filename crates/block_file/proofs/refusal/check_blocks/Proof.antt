@@ -16,20 +16,8 @@ Inv-loop file start blocks least₀ sum₀ i₀ least sum i = passes.Blocks file
 abbrev μ-loop : tie.MeasureT-loop
 μ-loop file start blocks least₀ sum₀ i₀ least sum i = blocks - i
 
-section-start-requires : tie.Need-section-start-requires Inv-loop μ-loop
-section-start-requires c κs = search needs
-
-trailer-word-requires : tie.Need-trailer-word-requires Inv-loop μ-loop
-trailer-word-requires c κs = search needs
-
-cast-blocks : tie.Need-cast-blocks Inv-loop μ-loop
-cast-blocks c = search needs
-
 loop-holds : tie.Need-loop-holds Inv-loop μ-loop
 loop-holds c = passes.blocks-none _ _ (c .trailer-word .ensures)
-
-mul-at : tie.Need-mul-at Inv-loop μ-loop
-mul-at c = search needs
 
 add-at : tie.Need-add-at Inv-loop μ-loop
 add-at c = omega (arith, sections _ (c .before .before .before .before .before .pre))
@@ -54,23 +42,8 @@ returns-2 c = ap found
     ∙ passes.order-broken _ _ _ _ _ (c .before .before .before .before .before .before .before .section-start .ensures) (c .before .before .before .before .loop-test .taken)
     (sym (c .before .before .before .block-right .ensures) ∙ not-false _ (c .before .before .if1 .left)) (omega arith)))
 
-add-least : tie.Need-add-least Inv-loop μ-loop
-add-least c = omega arith
-
 count-requires : tie.Need-count-requires Inv-loop μ-loop
 count-requires c κs = omega (arith, sections _ (c .before .before .before .before .before .before .before .before .before .pre))
-
-cast-sum : tie.Need-cast-sum Inv-loop μ-loop
-cast-sum c = search needs
-
-add-sum : tie.Need-add-sum Inv-loop μ-loop
-add-sum c = omega arith
-
-add-i : tie.Need-add-i Inv-loop μ-loop
-add-i c = omega arith
-
-loop-less : tie.Need-loop-less Inv-loop μ-loop
-loop-less c = omega arith
 
 loop-again : tie.Need-loop-again Inv-loop μ-loop
 loop-again c = let starts = c .before .before .before .before .before .before .before .before .section-start .ensures in
@@ -82,12 +55,6 @@ loop-again c = let starts = c .before .before .before .before .before .before .b
       small = omega (arith, passes.count-small _ _ right);
       kept = c .before .before .before .before .before .before .loop .inv .kept ∙ passes.block-kept _ _ _ _ _ starts (c .before .before .before .before .before .loop-test .taken) right (omega arith);
     }
-
-trailer-word-requires-2 : tie.Need-trailer-word-requires-2 Inv-loop μ-loop
-trailer-word-requires-2 c κs = search needs
-
-cast-if3 : tie.Need-cast-if3 Inv-loop μ-loop
-cast-if3 c = search needs
 
 returns-3 : tie.Need-returns-3 Inv-loop μ-loop
 returns-3 c = ap found
@@ -106,27 +73,7 @@ returns-4 c = ap found
 pub check-blocks-spec : {M : Type 1} → statement M
 check-blocks-spec =
     tie.close
-    (tie.spec
-    Inv-loop
-    μ-loop
-    section-start-requires
-    trailer-word-requires
-    cast-blocks
-    loop-holds
-    mul-at
-    add-at
-    block-right-requires
-    returns
-    key-requires
-    returns-2
-    add-least
-    count-requires
-    cast-sum
-    add-sum
-    add-i
-    loop-less
-    loop-again
-    trailer-word-requires-2
-    cast-if3
-    returns-3
+    (tie.spec Inv-loop μ-loop (search needs) (search needs) (search needs) loop-holds (search needs) add-at
+    block-right-requires returns key-requires returns-2 (λ c. omega arith) count-requires (search needs)
+    (λ c. omega arith) (λ c. omega arith) (λ c. omega arith) loop-again (search needs) (search needs) returns-3
     returns-4)

@@ -19,20 +19,8 @@ Inv-loop file rows start instrs i₀ i = (i ≤ instrs) × (firstBroken file (in
 abbrev μ-loop : tie.MeasureT-loop
 μ-loop file rows start instrs i₀ i = instrs - i
 
-section-start-requires : tie.Need-section-start-requires Inv-loop μ-loop
-section-start-requires c κs = search needs
-
-trailer-word-requires : tie.Need-trailer-word-requires Inv-loop μ-loop
-trailer-word-requires c κs = search needs
-
-cast-instrs : tie.Need-cast-instrs Inv-loop μ-loop
-cast-instrs c = search needs
-
 loop-holds : tie.Need-loop-holds Inv-loop μ-loop
 loop-holds c = (omega arith, passes.instrs-none _ _ (c .trailer-word .ensures))
-
-mul-instr-right : tie.Need-mul-instr-right Inv-loop μ-loop
-mul-instr-right c = search needs
 
 add-instr-right : tie.Need-add-instr-right Inv-loop μ-loop
 add-instr-right c = omega (arith, sections _ (c .before .before .before .before .before .before .pre .0))
@@ -49,12 +37,6 @@ returns c = ap found
     ∙ passes.instr-broken _ _ _ _ (c .before .before .before .before .before .section-start .ensures) (c .before .before .loop-test .taken)
     (sym (c .before .instr-right .ensures) ∙ not-true _ (c .if1 .taken))))
 
-add-i : tie.Need-add-i Inv-loop μ-loop
-add-i c = omega arith
-
-loop-less : tie.Need-loop-less Inv-loop μ-loop
-loop-less c = omega arith
-
 loop-again : tie.Need-loop-again Inv-loop μ-loop
 loop-again c = (
   omega arith,
@@ -69,18 +51,5 @@ returns-2 c = ap found (sym (c .before .loop .inv .1 ∙ passes.instrs-all _ _ (
 pub check-records-spec : {M : Type 1} → statement M
 check-records-spec =
     tie.close
-    (tie.spec
-    Inv-loop
-    μ-loop
-    section-start-requires
-    trailer-word-requires
-    cast-instrs
-    loop-holds
-    mul-instr-right
-    add-instr-right
-    instr-right-requires
-    returns
-    add-i
-    loop-less
-    loop-again
-    returns-2)
+    (tie.spec Inv-loop μ-loop (search needs) (search needs) (search needs) loop-holds (search needs) add-instr-right
+    instr-right-requires returns (λ c. omega arith) (λ c. omega arith) loop-again returns-2)

@@ -7,9 +7,6 @@ use Rattle.emit_alu.proofs.Bodies.{alu-has}
 use Rattle.emit_alu.proofs.alu.alu_is_inlined.Statement.{statement}
 use Rattle.emit_alu.proofs.alu.alu_is_inlined.Tie as tie
 
-op2-is-native-requires : tie.Need-op2-is-native-requires
-op2-is-native-requires c κs = search needs
-
 returns : tie.Need-returns
 returns c = λ thumb i op s rn. rw (eq-eqb _ _ (c .if1 .taken)) refl
 
@@ -19,4 +16,4 @@ returns-2 c =
     λ thumb i op s rn. rw (ne-eqb _ _ (c .before .if1 .left)) (c .op2-is-native .ensures i ∙ alu-has i op s (a .rd) rn (a .op2))
 
 pub alu-is-inlined-spec : {M : Type 1} → statement M
-alu-is-inlined-spec = tie.close (tie.spec op2-is-native-requires returns returns-2)
+alu-is-inlined-spec = tie.close (tie.spec (search needs) returns returns-2)

@@ -5,15 +5,6 @@ use Rattle.text.proofs.Laws.{none, seq, said, kept}
 use Rattle.emit_alu.proofs.logical.put_flags.Statement.{statement}
 use Rattle.emit_alu.proofs.logical.put_flags.Tie as tie
 
-slice-aggregate-put : tie.Need-slice-aggregate-put
-slice-aggregate-put c = search needs
-
-put-requires : tie.Need-put-requires
-put-requires c κs = search needs
-
-put-logical-c-requires : tie.Need-put-logical-c-requires
-put-logical-c-requires c κs = search needs
-
 returns : tie.Need-returns
 returns c =
     let c3 = c .before .before in
@@ -21,12 +12,11 @@ returns c =
     let c1 = c2 .before .before .before in
     rw (c1 .if1 .taken) (said (seq (c2 .put .ensures) (c3 .put-logical-c .ensures)) refl)
 
-same-length : tie.Need-same-length
-same-length c = kept (returns c)
-
 returns-2 : tie.Need-returns-2
 returns-2 c =
     rw (c .if1 .left) (none (search needs) (search needs))
 
 pub put-flags-spec : {M : Type 1} → statement M
-put-flags-spec = tie.close (tie.spec slice-aggregate-put put-requires put-logical-c-requires same-length returns returns-2)
+put-flags-spec =
+    tie.close
+    (tie.spec (search needs) (search needs) (search needs) (λ c. kept (returns c)) returns returns-2)

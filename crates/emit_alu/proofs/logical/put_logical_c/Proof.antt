@@ -8,24 +8,6 @@ use Rattle.text.proofs.Laws.{none, seq, said, kept}
 use Rattle.emit_alu.proofs.logical.put_logical_c.Statement.{statement}
 use Rattle.emit_alu.proofs.logical.put_logical_c.Tie as tie
 
-op2-has-carry-requires : tie.Need-op2-has-carry-requires
-op2-has-carry-requires c κs = search needs
-
-slice-aggregate-put : tie.Need-slice-aggregate-put
-slice-aggregate-put c = search needs
-
-put-requires : tie.Need-put-requires
-put-requires c κs = search needs
-
-put-op2-carry-requires : tie.Need-put-op2-carry-requires
-put-op2-carry-requires c κs = search needs
-
-slice-aggregate-put-2 : tie.Need-slice-aggregate-put-2
-slice-aggregate-put-2 c = search needs
-
-put-requires-2 : tie.Need-put-requires-2
-put-requires-2 c κs = search needs
-
 returns : tie.Need-returns
 returns c =
     let c5 = c .before .before in
@@ -37,9 +19,6 @@ returns c =
     said (seq (c3 .put .ensures) (seq (c4 .put-op2-carry .ensures) (c5 .put2 .ensures)))
     (with-carry (operandOf (a .pc) (a .op2) .1) (sym (c1 .op2-has-carry .ensures (a .pc)) ∙ c2 .if1 .taken) [])
 
-same-length : tie.Need-same-length
-same-length c = kept (returns c)
-
 returns-2 : tie.Need-returns-2
 returns-2 c =
     let c1 = c .before in
@@ -47,4 +26,7 @@ returns-2 c =
     said (none (search needs) (search needs)) (without-carry (operandOf (a .pc) (a .op2) .1) (sym (c1 .op2-has-carry .ensures (a .pc)) ∙ c .if1 .left) [])
 
 pub put-logical-c-spec : {M : Type 1} → statement M
-put-logical-c-spec = tie.close (tie.spec op2-has-carry-requires slice-aggregate-put put-requires put-op2-carry-requires slice-aggregate-put-2 put-requires-2 same-length returns returns-2)
+put-logical-c-spec =
+    tie.close
+    (tie.spec (search needs) (search needs) (search needs) (search needs) (search needs) (search needs)
+    (λ c. kept (returns c)) returns returns-2)

@@ -12,12 +12,6 @@ use Rattle.text.proofs.Laws.{seq, said, kept}
 use Rattle.emit_alu.proofs.logical.put_logical_rest.Statement.{statement}
 use Rattle.emit_alu.proofs.logical.put_logical_rest.Tie as tie
 
-put-flags-requires : tie.Need-put-flags-requires
-put-flags-requires c κs = search needs
-
-put-result-requires : tie.Need-put-result-requires
-put-result-requires c κs = search needs
-
 returns : tie.Need-returns
 returns c =
     let c2 = c .before .before in
@@ -26,8 +20,5 @@ returns c =
     said (seq (c1 .put-flags .ensures) (c2 .put-result .ensures))
     (rows-append (cond (a .s) (run f-nz (v32 x-r) ∷ logicalC (operandOf (a .pc) (a .op2) .1)) []) (result (a .op) (a .rd) ∷ []) [])
 
-same-length : tie.Need-same-length
-same-length c = kept (returns c)
-
 pub put-logical-rest-spec : {M : Type 1} → statement M
-put-logical-rest-spec = tie.close (tie.spec put-flags-requires put-result-requires same-length returns)
+put-logical-rest-spec = tie.close (tie.spec (search needs) (search needs) (λ c. kept (returns c)) returns)

@@ -5,18 +5,6 @@ use Rattle.text.proofs.Laws.{seq, said, kept}
 use Rattle.emit_alu.proofs.logical.put_one.Statement.{statement}
 use Rattle.emit_alu.proofs.logical.put_one.Tie as tie
 
-put-requires : tie.Need-put-requires
-put-requires c κs = search needs
-
-put-op2-value-requires : tie.Need-put-op2-value-requires
-put-op2-value-requires c κs = search needs
-
-put-requires-2 : tie.Need-put-requires-2
-put-requires-2 c κs = search needs
-
-put-logical-rest-requires : tie.Need-put-logical-rest-requires
-put-logical-rest-requires c κs = search needs
-
 returns : tie.Need-returns
 returns c =
     let c4 = c .before .before in
@@ -25,8 +13,7 @@ returns c =
     let c1 = c2 .before .before .before .before in
     said (seq (c1 .put .ensures) (seq (c2 .put-op2-value .ensures) (seq (c3 .put2 .ensures) (c4 .put-logical-rest .ensures)))) refl
 
-same-length : tie.Need-same-length
-same-length c = kept (returns c)
-
 pub put-one-spec : {M : Type 1} → statement M
-put-one-spec = tie.close (tie.spec put-requires put-op2-value-requires put-requires-2 put-logical-rest-requires same-length returns)
+put-one-spec =
+    tie.close
+    (tie.spec (search needs) (search needs) (search needs) (search needs) (λ c. kept (returns c)) returns)

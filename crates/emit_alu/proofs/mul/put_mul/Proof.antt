@@ -6,18 +6,6 @@ use Rattle.text.proofs.Laws.{seq, said, kept}
 use Rattle.emit_alu.proofs.mul.put_mul.Statement.{statement}
 use Rattle.emit_alu.proofs.mul.put_mul.Tie as tie
 
-put-product-requires : tie.Need-put-product-requires
-put-product-requires c κs = search needs
-
-put-more-requires : tie.Need-put-more-requires
-put-more-requires c κs = search needs
-
-put-low-requires : tie.Need-put-low-requires
-put-low-requires c κs = search needs
-
-put-nz-requires : tie.Need-put-nz-requires
-put-nz-requires c κs = search needs
-
 returns : tie.Need-returns
 returns c =
     let c4 = c .before .before in
@@ -27,8 +15,7 @@ returns c =
     let a = c1 .before .before .before .args in
     said (seq (c1 .put-product .ensures) (seq (c2 .put-more .ensures) (seq (c3 .put-low .ensures) (c4 .put-nz .ensures)))) (mul-text (a .acc) (a .s) (a .rd) (a .rn) (a .rs) (a .rm) [])
 
-same-length : tie.Need-same-length
-same-length c = kept (returns c)
-
 pub put-mul-spec : {M : Type 1} → statement M
-put-mul-spec = tie.close (tie.spec put-product-requires put-more-requires put-low-requires put-nz-requires same-length returns)
+put-mul-spec =
+    tie.close
+    (tie.spec (search needs) (search needs) (search needs) (search needs) (λ c. kept (returns c)) returns)

@@ -6,18 +6,6 @@ use Rattle.text.proofs.Laws.{seq, said, kept}
 use Rattle.emit_alu.proofs.mul.put_mul_long.Statement.{statement}
 use Rattle.emit_alu.proofs.mul.put_mul_long.Tie as tie
 
-put-long-product-requires : tie.Need-put-long-product-requires
-put-long-product-requires c κs = search needs
-
-put-long-more-requires : tie.Need-put-long-more-requires
-put-long-more-requires c κs = search needs
-
-put-halves-requires : tie.Need-put-halves-requires
-put-halves-requires c κs = search needs
-
-put-nz64-requires : tie.Need-put-nz64-requires
-put-nz64-requires c κs = search needs
-
 returns : tie.Need-returns
 returns c =
     let c4 = c .before .before in
@@ -27,8 +15,7 @@ returns c =
     let a = c1 .before .before .before .args in
     said (seq (c1 .put-long-product .ensures) (seq (c2 .put-long-more .ensures) (seq (c3 .put-halves .ensures) (c4 .put-nz64 .ensures)))) (mul-long-text (a .signed) (a .acc) (a .s) (a .hi) (a .lo) (a .rs) (a .rm) [])
 
-same-length : tie.Need-same-length
-same-length c = kept (returns c)
-
 pub put-mul-long-spec : {M : Type 1} → statement M
-put-mul-long-spec = tie.close (tie.spec put-long-product-requires put-long-more-requires put-halves-requires put-nz64-requires same-length returns)
+put-mul-long-spec =
+    tie.close
+    (tie.spec (search needs) (search needs) (search needs) (search needs) (λ c. kept (returns c)) returns)

@@ -5,24 +5,15 @@ use Rattle.text.proofs.Laws.{none, said, kept}
 use Rattle.emit_alu.proofs.mul.put_nz64.Statement.{statement}
 use Rattle.emit_alu.proofs.mul.put_nz64.Tie as tie
 
-slice-aggregate-put : tie.Need-slice-aggregate-put
-slice-aggregate-put c = search needs
-
-put-requires : tie.Need-put-requires
-put-requires c κs = search needs
-
 returns : tie.Need-returns
 returns c =
     let c2 = c .before .before in
     let c1 = c2 .before .before .before in
     rw (c1 .if1 .taken) (said (c2 .put .ensures) refl)
 
-same-length : tie.Need-same-length
-same-length c = kept (returns c)
-
 returns-2 : tie.Need-returns-2
 returns-2 c =
     rw (c .if1 .left) (none (search needs) (search needs))
 
 pub put-nz64-spec : {M : Type 1} → statement M
-put-nz64-spec = tie.close (tie.spec slice-aggregate-put put-requires same-length returns returns-2)
+put-nz64-spec = tie.close (tie.spec (search needs) (search needs) (λ c. kept (returns c)) returns returns-2)

@@ -12,27 +12,6 @@ use Rattle.text.proofs.Laws.{seq, said, kept}
 use Rattle.emit_alu.proofs.sum.put_reversed.Statement.{statement}
 use Rattle.emit_alu.proofs.sum.put_reversed.Tie as tie
 
-put-before-requires : tie.Need-put-before-requires
-put-before-requires c κs = search needs
-
-put-op2-value-requires : tie.Need-put-op2-value-requires
-put-op2-value-requires c κs = search needs
-
-put-between-requires : tie.Need-put-between-requires
-put-between-requires c κs = search needs
-
-slice-aggregate-put : tie.Need-slice-aggregate-put
-slice-aggregate-put c = search needs
-
-put-requires : tie.Need-put-requires
-put-requires c κs = search needs
-
-put-reg-requires : tie.Need-put-reg-requires
-put-reg-requires c κs = search needs
-
-put-sum-rest-requires : tie.Need-put-sum-rest-requires
-put-sum-rest-requires c κs = search needs
-
 returns : tie.Need-returns
 returns c =
     let c6 = c .before .before in
@@ -57,4 +36,7 @@ same-length c =
     kept (seq (c1 .put-before .ensures) (seq (c2 .put-op2-value .ensures) (seq (c3 .put-between .ensures) (seq (c4 .put .ensures) (seq (c5 .put-reg .ensures) (c6 .put-sum-rest .ensures))))))
 
 pub put-reversed-spec : {M : Type 1} → statement M
-put-reversed-spec = tie.close (tie.spec put-before-requires put-op2-value-requires put-between-requires slice-aggregate-put put-requires put-reg-requires put-sum-rest-requires same-length returns)
+put-reversed-spec =
+    tie.close
+    (tie.spec (search needs) (search needs) (search needs) (search needs) (search needs) (search needs) (search needs)
+    same-length returns)

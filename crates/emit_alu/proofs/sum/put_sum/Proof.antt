@@ -10,24 +10,6 @@ use Rattle.text.proofs.Laws.{seq, said, kept}
 use Rattle.emit_alu.proofs.sum.put_sum.Statement.{statement}
 use Rattle.emit_alu.proofs.sum.put_sum.Tie as tie
 
-put-before-requires : tie.Need-put-before-requires
-put-before-requires c κs = search needs
-
-put-reg-requires : tie.Need-put-reg-requires
-put-reg-requires c κs = search needs
-
-put-between-requires : tie.Need-put-between-requires
-put-between-requires c κs = search needs
-
-put-requires : tie.Need-put-requires
-put-requires c κs = search needs
-
-put-op2-value-requires : tie.Need-put-op2-value-requires
-put-op2-value-requires c κs = search needs
-
-put-sum-rest-requires : tie.Need-put-sum-rest-requires
-put-sum-rest-requires c κs = search needs
-
 returns : tie.Need-returns
 returns c =
     let c6 = c .before .before in
@@ -51,4 +33,7 @@ same-length c =
     kept (seq (c1 .put-before .ensures) (seq (c2 .put-reg .ensures) (seq (c3 .put-between .ensures) (seq (c4 .put .ensures) (seq (c5 .put-op2-value .ensures) (c6 .put-sum-rest .ensures))))))
 
 pub put-sum-spec : {M : Type 1} → statement M
-put-sum-spec = tie.close (tie.spec put-before-requires put-reg-requires put-between-requires put-requires put-op2-value-requires put-sum-rest-requires same-length returns)
+put-sum-spec =
+    tie.close
+    (tie.spec (search needs) (search needs) (search needs) (search needs) (search needs) (search needs) same-length
+    returns)

@@ -5,18 +5,6 @@ use Rattle.text.proofs.Laws.{seq, said, kept}
 use Rattle.emit_alu.proofs.sum.put_sum_rest.Statement.{statement}
 use Rattle.emit_alu.proofs.sum.put_sum_rest.Tie as tie
 
-put-between-requires : tie.Need-put-between-requires
-put-between-requires c κs = search needs
-
-put-requires : tie.Need-put-requires
-put-requires c κs = search needs
-
-put-behind-requires : tie.Need-put-behind-requires
-put-behind-requires c κs = search needs
-
-put-result-requires : tie.Need-put-result-requires
-put-result-requires c κs = search needs
-
 returns : tie.Need-returns
 returns c =
     let c4 = c .before .before in
@@ -25,8 +13,7 @@ returns c =
     let c1 = c2 .before .before .before .before in
     said (seq (c1 .put-between .ensures) (seq (c2 .put .ensures) (seq (c3 .put-behind .ensures) (c4 .put-result .ensures)))) refl
 
-same-length : tie.Need-same-length
-same-length c = kept (returns c)
-
 pub put-sum-rest-spec : {M : Type 1} → statement M
-put-sum-rest-spec = tie.close (tie.spec put-between-requires put-requires put-behind-requires put-result-requires same-length returns)
+put-sum-rest-spec =
+    tie.close
+    (tie.spec (search needs) (search needs) (search needs) (search needs) (λ c. kept (returns c)) returns)

@@ -10,9 +10,6 @@ use Rattle.block_file.specs.Address.{outsideRomBios}
 use Rattle.emit_block.proofs.block.is_guarded.Statement.{statement}
 use Rattle.emit_block.proofs.block.is_guarded.Tie as tie
 
-region-of-requires : tie.Need-region-of-requires
-region-of-requires c κs = search needs
-
 returns : tie.Need-returns
 unfolding outsideRomBios
 returns c =
@@ -28,4 +25,4 @@ returns-2 c =
     (sym (ap (λ (t : Bool). not (t || eqb (s .result) 0)) (ne-eqb (s .result) 8 (c .if1 .left))))
 
 pub is-guarded-spec : {M : Type 1} → statement M
-is-guarded-spec = tie.close (tie.spec region-of-requires returns returns-2)
+is-guarded-spec = tie.close (tie.spec (search needs) returns returns-2)

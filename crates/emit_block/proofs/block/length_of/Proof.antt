@@ -6,15 +6,6 @@ use borrow.Author.Needs.{needs}
 use Rattle.emit_block.proofs.block.length_of.Statement.{statement}
 use Rattle.emit_block.proofs.block.length_of.Tie as tie
 
-cast-n : tie.Need-cast-n
-cast-n c = search needs
-
-mul-result : tie.Need-mul-result
-mul-result c = search needs
-
-mul-result-2 : tie.Need-mul-result-2
-mul-result-2 c = search needs
-
 returns : tie.Need-returns
 returns c = ap (lengthOf (c .before .before .args .block .count)) (sym (c .if1 .taken))
 
@@ -22,4 +13,4 @@ returns-2 : tie.Need-returns-2
 returns-2 c = ap (lengthOf (c .before .before .args .block .count)) (sym (c .if1 .left))
 
 pub length-of-spec : {M : Type 1} → statement M
-length-of-spec = tie.close (tie.spec cast-n mul-result mul-result-2 returns returns-2)
+length-of-spec = tie.close (tie.spec (search needs) (search needs) (search needs) returns returns-2)

@@ -28,9 +28,6 @@ unfolding fuse
 alone x [] o = refl
 alone x (y ∷ ys) o = ap (λ (z : Fused). fusedNext z (y .cost)) (alone-op (x .op) (y .instr .op) (y .instr .addr) o)
 
-enum-told : tie.Need-enum-told
-enum-told c = search needs
-
 returns : tie.Need-returns
 returns c = λ e. absurd (true≢false e)
 
@@ -38,4 +35,4 @@ returns-2 : tie.Need-returns-2
 returns-2 c = λ _ ys. alone (c .before .args .x) ys (c .match .keys2)
 
 pub begins-bl-spec : {M : Type 1} → statement M
-begins-bl-spec = tie.close (tie.spec enum-told returns returns-2)
+begins-bl-spec = tie.close (tie.spec (search needs) returns returns-2)

@@ -34,15 +34,6 @@ elsewhere ks thumb (Op.MsrImm _ _ _) o = Prim.tt
 elsewhere ks thumb (Op.Swi _) o = Prim.tt
 elsewhere ks thumb (Op.Undefined _) o = Prim.tt
 
-enum-known-op : tie.Need-enum-known-op
-enum-known-op c = search needs
-
-key-of-requires : tie.Need-key-of-requires
-key-of-requires c κs = search needs
-
-is-inside-requires : tie.Need-is-inside-requires
-is-inside-requires c κs = search needs
-
 returns : tie.Need-returns
 returns c = λ ks s. subst (Reaches ks (c .before .before .before .before .before .before .before .args .thumb) (c .is-inside .result)) (sym (c .before .before .before .op .given .1)) (ap (λ (k : ℕ). among k ks) (sym (c .before .key-of .ensures)) ∙ c .is-inside .ensures ks s)
 
@@ -50,5 +41,4 @@ returns-2 : tie.Need-returns-2
 returns-2 c = λ ks s. elsewhere ks (c .before .before .before .args .thumb) (c .before .before .before .args .op) (c .match .keys2)
 
 pub branch-inside-spec : {M : Type 1} → statement M
-branch-inside-spec =
-    tie.close (tie.spec enum-known-op key-of-requires is-inside-requires returns returns-2)
+branch-inside-spec = tie.close (tie.spec (search needs) (search needs) (search needs) returns returns-2)

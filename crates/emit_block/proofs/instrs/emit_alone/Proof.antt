@@ -16,21 +16,6 @@ use borrow.Author.Needs.{needs}
 use Rattle.emit_block.proofs.instrs.emit_alone.Statement.{statement}
 use Rattle.emit_block.proofs.instrs.emit_alone.Tie as tie
 
-branch-inside-requires : tie.Need-branch-inside-requires
-branch-inside-requires c κs = search needs
-
-add-last : tie.Need-add-last
-add-last c = search needs
-
-region-of-requires : tie.Need-region-of-requires
-region-of-requires c κs = search needs
-
-emit-instr-requires : tie.Need-emit-instr-requires
-emit-instr-requires c κs = search needs
-
-same-length : tie.Need-same-length
-same-length c = search needs
-
 returns : tie.Need-returns
 returns c =
     let c2 = c .before .before in
@@ -48,4 +33,5 @@ returns c =
 
 pub emit-alone-spec : {M : Type 1} → statement M
 emit-alone-spec =
-    tie.close (tie.spec branch-inside-requires add-last region-of-requires emit-instr-requires same-length returns)
+    tie.close
+    (tie.spec (search needs) (search needs) (search needs) (search needs) (search needs) returns)

@@ -14,18 +14,6 @@ use borrow.Author.Needs.{needs}
 use Rattle.emit_block.proofs.instrs.emit_fused.Statement.{statement}
 use Rattle.emit_block.proofs.instrs.emit_fused.Tie as tie
 
-set-bit0-requires : tie.Need-set-bit0-requires
-set-bit0-requires c κs = search needs
-
-is-inside-requires : tie.Need-is-inside-requires
-is-inside-requires c κs = search needs
-
-emit-pair-requires : tie.Need-emit-pair-requires
-emit-pair-requires c κs = search needs
-
-same-length : tie.Need-same-length
-same-length c = search needs
-
 returns : tie.Need-returns
 returns c = let v = c .before .before .before .before .before .before .before .before .before .args in
     λ ks b j fs s e.
@@ -34,6 +22,4 @@ returns c = let v = c .before .before .before .before .before .before .before .b
     (start (c .before .before .emit-pair .ensures ks (Owner.native (bodyKey b)) (rest ks b (j + 2) fs) (ap (λ (k : ℕ). among k ks) (sym (c .before .before .before .before .before .set-bit0 .ensures)) ∙ c .before .before .before .before .is-inside .ensures ks s))))
 
 pub emit-fused-spec : {M : Type 1} → statement M
-emit-fused-spec =
-    tie.close
-    (tie.spec set-bit0-requires is-inside-requires emit-pair-requires same-length returns)
+emit-fused-spec = tie.close (tie.spec (search needs) (search needs) (search needs) (search needs) returns)

@@ -17,47 +17,8 @@ use borrow.Author.Needs.{needs}
 use Rattle.emit_block.proofs.instrs.emit_record.Statement.{statement}
 use Rattle.emit_block.proofs.instrs.emit_record.Tie as tie
 
-instr-of-requires : tie.Need-instr-of-requires
-instr-of-requires c κs = search needs
-
-enum-known-x : tie.Need-enum-known-x
-enum-known-x c = search needs
-
-enum-told : tie.Need-enum-told
-enum-told c = search needs
-
 returns : tie.Need-returns
 returns c = λ ks b here few. absurd (not-missing (here .is) _ _ (c .before .before .before .before .before .before .pre .4) (c .before .before .instr-of .ensures) (c .enum-told .given .1))
-
-cast-own : tie.Need-cast-own
-cast-own c = search needs
-
-next-of-requires : tie.Need-next-of-requires
-next-of-requires c κs = search needs
-
-enum-told-2 : tie.Need-enum-told-2
-enum-told-2 c = search needs
-
-emit-alone-requires : tie.Need-emit-alone-requires
-emit-alone-requires c κs = search needs
-
-enum-known-target : tie.Need-enum-known-target
-enum-known-target c = search needs
-
-cast-wrapping-add-u64 : tie.Need-cast-wrapping-add-u64
-cast-wrapping-add-u64 c = search needs
-
-add-wrapping-add-u64 : tie.Need-add-wrapping-add-u64
-add-wrapping-add-u64 c = search needs
-
-wrapping-add-u64-requires : tie.Need-wrapping-add-u64-requires
-wrapping-add-u64-requires c κs = search needs
-
-emit-fused-requires : tie.Need-emit-fused-requires
-emit-fused-requires c κs = search needs
-
-same-length : tie.Need-same-length
-same-length c = search needs
 
 returns-2 : tie.Need-returns-2
 returns-2 c = let v = c .before .before .before .before .before .before .before .before .before .before .before .before .before .before .before .args in
@@ -67,9 +28,6 @@ returns-2 c = let v = c .before .before .before .before .before .before .before 
     (sym (c .before .before .before .before .before .before .next-of .ensures _ (here .is)) ∙ c .before .before .before .before .enum-told2 .given .1)
     (omega (arith, c .before .before .before .before .before .before .before .struct-known .given))
     few
-
-same-length-2 : tie.Need-same-length-2
-same-length-2 c = search needs
 
 returns-3 : tie.Need-returns-3
 returns-3 c = let v = c .before .before .before .before .before .before .before .before .before .before .before .before .before .before .before .before .before .args in
@@ -84,21 +42,6 @@ returns-3 c = let v = c .before .before .before .before .before .before .before 
 pub emit-record-spec : {M : Type 1} → statement M
 emit-record-spec =
     tie.close
-    (tie.spec
-    instr-of-requires
-    enum-known-x
-    enum-told
-    returns
-    cast-own
-    next-of-requires
-    enum-told-2
-    emit-alone-requires
-    enum-known-target
-    cast-wrapping-add-u64
-    add-wrapping-add-u64
-    wrapping-add-u64-requires
-    emit-fused-requires
-    same-length
-    returns-2
-    same-length-2
-    returns-3)
+    (tie.spec (search needs) (search needs) (search needs) returns (search needs) (search needs) (search needs)
+    (search needs) (search needs) (search needs) (search needs) (search needs) (search needs) (search needs) returns-2
+    (search needs) returns-3)

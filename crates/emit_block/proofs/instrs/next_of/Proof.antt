@@ -13,35 +13,14 @@ use borrow.Author.Needs.{needs}
 use Rattle.emit_block.proofs.instrs.next_of.Statement.{statement}
 use Rattle.emit_block.proofs.instrs.next_of.Tie as tie
 
-begins-bl-requires : tie.Need-begins-bl-requires
-begins-bl-requires c κs = search needs
-
 returns : tie.Need-returns
 returns c = λ i is. sym (c .before .begins-bl .ensures (not-true _ (c .if1 .taken)) (drop (suc (c .before .before .before .args .j)) (instrsOf (now (c .before .before .before .args .file)) (c .before .before .before .args .block) (c .before .before .before .args .first))))
-
-add-if2 : tie.Need-add-if2
-add-if2 c = search needs
 
 returns-2 : tie.Need-returns-2
 returns-2 c = λ i is. next-last is _ (c .before .before .before .before .before .pre) _ (c .if2 .taken)
 
-add-instr-of : tie.Need-add-instr-of
-add-instr-of c = search needs
-
-instr-of-requires : tie.Need-instr-of-requires
-instr-of-requires c κs = search needs
-
-enum-known-y : tie.Need-enum-known-y
-enum-known-y c = search needs
-
-enum-told : tie.Need-enum-told
-enum-told c = search needs
-
 returns-3 : tie.Need-returns-3
 returns-3 c = λ i is. absurd (not-missing is _ _ (omega (arith, c .before .before .before .before .before .before .before .before .pre, c .before .before .before .if2 .left)) (c .before .before .instr-of .ensures) (c .enum-told .given .1))
-
-fused-next-requires : tie.Need-fused-next-requires
-fused-next-requires c κs = search needs
 
 returns-4 : tie.Need-returns-4
 returns-4 c = λ i is. c .fused-next .ensures ∙ next-read is _ (c .before .before .before .before .before .before .before .before .before .before .pre) _ _ _ (c .before .before .before .before .before .if2 .left) (c .before .before .before .before .instr-of .ensures) (c .before .before .y .given .1)
@@ -49,15 +28,5 @@ returns-4 c = λ i is. c .fused-next .ensures ∙ next-read is _ (c .before .bef
 pub next-of-spec : {M : Type 1} → statement M
 next-of-spec =
     tie.close
-    (tie.spec
-    begins-bl-requires
-    returns
-    add-if2
-    returns-2
-    add-instr-of
-    instr-of-requires
-    enum-known-y
-    enum-told
-    returns-3
-    fused-next-requires
-    returns-4)
+    (tie.spec (search needs) returns (search needs) returns-2 (search needs) (search needs) (search needs)
+    (search needs) returns-3 (search needs) returns-4)

@@ -5,9 +5,6 @@ use borrow.Author.Needs.{needs}
 use Rattle.emit_block.proofs.member.is_inside.Statement.{statement}
 use Rattle.emit_block.proofs.member.is_inside.Tie as tie
 
-in-group-requires : tie.Need-in-group-requires
-in-group-requires c κs = search needs
-
 returns : tie.Need-returns
 returns c = λ ks s. inside-group s _ _ (c .before .if1 .taken) (c .in-group .ensures)
 
@@ -15,4 +12,4 @@ returns-2 : tie.Need-returns-2
 returns-2 c = λ ks s. inside-lone s _ (c .if1 .left)
 
 pub is-inside-spec : {M : Type 1} → statement M
-is-inside-spec = tie.close (tie.spec in-group-requires returns returns-2)
+is-inside-spec = tie.close (tie.spec (search needs) returns returns-2)

@@ -6,21 +6,6 @@ use borrow.Author.Needs.{needs}
 use Rattle.emit_block.proofs.walk.emit_end.Statement.{statement}
 use Rattle.emit_block.proofs.walk.emit_end.Tie as tie
 
-instr-addr-requires : tie.Need-instr-addr-requires
-instr-addr-requires c κs = search needs
-
-key-of-requires : tie.Need-key-of-requires
-key-of-requires c κs = search needs
-
-is-inside-requires : tie.Need-is-inside-requires
-is-inside-requires c κs = search needs
-
-emit-closing-requires : tie.Need-emit-closing-requires
-emit-closing-requires c κs = search needs
-
-same-length : tie.Need-same-length
-same-length c = search needs
-
 returns : tie.Need-returns
 returns c = let v = c .before .before .before .before .before .before .before .before .before .before .args in
     λ ks b first j here pending.
@@ -31,12 +16,4 @@ returns c = let v = c .before .before .before .before .before .before .before .b
     (c .before .before .emit-closing .ensures ks (c .before .before .before .before .is-inside .ensures ks (here .stands)))
 
 pub emit-end-spec : {M : Type 1} → statement M
-emit-end-spec =
-    tie.close
-    (tie.spec
-    instr-addr-requires
-    key-of-requires
-    is-inside-requires
-    emit-closing-requires
-    same-length
-    returns)
+emit-end-spec = tie.close (tie.spec (search needs) (search needs) (search needs) (search needs) (search needs) returns)

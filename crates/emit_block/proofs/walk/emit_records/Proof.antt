@@ -24,26 +24,14 @@ loop-holds c = (omega arith, refl, λ ks b here. walked-none (here .body) (searc
 emit-record-requires : tie.Need-emit-record-requires Inv-loop μ-loop
 emit-record-requires c κs = let pre = c .before .before .before .before .before .before .before .pre in (pre .0, pre .1, pre .2, pre .3, c .before .if1 .taken)
 
-same-length : tie.Need-same-length Inv-loop μ-loop
-same-length c = search needs
-
 returns : tie.Need-returns Inv-loop μ-loop
 returns c = λ ks b here. walked-done (c .before .before .before .before .before .before .before .loop .inv .2 ks b here) (c .before .before .before .emit-record .ensures ks b here (c .before .before .before .before .before .before .before .loop .inv .2 ks b here .few)) (c .if2 .taken)
-
-add-j : tie.Need-add-j Inv-loop μ-loop
-add-j c = omega arith
-
-loop-less : tie.Need-loop-less Inv-loop μ-loop
-loop-less c = omega arith
 
 loop-again : tie.Need-loop-again Inv-loop μ-loop
 loop-again c = (omega arith, search needs, λ ks b here. walked-more (c .before .before .before .before .before .before .before .loop .inv .2 ks b here) (c .before .before .before .emit-record .ensures ks b here (c .before .before .before .before .before .before .before .loop .inv .2 ks b here .few)) (c .if2 .left))
 
 emit-end-requires : tie.Need-emit-end-requires Inv-loop μ-loop
 emit-end-requires c κs = c .before .before .before .before .before .before .before .pre
-
-same-length-2 : tie.Need-same-length-2 Inv-loop μ-loop
-same-length-2 c = search needs
 
 returns-2 : tie.Need-returns-2 Inv-loop μ-loop
 returns-2 c = λ ks b here.
@@ -54,16 +42,5 @@ returns-2 c = λ ks b here.
 pub emit-records-spec : {M : Type 1} → statement M
 emit-records-spec =
     tie.close
-    (tie.spec
-    Inv-loop
-    μ-loop
-    loop-holds
-    emit-record-requires
-    same-length
-    returns
-    add-j
-    loop-less
-    loop-again
-    emit-end-requires
-    same-length-2
-    returns-2)
+    (tie.spec Inv-loop μ-loop loop-holds emit-record-requires (search needs) returns (λ c. omega arith)
+    (λ c. omega arith) loop-again emit-end-requires (search needs) returns-2)

@@ -5,18 +5,6 @@ use Rattle.text.proofs.Laws.{seq, said}
 use Rattle.emit_flow.proofs.exits.branch_always.Statement.{statement}
 use Rattle.emit_flow.proofs.exits.branch_always.Tie as tie
 
-flush-ticks-requires : tie.Need-flush-ticks-requires
-flush-ticks-requires c κs = search needs
-
-set-link-requires : tie.Need-set-link-requires
-set-link-requires c κs = search needs
-
-set-pc-requires : tie.Need-set-pc-requires
-set-pc-requires c κs = search needs
-
-transfer-requires : tie.Need-transfer-requires
-transfer-requires c κs = search needs
-
 returns : tie.Need-returns
 returns c =
     let c4 = c .before .before in
@@ -26,8 +14,7 @@ returns c =
     let v = c1 .before .before .before .args in
     λ ks o d h. said (seq (c1 .flush-ticks .ensures) (seq (c2 .set-link .ensures) (seq (c3 .set-pc .ensures) (c4 .transfer .ensures ks o h)))) (jumped ks (v .src) o (v .cycles) (v .link) (v .ret) (v .target) (v .key) d)
 
-same-length : tie.Need-same-length
-same-length c = search needs
-
 pub branch-always-spec : {M : Type 1} → statement M
-branch-always-spec = tie.close (tie.spec flush-ticks-requires set-link-requires set-pc-requires transfer-requires same-length returns)
+branch-always-spec =
+    tie.close
+    (tie.spec (search needs) (search needs) (search needs) (search needs) (search needs) returns)

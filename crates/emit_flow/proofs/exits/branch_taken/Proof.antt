@@ -6,18 +6,6 @@ use Rattle.text.proofs.Laws.{seq, said}
 use Rattle.emit_flow.proofs.exits.branch_taken.Statement.{statement}
 use Rattle.emit_flow.proofs.exits.branch_taken.Tie as tie
 
-put-taken-requires : tie.Need-put-taken-requires
-put-taken-requires c κs = search needs
-
-transfer-requires : tie.Need-transfer-requires
-transfer-requires c κs = search needs
-
-slice-aggregate-put : tie.Need-slice-aggregate-put
-slice-aggregate-put c = search needs
-
-put-requires : tie.Need-put-requires
-put-requires c κs = search needs
-
 returns : tie.Need-returns
 returns c =
     let c3 = c .before .before in
@@ -26,8 +14,7 @@ returns c =
     let v = c1 .before .before .before .args in
     λ ks o h. said (seq (c1 .put-taken .ensures) (seq (c2 .transfer .ensures ks o h) (c3 .put .ensures))) (taken ks (v .src) o (branchRegs (v .link) (v .ret) (v .target)) (v .key))
 
-same-length : tie.Need-same-length
-same-length c = search needs
-
 pub branch-taken-spec : {M : Type 1} → statement M
-branch-taken-spec = tie.close (tie.spec put-taken-requires transfer-requires slice-aggregate-put put-requires same-length returns)
+branch-taken-spec =
+    tie.close
+    (tie.spec (search needs) (search needs) (search needs) (search needs) (search needs) returns)

@@ -6,24 +6,6 @@ use Rattle.text.proofs.Laws.{seq, said}
 use Rattle.emit_flow.proofs.exits.emit_bx.Statement.{statement}
 use Rattle.emit_flow.proofs.exits.emit_bx.Tie as tie
 
-flush-ticks-requires : tie.Need-flush-ticks-requires
-flush-ticks-requires c κs = search needs
-
-slice-aggregate-put : tie.Need-slice-aggregate-put
-slice-aggregate-put c = search needs
-
-put-requires : tie.Need-put-requires
-put-requires c κs = search needs
-
-put-reg-requires : tie.Need-put-reg-requires
-put-reg-requires c κs = search needs
-
-slice-aggregate-put-2 : tie.Need-slice-aggregate-put-2
-slice-aggregate-put-2 c = search needs
-
-put-requires-2 : tie.Need-put-requires-2
-put-requires-2 c κs = search needs
-
 returns : tie.Need-returns
 returns c =
     let c4 = c .before .before in
@@ -33,8 +15,8 @@ returns c =
     let v = c1 .before .before .before .args in
     λ ks a o d. said (seq (c1 .flush-ticks .ensures) (seq (c2 .put .ensures) (seq (c3 .put-reg .ensures) (c4 .put2 .ensures)))) (bx-text ks a o (v .cycles) (regOf (v .pc) (v .r)) d)
 
-same-length : tie.Need-same-length
-same-length c = search needs
-
 pub emit-bx-spec : {M : Type 1} → statement M
-emit-bx-spec = tie.close (tie.spec flush-ticks-requires slice-aggregate-put put-requires put-reg-requires slice-aggregate-put-2 put-requires-2 same-length returns)
+emit-bx-spec =
+    tie.close
+    (tie.spec (search needs) (search needs) (search needs) (search needs) (search needs) (search needs) (search needs)
+    returns)

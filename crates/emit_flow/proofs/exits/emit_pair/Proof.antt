@@ -8,24 +8,6 @@ use Rattle.text.proofs.Laws.{seq, said}
 use Rattle.emit_flow.proofs.exits.emit_pair.Statement.{statement}
 use Rattle.emit_flow.proofs.exits.emit_pair.Tie as tie
 
-flush-ticks-requires : tie.Need-flush-ticks-requires
-flush-ticks-requires c κs = search needs
-
-set-lr-requires : tie.Need-set-lr-requires
-set-lr-requires c κs = search needs
-
-clear-bit0-requires : tie.Need-clear-bit0-requires
-clear-bit0-requires c κs = search needs
-
-set-pc-requires : tie.Need-set-pc-requires
-set-pc-requires c κs = search needs
-
-set-bit0-requires : tie.Need-set-bit0-requires
-set-bit0-requires c κs = search needs
-
-transfer-requires : tie.Need-transfer-requires
-transfer-requires c κs = search needs
-
 returns : tie.Need-returns
 returns c =
     let c6 = c .before .before in
@@ -37,8 +19,8 @@ returns c =
     let v = c1 .before .before .before .args in
     λ ks o d h. said (seq (c1 .flush-ticks .ensures) (seq (c2 .set-lr .ensures) (seq (c4 .set-pc .ensures) (c6 .transfer .ensures ks o (ap (λ (n : ℕ). among n ks) (c5 .set-bit0 .ensures) ∙ h))))) (paired ks (v .src) o (v .cycles) (v .target) (v .ret) d _ _ (c3 .clear-bit0 .ensures) (c5 .set-bit0 .ensures))
 
-same-length : tie.Need-same-length
-same-length c = search needs
-
 pub emit-pair-spec : {M : Type 1} → statement M
-emit-pair-spec = tie.close (tie.spec flush-ticks-requires set-lr-requires clear-bit0-requires set-pc-requires set-bit0-requires transfer-requires same-length returns)
+emit-pair-spec =
+    tie.close
+    (tie.spec (search needs) (search needs) (search needs) (search needs) (search needs) (search needs) (search needs)
+    returns)

@@ -11,12 +11,6 @@ use Rattle.text.proofs.Laws.{seq, said}
 use Rattle.emit_flow.proofs.exits.put_closing.Statement.{statement}
 use Rattle.emit_flow.proofs.exits.put_closing.Tie as tie
 
-set-pc-requires : tie.Need-set-pc-requires
-set-pc-requires c κs = search needs
-
-transfer-requires : tie.Need-transfer-requires
-transfer-requires c κs = search needs
-
 returns : tie.Need-returns
 returns c =
     let c2 = c .before .before in
@@ -24,8 +18,5 @@ returns c =
     let v = c1 .before .before .before .args in
     λ ks h. said (seq (c1 .set-pc .ensures) (c2 .transfer .ensures ks common h)) (sym (lines-behind common common 4 (apart (setWord 15 (v .next) ∷ [])) (transfer ks (v .src) common 4 (v .key) end) []))
 
-same-length : tie.Need-same-length
-same-length c = search needs
-
 pub put-closing-spec : {M : Type 1} → statement M
-put-closing-spec = tie.close (tie.spec set-pc-requires transfer-requires same-length returns)
+put-closing-spec = tie.close (tie.spec (search needs) (search needs) (search needs) returns)

@@ -7,36 +7,6 @@ use Rattle.text.proofs.Laws.{seq, said, kept}
 use Rattle.emit_flow.proofs.exits.put_taken.Statement.{statement}
 use Rattle.emit_flow.proofs.exits.put_taken.Tie as tie
 
-slice-aggregate-put-then-hex8 : tie.Need-slice-aggregate-put-then-hex8
-slice-aggregate-put-then-hex8 c = search needs
-
-put-then-hex8-requires : tie.Need-put-then-hex8-requires
-put-then-hex8-requires c κs = search needs
-
-slice-aggregate-put-then-hex8-2 : tie.Need-slice-aggregate-put-then-hex8-2
-slice-aggregate-put-then-hex8-2 c = search needs
-
-put-then-hex8-requires-2 : tie.Need-put-then-hex8-requires-2
-put-then-hex8-requires-2 c κs = search needs
-
-slice-aggregate-put : tie.Need-slice-aggregate-put
-slice-aggregate-put c = search needs
-
-put-requires : tie.Need-put-requires
-put-requires c κs = search needs
-
-slice-aggregate-put-then-hex8-3 : tie.Need-slice-aggregate-put-then-hex8-3
-slice-aggregate-put-then-hex8-3 c = search needs
-
-put-then-hex8-requires-3 : tie.Need-put-then-hex8-requires-3
-put-then-hex8-requires-3 c κs = search needs
-
-slice-aggregate-put-2 : tie.Need-slice-aggregate-put-2
-slice-aggregate-put-2 c = search needs
-
-put-requires-2 : tie.Need-put-requires-2
-put-requires-2 c κs = search needs
-
 returns : tie.Need-returns
 unfolding decimal numeral
 returns c =
@@ -46,9 +16,6 @@ returns c =
     let c1 = c2 .before .before .before in
     rw (c1 .if1 .taken) (said (seq (c2 .put-then-hex8 .ensures) (seq (c3 .put-then-hex82 .ensures) (c4 .put .ensures))) refl)
 
-same-length : tie.Need-same-length
-same-length c = kept (returns c)
-
 returns-2 : tie.Need-returns-2
 unfolding decimal numeral
 returns-2 c =
@@ -57,8 +24,8 @@ returns-2 c =
     let c1 = c2 .before .before .before in
     rw (c1 .if1 .left) (said (seq (c2 .put-then-hex83 .ensures) (c3 .put2 .ensures)) refl)
 
-same-length-2 : tie.Need-same-length-2
-same-length-2 c = kept (returns-2 c)
-
 pub put-taken-spec : {M : Type 1} → statement M
-put-taken-spec = tie.close (tie.spec slice-aggregate-put-then-hex8 put-then-hex8-requires slice-aggregate-put-then-hex8-2 put-then-hex8-requires-2 slice-aggregate-put put-requires slice-aggregate-put-then-hex8-3 put-then-hex8-requires-3 slice-aggregate-put-2 put-requires-2 same-length returns same-length-2 returns-2)
+put-taken-spec =
+    tie.close
+    (tie.spec (search needs) (search needs) (search needs) (search needs) (search needs) (search needs) (search needs)
+    (search needs) (search needs) (search needs) (λ c. kept (returns c)) returns (λ c. kept (returns-2 c)) returns-2)

@@ -5,21 +5,15 @@ use Rattle.text.proofs.Laws.{none, said, kept}
 use Rattle.emit_flow.proofs.exits.set_link.Statement.{statement}
 use Rattle.emit_flow.proofs.exits.set_link.Tie as tie
 
-set-lr-requires : tie.Need-set-lr-requires
-set-lr-requires c κs = search needs
-
 returns : tie.Need-returns
 returns c =
     let c2 = c .before .before in
     let c1 = c2 .before .before in
     rw (c1 .if1 .taken) (said (c2 .set-lr .ensures) refl)
 
-same-length : tie.Need-same-length
-same-length c = kept (returns c)
-
 returns-2 : tie.Need-returns-2
 returns-2 c =
     rw (c .if1 .left) (none (search needs) (search needs))
 
 pub set-link-spec : {M : Type 1} → statement M
-set-link-spec = tie.close (tie.spec set-lr-requires same-length returns returns-2)
+set-link-spec = tie.close (tie.spec (search needs) (λ c. kept (returns c)) returns returns-2)

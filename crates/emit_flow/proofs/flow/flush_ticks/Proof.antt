@@ -9,18 +9,6 @@ returns : tie.Need-returns
 returns c =
     rw (c .if1 .taken) (none (search needs) (search needs))
 
-slice-aggregate-put-then-dec : tie.Need-slice-aggregate-put-then-dec
-slice-aggregate-put-then-dec c = search needs
-
-put-then-dec-requires : tie.Need-put-then-dec-requires
-put-then-dec-requires c κs = search needs
-
-slice-aggregate-put : tie.Need-slice-aggregate-put
-slice-aggregate-put c = search needs
-
-put-requires : tie.Need-put-requires
-put-requires c κs = search needs
-
 returns-2 : tie.Need-returns-2
 returns-2 c =
     let c3 = c .before .before in
@@ -28,8 +16,7 @@ returns-2 c =
     let c1 = c2 .before .before .before in
     said (seq (c2 .put-then-dec .ensures) (c3 .put .ensures)) (ticks _ (c1 .if1 .left))
 
-same-length : tie.Need-same-length
-same-length c = kept (returns-2 c)
-
 pub flush-ticks-spec : {M : Type 1} → statement M
-flush-ticks-spec = tie.close (tie.spec returns slice-aggregate-put-then-dec put-then-dec-requires slice-aggregate-put put-requires same-length returns-2)
+flush-ticks-spec =
+    tie.close
+    (tie.spec returns (search needs) (search needs) (search needs) (search needs) (λ c. kept (returns-2 c)) returns-2)

@@ -6,21 +6,6 @@ use Rattle.text.proofs.Laws.{seq, said, kept}
 use Rattle.emit_flow.proofs.flow.put_goto.Statement.{statement}
 use Rattle.emit_flow.proofs.flow.put_goto.Tie as tie
 
-put-indent-requires : tie.Need-put-indent-requires
-put-indent-requires c κs = search needs
-
-slice-aggregate-put-then-key : tie.Need-slice-aggregate-put-then-key
-slice-aggregate-put-then-key c = search needs
-
-put-then-key-requires : tie.Need-put-then-key-requires
-put-then-key-requires c κs = search needs
-
-slice-aggregate-put : tie.Need-slice-aggregate-put
-slice-aggregate-put c = search needs
-
-put-requires : tie.Need-put-requires
-put-requires c κs = search needs
-
 returns : tie.Need-returns
 unfolding chain
 returns c =
@@ -29,8 +14,7 @@ returns c =
     let c1 = c2 .before .before .before .before .before in
     said (seq (c1 .put-indent .ensures) (seq (c2 .put-then-key .ensures) (c3 .put .ensures))) refl
 
-same-length : tie.Need-same-length
-same-length c = kept (returns c)
-
 pub put-goto-spec : {M : Type 1} → statement M
-put-goto-spec = tie.close (tie.spec put-indent-requires slice-aggregate-put-then-key put-then-key-requires slice-aggregate-put put-requires same-length returns)
+put-goto-spec =
+    tie.close
+    (tie.spec (search needs) (search needs) (search needs) (search needs) (search needs) (λ c. kept (returns c)) returns)

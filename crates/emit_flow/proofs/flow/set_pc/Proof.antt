@@ -5,26 +5,13 @@ use Rattle.text.proofs.Laws.{seq, said, kept}
 use Rattle.emit_flow.proofs.flow.set_pc.Statement.{statement}
 use Rattle.emit_flow.proofs.flow.set_pc.Tie as tie
 
-slice-aggregate-put-then-hex8 : tie.Need-slice-aggregate-put-then-hex8
-slice-aggregate-put-then-hex8 c = search needs
-
-put-then-hex8-requires : tie.Need-put-then-hex8-requires
-put-then-hex8-requires c κs = search needs
-
-slice-aggregate-put : tie.Need-slice-aggregate-put
-slice-aggregate-put c = search needs
-
-put-requires : tie.Need-put-requires
-put-requires c κs = search needs
-
 returns : tie.Need-returns
 returns c =
     let c2 = c .before .before in
     let c1 = c2 .before .before .before .before .before in
     said (seq (c1 .put-then-hex8 .ensures) (c2 .put .ensures)) (pc-set _)
 
-same-length : tie.Need-same-length
-same-length c = kept (returns c)
-
 pub set-pc-spec : {M : Type 1} → statement M
-set-pc-spec = tie.close (tie.spec slice-aggregate-put-then-hex8 put-then-hex8-requires slice-aggregate-put put-requires same-length returns)
+set-pc-spec =
+    tie.close
+    (tie.spec (search needs) (search needs) (search needs) (search needs) (λ c. kept (returns c)) returns)

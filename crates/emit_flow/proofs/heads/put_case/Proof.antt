@@ -5,24 +5,6 @@ use Rattle.text.proofs.Laws.{seq, said, kept}
 use Rattle.emit_flow.proofs.heads.put_case.Statement.{statement}
 use Rattle.emit_flow.proofs.heads.put_case.Tie as tie
 
-slice-aggregate-put-then-dec : tie.Need-slice-aggregate-put-then-dec
-slice-aggregate-put-then-dec c = search needs
-
-put-then-dec-requires : tie.Need-put-then-dec-requires
-put-then-dec-requires c κs = search needs
-
-slice-aggregate-put-then-key : tie.Need-slice-aggregate-put-then-key
-slice-aggregate-put-then-key c = search needs
-
-put-then-key-requires : tie.Need-put-then-key-requires
-put-then-key-requires c κs = search needs
-
-slice-aggregate-put : tie.Need-slice-aggregate-put
-slice-aggregate-put c = search needs
-
-put-requires : tie.Need-put-requires
-put-requires c κs = search needs
-
 returns : tie.Need-returns
 returns c =
     let c3 = c .before .before in
@@ -30,8 +12,8 @@ returns c =
     let c1 = c2 .before .before .before .before .before in
     said (seq (c1 .put-then-dec .ensures) (seq (c2 .put-then-key .ensures) (c3 .put .ensures))) refl
 
-same-length : tie.Need-same-length
-same-length c = kept (returns c)
-
 pub put-case-spec : {M : Type 1} → statement M
-put-case-spec = tie.close (tie.spec slice-aggregate-put-then-dec put-then-dec-requires slice-aggregate-put-then-key put-then-key-requires slice-aggregate-put put-requires same-length returns)
+put-case-spec =
+    tie.close
+    (tie.spec (search needs) (search needs) (search needs) (search needs) (search needs) (search needs)
+    (λ c. kept (returns c)) returns)

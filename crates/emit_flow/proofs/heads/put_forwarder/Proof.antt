@@ -5,30 +5,6 @@ use Rattle.text.proofs.Laws.{seq, said, kept}
 use Rattle.emit_flow.proofs.heads.put_forwarder.Statement.{statement}
 use Rattle.emit_flow.proofs.heads.put_forwarder.Tie as tie
 
-slice-aggregate-put-then-key : tie.Need-slice-aggregate-put-then-key
-slice-aggregate-put-then-key c = search needs
-
-put-then-key-requires : tie.Need-put-then-key-requires
-put-then-key-requires c κs = search needs
-
-slice-aggregate-put-then-hex8 : tie.Need-slice-aggregate-put-then-hex8
-slice-aggregate-put-then-hex8 c = search needs
-
-put-then-hex8-requires : tie.Need-put-then-hex8-requires
-put-then-hex8-requires c κs = search needs
-
-slice-aggregate-put-then-dec : tie.Need-slice-aggregate-put-then-dec
-slice-aggregate-put-then-dec c = search needs
-
-put-then-dec-requires : tie.Need-put-then-dec-requires
-put-then-dec-requires c κs = search needs
-
-slice-aggregate-put : tie.Need-slice-aggregate-put
-slice-aggregate-put c = search needs
-
-put-requires : tie.Need-put-requires
-put-requires c κs = search needs
-
 returns : tie.Need-returns
 returns c =
     let c4 = c .before .before in
@@ -37,8 +13,8 @@ returns c =
     let c1 = c2 .before .before .before .before .before in
     said (seq (c1 .put-then-key .ensures) (seq (c2 .put-then-hex8 .ensures) (seq (c3 .put-then-dec .ensures) (c4 .put .ensures)))) refl
 
-same-length : tie.Need-same-length
-same-length c = kept (returns c)
-
 pub put-forwarder-spec : {M : Type 1} → statement M
-put-forwarder-spec = tie.close (tie.spec slice-aggregate-put-then-key put-then-key-requires slice-aggregate-put-then-hex8 put-then-hex8-requires slice-aggregate-put-then-dec put-then-dec-requires slice-aggregate-put put-requires same-length returns)
+put-forwarder-spec =
+    tie.close
+    (tie.spec (search needs) (search needs) (search needs) (search needs) (search needs) (search needs) (search needs)
+    (search needs) (λ c. kept (returns c)) returns)

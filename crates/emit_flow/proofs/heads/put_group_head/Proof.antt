@@ -6,18 +6,6 @@ use Rattle.text.proofs.Laws.{seq, said, kept}
 use Rattle.emit_flow.proofs.heads.put_group_head.Statement.{statement}
 use Rattle.emit_flow.proofs.heads.put_group_head.Tie as tie
 
-slice-aggregate-put-then-hex8 : tie.Need-slice-aggregate-put-then-hex8
-slice-aggregate-put-then-hex8 c = search needs
-
-put-then-hex8-requires : tie.Need-put-then-hex8-requires
-put-then-hex8-requires c κs = search needs
-
-slice-aggregate-put : tie.Need-slice-aggregate-put
-slice-aggregate-put c = search needs
-
-put-requires : tie.Need-put-requires
-put-requires c κs = search needs
-
 returns : tie.Need-returns
 unfolding withLocals
 returns c =
@@ -25,8 +13,7 @@ returns c =
     let c1 = c2 .before .before .before .before .before in
     said (seq (c1 .put-then-hex8 .ensures) (c2 .put .ensures)) refl
 
-same-length : tie.Need-same-length
-same-length c = kept (returns c)
-
 pub put-group-head-spec : {M : Type 1} → statement M
-put-group-head-spec = tie.close (tie.spec slice-aggregate-put-then-hex8 put-then-hex8-requires slice-aggregate-put put-requires same-length returns)
+put-group-head-spec =
+    tie.close
+    (tie.spec (search needs) (search needs) (search needs) (search needs) (λ c. kept (returns c)) returns)

@@ -5,19 +5,10 @@ use Rattle.text.proofs.Laws.{said, kept}
 use Rattle.emit_flow.proofs.heads.put_member_end.Statement.{statement}
 use Rattle.emit_flow.proofs.heads.put_member_end.Tie as tie
 
-slice-aggregate-put : tie.Need-slice-aggregate-put
-slice-aggregate-put c = search needs
-
-put-requires : tie.Need-put-requires
-put-requires c κs = search needs
-
 returns : tie.Need-returns
 returns c =
     let c1 = c .before .before in
     said (c1 .put .ensures) refl
 
-same-length : tie.Need-same-length
-same-length c = kept (returns c)
-
 pub put-member-end-spec : {M : Type 1} → statement M
-put-member-end-spec = tie.close (tie.spec slice-aggregate-put put-requires same-length returns)
+put-member-end-spec = tie.close (tie.spec (search needs) (search needs) (λ c. kept (returns c)) returns)

@@ -10,18 +10,6 @@ use Rattle.text.proofs.Laws.{seq, said}
 use Rattle.emit_flow.proofs.shells.emit_last_shell.Statement.{statement}
 use Rattle.emit_flow.proofs.shells.emit_last_shell.Tie as tie
 
-flush-ticks-requires : tie.Need-flush-ticks-requires
-flush-ticks-requires c κs = search needs
-
-set-pc-requires : tie.Need-set-pc-requires
-set-pc-requires c κs = search needs
-
-slice-aggregate-put : tie.Need-slice-aggregate-put
-slice-aggregate-put c = search needs
-
-put-requires : tie.Need-put-requires
-put-requires c κs = search needs
-
 returns : tie.Need-returns
 returns c =
     let c3 = c .before .before in
@@ -30,8 +18,7 @@ returns c =
     let v = c1 .before .before .before .args in
     λ k i. said (seq (c1 .flush-ticks .ensures) (seq (c2 .set-pc .ensures) (c3 .put .ensures))) (ticked common (v .cycles) (apart (setWord 15 (v .addr) ∷ [])) (sp 4 ⨾ retInterp k i ⨾ nl ⨾ end))
 
-same-length : tie.Need-same-length
-same-length c = search needs
-
 pub emit-last-shell-spec : {M : Type 1} → statement M
-emit-last-shell-spec = tie.close (tie.spec flush-ticks-requires set-pc-requires slice-aggregate-put put-requires same-length returns)
+emit-last-shell-spec =
+    tie.close
+    (tie.spec (search needs) (search needs) (search needs) (search needs) (search needs) returns)

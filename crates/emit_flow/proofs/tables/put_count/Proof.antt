@@ -5,26 +5,13 @@ use Rattle.text.proofs.Laws.{seq, said, kept}
 use Rattle.emit_flow.proofs.tables.put_count.Statement.{statement}
 use Rattle.emit_flow.proofs.tables.put_count.Tie as tie
 
-slice-aggregate-put-then-dec : tie.Need-slice-aggregate-put-then-dec
-slice-aggregate-put-then-dec c = search needs
-
-put-then-dec-requires : tie.Need-put-then-dec-requires
-put-then-dec-requires c κs = search needs
-
-slice-aggregate-put : tie.Need-slice-aggregate-put
-slice-aggregate-put c = search needs
-
-put-requires : tie.Need-put-requires
-put-requires c κs = search needs
-
 returns : tie.Need-returns
 returns c =
     let c2 = c .before .before in
     let c1 = c2 .before .before .before .before .before in
     said (seq (c1 .put-then-dec .ensures) (c2 .put .ensures)) refl
 
-same-length : tie.Need-same-length
-same-length c = kept (returns c)
-
 pub put-count-spec : {M : Type 1} → statement M
-put-count-spec = tie.close (tie.spec slice-aggregate-put-then-dec put-then-dec-requires slice-aggregate-put put-requires same-length returns)
+put-count-spec =
+    tie.close
+    (tie.spec (search needs) (search needs) (search needs) (search needs) (λ c. kept (returns c)) returns)

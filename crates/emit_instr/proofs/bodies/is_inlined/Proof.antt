@@ -9,33 +9,6 @@ use Rattle.forms.specs.InlineBody.{opBody, inlineBody}
 use Rattle.emit_instr.proofs.bodies.is_inlined.Statement.{statement}
 use Rattle.emit_instr.proofs.bodies.is_inlined.Tie as tie
 
-enum-known-op : tie.Need-enum-known-op
-enum-known-op c = search needs
-
-alu-is-inlined-requires : tie.Need-alu-is-inlined-requires
-alu-is-inlined-requires c κs = search needs
-
-enum-known-op-2 : tie.Need-enum-known-op-2
-enum-known-op-2 c = search needs
-
-mul-is-inlined-requires : tie.Need-mul-is-inlined-requires
-mul-is-inlined-requires c κs = search needs
-
-enum-told : tie.Need-enum-told
-enum-told c = search needs
-
-enum-known-op-3 : tie.Need-enum-known-op-3
-enum-known-op-3 c = search needs
-
-mem-is-inlined-requires : tie.Need-mem-is-inlined-requires
-mem-is-inlined-requires c κs = search needs
-
-enum-known-op-4 : tie.Need-enum-known-op-4
-enum-known-op-4 c = search needs
-
-block-mem-is-inlined-requires : tie.Need-block-mem-is-inlined-requires
-block-mem-is-inlined-requires c κs = search needs
-
 returns : tie.Need-returns
 unfolding inlineBody
 returns c =
@@ -79,19 +52,5 @@ returns-6 c = sym (ap isSome (no-lines (c .before .args .thumb) (c .before .args
 pub is-inlined-spec : {M : Type 1} → statement M
 is-inlined-spec =
     tie.close
-    (tie.spec
-    enum-known-op
-    alu-is-inlined-requires
-    enum-known-op-2
-    mul-is-inlined-requires
-    enum-told
-    enum-known-op-3
-    mem-is-inlined-requires
-    enum-known-op-4
-    block-mem-is-inlined-requires
-    returns
-    returns-2
-    returns-3
-    returns-4
-    returns-5
-    returns-6)
+    (tie.spec (search needs) (search needs) (search needs) (search needs) (search needs) (search needs) (search needs)
+    (search needs) (search needs) returns returns-2 returns-3 returns-4 returns-5 returns-6)

@@ -12,42 +12,6 @@ use borrow.Author.Needs.{needs}
 use Rattle.emit_instr.proofs.bodies.put_body.Statement.{statement}
 use Rattle.emit_instr.proofs.bodies.put_body.Tie as tie
 
-enum-known-op : tie.Need-enum-known-op
-enum-known-op c = search needs
-
-pc-value-requires : tie.Need-pc-value-requires
-pc-value-requires c κs = search needs
-
-put-alu-requires : tie.Need-put-alu-requires
-put-alu-requires c κs = search needs
-
-enum-known-op-2 : tie.Need-enum-known-op-2
-enum-known-op-2 c = search needs
-
-put-mul-requires : tie.Need-put-mul-requires
-put-mul-requires c κs = search needs
-
-enum-known-op-3 : tie.Need-enum-known-op-3
-enum-known-op-3 c = search needs
-
-put-mul-long-requires : tie.Need-put-mul-long-requires
-put-mul-long-requires c κs = search needs
-
-enum-known-op-4 : tie.Need-enum-known-op-4
-enum-known-op-4 c = search needs
-
-put-mem-requires : tie.Need-put-mem-requires
-put-mem-requires c κs = search needs
-
-enum-known-op-5 : tie.Need-enum-known-op-5
-enum-known-op-5 c = search needs
-
-put-block-mem-requires : tie.Need-put-block-mem-requires
-put-block-mem-requires c κs = search needs
-
-same-length : tie.Need-same-length
-same-length c = search needs
-
 returns : tie.Need-returns
 returns c =
     let done = c .before .before in
@@ -57,9 +21,6 @@ returns c =
     λ body e.
     let e′ = known-body (a .thumb) (a .i) (Alu (v .0) (v .1 .0) (v .1 .1 .0) (v .1 .1 .1 .0) (v .1 .1 .1 .1 .0)) body (known .op .given .1) e in
     as-lines _ body (alu-by-pc (a .thumb) (a .i) (v .0) (v .1 .0) (v .1 .1 .0) (v .1 .1 .1 .0) (v .1 .1 .1 .1 .0) (done .before .pc-value .result) body (done .before .pc-value .ensures) e′) (done .put-alu .ensures)
-
-same-length-2 : tie.Need-same-length-2
-same-length-2 c = search needs
 
 returns-2 : tie.Need-returns-2
 returns-2 c =
@@ -71,9 +32,6 @@ returns-2 c =
     let e′ = known-body (a .thumb) (a .i) (Mul (v .0) (v .1 .0) (v .1 .1 .0) (v .1 .1 .1 .0) (v .1 .1 .1 .1 .0) (v .1 .1 .1 .1 .1 .0)) body (known .op2 .given .1) e in
     as-lines _ body (mul-lines (a .thumb) (a .i) (v .0) (v .1 .0) (v .1 .1 .0) (v .1 .1 .1 .0) (v .1 .1 .1 .1 .0) (v .1 .1 .1 .1 .1 .0) body e′) (done .put-mul .ensures)
 
-same-length-3 : tie.Need-same-length-3
-same-length-3 c = search needs
-
 returns-3 : tie.Need-returns-3
 returns-3 c =
     let done = c .before .before in
@@ -84,9 +42,6 @@ returns-3 c =
     let e′ = known-body (a .thumb) (a .i) (MulLong (v .0) (v .1 .0) (v .1 .1 .0) (v .1 .1 .1 .0) (v .1 .1 .1 .1 .0) (v .1 .1 .1 .1 .1 .0) (v .1 .1 .1 .1 .1 .1 .0)) body (known .op3 .given .1) e in
     as-lines _ body (Option·some-injective _ _ e′) (done .put-mul-long .ensures)
 
-same-length-4 : tie.Need-same-length-4
-same-length-4 c = search needs
-
 returns-4 : tie.Need-returns-4
 returns-4 c =
     let done = c .before .before in
@@ -96,9 +51,6 @@ returns-4 c =
     λ body e.
     let e′ = known-body (a .thumb) (a .i) (Mem (v .0) (v .1 .0) (v .1 .1 .0) (v .1 .1 .1 .0) (v .1 .1 .1 .1 .0) (v .1 .1 .1 .1 .1 .0) (v .1 .1 .1 .1 .1 .1 .0) (v .1 .1 .1 .1 .1 .1 .1 .0) (v .1 .1 .1 .1 .1 .1 .1 .1 .0)) body (known .op4 .given .1) e in
     done .put-mem .ensures body (tested (eqb (v .1 .1 .1 .0) 15) _ body e′)
-
-same-length-5 : tie.Need-same-length-5
-same-length-5 c = search needs
 
 returns-5 : tie.Need-returns-5
 returns-5 c =
@@ -118,26 +70,6 @@ returns-6 c =
 pub put-body-spec : {M : Type 1} → statement M
 put-body-spec =
     tie.close
-    (tie.spec
-    enum-known-op
-    pc-value-requires
-    put-alu-requires
-    enum-known-op-2
-    put-mul-requires
-    enum-known-op-3
-    put-mul-long-requires
-    enum-known-op-4
-    put-mem-requires
-    enum-known-op-5
-    put-block-mem-requires
-    same-length
-    returns
-    same-length-2
-    returns-2
-    same-length-3
-    returns-3
-    same-length-4
-    returns-4
-    same-length-5
-    returns-5
-    returns-6)
+    (tie.spec (search needs) (search needs) (search needs) (search needs) (search needs) (search needs) (search needs)
+    (search needs) (search needs) (search needs) (search needs) (search needs) returns (search needs) returns-2
+    (search needs) returns-3 (search needs) returns-4 (search needs) returns-5 returns-6)

@@ -4,9 +4,6 @@ use borrow.Author.Needs.{needs}
 use Rattle.emit_instr.proofs.cycles.pending.Statement.{statement}
 use Rattle.emit_instr.proofs.cycles.pending.Tie as tie
 
-with-cost-requires : tie.Need-with-cost-requires
-with-cost-requires c κs = search needs
-
 returns : tie.Need-returns
 returns c =
     λ h. rw (c .if1 .taken) (omega arith)
@@ -16,4 +13,4 @@ returns-2 c =
     λ h. rw (c .before .if1 .left) (c .with-cost .ensures h)
 
 pub pending-spec : {M : Type 1} → statement M
-pending-spec = tie.close (tie.spec with-cost-requires returns returns-2)
+pending-spec = tie.close (tie.spec (search needs) returns returns-2)

@@ -17,21 +17,6 @@ use borrow.Author.Needs.{needs}
 use Rattle.emit_instr.proofs.exits.emit_branch.Statement.{statement}
 use Rattle.emit_instr.proofs.exits.emit_branch.Tie as tie
 
-wrapping-add-u32-requires : tie.Need-wrapping-add-u32-requires
-wrapping-add-u32-requires c κs = search needs
-
-key-of-requires : tie.Need-key-of-requires
-key-of-requires c κs = search needs
-
-is-al-requires : tie.Need-is-al-requires
-is-al-requires c κs = search needs
-
-branch-always-requires : tie.Need-branch-always-requires
-branch-always-requires c κs = search needs
-
-same-length : tie.Need-same-length
-same-length c = search needs
-
 returns : tie.Need-returns
 returns c =
     let c2 = c .before .before in
@@ -51,15 +36,6 @@ returns c =
           (c2 .branch-always .ensures ks (Owner.native (bodyKey b)) (rest ks b (j + 1) fs) (ap (λ (n : ℕ). among n ks) (key .key-of .ensures) ∙ h));
       cycles = refl;
     })
-
-put-condition-requires : tie.Need-put-condition-requires
-put-condition-requires c κs = search needs
-
-branch-taken-requires : tie.Need-branch-taken-requires
-branch-taken-requires c κs = search needs
-
-same-length-2 : tie.Need-same-length-2
-same-length-2 c = search needs
 
 returns-2 : tie.Need-returns-2
 returns-2 c =
@@ -85,14 +61,5 @@ returns-2 c =
 pub emit-branch-spec : {M : Type 1} → statement M
 emit-branch-spec =
     tie.close
-    (tie.spec
-    wrapping-add-u32-requires
-    key-of-requires
-    is-al-requires
-    branch-always-requires
-    same-length
-    returns
-    put-condition-requires
-    branch-taken-requires
-    same-length-2
-    returns-2)
+    (tie.spec (search needs) (search needs) (search needs) (search needs) (search needs) returns (search needs)
+    (search needs) (search needs) returns-2)

@@ -4,15 +4,9 @@ use borrow.Author.Needs.{needs}
 use Rattle.emit_instr.proofs.exits.is_native_exit.Statement.{statement}
 use Rattle.emit_instr.proofs.exits.is_native_exit.Tie as tie
 
-is-al-requires : tie.Need-is-al-requires
-is-al-requires c κs = search needs
-
 returns : tie.Need-returns
 returns c =
     rw (sym (c .before .is-al .ensures) ∙ c .if1 .taken) refl
 
-returns-2 : tie.Need-returns-2
-returns-2 c = search needs
-
 pub is-native-exit-spec : {M : Type 1} → statement M
-is-native-exit-spec = tie.close (tie.spec is-al-requires returns returns-2)
+is-native-exit-spec = tie.close (tie.spec (search needs) returns (λ c. search needs))

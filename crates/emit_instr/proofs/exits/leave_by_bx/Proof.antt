@@ -15,15 +15,6 @@ use borrow.Author.Needs.{needs}
 use Rattle.emit_instr.proofs.exits.leave_by_bx.Statement.{statement}
 use Rattle.emit_instr.proofs.exits.leave_by_bx.Tie as tie
 
-pc-value-requires : tie.Need-pc-value-requires
-pc-value-requires c κs = search needs
-
-emit-bx-requires : tie.Need-emit-bx-requires
-emit-bx-requires c κs = search needs
-
-same-length : tie.Need-same-length
-same-length c = search needs
-
 returns : tie.Need-returns
 returns c =
     let c2 = c .before .before in
@@ -39,4 +30,4 @@ returns c =
     }
 
 pub leave-by-bx-spec : {M : Type 1} → statement M
-leave-by-bx-spec = tie.close (tie.spec pc-value-requires emit-bx-requires same-length returns)
+leave-by-bx-spec = tie.close (tie.spec (search needs) (search needs) (search needs) returns)

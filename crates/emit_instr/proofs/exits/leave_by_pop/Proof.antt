@@ -13,15 +13,6 @@ use borrow.Author.Needs.{needs}
 use Rattle.emit_instr.proofs.exits.leave_by_pop.Statement.{statement}
 use Rattle.emit_instr.proofs.exits.leave_by_pop.Tie as tie
 
-flush-ticks-requires : tie.Need-flush-ticks-requires
-flush-ticks-requires c κs = search needs
-
-put-pop-requires : tie.Need-put-pop-requires
-put-pop-requires c κs = search needs
-
-same-length : tie.Need-same-length
-same-length c = search needs
-
 returns : tie.Need-returns
 returns c =
     let c2 = c .before .before in
@@ -37,4 +28,4 @@ returns c =
     }
 
 pub leave-by-pop-spec : {M : Type 1} → statement M
-leave-by-pop-spec = tie.close (tie.spec flush-ticks-requires put-pop-requires same-length returns)
+leave-by-pop-spec = tie.close (tie.spec (search needs) (search needs) (search needs) returns)

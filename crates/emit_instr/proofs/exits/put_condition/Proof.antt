@@ -4,18 +4,6 @@ use borrow.Author.Needs.{needs}
 use Rattle.emit_instr.proofs.exits.put_condition.Statement.{statement}
 use Rattle.emit_instr.proofs.exits.put_condition.Tie as tie
 
-flush-ticks-requires : tie.Need-flush-ticks-requires
-flush-ticks-requires c κs = search needs
-
-open-conditional-requires : tie.Need-open-conditional-requires
-open-conditional-requires c κs = search needs
-
-put-cond-expr-requires : tie.Need-put-cond-expr-requires
-put-cond-expr-requires c κs = search needs
-
-same-length : tie.Need-same-length
-same-length c = search needs
-
 returns : tie.Need-returns
 returns c =
     let c3 = c .before .before in
@@ -24,11 +12,4 @@ returns c =
     seq (c1 .flush-ticks .ensures) (seq (c2 .open-conditional .ensures) (c3 .put-cond-expr .ensures))
 
 pub put-condition-spec : {M : Type 1} → statement M
-put-condition-spec =
-    tie.close
-    (tie.spec
-    flush-ticks-requires
-    open-conditional-requires
-    put-cond-expr-requires
-    same-length
-    returns)
+put-condition-spec = tie.close (tie.spec (search needs) (search needs) (search needs) (search needs) returns)

@@ -11,21 +11,6 @@ use borrow.Author.Needs.{needs}
 use Rattle.emit_instr.proofs.instr.emit_any_bx.Statement.{statement}
 use Rattle.emit_instr.proofs.instr.emit_any_bx.Tie as tie
 
-is-native-exit-requires : tie.Need-is-native-exit-requires
-is-native-exit-requires c κs = search needs
-
-with-cost-requires : tie.Need-with-cost-requires
-with-cost-requires c κs = search needs
-
-leave-by-bx-requires : tie.Need-leave-by-bx-requires
-leave-by-bx-requires c κs = search needs
-
-emit-straight-requires : tie.Need-emit-straight-requires
-emit-straight-requires c κs = search needs
-
-same-length : tie.Need-same-length
-same-length c = search needs
-
 returns : tie.Need-returns
 returns c =
     let c2 = c .before .before in
@@ -36,9 +21,6 @@ returns c =
     (ap (λ (n : ℕ). (Form.native (bx (flushTicks n) (regExpr (a .x .instr) (a .rm))), 0)) (c2 .before .with-cost .ensures g)
     ∙ chosen (nativeExit (a .region) (a .x .instr)) _ (emitStraight (a .thumb) false (a .cycles) (a .x)) (sym (c1 .before .is-native-exit .ensures) ∙ c1 .if1 .taken))
     (c2 .leave-by-bx .ensures ks b j fs)
-
-same-length-2 : tie.Need-same-length-2
-same-length-2 c = search needs
 
 returns-2 : tie.Need-returns-2
 returns-2 c =
@@ -52,12 +34,5 @@ returns-2 c =
 pub emit-any-bx-spec : {M : Type 1} → statement M
 emit-any-bx-spec =
     tie.close
-    (tie.spec
-    is-native-exit-requires
-    with-cost-requires
-    leave-by-bx-requires
-    emit-straight-requires
-    same-length
-    returns
-    same-length-2
+    (tie.spec (search needs) (search needs) (search needs) (search needs) (search needs) returns (search needs)
     returns-2)

@@ -11,24 +11,6 @@ use borrow.Author.Needs.{needs}
 use Rattle.emit_instr.proofs.instr.emit_block_mem.Statement.{statement}
 use Rattle.emit_instr.proofs.instr.emit_block_mem.Tie as tie
 
-is-al-requires : tie.Need-is-al-requires
-is-al-requires c κs = search needs
-
-is-pop-requires : tie.Need-is-pop-requires
-is-pop-requires c κs = search needs
-
-with-cost-requires : tie.Need-with-cost-requires
-with-cost-requires c κs = search needs
-
-leave-by-pop-requires : tie.Need-leave-by-pop-requires
-leave-by-pop-requires c κs = search needs
-
-emit-straight-requires : tie.Need-emit-straight-requires
-emit-straight-requires c κs = search needs
-
-same-length : tie.Need-same-length
-same-length c = search needs
-
 returns : tie.Need-returns
 returns c =
     let c2 = c .before .before in
@@ -39,9 +21,6 @@ returns c =
     (ap (λ (n : ℕ). (Form.native (emitPop (a .thumb) n (a .rn) (listed (a .rlist) 15)), 0)) (c2 .before .with-cost .ensures g)
     ∙ chosen (isPop (a .region) (a .x .instr) (a .load) (a .rn) (a .rlist) (a .pre) (a .up) (a .s-bit) (a .writeback)) _ (emitStraight (a .thumb) true (a .cycles) (a .x)) (sym (c1 .before .is-pop .ensures (a .x .instr) (c1 .before .before .is-al .ensures)) ∙ c1 .if1 .taken))
     (c2 .leave-by-pop .ensures ks b j fs)
-
-same-length-2 : tie.Need-same-length-2
-same-length-2 c = search needs
 
 returns-2 : tie.Need-returns-2
 returns-2 c =
@@ -55,13 +34,5 @@ returns-2 c =
 pub emit-block-mem-spec : {M : Type 1} → statement M
 emit-block-mem-spec =
     tie.close
-    (tie.spec
-    is-al-requires
-    is-pop-requires
-    with-cost-requires
-    leave-by-pop-requires
-    emit-straight-requires
-    same-length
-    returns
-    same-length-2
-    returns-2)
+    (tie.spec (search needs) (search needs) (search needs) (search needs) (search needs) (search needs) returns
+    (search needs) returns-2)

@@ -16,18 +16,6 @@ use borrow.Author.Needs.{needs}
 use Rattle.emit_instr.proofs.shells.put_shell.Statement.{statement}
 use Rattle.emit_instr.proofs.shells.put_shell.Tie as tie
 
-emit-last-shell-requires : tie.Need-emit-last-shell-requires
-emit-last-shell-requires c κs = search needs
-
-fall-through-requires : tie.Need-fall-through-requires
-fall-through-requires c κs = search needs
-
-emit-shell-requires : tie.Need-emit-shell-requires
-emit-shell-requires c κs = search needs
-
-same-length : tie.Need-same-length
-same-length c = search needs
-
 returns : tie.Need-returns
 returns c =
     let c2 = c .before .before in
@@ -36,9 +24,6 @@ returns c =
     let t : Lines = flushTicks (a .cycles) ++ apart (setWord 15 (a .i .addr) ∷ []) in
     λ high ks b j fs h.
     last-step ks b j high (a .last) t (fallThrough (a .thumb) (a .i)) fs h (c1 .if1 .taken) (c2 .emit-last-shell .ensures (bodyKey b) j)
-
-same-length-2 : tie.Need-same-length-2
-same-length-2 c = search needs
 
 returns-2 : tie.Need-returns-2
 returns-2 c =
@@ -54,11 +39,4 @@ returns-2 c =
 pub put-shell-spec : {M : Type 1} → statement M
 put-shell-spec =
     tie.close
-    (tie.spec
-    emit-last-shell-requires
-    fall-through-requires
-    emit-shell-requires
-    same-length
-    returns
-    same-length-2
-    returns-2)
+    (tie.spec (search needs) (search needs) (search needs) (search needs) returns (search needs) returns-2)

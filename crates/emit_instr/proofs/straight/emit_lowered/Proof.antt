@@ -10,18 +10,6 @@ use borrow.Author.Needs.{needs}
 use Rattle.emit_instr.proofs.straight.emit_lowered.Statement.{statement}
 use Rattle.emit_instr.proofs.straight.emit_lowered.Tie as tie
 
-put-ticks-requires : tie.Need-put-ticks-requires
-put-ticks-requires c κs = search needs
-
-put-lowered-requires : tie.Need-put-lowered-requires
-put-lowered-requires c κs = search needs
-
-pending-requires : tie.Need-pending-requires
-pending-requires c κs = search needs
-
-same-length : tie.Need-same-length
-same-length c = search needs
-
 returns : tie.Need-returns
 returns c =
     let c2 = c .before .before .before in
@@ -36,6 +24,4 @@ returns c =
     }
 
 pub emit-lowered-spec : {M : Type 1} → statement M
-emit-lowered-spec =
-    tie.close
-    (tie.spec put-ticks-requires put-lowered-requires pending-requires same-length returns)
+emit-lowered-spec = tie.close (tie.spec (search needs) (search needs) (search needs) (search needs) returns)

@@ -9,18 +9,6 @@ use borrow.Author.Needs.{needs}
 use Rattle.emit_instr.proofs.straight.emit_straight.Statement.{statement}
 use Rattle.emit_instr.proofs.straight.emit_straight.Tie as tie
 
-is-inlined-requires : tie.Need-is-inlined-requires
-is-inlined-requires c κs = search needs
-
-emit-lowered-requires : tie.Need-emit-lowered-requires
-emit-lowered-requires c κs = search needs
-
-emit-interpreted-requires : tie.Need-emit-interpreted-requires
-emit-interpreted-requires c κs = search needs
-
-same-length : tie.Need-same-length
-same-length c = search needs
-
 returns : tie.Need-returns
 returns c =
     let c2 = c .before .before in
@@ -30,9 +18,6 @@ returns c =
     λ ks b j fs h g.
     same-form (emitLines (a .thumb) (a .bus) (a .cycles) (a .x) (some (body .0))) _ (ap (emitLines (a .thumb) (a .bus) (a .cycles) (a .x)) (sym (body .1)))
     (c2 .emit-lowered .ensures (body .0) (body .1) ks b j fs g)
-
-same-length-2 : tie.Need-same-length-2
-same-length-2 c = search needs
 
 returns-2 : tie.Need-returns-2
 returns-2 c =
@@ -47,11 +32,4 @@ returns-2 c =
 pub emit-straight-spec : {M : Type 1} → statement M
 emit-straight-spec =
     tie.close
-    (tie.spec
-    is-inlined-requires
-    emit-lowered-requires
-    emit-interpreted-requires
-    same-length
-    returns
-    same-length-2
-    returns-2)
+    (tie.spec (search needs) (search needs) (search needs) (search needs) returns (search needs) returns-2)

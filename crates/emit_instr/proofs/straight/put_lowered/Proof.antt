@@ -4,26 +4,11 @@ use borrow.Author.Needs.{needs}
 use Rattle.emit_instr.proofs.straight.put_lowered.Statement.{statement}
 use Rattle.emit_instr.proofs.straight.put_lowered.Tie as tie
 
-is-al-requires : tie.Need-is-al-requires
-is-al-requires c κs = search needs
-
-put-straight-requires : tie.Need-put-straight-requires
-put-straight-requires c κs = search needs
-
-put-holds-requires : tie.Need-put-holds-requires
-put-holds-requires c κs = search needs
-
-same-length : tie.Need-same-length
-same-length c = search needs
-
 returns : tie.Need-returns
 returns c =
     let c2 = c .before .before in
     let c1 = c2 .before .before in
     λ body e. rw (sym (c1 .before .is-al .ensures) ∙ c1 .if1 .taken) (c2 .put-straight .ensures body e)
-
-same-length-2 : tie.Need-same-length-2
-same-length-2 c = search needs
 
 returns-2 : tie.Need-returns-2
 returns-2 c =
@@ -34,11 +19,4 @@ returns-2 c =
 pub put-lowered-spec : {M : Type 1} → statement M
 put-lowered-spec =
     tie.close
-    (tie.spec
-    is-al-requires
-    put-straight-requires
-    put-holds-requires
-    same-length
-    returns
-    same-length-2
-    returns-2)
+    (tie.spec (search needs) (search needs) (search needs) (search needs) returns (search needs) returns-2)

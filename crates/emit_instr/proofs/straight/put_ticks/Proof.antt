@@ -4,12 +4,6 @@ use borrow.Author.Needs.{needs}
 use Rattle.emit_instr.proofs.straight.put_ticks.Statement.{statement}
 use Rattle.emit_instr.proofs.straight.put_ticks.Tie as tie
 
-flush-ticks-requires : tie.Need-flush-ticks-requires
-flush-ticks-requires c κs = search needs
-
-same-length : tie.Need-same-length
-same-length c = search needs
-
 returns : tie.Need-returns
 returns c =
     let c2 = c .before .before in
@@ -20,4 +14,4 @@ returns-2 c =
     rw (c .if1 .left) (none (search needs) (search needs))
 
 pub put-ticks-spec : {M : Type 1} → statement M
-put-ticks-spec = tie.close (tie.spec flush-ticks-requires same-length returns returns-2)
+put-ticks-spec = tie.close (tie.spec (search needs) (search needs) returns returns-2)

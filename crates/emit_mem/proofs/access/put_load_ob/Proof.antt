@@ -18,9 +18,6 @@ returns-2 c =
     let c1 = c2 .before in
     rw (c1 .if1 .taken, ne-eqb _ _ (c2 .if2 .left), eq-eqb _ _ (c .if3 .taken)) (none (search needs) (search needs))
 
-put-ob-requires : tie.Need-put-ob-requires
-put-ob-requires c κs = search needs
-
 returns-3 : tie.Need-returns-3
 returns-3 c =
     let c4 = c .before .before in
@@ -29,12 +26,9 @@ returns-3 c =
     let c1 = c2 .before in
     rw (c1 .if1 .taken, ne-eqb _ _ (c2 .if2 .left), ne-eqb _ _ (c3 .if3 .left)) (said (c4 .put-ob .ensures) refl)
 
-same-length : tie.Need-same-length
-same-length c = kept (returns-3 c)
-
 returns-4 : tie.Need-returns-4
 returns-4 c =
     rw (c .if1 .left) (none (search needs) (search needs))
 
 pub put-load-ob-spec : {M : Type 1} → statement M
-put-load-ob-spec = tie.close (tie.spec returns returns-2 put-ob-requires same-length returns-3 returns-4)
+put-load-ob-spec = tie.close (tie.spec returns returns-2 (search needs) (λ c. kept (returns-3 c)) returns-3 returns-4)

@@ -13,12 +13,6 @@ use Rattle.text.proofs.Laws.{seq, said, kept}
 use Rattle.emit_mem.proofs.access.put_mem_load.Statement.{statement}
 use Rattle.emit_mem.proofs.access.put_mem_load.Tie as tie
 
-put-load-ob-requires : tie.Need-put-load-ob-requires
-put-load-ob-requires c κs = search needs
-
-put-load-line-requires : tie.Need-put-load-line-requires
-put-load-line-requires c κs = search needs
-
 returns : tie.Need-returns
 returns c =
     let c2 = c .before .before in
@@ -28,8 +22,5 @@ returns c =
     let load : List Plain = setReg (a .rd) (loaded (a .width) (a .signed)) ∷ [] in
     said (seq (c1 .put-load-ob .ensures) (c2 .put-load-line .ensures)) (apart-both 8 back load)
 
-same-length : tie.Need-same-length
-same-length c = kept (returns c)
-
 pub put-mem-load-spec : {M : Type 1} → statement M
-put-mem-load-spec = tie.close (tie.spec put-load-ob-requires put-load-line-requires same-length returns)
+put-mem-load-spec = tie.close (tie.spec (search needs) (search needs) (λ c. kept (returns c)) returns)

@@ -13,12 +13,6 @@ use Rattle.text.proofs.Laws.{seq, said, kept}
 use Rattle.emit_mem.proofs.access.put_mem_store.Statement.{statement}
 use Rattle.emit_mem.proofs.access.put_mem_store.Tie as tie
 
-put-store-line-requires : tie.Need-put-store-line-requires
-put-store-line-requires c κs = search needs
-
-put-store-ob-requires : tie.Need-put-store-ob-requires
-put-store-ob-requires c κs = search needs
-
 returns : tie.Need-returns
 returns c =
     let c2 = c .before .before in
@@ -28,8 +22,5 @@ returns c =
     let back : List Plain = only (a .wb && not (eqb (a .rn) 15)) (setReg (a .rn) (v32 x-ob)) in
     said (seq (c1 .put-store-line .ensures) (c2 .put-store-ob .ensures)) (apart-both 8 store back)
 
-same-length : tie.Need-same-length
-same-length c = kept (returns c)
-
 pub put-mem-store-spec : {M : Type 1} → statement M
-put-mem-store-spec = tie.close (tie.spec put-store-line-requires put-store-ob-requires same-length returns)
+put-mem-store-spec = tie.close (tie.spec (search needs) (search needs) (λ c. kept (returns c)) returns)

@@ -12,9 +12,6 @@ returns c =
     let c1 = c .before in
     rw (c1 .if1 .taken, eq-eqb _ _ (c .if2 .taken)) (none (search needs) (search needs))
 
-put-ob-requires : tie.Need-put-ob-requires
-put-ob-requires c κs = search needs
-
 returns-2 : tie.Need-returns-2
 returns-2 c =
     let c3 = c .before .before in
@@ -22,12 +19,9 @@ returns-2 c =
     let c1 = c2 .before in
     rw (c1 .if1 .taken, ne-eqb _ _ (c2 .if2 .left)) (said (c3 .put-ob .ensures) refl)
 
-same-length : tie.Need-same-length
-same-length c = kept (returns-2 c)
-
 returns-3 : tie.Need-returns-3
 returns-3 c =
     rw (c .if1 .left) (none (search needs) (search needs))
 
 pub put-store-ob-spec : {M : Type 1} → statement M
-put-store-ob-spec = tie.close (tie.spec returns put-ob-requires same-length returns-2 returns-3)
+put-store-ob-spec = tie.close (tie.spec returns (search needs) (λ c. kept (returns-2 c)) returns-2 returns-3)

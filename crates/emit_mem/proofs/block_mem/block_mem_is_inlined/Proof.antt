@@ -16,9 +16,6 @@ returns-2 c = rw (c .before .if1 .left, eq-eqb _ _ (c .if2 .taken)) refl
 returns-3 : tie.Need-returns-3
 returns-3 c = rw (c .before .before .if1 .left, ne-eqb _ _ (c .before .if2 .left), eq-eqb _ _ (c .if3 .taken)) refl
 
-is-listed-requires : tie.Need-is-listed-requires
-is-listed-requires c = search needs
-
 returns-4 : tie.Need-returns-4
 returns-4 c =
     let t = c .before in
@@ -30,4 +27,4 @@ returns-5 c =
     rw (c .before .before .before .if1 .left, ne-eqb _ _ (c .before .before .if2 .left), ne-eqb _ _ (c .before .if3 .left), c .if4 .left) refl
 
 pub block-mem-is-inlined-spec : {M : Type 1} → statement M
-block-mem-is-inlined-spec = tie.close (tie.spec returns returns-2 returns-3 is-listed-requires returns-4 returns-5)
+block-mem-is-inlined-spec = tie.close (tie.spec returns returns-2 returns-3 (search needs) returns-4 returns-5)

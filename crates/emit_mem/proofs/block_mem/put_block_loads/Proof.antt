@@ -12,15 +12,6 @@ use Rattle.text.proofs.Laws.{seq, said, kept}
 use Rattle.emit_mem.proofs.block_mem.put_block_loads.Statement.{statement}
 use Rattle.emit_mem.proofs.block_mem.put_block_loads.Tie as tie
 
-is-listed-requires : tie.Need-is-listed-requires
-is-listed-requires c κs = search needs
-
-put-load-back-requires : tie.Need-put-load-back-requires
-put-load-back-requires c κs = search needs
-
-put-loads-requires : tie.Need-put-loads-requires
-put-loads-requires c κs = search needs
-
 returns : tie.Need-returns
 returns c =
     let c3 = c .before .before in
@@ -31,8 +22,5 @@ returns c =
     let rest : Lines = loads (listed (a .rlist) 16) in
     rw (sym (c1 .is-listed .ensures)) (said (seq (c2 .put-load-back .ensures) (c3 .put-loads .ensures)) (lines-both 8 back rest end []))
 
-same-length : tie.Need-same-length
-same-length c = kept (returns c)
-
 pub put-block-loads-spec : {M : Type 1} → statement M
-put-block-loads-spec = tie.close (tie.spec is-listed-requires put-load-back-requires put-loads-requires same-length returns)
+put-block-loads-spec = tie.close (tie.spec (search needs) (search needs) (search needs) (λ c. kept (returns c)) returns)

@@ -14,15 +14,6 @@ use Rattle.text.proofs.Laws.{seq, said, kept}
 use Rattle.emit_mem.proofs.block_mem.put_block_mem.Statement.{statement}
 use Rattle.emit_mem.proofs.block_mem.put_block_mem.Tie as tie
 
-bytes-listed-requires : tie.Need-bytes-listed-requires
-bytes-listed-requires c κs = search needs
-
-put-block-base-requires : tie.Need-put-block-base-requires
-put-block-base-requires c κs = search needs
-
-put-transfers-requires : tie.Need-put-transfers-requires
-put-transfers-requires c κs = search needs
-
 returns : tie.Need-returns
 returns c =
     let c3 = c .before .before in
@@ -35,8 +26,5 @@ returns c =
     transfers (a .load) (a .i) (a .rn) (a .writeback) (names (a .rlist) (a .rn)) (movedBase (a .up) total) (listed (a .rlist) 16) in
     rw (sym (c1 .bytes-listed .ensures .0)) (said (seq (c2 .put-block-base .ensures) (c3 .put-transfers .ensures)) (lines-both 8 first rest end []))
 
-same-length : tie.Need-same-length
-same-length c = kept (returns c)
-
 pub put-block-mem-spec : {M : Type 1} → statement M
-put-block-mem-spec = tie.close (tie.spec bytes-listed-requires put-block-base-requires put-transfers-requires same-length returns)
+put-block-mem-spec = tie.close (tie.spec (search needs) (search needs) (search needs) (λ c. kept (returns c)) returns)

@@ -11,15 +11,6 @@ use Rattle.text.proofs.Laws.{seq, said, kept}
 use Rattle.emit_mem.proofs.block_mem.put_block_stores.Statement.{statement}
 use Rattle.emit_mem.proofs.block_mem.put_block_stores.Tie as tie
 
-lowest-listed-requires : tie.Need-lowest-listed-requires
-lowest-listed-requires c κs = search needs
-
-put-stores-requires : tie.Need-put-stores-requires
-put-stores-requires c κs = search needs
-
-put-store-back-requires : tie.Need-put-store-back-requires
-put-store-back-requires c κs = search needs
-
 returns : tie.Need-returns
 returns c =
     let c3 = c .before .before in
@@ -30,8 +21,7 @@ returns c =
     let back : Lines = apart (only (a .writeback) (setReg (a .rn) (movedBase (a .up) (a .total)))) in
     rw (sym (c1 .lowest-listed .ensures)) (said (seq (c2 .put-stores .ensures) (c3 .put-store-back .ensures)) (lines-both 8 first back end []))
 
-same-length : tie.Need-same-length
-same-length c = kept (returns c)
-
 pub put-block-stores-spec : {M : Type 1} → statement M
-put-block-stores-spec = tie.close (tie.spec lowest-listed-requires put-stores-requires put-store-back-requires same-length returns)
+put-block-stores-spec =
+    tie.close
+    (tie.spec (search needs) (search needs) (search needs) (λ c. kept (returns c)) returns)

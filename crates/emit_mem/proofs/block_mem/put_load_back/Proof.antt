@@ -11,9 +11,6 @@ returns c =
     let c1 = c .before in
     rw (c .if2 .taken, c1 .if1 .taken) (none (search needs) (search needs))
 
-put-write-back-requires : tie.Need-put-write-back-requires
-put-write-back-requires c κs = search needs
-
 returns-2 : tie.Need-returns-2
 returns-2 c =
     let c3 = c .before .before in
@@ -21,12 +18,9 @@ returns-2 c =
     let c1 = c2 .before in
     rw (c2 .if2 .left, c1 .if1 .taken) (said (c3 .put-write-back .ensures) refl)
 
-same-length : tie.Need-same-length
-same-length c = kept (returns-2 c)
-
 returns-3 : tie.Need-returns-3
 returns-3 c =
     rw (c .if1 .left) (none (search needs) (search needs))
 
 pub put-load-back-spec : {M : Type 1} → statement M
-put-load-back-spec = tie.close (tie.spec returns put-write-back-requires same-length returns-2 returns-3)
+put-load-back-spec = tie.close (tie.spec returns (search needs) (λ c. kept (returns-2 c)) returns-2 returns-3)

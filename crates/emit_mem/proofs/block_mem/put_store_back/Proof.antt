@@ -6,21 +6,15 @@ use Rattle.text.proofs.Laws.{none, said, kept}
 use Rattle.emit_mem.proofs.block_mem.put_store_back.Statement.{statement}
 use Rattle.emit_mem.proofs.block_mem.put_store_back.Tie as tie
 
-put-write-back-requires : tie.Need-put-write-back-requires
-put-write-back-requires c κs = search needs
-
 returns : tie.Need-returns
 returns c =
     let c2 = c .before .before in
     let c1 = c2 .before .before in
     rw (c1 .if1 .taken) (said (c2 .put-write-back .ensures) refl)
 
-same-length : tie.Need-same-length
-same-length c = kept (returns c)
-
 returns-2 : tie.Need-returns-2
 returns-2 c =
     rw (c .if1 .left) (none (search needs) (search needs))
 
 pub put-store-back-spec : {M : Type 1} → statement M
-put-store-back-spec = tie.close (tie.spec put-write-back-requires same-length returns returns-2)
+put-store-back-spec = tie.close (tie.spec (search needs) (λ c. kept (returns c)) returns returns-2)

@@ -6,18 +6,6 @@ use Rattle.emit_mem.proofs.Offsets.{ror-inlined}
 use Rattle.emit_mem.proofs.inlined.kind_is_inlined.Statement.{statement}
 use Rattle.emit_mem.proofs.inlined.kind_is_inlined.Tie as tie
 
-enum-told : tie.Need-enum-told
-enum-told c = search needs
-
-enum-told-2 : tie.Need-enum-told-2
-enum-told-2 c = search needs
-
-enum-told-3 : tie.Need-enum-told-3
-enum-told-3 c = search needs
-
-enum-told-4 : tie.Need-enum-told-4
-enum-told-4 c = search needs
-
 returns : tie.Need-returns
 returns c = λ e. rw (c .enum-told .given .1) refl
 
@@ -31,4 +19,6 @@ returns-4 : tie.Need-returns-4
 returns-4 c = λ e. rw (c .enum-told4 .given .1) (ror-inlined e (c .before .before .args .amount))
 
 pub kind-is-inlined-spec : {M : Type 1} → statement M
-kind-is-inlined-spec = tie.close (tie.spec enum-told enum-told-2 enum-told-3 enum-told-4 returns returns-2 returns-3 returns-4)
+kind-is-inlined-spec =
+    tie.close
+    (tie.spec (search needs) (search needs) (search needs) (search needs) returns returns-2 returns-3 returns-4)

@@ -5,15 +5,6 @@ use mathlib.Core.Path.{refl}
 use Rattle.emit_mem.proofs.inlined.offset_is_inlined.Statement.{statement}
 use Rattle.emit_mem.proofs.inlined.offset_is_inlined.Tie as tie
 
-enum-known-offset : tie.Need-enum-known-offset
-enum-known-offset c = search needs
-
-enum-known-offset-2 : tie.Need-enum-known-offset-2
-enum-known-offset-2 c = search needs
-
-shift-is-inlined-requires : tie.Need-shift-is-inlined-requires
-shift-is-inlined-requires c κs = search needs
-
 returns : tie.Need-returns
 returns c = λ i. rw (c .before .offset .given .1) refl
 
@@ -21,4 +12,4 @@ returns-2 : tie.Need-returns-2
 returns-2 c = λ i. rw (c .before .before .offset2 .given .1) (c .shift-is-inlined .ensures i (c .before .before .offset2 .given .0 .0))
 
 pub offset-is-inlined-spec : {M : Type 1} → statement M
-offset-is-inlined-spec = tie.close (tie.spec enum-known-offset enum-known-offset-2 shift-is-inlined-requires returns returns-2)
+offset-is-inlined-spec = tie.close (tie.spec (search needs) (search needs) (search needs) returns returns-2)

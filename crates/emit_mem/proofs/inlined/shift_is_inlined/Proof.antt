@@ -5,15 +5,6 @@ use mathlib.Core.Path.{refl}
 use Rattle.emit_mem.proofs.inlined.shift_is_inlined.Statement.{statement}
 use Rattle.emit_mem.proofs.inlined.shift_is_inlined.Tie as tie
 
-enum-known-shift : tie.Need-enum-known-shift
-enum-known-shift c = search needs
-
-kind-is-inlined-requires : tie.Need-kind-is-inlined-requires
-kind-is-inlined-requires c κs = search needs
-
-enum-known-shift-2 : tie.Need-enum-known-shift-2
-enum-known-shift-2 c = search needs
-
 returns : tie.Need-returns
 returns c = λ i rm. rw (c .before .before .shift .given .1) (c .kind-is-inlined .ensures _)
 
@@ -21,4 +12,4 @@ returns-2 : tie.Need-returns-2
 returns-2 c = λ i rm. rw (c .before .shift2 .given .1) refl
 
 pub shift-is-inlined-spec : {M : Type 1} → statement M
-shift-is-inlined-spec = tie.close (tie.spec enum-known-shift kind-is-inlined-requires enum-known-shift-2 returns returns-2)
+shift-is-inlined-spec = tie.close (tie.spec (search needs) (search needs) (search needs) returns returns-2)

@@ -6,18 +6,6 @@ use Rattle.text.proofs.Laws.{seq, said, kept}
 use Rattle.emit_mem.proofs.mem.put_address.Statement.{statement}
 use Rattle.emit_mem.proofs.mem.put_address.Tie as tie
 
-pc-value-requires : tie.Need-pc-value-requires
-pc-value-requires c κs = search needs
-
-put-base-line-requires : tie.Need-put-base-line-requires
-put-base-line-requires c κs = search needs
-
-put-ob-line-requires : tie.Need-put-ob-line-requires
-put-ob-line-requires c κs = search needs
-
-put-addr-line-requires : tie.Need-put-addr-line-requires
-put-addr-line-requires c κs = search needs
-
 returns : tie.Need-returns
 returns c =
     let c4 = c .before .before in
@@ -27,8 +15,7 @@ returns c =
     let ob = rw (c1 .pc-value .ensures) at (c3 .put-ob-line .ensures) in
     said (seq (c2 .put-base-line .ensures) (seq ob (c4 .put-addr-line .ensures))) refl
 
-same-length : tie.Need-same-length
-same-length c = kept (returns c)
-
 pub put-address-spec : {M : Type 1} → statement M
-put-address-spec = tie.close (tie.spec pc-value-requires put-base-line-requires put-ob-line-requires put-addr-line-requires same-length returns)
+put-address-spec =
+    tie.close
+    (tie.spec (search needs) (search needs) (search needs) (search needs) (λ c. kept (returns c)) returns)

@@ -15,9 +15,6 @@ use Rattle.lowering.specs.Block.{lines}
 use Rattle.text.proofs.Laws.{said, kept}
 use Rattle.text.specs.Doc.{flat}
 
-put-mem-lines-requires : tie.Need-put-mem-lines-requires
-put-mem-lines-requires c κs = search needs
-
 returns : tie.Need-returns
 returns c = λ ls e.
     let c1 = c .before .before in
@@ -30,4 +27,4 @@ same-length : tie.Need-same-length
 same-length c = kept (c .before .before .put-mem-lines .ensures)
 
 pub put-mem-spec : {M : Type 1} → statement M
-put-mem-spec = tie.close (tie.spec put-mem-lines-requires same-length returns)
+put-mem-spec = tie.close (tie.spec (search needs) same-length returns)

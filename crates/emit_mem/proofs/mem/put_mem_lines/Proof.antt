@@ -13,15 +13,6 @@ use Rattle.text.proofs.Laws.{seq, said, kept}
 use Rattle.emit_mem.proofs.mem.put_mem_lines.Statement.{statement}
 use Rattle.emit_mem.proofs.mem.put_mem_lines.Tie as tie
 
-writes-back-requires : tie.Need-writes-back-requires
-writes-back-requires c κs = search needs
-
-put-address-requires : tie.Need-put-address-requires
-put-address-requires c κs = search needs
-
-put-access-requires : tie.Need-put-access-requires
-put-access-requires c κs = search needs
-
 returns : tie.Need-returns
 returns c =
     let c3 = c .before .before in
@@ -32,8 +23,5 @@ returns c =
     let rest : Lines = apart (access (a .load) (a .width) (a .signed) (a .rd) (a .rn) (c1 .writes-back .result)) in
     rw (sym (c1 .writes-back .ensures)) (said (seq (c2 .put-address .ensures) (c3 .put-access .ensures)) (lines-both 8 first rest end []))
 
-same-length : tie.Need-same-length
-same-length c = kept (returns c)
-
 pub put-mem-lines-spec : {M : Type 1} → statement M
-put-mem-lines-spec = tie.close (tie.spec writes-back-requires put-address-requires put-access-requires same-length returns)
+put-mem-lines-spec = tie.close (tie.spec (search needs) (search needs) (search needs) (λ c. kept (returns c)) returns)

@@ -17,9 +17,6 @@ use Rattle.armv4t.specs.Cond.{isAl}
 other : (k : Cond) → OneOf (others 16 (14 ∷ [])) (tagOf the-type k) → isAl k ≡ false
 other k o = arm enum (λ k′. isAl k′ ≡ false) (others 16 (14 ∷ [])) k o (λ _. refl, (λ _. refl, (λ _. refl, search depth 16)))
 
-enum-told : tie.Need-enum-told
-enum-told c = search needs
-
 returns : tie.Need-returns
 returns c = rw (c .enum-told .given .1) refl
 
@@ -27,4 +24,4 @@ returns-2 : tie.Need-returns-2
 returns-2 c = sym (other (c .before .args .cond) (c .match .keys2))
 
 pub is-al-spec : {M : Type 1} → statement M
-is-al-spec = tie.close (tie.spec enum-told returns returns-2)
+is-al-spec = tie.close (tie.spec (search needs) returns returns-2)

@@ -8,12 +8,6 @@ use mathlib.Core.Path.{refl, sym, _∙_}
 use Rattle.emit_mem.proofs.pop.is_pop.Statement.{statement}
 use Rattle.emit_mem.proofs.pop.is_pop.Tie as tie
 
-is-upward-load-requires : tie.Need-is-upward-load-requires
-is-upward-load-requires c = search needs
-
-loads-pc-requires : tie.Need-loads-pc-requires
-loads-pc-requires c = search needs
-
 returns : tie.Need-returns
 returns c = λ i e.
     let t = c .before in
@@ -29,4 +23,4 @@ returns-3 : tie.Need-returns-3
 returns-3 c = λ i e. rw (sym (c .before .is-upward-load .ensures) ∙ c .if1 .left) refl
 
 pub is-pop-spec : {M : Type 1} → statement M
-is-pop-spec = tie.close (tie.spec is-upward-load-requires loads-pc-requires returns returns-2 returns-3)
+is-pop-spec = tie.close (tie.spec (search needs) (search needs) returns returns-2 returns-3)

@@ -6,9 +6,6 @@ use mathlib.Core.Path.{refl, sym, _∙_}
 use Rattle.emit_mem.proofs.pop.loads_pc.Statement.{statement}
 use Rattle.emit_mem.proofs.pop.loads_pc.Tie as tie
 
-is-listed-requires : tie.Need-is-listed-requires
-is-listed-requires c = search needs
-
 returns : tie.Need-returns
 returns c = rw (sym (c .before .before .is-listed .ensures) ∙ c .before .if1 .taken, eq-eqb _ _ (c .if2 .taken)) refl
 
@@ -19,4 +16,4 @@ returns-3 : tie.Need-returns-3
 returns-3 c = rw (sym (c .before .is-listed .ensures) ∙ c .if1 .left) refl
 
 pub loads-pc-spec : {M : Type 1} → statement M
-loads-pc-spec = tie.close (tie.spec is-listed-requires returns returns-2 returns-3)
+loads-pc-spec = tie.close (tie.spec (search needs) returns returns-2 returns-3)

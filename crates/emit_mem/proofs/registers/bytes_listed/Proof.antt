@@ -21,18 +21,6 @@ loop-holds : tie.Need-loop-holds Inv-loop μ-loop
 unfolding listed
 loop-holds c = (omega arith, omega arith, refl)
 
-is-listed-requires : tie.Need-is-listed-requires Inv-loop μ-loop
-is-listed-requires c = search needs
-
-add-n : tie.Need-add-n Inv-loop μ-loop
-add-n c = omega arith
-
-add-r : tie.Need-add-r Inv-loop μ-loop
-add-r c = omega arith
-
-loop-less : tie.Need-loop-less Inv-loop μ-loop
-loop-less c = omega arith
-
 loop-again : tie.Need-loop-again Inv-loop μ-loop
 loop-again c =
     let asked = c .before in
@@ -48,4 +36,7 @@ returns c =
     rw (sym e) (c .before .loop .inv .2, c .before .loop .inv .1)
 
 pub bytes-listed-spec : {M : Type 1} → statement M
-bytes-listed-spec = tie.close (tie.spec Inv-loop μ-loop loop-holds is-listed-requires add-n add-r loop-less loop-again returns)
+bytes-listed-spec =
+    tie.close
+    (tie.spec Inv-loop μ-loop loop-holds (search needs) (λ c. omega arith) (λ c. omega arith) (λ c. omega arith)
+    loop-again returns)

@@ -7,16 +7,10 @@ use Rattle.emit_mem.proofs.Listed.{names-past}
 use Rattle.emit_mem.proofs.registers.is_listed.Statement.{statement}
 use Rattle.emit_mem.proofs.registers.is_listed.Tie as tie
 
-shr-result : tie.Need-shr-result
-shr-result c = search needs
-
-returns : tie.Need-returns
-returns c = search needs
-
 returns-2 : tie.Need-returns-2
 returns-2 c =
     let small : c .before .args .rlist < 2 ^ 16 = omega arith in
     names-past (c .before .args .rlist) (c .before .args .r) small (c .if1 .left)
 
 pub is-listed-spec : {M : Type 1} → statement M
-is-listed-spec = tie.close (tie.spec shr-result returns returns-2)
+is-listed-spec = tie.close (tie.spec (search needs) (search needs) returns-2)

@@ -20,19 +20,10 @@ loop-holds : tie.Need-loop-holds Inv-loop μ-loop
 unfolding listed
 loop-holds c = (omega arith, refl)
 
-is-listed-requires : tie.Need-is-listed-requires Inv-loop μ-loop
-is-listed-requires c = search needs
-
 returns : tie.Need-returns Inv-loop μ-loop
 returns c =
     let asked = c .before in
     lowest-is _ _ (asked .before .loop-test .taken) (sym (asked .is-listed .ensures) ∙ c .if1 .taken) (asked .before .before .loop .inv .1)
-
-add-r : tie.Need-add-r Inv-loop μ-loop
-add-r c = omega arith
-
-loop-less : tie.Need-loop-less Inv-loop μ-loop
-loop-less c = omega arith
 
 loop-again : tie.Need-loop-again Inv-loop μ-loop
 loop-again c =
@@ -43,4 +34,7 @@ returns-2 : tie.Need-returns-2 Inv-loop μ-loop
 returns-2 c = lowest-none _ _ (omega arith) (c .before .loop .inv .1)
 
 pub lowest-listed-spec : {M : Type 1} → statement M
-lowest-listed-spec = tie.close (tie.spec Inv-loop μ-loop loop-holds is-listed-requires returns add-r loop-less loop-again returns-2)
+lowest-listed-spec =
+    tie.close
+    (tie.spec Inv-loop μ-loop loop-holds (search needs) returns (λ c. omega arith) (λ c. omega arith) loop-again
+    returns-2)

@@ -6,12 +6,6 @@ use Rattle.text.proofs.Laws.{none, said, kept}
 use Rattle.emit_mem.proofs.transfers.put_listed_load.Statement.{statement}
 use Rattle.emit_mem.proofs.transfers.put_listed_load.Tie as tie
 
-is-listed-requires : tie.Need-is-listed-requires
-is-listed-requires c κs = search needs
-
-put-load-requires : tie.Need-put-load-requires
-put-load-requires c κs = search needs
-
 returns : tie.Need-returns
 returns c =
     let c3 = c .before .before in
@@ -19,13 +13,10 @@ returns c =
     let c1 = c2 .before in
     rw (sym (c1 .is-listed .ensures) ∙ c2 .if1 .taken) (said (c3 .put-load .ensures) refl)
 
-same-length : tie.Need-same-length
-same-length c = kept (returns c)
-
 returns-2 : tie.Need-returns-2
 returns-2 c =
     let c1 = c .before in
     rw (sym (c1 .is-listed .ensures) ∙ c .if1 .left) (none (search needs) (search needs))
 
 pub put-listed-load-spec : {M : Type 1} → statement M
-put-listed-load-spec = tie.close (tie.spec is-listed-requires put-load-requires same-length returns returns-2)
+put-listed-load-spec = tie.close (tie.spec (search needs) (search needs) (λ c. kept (returns c)) returns returns-2)

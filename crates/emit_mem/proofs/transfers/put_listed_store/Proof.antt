@@ -6,12 +6,6 @@ use Rattle.text.proofs.Laws.{none, said, kept}
 use Rattle.emit_mem.proofs.transfers.put_listed_store.Statement.{statement}
 use Rattle.emit_mem.proofs.transfers.put_listed_store.Tie as tie
 
-is-listed-requires : tie.Need-is-listed-requires
-is-listed-requires c κs = search needs
-
-put-store-requires : tie.Need-put-store-requires
-put-store-requires c κs = search needs
-
 returns : tie.Need-returns
 returns c =
     let c3 = c .before .before in
@@ -19,13 +13,10 @@ returns c =
     let c1 = c2 .before in
     rw (sym (c1 .is-listed .ensures) ∙ c2 .if1 .taken) (said (c3 .put-store .ensures) refl)
 
-same-length : tie.Need-same-length
-same-length c = kept (returns c)
-
 returns-2 : tie.Need-returns-2
 returns-2 c =
     let c1 = c .before in
     rw (sym (c1 .is-listed .ensures) ∙ c .if1 .left) (none (search needs) (search needs))
 
 pub put-listed-store-spec : {M : Type 1} → statement M
-put-listed-store-spec = tie.close (tie.spec is-listed-requires put-store-requires same-length returns returns-2)
+put-listed-store-spec = tie.close (tie.spec (search needs) (search needs) (λ c. kept (returns c)) returns returns-2)

@@ -8,15 +8,6 @@ use Rattle.text.proofs.Laws.{seq, said, kept}
 use Rattle.emit_mem.proofs.transfers.put_load.Statement.{statement}
 use Rattle.emit_mem.proofs.transfers.put_load.Tie as tie
 
-put-target-requires : tie.Need-put-target-requires
-put-target-requires c κs = search needs
-
-slice-aggregate-put : tie.Need-slice-aggregate-put
-slice-aggregate-put c = search needs
-
-put-requires : tie.Need-put-requires
-put-requires c κs = search needs
-
 returns : tie.Need-returns
 unfolding decimal numeral
 returns c =
@@ -24,8 +15,5 @@ returns c =
     let c1 = c2 .before .before .before .before .before in
     said (seq (c1 .put-target .ensures) (c2 .put .ensures)) refl
 
-same-length : tie.Need-same-length
-same-length c = kept (returns c)
-
 pub put-load-spec : {M : Type 1} → statement M
-put-load-spec = tie.close (tie.spec put-target-requires slice-aggregate-put put-requires same-length returns)
+put-load-spec = tie.close (tie.spec (search needs) (search needs) (search needs) (λ c. kept (returns c)) returns)

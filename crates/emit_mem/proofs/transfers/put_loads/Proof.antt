@@ -25,15 +25,6 @@ loop-holds : tie.Need-loop-holds Inv-loop μ-loop
 unfolding listed
 loop-holds c = (omega arith, none (search needs) (search needs))
 
-put-listed-load-requires : tie.Need-put-listed-load-requires Inv-loop μ-loop
-put-listed-load-requires c κs = search needs
-
-add-r : tie.Need-add-r Inv-loop μ-loop
-add-r c = omega arith
-
-loop-less : tie.Need-loop-less Inv-loop μ-loop
-loop-less c = omega arith
-
 loop-again : tie.Need-loop-again Inv-loop μ-loop
 loop-again c =
     let b = c .before .before in
@@ -43,8 +34,8 @@ loop-again c =
 returns : tie.Need-returns Inv-loop μ-loop
 returns c = let e : c .before .loop .r ≡ c .before .before .before .args .limit = omega arith in rw (sym e) (c .before .loop .inv .1)
 
-same-length : tie.Need-same-length Inv-loop μ-loop
-same-length c = kept (returns c)
-
 pub put-loads-spec : {M : Type 1} → statement M
-put-loads-spec = tie.close (tie.spec Inv-loop μ-loop loop-holds put-listed-load-requires add-r loop-less loop-again same-length returns)
+put-loads-spec =
+    tie.close
+    (tie.spec Inv-loop μ-loop loop-holds (search needs) (λ c. omega arith) (λ c. omega arith) loop-again
+    (λ c. kept (returns c)) returns)

@@ -8,21 +8,6 @@ use Rattle.text.proofs.Laws.{seq, said, kept}
 use Rattle.emit_mem.proofs.transfers.put_store.Statement.{statement}
 use Rattle.emit_mem.proofs.transfers.put_store.Tie as tie
 
-slice-aggregate-put : tie.Need-slice-aggregate-put
-slice-aggregate-put c = search needs
-
-put-requires : tie.Need-put-requires
-put-requires c κs = search needs
-
-put-stored-requires : tie.Need-put-stored-requires
-put-stored-requires c κs = search needs
-
-slice-aggregate-put-2 : tie.Need-slice-aggregate-put-2
-slice-aggregate-put-2 c = search needs
-
-put-requires-2 : tie.Need-put-requires-2
-put-requires-2 c κs = search needs
-
 returns : tie.Need-returns
 unfolding decimal numeral
 returns c =
@@ -31,8 +16,7 @@ returns c =
     let c1 = c2 .before .before .before .before in
     said (seq (c1 .put .ensures) (seq (c2 .put-stored .ensures) (c3 .put2 .ensures))) refl
 
-same-length : tie.Need-same-length
-same-length c = kept (returns c)
-
 pub put-store-spec : {M : Type 1} → statement M
-put-store-spec = tie.close (tie.spec slice-aggregate-put put-requires put-stored-requires slice-aggregate-put-2 put-requires-2 same-length returns)
+put-store-spec =
+    tie.close
+    (tie.spec (search needs) (search needs) (search needs) (search needs) (search needs) (λ c. kept (returns c)) returns)

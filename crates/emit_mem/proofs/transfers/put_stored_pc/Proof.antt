@@ -6,15 +6,6 @@ use Rattle.text.proofs.Laws.{said, kept}
 use Rattle.emit_mem.proofs.transfers.put_stored_pc.Statement.{statement}
 use Rattle.emit_mem.proofs.transfers.put_stored_pc.Tie as tie
 
-pc-value-requires : tie.Need-pc-value-requires
-pc-value-requires c κs = search needs
-
-wrapping-add-u32-requires : tie.Need-wrapping-add-u32-requires
-wrapping-add-u32-requires c κs = search needs
-
-put-word-requires : tie.Need-put-word-requires
-put-word-requires c κs = search needs
-
 returns : tie.Need-returns
 returns c =
     let c3 = c .before .before in
@@ -22,8 +13,5 @@ returns c =
     let c1 = c2 .before in
     rw (sym (c1 .pc-value .ensures), sym (c2 .wrapping-add-u32 .ensures)) (said (c3 .put-word .ensures) refl)
 
-same-length : tie.Need-same-length
-same-length c = kept (returns c)
-
 pub put-stored-pc-spec : {M : Type 1} → statement M
-put-stored-pc-spec = tie.close (tie.spec pc-value-requires wrapping-add-u32-requires put-word-requires same-length returns)
+put-stored-pc-spec = tie.close (tie.spec (search needs) (search needs) (search needs) (λ c. kept (returns c)) returns)

@@ -5,15 +5,6 @@ use Rattle.text.proofs.Laws.{seq, said, kept}
 use Rattle.emit_operands.proofs.shifts.put_amount.Statement.{statement}
 use Rattle.emit_operands.proofs.shifts.put_amount.Tie as tie
 
-put-around-requires : tie.Need-put-around-requires
-put-around-requires c κs = search needs
-
-put-dec-requires : tie.Need-put-dec-requires
-put-dec-requires c κs = search needs
-
-put-requires : tie.Need-put-requires
-put-requires c κs = search needs
-
 returns : tie.Need-returns
 returns c =
     let c3 = c .before .before in
@@ -21,8 +12,5 @@ returns c =
     let c1 = c2 .before .before .before .before in
     said (seq (c1 .put-around .ensures) (seq (c2 .put-dec .ensures) (c3 .put .ensures))) refl
 
-same-length : tie.Need-same-length
-same-length c = kept (returns c)
-
 pub put-amount-spec : {M : Type 1} → statement M
-put-amount-spec = tie.close (tie.spec put-around-requires put-dec-requires put-requires same-length returns)
+put-amount-spec = tie.close (tie.spec (search needs) (search needs) (search needs) (λ c. kept (returns c)) returns)

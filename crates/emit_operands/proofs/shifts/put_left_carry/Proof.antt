@@ -10,12 +10,6 @@ returns : tie.Need-returns
 returns c =
     rw (c .if1 .taken) (none (search needs) (search needs))
 
-last-out-requires : tie.Need-last-out-requires
-last-out-requires c κs = search needs
-
-put-bit-requires : tie.Need-put-bit-requires
-put-bit-requires c κs = search needs
-
 returns-2 : tie.Need-returns-2
 returns-2 c =
     let c3 = c .before .before in
@@ -23,8 +17,5 @@ returns-2 c =
     let c1 = c2 .before .before in
     said (rw (c2 .last-out .ensures) at (c3 .put-bit .ensures)) (left-carry _ _ (c1 .if1 .left) [])
 
-same-length : tie.Need-same-length
-same-length c = kept (returns-2 c)
-
 pub put-left-carry-spec : {M : Type 1} → statement M
-put-left-carry-spec = tie.close (tie.spec returns last-out-requires put-bit-requires same-length returns-2)
+put-left-carry-spec = tie.close (tie.spec returns (search needs) (search needs) (λ c. kept (returns-2 c)) returns-2)

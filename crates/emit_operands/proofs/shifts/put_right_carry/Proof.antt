@@ -7,15 +7,6 @@ use Rattle.text.proofs.Laws.{said, kept}
 use Rattle.emit_operands.proofs.shifts.put_right_carry.Statement.{statement}
 use Rattle.emit_operands.proofs.shifts.put_right_carry.Tie as tie
 
-slice-aggregate-put-around : tie.Need-slice-aggregate-put-around
-slice-aggregate-put-around c = search needs
-
-slice-aggregate-put-around-2 : tie.Need-slice-aggregate-put-around-2
-slice-aggregate-put-around-2 c = search needs
-
-put-around-requires : tie.Need-put-around-requires
-put-around-requires c κs = search needs
-
 returns : tie.Need-returns
 returns c =
     let c2 = c .before .before in
@@ -23,23 +14,14 @@ returns c =
     let a = c1 .before .before .args in
     rw (c1 .if1 .taken) (said (c2 .put-around .ensures) (sign-carry (regOf (a .pc) (a .rm)) []))
 
-same-length : tie.Need-same-length
-same-length c = kept (returns c)
-
-sub-put-bit : tie.Need-sub-put-bit
-sub-put-bit c = search needs
-
-put-bit-requires : tie.Need-put-bit-requires
-put-bit-requires c κs = search needs
-
 returns-2 : tie.Need-returns-2
 returns-2 c =
     let c2 = c .before .before in
     let c1 = c2 .before .before in
     said (c2 .put-bit .ensures) (right-carry _ _ (c1 .if1 .left) [])
 
-same-length-2 : tie.Need-same-length-2
-same-length-2 c = kept (returns-2 c)
-
 pub put-right-carry-spec : {M : Type 1} → statement M
-put-right-carry-spec = tie.close (tie.spec slice-aggregate-put-around slice-aggregate-put-around-2 put-around-requires same-length returns sub-put-bit put-bit-requires same-length-2 returns-2)
+put-right-carry-spec =
+    tie.close
+    (tie.spec (search needs) (search needs) (search needs) (λ c. kept (returns c)) returns (search needs) (search needs)
+    (λ c. kept (returns-2 c)) returns-2)

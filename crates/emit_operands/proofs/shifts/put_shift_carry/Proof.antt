@@ -12,47 +12,17 @@ use Rattle.text.proofs.Laws.{said, kept}
 use Rattle.emit_operands.proofs.shifts.put_shift_carry.Statement.{statement}
 use Rattle.emit_operands.proofs.shifts.put_shift_carry.Tie as tie
 
-enum-told : tie.Need-enum-told
-enum-told c = search needs
-
-put-left-carry-requires : tie.Need-put-left-carry-requires
-put-left-carry-requires c κs = search needs
-
-enum-told-2 : tie.Need-enum-told-2
-enum-told-2 c = search needs
-
-put-right-carry-requires : tie.Need-put-right-carry-requires
-put-right-carry-requires c κs = search needs
-
-enum-told-3 : tie.Need-enum-told-3
-enum-told-3 c = search needs
-
-put-right-carry-requires-2 : tie.Need-put-right-carry-requires-2
-put-right-carry-requires-2 c κs = search needs
-
-enum-told-4 : tie.Need-enum-told-4
-enum-told-4 c = search needs
-
-put-ror-carry-requires : tie.Need-put-ror-carry-requires
-put-ror-carry-requires c κs = search needs
-
 returns : tie.Need-returns
 returns c =
     let c2 = c .before .before in
     let c1 = c2 .before .before in
     rw (c1 .enum-told .given .1) (said (c2 .put-left-carry .ensures) refl)
 
-same-length : tie.Need-same-length
-same-length c = kept (returns c)
-
 returns-2 : tie.Need-returns-2
 returns-2 c =
     let c2 = c .before .before in
     let c1 = c2 .before .before in
     rw (c1 .enum-told2 .given .1) (said (c2 .put-right-carry .ensures) refl)
-
-same-length-2 : tie.Need-same-length-2
-same-length-2 c = kept (returns-2 c)
 
 returns-3 : tie.Need-returns-3
 returns-3 c =
@@ -62,17 +32,15 @@ returns-3 c =
     rw (c1 .enum-told3 .given .1)
     (said (c2 .put-right-carry2 .ensures) (ap (λ (o : Option Expr). flat (carryText o) []) (asr-carry (regOf (a .pc) (a .rm)) (a .amount))))
 
-same-length-3 : tie.Need-same-length-3
-same-length-3 c = kept (returns-3 c)
-
 returns-4 : tie.Need-returns-4
 returns-4 c =
     let c2 = c .before .before in
     let c1 = c2 .before .before in
     rw (c1 .enum-told4 .given .1) (said (c2 .put-ror-carry .ensures) refl)
 
-same-length-4 : tie.Need-same-length-4
-same-length-4 c = kept (returns-4 c)
-
 pub put-shift-carry-spec : {M : Type 1} → statement M
-put-shift-carry-spec = tie.close (tie.spec enum-told put-left-carry-requires enum-told-2 put-right-carry-requires enum-told-3 put-right-carry-requires-2 enum-told-4 put-ror-carry-requires same-length returns same-length-2 returns-2 same-length-3 returns-3 same-length-4 returns-4)
+put-shift-carry-spec =
+    tie.close
+    (tie.spec (search needs) (search needs) (search needs) (search needs) (search needs) (search needs) (search needs)
+    (search needs) (λ c. kept (returns c)) returns (λ c. kept (returns-2 c)) returns-2 (λ c. kept (returns-3 c))
+    returns-3 (λ c. kept (returns-4 c)) returns-4)

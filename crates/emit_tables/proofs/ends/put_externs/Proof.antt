@@ -25,18 +25,6 @@ abbrev μ-loop : tie.MeasureT-loop
 loop-holds : tie.Need-loop-holds Inv-loop μ-loop
 loop-holds c = (omega arith, none (search needs) (search needs))
 
-block-key-requires : tie.Need-block-key-requires Inv-loop μ-loop
-block-key-requires c κs = search needs
-
-put-extern-requires : tie.Need-put-extern-requires Inv-loop μ-loop
-put-extern-requires c κs = search needs
-
-add-i : tie.Need-add-i Inv-loop μ-loop
-add-i c = omega arith
-
-loop-less : tie.Need-loop-less Inv-loop μ-loop
-loop-less c = omega arith
-
 loop-again : tie.Need-loop-again Inv-loop μ-loop
 loop-again c =
     let put = c .before .before in
@@ -52,10 +40,8 @@ returns c =
     let pre = start .pre in
     each-all (λ (k : ℕ). topText (extern k)) (fileKeys (start .args .file .now)) (c .before .loop .i) (omega (arith, pre .0, file-length _ (pre .1))) (c .before .loop .inv .1)
 
-same-length : tie.Need-same-length Inv-loop μ-loop
-same-length c = kept (returns c)
-
 pub put-externs-spec : {M : Type 1} → statement M
 put-externs-spec =
     tie.close
-    (tie.spec Inv-loop μ-loop loop-holds block-key-requires put-extern-requires add-i loop-less loop-again same-length returns)
+    (tie.spec Inv-loop μ-loop loop-holds (search needs) (search needs) (λ c. omega arith) (λ c. omega arith) loop-again
+    (λ c. kept (returns c)) returns)

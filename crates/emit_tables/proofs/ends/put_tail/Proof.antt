@@ -9,24 +9,6 @@ use Rattle.emit_tables.proofs.Rows.{file-length}
 use Rattle.emit_tables.proofs.ends.put_tail.Statement.{statement}
 use Rattle.emit_tables.proofs.ends.put_tail.Tie as tie
 
-put-externs-requires : tie.Need-put-externs-requires
-put-externs-requires c κs = search needs
-
-put-table-head-requires : tie.Need-put-table-head-requires
-put-table-head-requires c κs = search needs
-
-put-rows-requires : tie.Need-put-rows-requires
-put-rows-requires c κs = search needs
-
-put-table-end-requires : tie.Need-put-table-end-requires
-put-table-end-requires c κs = search needs
-
-put-count-requires : tie.Need-put-count-requires
-put-count-requires c κs = search needs
-
-same-length : tie.Need-same-length
-same-length c = search needs
-
 returns : tie.Need-returns
 returns c = λ bs keys.
     let c5 = c .before .before in
@@ -42,4 +24,4 @@ returns c = λ bs keys.
 pub put-tail-spec : {M : Type 1} → statement M
 put-tail-spec =
     tie.close
-    (tie.spec put-externs-requires put-table-head-requires put-rows-requires put-table-end-requires put-count-requires same-length returns)
+    (tie.spec (λ c κs. search needs) (search needs) (λ c κs. search needs) (search needs) (search needs) (search needs) returns)

@@ -30,26 +30,8 @@ Inv-loop out₀ at file work n p end size q₀ k₀ out q k =
 abbrev μ-loop : tie.MeasureT-loop
 μ-loop out₀ at file work n p end size q₀ k₀ out q k = size - k
 
-sub-size : tie.Need-sub-size Inv-loop μ-loop
-sub-size c = omega arith
-
 loop-holds : tie.Need-loop-holds Inv-loop μ-loop
 loop-holds c = (omega arith, refl, λ limit g is. none (search needs) (search needs))
-
-add-row-key : tie.Need-add-row-key Inv-loop μ-loop
-add-row-key c = omega arith
-
-row-key-requires : tie.Need-row-key-requires Inv-loop μ-loop
-row-key-requires c κs = omega arith
-
-put-case-requires : tie.Need-put-case-requires Inv-loop μ-loop
-put-case-requires c κs = search needs
-
-add-k : tie.Need-add-k Inv-loop μ-loop
-add-k c = omega arith
-
-loop-less : tie.Need-loop-less Inv-loop μ-loop
-loop-less c = omega arith
 
 loop-again : tie.Need-loop-again Inv-loop μ-loop
 loop-again c =
@@ -77,16 +59,5 @@ returns c = λ limit g is bs keys.
 pub put-cases-spec : {M : Type 1} → statement M
 put-cases-spec =
     tie.close
-    (tie.spec
-    Inv-loop
-    μ-loop
-    sub-size
-    loop-holds
-    add-row-key
-    row-key-requires
-    put-case-requires
-    add-k
-    loop-less
-    loop-again
-    same-length
-    returns)
+    (tie.spec Inv-loop μ-loop (λ c. omega arith) loop-holds (λ c. omega arith) (λ c κs. omega arith) (search needs)
+    (λ c. omega arith) (λ c. omega arith) loop-again same-length returns)

@@ -25,29 +25,8 @@ Inv-loop out₀ at file work n p end group size q₀ k₀ t12 out q k =
 abbrev μ-loop : tie.MeasureT-loop
 μ-loop out₀ at file work n p end group size q₀ k₀ t12 out q k = size - k
 
-row-key-requires : tie.Need-row-key-requires Inv-loop μ-loop
-row-key-requires c κs = omega arith
-
-sub-size : tie.Need-sub-size Inv-loop μ-loop
-sub-size c = omega arith
-
 loop-holds : tie.Need-loop-holds Inv-loop μ-loop
 loop-holds c = (omega arith, refl, λ limit g is. none (search needs) (search needs))
-
-add-row-key : tie.Need-add-row-key Inv-loop μ-loop
-add-row-key c = omega arith
-
-row-key-requires-2 : tie.Need-row-key-requires-2 Inv-loop μ-loop
-row-key-requires-2 c κs = omega arith
-
-put-forwarder-requires : tie.Need-put-forwarder-requires Inv-loop μ-loop
-put-forwarder-requires c κs = search needs
-
-add-k : tie.Need-add-k Inv-loop μ-loop
-add-k c = omega arith
-
-loop-less : tie.Need-loop-less Inv-loop μ-loop
-loop-less c = omega arith
 
 loop-again : tie.Need-loop-again Inv-loop μ-loop
 loop-again c =
@@ -64,12 +43,6 @@ loop-again c =
           let inside : k < length (membersOf limit (blocksOf file) g) = omega (arith, group-size is) in
           numbered-more (entry (group .row-key .result)) (groupKeys limit file g) k _ (omega (arith, keys-size is)) (key .row-key2 .ensures _ limit g k (is .ready) (omega (arith, is .first)) inside) (inv .2 limit g is) (put .put-forwarder .ensures),
     )
-
-slice-aggregate-put : tie.Need-slice-aggregate-put Inv-loop μ-loop
-slice-aggregate-put c = search needs
-
-put-requires : tie.Need-put-requires Inv-loop μ-loop
-put-requires c κs = search needs
 
 same-length : tie.Need-same-length Inv-loop μ-loop
 same-length c =
@@ -90,19 +63,6 @@ returns c = λ limit g is b bs keys.
 pub put-forwarders-spec : {M : Type 1} → statement M
 put-forwarders-spec =
     tie.close
-    (tie.spec
-    Inv-loop
-    μ-loop
-    row-key-requires
-    sub-size
-    loop-holds
-    add-row-key
-    row-key-requires-2
-    put-forwarder-requires
-    add-k
-    loop-less
-    loop-again
-    slice-aggregate-put
-    put-requires
-    same-length
-    returns)
+    (tie.spec Inv-loop μ-loop (λ c κs. omega arith) (λ c. omega arith) loop-holds (λ c. omega arith)
+    (λ c κs. omega arith) (search needs) (λ c. omega arith) (λ c. omega arith) loop-again (search needs) (search needs)
+    same-length returns)

@@ -6,25 +6,11 @@ use Rattle.emit_tables.proofs.Rows.{key-found, key-missing}
 use Rattle.emit_tables.proofs.keys.block_key.Statement.{statement}
 use Rattle.emit_tables.proofs.keys.block_key.Tie as tie
 
-block-at-requires : tie.Need-block-at-requires
-block-at-requires c κs = search needs
-
-enum-known-block : tie.Need-enum-known-block
-enum-known-block c = search needs
-
-enum-told : tie.Need-enum-told
-enum-told c = search needs
-
 returns : tie.Need-returns
 returns c = key-missing _ _ (sym (c .before .before .block-at .ensures) ∙ c .enum-told .given .1)
-
-key-of-requires : tie.Need-key-of-requires
-key-of-requires c κs = search needs
 
 returns-2 : tie.Need-returns-2
 returns-2 c = key-found _ _ _ _ (sym (c .before .before .before .before .block-at .ensures) ∙ c .before .before .block .given .1) (c .key-of .ensures)
 
 pub block-key-spec : {M : Type 1} → statement M
-block-key-spec =
-    tie.close
-    (tie.spec block-at-requires enum-known-block enum-told returns key-of-requires returns-2)
+block-key-spec = tie.close (tie.spec (search needs) (search needs) (search needs) returns (search needs) returns-2)

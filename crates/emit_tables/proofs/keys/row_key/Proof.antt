@@ -5,15 +5,9 @@ use Rattle.emit_tables.proofs.Rows.{key-member}
 use Rattle.emit_tables.proofs.keys.row_key.Statement.{statement}
 use Rattle.emit_tables.proofs.keys.row_key.Tie as tie
 
-row-block-requires : tie.Need-row-block-requires
-row-block-requires c κs = search needs
-
-block-key-requires : tie.Need-block-key-requires
-block-key-requires c κs = search needs
-
 returns : tie.Need-returns
 returns c = λ n limit g k ready is inside.
     key-member limit _ g k _ _ (c .block-key .ensures (ready .accepted)) (c .before .row-block .ensures .1 _ n limit g k ready is inside) inside
 
 pub row-key-spec : {M : Type 1} → statement M
-row-key-spec = tie.close (tie.spec row-block-requires block-key-requires returns)
+row-key-spec = tie.close (tie.spec (search needs) (search needs) returns)

@@ -21,12 +21,6 @@ find-unit-requires c κs =
     let ready = c .before .before .before .pre in
     ((ready .room, omega (arith, few-blocks _ _ (ready .accepted), ready .all), ready .all), ready .accepted)
 
-enum-known-e : tie.Need-enum-known-e
-enum-known-e c = search needs
-
-enum-told : tie.Need-enum-told
-enum-told c = search needs
-
 returns : tie.Need-returns
 unfolding describes translatedOf
 returns c = λ w.
@@ -52,9 +46,6 @@ write-unit-requires c κs =
     let is : IsUnit f partLimit (a .max) (a .k) _ = subst (describes f partLimit (a .max) (a .k)) (c .before .before .before .before .e .given .1) (c .before .before .before .before .before .before .find-unit .ensures partLimit ready) in
     ((ready .room, omega (arith, few-blocks _ _ (ready .accepted), ready .all), ready .all, omega (arith, is .takes .end, start-inside ready (is .group + is .size))), ready .accepted)
 
-same-length : tie.Need-same-length
-same-length c = search needs
-
 returns-3 : tie.Need-returns-3
 unfolding describes translatedOf textOf
 returns-3 c = λ w.
@@ -68,12 +59,5 @@ returns-3 c = λ w.
 pub answer-unit-spec : {M : Type 1} → statement M
 answer-unit-spec =
     tie.close
-    (tie.spec
-    find-unit-requires
-    enum-known-e
-    enum-told
-    returns
-    returns-2
-    write-unit-requires
-    same-length
+    (tie.spec find-unit-requires (search needs) (search needs) returns returns-2 write-unit-requires (search needs)
     returns-3)

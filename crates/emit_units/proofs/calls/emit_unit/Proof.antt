@@ -16,9 +16,6 @@ use Rattle.emit_units.proofs.Answers.{cleared-call}
 use Rattle.emit_units.proofs.calls.emit_unit.Statement.{statement}
 use Rattle.emit_units.proofs.calls.emit_unit.Tie as tie
 
-mul-if1 : tie.Need-mul-if1
-mul-if1 c = search needs
-
 returns : tie.Need-returns
 unfolding translatedOf
 returns c =
@@ -33,18 +30,6 @@ prepare-requires c κs =
 
 answer-unit-requires : tie.Need-answer-unit-requires
 answer-unit-requires c κs = c .before .before .before .before .prepare .ensures .ready
-
-mul-clear : tie.Need-mul-clear
-mul-clear c = search needs
-
-clear-requires : tie.Need-clear-requires
-clear-requires c κs = search needs
-
-same-length : tie.Need-same-length
-same-length c = search needs
-
-same-length-2 : tie.Need-same-length-2
-same-length-2 c = search needs
 
 returns-2 : tie.Need-returns-2
 returns-2 c =
@@ -61,13 +46,5 @@ returns-2 c =
 pub emit-unit-spec : {M : Type 1} → statement M
 emit-unit-spec =
     tie.close
-    (tie.spec
-    mul-if1
-    returns
-    prepare-requires
-    answer-unit-requires
-    mul-clear
-    clear-requires
-    same-length
-    same-length-2
-    returns-2)
+    (tie.spec (search needs) returns prepare-requires answer-unit-requires (search needs) (search needs) (search needs)
+    (search needs) returns-2)

@@ -11,12 +11,6 @@ use Rattle.emit_units.specs.Calls.{translatedOf, unitCall}
 use Rattle.emit_units.proofs.calls.unit_of.Statement.{statement}
 use Rattle.emit_units.proofs.calls.unit_of.Tie as tie
 
-check-requires : tie.Need-check-requires
-check-requires c κs = search needs
-
-enum-known-blocks : tie.Need-enum-known-blocks
-enum-known-blocks c = search needs
-
 cast-emit-unit : tie.Need-cast-emit-unit
 cast-emit-unit c =
     let checked = c .before .before .before .before .before .check .ensures in
@@ -28,15 +22,6 @@ emit-unit-requires c κs =
     let checked = c .before .before .before .before .before .check .ensures in
     let given = c .before .before .before .blocks2 .given .1 in
     (accepted-file _ _ checked _ _ given, accepted-blocks _ _ checked _ _ given)
-
-enum-known-number : tie.Need-enum-known-number
-enum-known-number c = search needs
-
-same-length : tie.Need-same-length
-same-length c = search needs
-
-same-length-2 : tie.Need-same-length-2
-same-length-2 c = search needs
 
 returns : tie.Need-returns
 returns c =
@@ -52,13 +37,5 @@ returns-2 c = rw (refused-file _ _ (c .before .before .before .check .ensures) _
 pub unit-of-spec : {M : Type 1} → statement M
 unit-of-spec =
     tie.close
-    (tie.spec
-    check-requires
-    enum-known-blocks
-    cast-emit-unit
-    emit-unit-requires
-    enum-known-number
-    same-length
-    same-length-2
-    returns
-    returns-2)
+    (tie.spec (search needs) (search needs) cast-emit-unit emit-unit-requires (search needs) (search needs)
+    (search needs) returns returns-2)

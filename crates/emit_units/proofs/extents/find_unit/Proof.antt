@@ -18,20 +18,11 @@ abbrev μ-loop : tie.MeasureT-loop
 loop-holds : tie.Need-loop-holds Inv-loop μ-loop
 loop-holds c = (omega arith, omega arith, λ limit ready. reached-none _ limit _)
 
-measure-unit-requires : tie.Need-measure-unit-requires Inv-loop μ-loop
-measure-unit-requires c κs = search needs
-
 returns : tie.Need-returns Inv-loop μ-loop
 unfolding describes
 returns c = λ limit ready.
     let r = c .before .before .before .loop .inv .2 limit ready in
     reached-past r (c .before .measure-unit .ensures .1 limit (r .group) ready (r .within) (r .here)) (c .if1 .taken) _ (omega arith)
-
-add-i : tie.Need-add-i Inv-loop μ-loop
-add-i c = omega arith
-
-loop-less : tie.Need-loop-less Inv-loop μ-loop
-loop-less c = omega arith
 
 loop-again : tie.Need-loop-again Inv-loop μ-loop
 loop-again c =
@@ -43,9 +34,6 @@ loop-again c =
           reached-more r (c .before .measure-unit .ensures .1 limit (r .group) ready (r .within) (r .here)) (c .if1 .left),
     )
 
-measure-unit-requires-2 : tie.Need-measure-unit-requires-2 Inv-loop μ-loop
-measure-unit-requires-2 c κs = search needs
-
 returns-2 : tie.Need-returns-2 Inv-loop μ-loop
 unfolding describes
 returns-2 c = λ limit ready.
@@ -55,14 +43,5 @@ returns-2 c = λ limit ready.
 pub find-unit-spec : {M : Type 1} → statement M
 find-unit-spec =
     tie.close
-    (tie.spec
-    Inv-loop
-    μ-loop
-    loop-holds
-    measure-unit-requires
-    returns
-    add-i
-    loop-less
-    loop-again
-    measure-unit-requires-2
-    returns-2)
+    (tie.spec Inv-loop μ-loop loop-holds (λ c κs. search needs) returns (λ c. omega arith) (λ c. omega arith) loop-again
+    (λ c κs. search needs) returns-2)

@@ -22,17 +22,8 @@ Inv-loop file work n max p at₀ q₀ at q =
 abbrev μ-loop : tie.MeasureT-loop
 μ-loop file work n max p at₀ q₀ at q = n - q
 
-after-preamble-requires : tie.Need-after-preamble-requires Inv-loop μ-loop
-after-preamble-requires c κs = search needs
-
 loop-holds : tie.Need-loop-holds Inv-loop μ-loop
 loop-holds c = (omega arith, λ limit g ready h e. walked-none _ limit _ g _ _ h e (c .after-preamble .ensures))
-
-group-end-requires : tie.Need-group-end-requires Inv-loop μ-loop
-group-end-requires c κs = search needs
-
-after-group-requires : tie.Need-after-group-requires Inv-loop μ-loop
-after-group-requires c κs = search needs
 
 returns : tie.Need-returns Inv-loop μ-loop
 returns c =
@@ -46,9 +37,6 @@ returns c =
           walked-handed ready w (omega arith) _ _ ends long (search needs) _ e (omega arith),
     )
 
-loop-less : tie.Need-loop-less Inv-loop μ-loop
-loop-less c = omega arith
-
 loop-again : tie.Need-loop-again Inv-loop μ-loop
 loop-again c =
     let inv = c .before .before .before .before .loop .inv in
@@ -61,24 +49,11 @@ loop-again c =
           walked-more ready w (omega arith) _ _ ends long (search needs) (omega arith),
     )
 
-after-tail-requires : tie.Need-after-tail-requires Inv-loop μ-loop
-after-tail-requires c κs = search needs
-
 returns-2 : tie.Need-returns-2 Inv-loop μ-loop
 returns-2 c = (c .before .before .loop .inv .0, λ limit g ready h e. walked-end ready (c .before .before .loop .inv .1 limit g ready h e) _ _ e (omega arith) (c .after-tail .ensures))
 
 pub measure-unit-spec : {M : Type 1} → statement M
 measure-unit-spec =
     tie.close
-    (tie.spec
-    Inv-loop
-    μ-loop
-    after-preamble-requires
-    loop-holds
-    group-end-requires
-    after-group-requires
-    returns
-    loop-less
-    loop-again
-    after-tail-requires
-    returns-2)
+    (tie.spec Inv-loop μ-loop (search needs) loop-holds (search needs) (search needs) returns (λ c. omega arith)
+    loop-again (λ c κs. search needs) returns-2)

@@ -15,18 +15,6 @@ use Rattle.emit_units.specs.Groups.{memberText, keysWithin}
 use Rattle.emit_units.proofs.groups.put_code.Statement.{statement}
 use Rattle.emit_units.proofs.groups.put_code.Tie as tie
 
-row-block-requires : tie.Need-row-block-requires
-row-block-requires c κs = search needs
-
-row-group-requires : tie.Need-row-group-requires
-row-group-requires c κs = search needs
-
-emit-block-requires : tie.Need-emit-block-requires
-emit-block-requires c κs = search needs
-
-same-length : tie.Need-same-length
-same-length c = search needs
-
 returns : tie.Need-returns
 returns c = λ limit g k ready is inside some.
     let put = c .before .before in
@@ -50,12 +38,4 @@ returns-2 c = λ limit g k ready is inside some.
     absurd (omega (arith, row-block-inside ready _ g k is inside, c .before .row-block .ensures .0))
 
 pub put-code-spec : {M : Type 1} → statement M
-put-code-spec =
-    tie.close
-    (tie.spec
-    row-block-requires
-    row-group-requires
-    emit-block-requires
-    same-length
-    returns
-    returns-2)
+put-code-spec = tie.close (tie.spec (search needs) (search needs) (search needs) (search needs) returns returns-2)

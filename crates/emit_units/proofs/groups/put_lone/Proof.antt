@@ -15,21 +15,6 @@ use Rattle.emit_units.proofs.Functions.{lone-wrote}
 use Rattle.emit_units.proofs.groups.put_lone.Statement.{statement}
 use Rattle.emit_units.proofs.groups.put_lone.Tie as tie
 
-row-key-requires : tie.Need-row-key-requires
-row-key-requires c κs = search needs
-
-put-block-head-requires : tie.Need-put-block-head-requires
-put-block-head-requires c κs = search needs
-
-put-code-requires : tie.Need-put-code-requires
-put-code-requires c κs = search needs
-
-put-function-end-requires : tie.Need-put-function-end-requires
-put-function-end-requires c κs = search needs
-
-same-length : tie.Need-same-length
-same-length c = search needs
-
 returns : tie.Need-returns
 returns c = λ limit g is.
     let close = c .before .before in
@@ -45,12 +30,4 @@ returns c = λ limit g is.
     (close .put-function-end .ensures)
 
 pub put-lone-spec : {M : Type 1} → statement M
-put-lone-spec =
-    tie.close
-    (tie.spec
-    row-key-requires
-    put-block-head-requires
-    put-code-requires
-    put-function-end-requires
-    same-length
-    returns)
+put-lone-spec = tie.close (tie.spec (search needs) (search needs) (search needs) (search needs) (search needs) returns)

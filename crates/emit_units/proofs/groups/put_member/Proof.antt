@@ -13,21 +13,6 @@ use Rattle.emit_units.proofs.Functions.{member-key}
 use Rattle.emit_units.proofs.groups.put_member.Statement.{statement}
 use Rattle.emit_units.proofs.groups.put_member.Tie as tie
 
-row-key-requires : tie.Need-row-key-requires
-row-key-requires c κs = search needs
-
-put-label-requires : tie.Need-put-label-requires
-put-label-requires c κs = search needs
-
-put-code-requires : tie.Need-put-code-requires
-put-code-requires c κs = search needs
-
-put-member-end-requires : tie.Need-put-member-end-requires
-put-member-end-requires c κs = search needs
-
-same-length : tie.Need-same-length
-same-length c = search needs
-
 returns : tie.Need-returns
 returns c = λ limit g k ready is inside some.
     let close = c .before .before in
@@ -41,10 +26,4 @@ returns c = λ limit g k ready is inside some.
 pub put-member-spec : {M : Type 1} → statement M
 put-member-spec =
     tie.close
-    (tie.spec
-    row-key-requires
-    put-label-requires
-    put-code-requires
-    put-member-end-requires
-    same-length
-    returns)
+    (tie.spec (search needs) (search needs) (search needs) (search needs) (search needs) returns)

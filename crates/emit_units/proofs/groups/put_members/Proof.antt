@@ -28,23 +28,8 @@ Inv-loop out₀ at file work n p end hashing size q₀ k₀ out q k =
 abbrev μ-loop : tie.MeasureT-loop
 μ-loop out₀ at file work n p end hashing size q₀ k₀ out q k = size - k
 
-sub-size : tie.Need-sub-size Inv-loop μ-loop
-sub-size c = omega arith
-
 loop-holds : tie.Need-loop-holds Inv-loop μ-loop
 loop-holds c = (omega arith, refl, λ limit g is some. none (search needs) (search needs))
-
-add-put-member : tie.Need-add-put-member Inv-loop μ-loop
-add-put-member c = omega arith
-
-put-member-requires : tie.Need-put-member-requires Inv-loop μ-loop
-put-member-requires c κs = search needs
-
-add-k : tie.Need-add-k Inv-loop μ-loop
-add-k c = omega arith
-
-loop-less : tie.Need-loop-less Inv-loop μ-loop
-loop-less c = omega arith
 
 loop-again : tie.Need-loop-again Inv-loop μ-loop
 loop-again c =
@@ -76,15 +61,5 @@ returns c = λ limit g is some.
 pub put-members-spec : {M : Type 1} → statement M
 put-members-spec =
     tie.close
-    (tie.spec
-    Inv-loop
-    μ-loop
-    sub-size
-    loop-holds
-    add-put-member
-    put-member-requires
-    add-k
-    loop-less
-    loop-again
-    same-length
-    returns)
+    (tie.spec Inv-loop μ-loop (λ c. omega arith) loop-holds (λ c. omega arith) (search needs) (λ c. omega arith)
+    (λ c. omega arith) loop-again same-length returns)

@@ -15,30 +15,6 @@ use Rattle.emit_units.proofs.Functions.{members-count, several-wrote}
 use Rattle.emit_units.proofs.groups.put_several.Statement.{statement}
 use Rattle.emit_units.proofs.groups.put_several.Tie as tie
 
-row-key-requires : tie.Need-row-key-requires
-row-key-requires c κs = search needs
-
-put-group-head-requires : tie.Need-put-group-head-requires
-put-group-head-requires c κs = search needs
-
-put-cases-requires : tie.Need-put-cases-requires
-put-cases-requires c κs = search needs
-
-put-switch-end-requires : tie.Need-put-switch-end-requires
-put-switch-end-requires c κs = search needs
-
-put-members-requires : tie.Need-put-members-requires
-put-members-requires c κs = search needs
-
-put-function-end-requires : tie.Need-put-function-end-requires
-put-function-end-requires c κs = search needs
-
-put-forwarders-requires : tie.Need-put-forwarders-requires
-put-forwarders-requires c κs = search needs
-
-same-length : tie.Need-same-length
-same-length c = search needs
-
 returns : tie.Need-returns
 returns c = λ limit g is some.
     let c6 = c .before .before in
@@ -60,13 +36,5 @@ returns c = λ limit g is some.
 pub put-several-spec : {M : Type 1} → statement M
 put-several-spec =
     tie.close
-    (tie.spec
-    row-key-requires
-    put-group-head-requires
-    put-cases-requires
-    put-switch-end-requires
-    put-members-requires
-    put-function-end-requires
-    put-forwarders-requires
-    same-length
-    returns)
+    (tie.spec (search needs) (search needs) (search needs) (search needs) (search needs) (search needs) (search needs)
+    (search needs) returns)

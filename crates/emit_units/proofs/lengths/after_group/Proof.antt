@@ -12,12 +12,6 @@ use Rattle.emit_units.specs.Groups.{fileBodies}
 use Rattle.emit_units.proofs.lengths.after_group.Statement.{statement}
 use Rattle.emit_units.proofs.lengths.after_group.Tie as tie
 
-slice-aggregate-emit-group : tie.Need-slice-aggregate-emit-group
-slice-aggregate-emit-group c = search needs
-
-emit-group-requires : tie.Need-emit-group-requires
-emit-group-requires c κs = search needs
-
 returns : tie.Need-returns
 unfolding textOf
 returns c = λ limit g is.
@@ -26,4 +20,4 @@ returns c = λ limit g is.
     c .before .emit-group .ensures limit g is .next ∙ ap (λ (m : ℕ). min (a .at + m) top) (measured-length (bodiesOf (fileBodies f) (membersOf limit (blocksOf f) g)))
 
 pub after-group-spec : {M : Type 1} → statement M
-after-group-spec = tie.close (tie.spec slice-aggregate-emit-group emit-group-requires returns)
+after-group-spec = tie.close (tie.spec (search needs) (search needs) returns)

@@ -9,12 +9,6 @@ use Rattle.emit_units.specs.Groups.{fileBodies}
 use Rattle.emit_units.proofs.lengths.after_tail.Statement.{statement}
 use Rattle.emit_units.proofs.lengths.after_tail.Tie as tie
 
-slice-aggregate-put-tail : tie.Need-slice-aggregate-put-tail
-slice-aggregate-put-tail c = search needs
-
-put-tail-requires : tie.Need-put-tail-requires
-put-tail-requires c κs = search needs
-
 returns : tie.Need-returns
 unfolding textOf
 returns c =
@@ -22,4 +16,4 @@ returns c =
     c .before .put-tail .ensures (fileBodies f) (body-keys hashMultiplier (blocksOf f)) .next
 
 pub after-tail-spec : {M : Type 1} → statement M
-after-tail-spec = tie.close (tie.spec slice-aggregate-put-tail put-tail-requires returns)
+after-tail-spec = tie.close (tie.spec (search needs) (λ c κs. search needs) returns)

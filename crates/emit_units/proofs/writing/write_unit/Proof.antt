@@ -9,18 +9,6 @@ use Rattle.emit_units.proofs.Written.{unit-handed, unit-last}
 use Rattle.emit_units.proofs.writing.write_unit.Statement.{statement}
 use Rattle.emit_units.proofs.writing.write_unit.Tie as tie
 
-put-preamble-requires : tie.Need-put-preamble-requires
-put-preamble-requires c κs = search needs
-
-put-groups-requires : tie.Need-put-groups-requires
-put-groups-requires c κs = search needs
-
-put-tail-requires : tie.Need-put-tail-requires
-put-tail-requires c κs = search needs
-
-same-length : tie.Need-same-length
-same-length c = search needs
-
 returns : tie.Need-returns
 returns c = λ limit max k ready is.
     let groups = c .before .before .before .before .before .before .before in
@@ -30,9 +18,6 @@ returns c = λ limit max k ready is.
     unit-last f limit (is .group) (is .size) (is .unit .tree) (a .e .last) (is .tree) (head .put-preamble .ensures)
     (groups .put-groups .ensures limit (is .group) (is .size) ready (is .takes)) (c .before .before .before .before .if1 .taken)
     (c .before .before .put-tail .ensures (fileBodies f) (body-keys hashMultiplier (blocksOf f)))
-
-same-length-2 : tie.Need-same-length-2
-same-length-2 c = search needs
 
 returns-2 : tie.Need-returns-2
 returns-2 c = λ limit max k ready is.
@@ -46,11 +31,4 @@ returns-2 c = λ limit max k ready is.
 pub write-unit-spec : {M : Type 1} → statement M
 write-unit-spec =
     tie.close
-    (tie.spec
-    put-preamble-requires
-    put-groups-requires
-    put-tail-requires
-    same-length
-    returns
-    same-length-2
-    returns-2)
+    (tie.spec (search needs) (search needs) (λ c κs. search needs) (search needs) returns (search needs) returns-2)

@@ -8,60 +8,6 @@ use borrow.Author.Needs.{needs}
 use Rattle.instr_records.proofs.decode.op.Statement.{statement}
 use Rattle.instr_records.proofs.decode.op.Tie as tie
 
-shared-slice-read-kind : tie.Need-shared-slice-read-kind
-shared-slice-read-kind c = search needs
-
-alu-requires : tie.Need-alu-requires
-alu-requires c κs = search needs
-
-mul-requires : tie.Need-mul-requires
-mul-requires c κs = search needs
-
-mul-long-requires : tie.Need-mul-long-requires
-mul-long-requires c κs = search needs
-
-free-requires : tie.Need-free-requires
-free-requires c κs = search needs
-
-add-t7 : tie.Need-add-t7
-add-t7 c = search needs
-
-shared-slice-read-t9 : tie.Need-shared-slice-read-t9
-shared-slice-read-t9 c = search needs
-
-add-t10 : tie.Need-add-t10
-add-t10 c = search needs
-
-shared-slice-read-t12 : tie.Need-shared-slice-read-t12
-shared-slice-read-t12 c = search needs
-
-add-word : tie.Need-add-word
-add-word c = search needs
-
-word-requires : tie.Need-word-requires
-word-requires c κs = search needs
-
-add-word-2 : tie.Need-add-word-2
-add-word-2 c = search needs
-
-word-requires-2 : tie.Need-word-requires-2
-word-requires-2 c κs = search needs
-
-add-half : tie.Need-add-half
-add-half c = search needs
-
-half-requires : tie.Need-half-requires
-half-requires c κs = search needs
-
-mem-requires : tie.Need-mem-requires
-mem-requires c κs = search needs
-
-block-mem-requires : tie.Need-block-mem-requires
-block-mem-requires c κs = search needs
-
-free-requires-2 : tie.Need-free-requires-2
-free-requires-2 c κs = search needs
-
 returns : tie.Need-returns
 unfolding opAt
 returns c = c .alu .ensures ∙ sym (rw (c .before .match .keys1))
@@ -109,33 +55,7 @@ returns-11 c = c .free2 .ensures ∙ sym (List·getD-eq-default (opsAt _ _) (fre
 pub op-spec : {M : Type 1} → statement M
 op-spec =
     tie.close
-    (tie.spec
-    shared-slice-read-kind
-    alu-requires
-    mul-requires
-    mul-long-requires
-    free-requires
-    add-t7
-    shared-slice-read-t9
-    add-t10
-    shared-slice-read-t12
-    add-word
-    word-requires
-    add-word-2
-    word-requires-2
-    add-half
-    half-requires
-    mem-requires
-    block-mem-requires
-    free-requires-2
-    returns
-    returns-2
-    returns-3
-    returns-4
-    returns-5
-    returns-6
-    returns-7
-    returns-8
-    returns-9
-    returns-10
-    returns-11)
+    (tie.spec (search needs) (search needs) (search needs) (search needs) (search needs) (search needs) (search needs)
+    (search needs) (search needs) (search needs) (search needs) (search needs) (search needs) (search needs)
+    (search needs) (search needs) (search needs) (search needs) returns returns-2 returns-3 returns-4 returns-5
+    returns-6 returns-7 returns-8 returns-9 returns-10 returns-11)

@@ -16,14 +16,8 @@ from-two (suc zero) h = absurd (not-suc-le-zero (le-of-suc-le-suc h))
 from-two (suc (suc zero)) h = refl
 from-two (suc (suc (suc n))) h = refl
 
-returns : tie.Need-returns
-returns c = search needs
-
-returns-2 : tie.Need-returns-2
-returns-2 c = search needs
-
 returns-3 : tie.Need-returns-3
 returns-3 c = sym (from-two _ (next (next zero-le (c .match .rest .0 .1)) (c .match .rest .1)))
 
 pub width-spec : {M : Type 1} → statement M
-width-spec = tie.close (tie.spec returns returns-2 returns-3)
+width-spec = tie.close (tie.spec (λ c. search needs) (λ c. search needs) returns-3)

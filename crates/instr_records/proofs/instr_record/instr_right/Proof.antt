@@ -10,21 +10,6 @@ use Rattle.instr_records.proofs.Rows.{all-long, row-of, out-of-range, i
 use Rattle.instr_records.proofs.instr_record.instr_right.Statement.{statement}
 use Rattle.instr_records.proofs.instr_record.instr_right.Tie as tie
 
-shared-slice-read-row-number : tie.Need-shared-slice-read-row-number
-shared-slice-read-row-number c = search needs
-
-add-row-number : tie.Need-add-row-number
-add-row-number c = search needs
-
-shared-slice-read-row-number-2 : tie.Need-shared-slice-read-row-number-2
-shared-slice-read-row-number-2 c = search needs
-
-row-number-requires : tie.Need-row-number-requires
-row-number-requires c κs = search needs
-
-mul-within : tie.Need-mul-within
-mul-within c = search needs
-
 within-requires : tie.Need-within-requires
 within-requires c κs =
     let pre = c .before .before .before .before .before .pre in
@@ -38,9 +23,6 @@ returns c =
     out-of-range _ _
     (ap (row-within (now (start .args .file)) (start .args .at)) (sym row) ∙ sym (c .before .within .ensures) ∙ not-true _ (c .if1 .taken))
 
-even-fields-requires : tie.Need-even-fields-requires
-even-fields-requires c κs = search needs
-
 returns-2 : tie.Need-returns-2
 returns-2 c =
     let start = c .before .before .before .before .before .before .before .before in
@@ -53,13 +35,5 @@ returns-2 c =
 pub instr-right-spec : {M : Type 1} → statement M
 instr-right-spec =
     tie.close
-    (tie.spec
-    shared-slice-read-row-number
-    add-row-number
-    shared-slice-read-row-number-2
-    row-number-requires
-    mul-within
-    within-requires
-    returns
-    even-fields-requires
-    returns-2)
+    (tie.spec (search needs) (search needs) (search needs) (search needs) (search needs) within-requires returns
+    (search needs) returns-2)

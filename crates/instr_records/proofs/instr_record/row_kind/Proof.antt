@@ -4,11 +4,8 @@ use Rattle.instr_records.proofs.Rows.{free-kind}
 use Rattle.instr_records.proofs.instr_record.row_kind.Statement.{statement}
 use Rattle.instr_records.proofs.instr_record.row_kind.Tie as tie
 
-returns : tie.Need-returns
-returns c = search needs
-
 returns-2 : tie.Need-returns-2
 returns-2 c = (search needs, λ form. free-kind (c .before .args .kind) form (c .if1 .left))
 
 pub row-kind-spec : {M : Type 1} → statement M
-row-kind-spec = tie.close (tie.spec returns returns-2)
+row-kind-spec = tie.close (tie.spec (λ c. search needs) returns-2)

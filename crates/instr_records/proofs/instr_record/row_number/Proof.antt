@@ -5,21 +5,6 @@ use Rattle.instr_records.proofs.Rows.{numbered}
 use Rattle.instr_records.proofs.instr_record.row_number.Statement.{statement}
 use Rattle.instr_records.proofs.instr_record.row_number.Tie as tie
 
-row-form-requires : tie.Need-row-form-requires
-row-form-requires c κs = search needs
-
-mul-result : tie.Need-mul-result
-mul-result c = search needs
-
-row-kind-requires : tie.Need-row-kind-requires
-row-kind-requires c κs = search needs
-
-add-result : tie.Need-add-result
-add-result c = search needs
-
-cast-result : tie.Need-cast-result
-cast-result c = search needs
-
 returns : tie.Need-returns
 returns c = (
   search needs,
@@ -29,4 +14,4 @@ returns c = (
 pub row-number-spec : {M : Type 1} → statement M
 row-number-spec =
     tie.close
-    (tie.spec row-form-requires mul-result row-kind-requires add-result cast-result returns)
+    (tie.spec (search needs) (search needs) (search needs) (search needs) (search needs) returns)

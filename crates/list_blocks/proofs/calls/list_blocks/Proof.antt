@@ -17,9 +17,6 @@ use lib.ListN.{length}
 use mathlib.Core.Path.{refl, _∙_}
 use native.Mathlib.Omega.{arith}
 
-mul-if1 : tie.Need-mul-if1
-mul-if1 c = search needs
-
 returns : tie.Need-returns
 unfolding listedOf
 returns c = refused-8 (madeListing partLimit) _ (c .before .before .before .before .pre .0) _ (c .before .before .before .before .pre .1) _ _ (omega arith)
@@ -35,15 +32,6 @@ listing-length-requires c κs = let grouped = c .before .before .before .before 
     let put = c .before .before .before .put-groups .ensures in
     ((omega (arith, groups-room grouped put), omega (arith, few-blocks _ _ (c .before .before .before .before .before .before .before .before .before .before .before .before .before .pre .0), c .before .before .before .before .before .before .before .before .before .before .before .before .before .pre .1), c .before .before .before .before .before .before .before .before .before .before .before .before .before .pre .1), (c .before .before .before .before .before .before .before .before .before .before .before .before .before .pre .0, groups-planned grouped put (c .before .before .before .before .before .before .before .before .before .before .before .before .before .pre .0)))
 
-mul-clear : tie.Need-mul-clear
-mul-clear c = search needs
-
-clear-requires : tie.Need-clear-requires
-clear-requires c κs = search needs
-
-same-length : tie.Need-same-length
-same-length c = search needs
-
 returns-2 : tie.Need-returns-2
 unfolding listedOf
 returns-2 c = let grouped = c .before .before .before .before .before .before .before .before .before .before .before .before .before .group-blocks .ensures in
@@ -54,18 +42,6 @@ put-listing-requires : tie.Need-put-listing-requires
 put-listing-requires c κs = let grouped = c .before .before .before .before .before .before .before .before .before .before .before .group-blocks .ensures in
     let put = c .before .before .before .before .before .before .before .put-groups .ensures in
     ((omega (arith, groups-room grouped put), omega (arith, few-blocks _ _ (c .before .before .before .before .before .before .before .before .before .before .before .before .before .before .before .before .before .pre .0), c .before .before .before .before .before .before .before .before .before .before .before .before .before .before .before .before .before .pre .1), c .before .before .before .before .before .before .before .before .before .before .before .before .before .before .before .before .before .pre .1), (c .before .before .before .before .before .before .before .before .before .before .before .before .before .before .before .before .before .pre .0, groups-planned grouped put (c .before .before .before .before .before .before .before .before .before .before .before .before .before .before .before .before .before .pre .0)))
-
-mul-clear-2 : tie.Need-mul-clear-2
-mul-clear-2 c = search needs
-
-clear-requires-2 : tie.Need-clear-requires-2
-clear-requires-2 c κs = search needs
-
-same-length-2 : tie.Need-same-length-2
-same-length-2 c = search needs
-
-same-length-3 : tie.Need-same-length-3
-same-length-3 c = search needs
 
 returns-3 : tie.Need-returns-3
 unfolding listedOf
@@ -78,19 +54,6 @@ returns-3 c = let grouped = c .before .before .before .before .before .before .b
 pub list-blocks-spec : {M : Type 1} → statement M
 list-blocks-spec =
     tie.close
-    (tie.spec
-    mul-if1
-    returns
-    group-blocks-requires
-    put-groups-requires
-    listing-length-requires
-    mul-clear
-    clear-requires
-    same-length
-    returns-2
-    put-listing-requires
-    mul-clear-2
-    clear-requires-2
-    same-length-2
-    same-length-3
-    returns-3)
+    (tie.spec (search needs) returns group-blocks-requires put-groups-requires listing-length-requires (search needs)
+    (search needs) (search needs) returns-2 put-listing-requires (search needs) (search needs) (search needs)
+    (search needs) returns-3)

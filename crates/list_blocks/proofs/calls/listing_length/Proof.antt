@@ -13,14 +13,8 @@ use borrow.Author.Needs.{needs}
 use mathlib.Core.Path.{sym, _∙_, subst}
 use native.Mathlib.Omega.{arith}
 
-slice-aggregate-put-listing : tie.Need-slice-aggregate-put-listing
-slice-aggregate-put-listing c = search needs
-
-put-listing-requires : tie.Need-put-listing-requires
-put-listing-requires c κs = search needs
-
 returns : tie.Need-returns
 returns c = exact (c .before .put-listing .ensures) (subst (λ (k : ℕ). k < top) (sym (counted (c .before .put-listing .ensures))) (omega (arith, listing-short partLimit (blocksOf (c .before .before .before .before .before .args .file .now)) (subst (λ (k : ℕ). k ≤ 65536) (c .before .before .before .before .before .pre .0 .2 ∙ sym (length-of _ _ (c .before .before .before .before .before .pre .1 .0))) (c .before .before .before .before .before .pre .0 .1)))))
 
 pub listing-length-spec : {M : Type 1} → statement M
-listing-length-spec = tie.close (tie.spec slice-aggregate-put-listing put-listing-requires returns)
+listing-length-spec = tie.close (tie.spec (search needs) (λ c κs. search needs) returns)

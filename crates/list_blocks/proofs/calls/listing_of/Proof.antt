@@ -11,12 +11,6 @@ use denote.Ref.{now}
 use mathlib.Core.Path.{sym, ap, _∙_}
 use native.Mathlib.Omega.{arith}
 
-check-requires : tie.Need-check-requires
-check-requires c κs = search needs
-
-enum-known-blocks : tie.Need-enum-known-blocks
-enum-known-blocks c = search needs
-
 cast-list-blocks : tie.Need-cast-list-blocks
 cast-list-blocks c = let checked = c .before .before .before .before .before .check .ensures in
     let given = c .before .before .before .blocks2 .given .1 in
@@ -25,15 +19,6 @@ cast-list-blocks c = let checked = c .before .before .before .before .before .ch
 list-blocks-requires : tie.Need-list-blocks-requires
 list-blocks-requires c κs = let checked = c .before .before .before .before .before .check .ensures in
     (accepted-file _ _ checked _ _ (c .before .before .before .blocks2 .given .1), accepted-blocks _ _ checked _ _ (c .before .before .before .blocks2 .given .1))
-
-enum-known-number : tie.Need-enum-known-number
-enum-known-number c = search needs
-
-same-length : tie.Need-same-length
-same-length c = search needs
-
-same-length-2 : tie.Need-same-length-2
-same-length-2 c = search needs
 
 returns : tie.Need-returns
 returns c = c .before .before .before .before .list-blocks .ensures ∙ ap (λ p. listingCall p (now (c .before .before .before .before .before .before .before .before .before .before .before .before .before .before .args .work)) (now (c .before .before .before .before .before .before .before .before .before .before .before .before .before .before .args .out))) (sym (accepted-file _ _ (c .before .before .before .before .before .before .before .before .before .before .check .ensures) _ _ (c .before .before .before .before .before .before .before .before .blocks2 .given .1)))
@@ -45,13 +30,5 @@ returns-2 c = rw (refused-file _ _ (c .before .before .before .check .ensures) _
 pub listing-of-spec : {M : Type 1} → statement M
 listing-of-spec =
     tie.close
-    (tie.spec
-    check-requires
-    enum-known-blocks
-    cast-list-blocks
-    list-blocks-requires
-    enum-known-number
-    same-length
-    same-length-2
-    returns
-    returns-2)
+    (tie.spec (search needs) (search needs) cast-list-blocks list-blocks-requires (search needs) (search needs)
+    (search needs) returns returns-2)

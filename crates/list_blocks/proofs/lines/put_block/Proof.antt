@@ -9,21 +9,8 @@ use Rattle.list_blocks.proofs.lines.put_block.Tie as tie
 use Rattle.text.specs.Doc.{Doc}
 use Rattle.text.specs.Wrote.{Wrote}
 
-exits-at-requires : tie.Need-exits-at-requires
-exits-at-requires c κs = search needs
-
-key-of-requires : tie.Need-key-of-requires
-key-of-requires c κs = search needs
-
-put-line-requires : tie.Need-put-line-requires
-put-line-requires c κs = search needs
-
-same-length : tie.Need-same-length
-same-length c = search needs
-
 returns : tie.Need-returns
 returns c = λ i is. subst (λ (d : Doc). Wrote (now (c .before .before .before .before .before .before .before .before .args .out)) (c .before .before .before .before .before .before .before .before .args .at) d (c .before .before .put-line .last .0) (c .before .before .put-line .result)) (block-line is _ _ _ (c .before .before .before .key-of .ensures) (c .before .before .before .before .before .exits-at .ensures i is)) (c .before .before .put-line .ensures)
 
 pub put-block-spec : {M : Type 1} → statement M
-put-block-spec =
-    tie.close (tie.spec exits-at-requires key-of-requires put-line-requires same-length returns)
+put-block-spec = tie.close (tie.spec (search needs) (search needs) (search needs) (search needs) returns)

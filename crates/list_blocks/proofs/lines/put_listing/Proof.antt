@@ -32,54 +32,15 @@ Inv-loop file work n out₀ at₀ first₀ i₀ out at first i = (i ≤ n) × (f
 abbrev μ-loop : tie.MeasureT-loop
 μ-loop file work n out₀ at₀ first₀ i₀ out at first i = n - i
 
-slice-aggregate-put : tie.Need-slice-aggregate-put Inv-loop μ-loop
-slice-aggregate-put c = search needs
-
-put-requires : tie.Need-put-requires Inv-loop μ-loop
-put-requires c κs = search needs
-
 loop-holds : tie.Need-loop-holds Inv-loop μ-loop
 unfolding countSum linesFrom
 loop-holds c = (omega arith, refl, λ o w. said w refl)
-
-block-at-requires : tie.Need-block-at-requires Inv-loop μ-loop
-block-at-requires c κs = search needs
-
-enum-known-block : tie.Need-enum-known-block Inv-loop μ-loop
-enum-known-block c = search needs
-
-enum-told : tie.Need-enum-told Inv-loop μ-loop
-enum-told c = search needs
 
 same-length : tie.Need-same-length Inv-loop μ-loop
 same-length c = absurd (omega (arith, missing _ (c .before .before .before .before .before .before .before .before .before .before .before .before .before .pre .1 .0) _ (sym (c .before .before .block-at .ensures) ∙ c .enum-told .given .1), c .before .before .before .before .before .before .before .before .before .before .before .before .before .pre .0 .2))
 
 returns : tie.Need-returns Inv-loop μ-loop
 returns c = absurd (omega (arith, missing _ (c .before .before .before .before .before .before .before .before .before .before .before .before .before .pre .1 .0) _ (sym (c .before .before .block-at .ensures) ∙ c .enum-told .given .1), c .before .before .before .before .before .before .before .before .before .before .before .before .before .pre .0 .2))
-
-add-put-block : tie.Need-add-put-block Inv-loop μ-loop
-add-put-block c = omega arith
-
-mul-put-block : tie.Need-mul-put-block Inv-loop μ-loop
-mul-put-block c = omega arith
-
-shared-slice-read-put-block : tie.Need-shared-slice-read-put-block Inv-loop μ-loop
-shared-slice-read-put-block c = omega arith
-
-put-block-requires : tie.Need-put-block-requires Inv-loop μ-loop
-put-block-requires c κs = search needs
-
-cast-wrapping-add-usize : tie.Need-cast-wrapping-add-usize Inv-loop μ-loop
-cast-wrapping-add-usize c = search needs
-
-wrapping-add-usize-requires : tie.Need-wrapping-add-usize-requires Inv-loop μ-loop
-wrapping-add-usize-requires c κs = search needs
-
-add-i : tie.Need-add-i Inv-loop μ-loop
-add-i c = omega arith
-
-loop-less : tie.Need-loop-less Inv-loop μ-loop
-loop-less c = omega arith
 
 loop-again : tie.Need-loop-again Inv-loop μ-loop
 loop-again c = let pre = c .before .before .before .before .before .before .before .before .before .before .before .before .before .before .before .before .before .before .before .before .before .pre in
@@ -102,25 +63,6 @@ returns-2 c = let f = c .before .before .before .before .before .before .before 
 pub put-listing-spec : {M : Type 1} → statement M
 put-listing-spec =
     tie.close
-    (tie.spec
-    Inv-loop
-    μ-loop
-    slice-aggregate-put
-    put-requires
-    loop-holds
-    block-at-requires
-    enum-known-block
-    enum-told
-    same-length
-    returns
-    add-put-block
-    mul-put-block
-    shared-slice-read-put-block
-    put-block-requires
-    cast-wrapping-add-usize
-    wrapping-add-usize-requires
-    add-i
-    loop-less
-    loop-again
-    same-length-2
-    returns-2)
+    (tie.spec Inv-loop μ-loop (search needs) (search needs) loop-holds (search needs) (search needs) (search needs)
+    same-length returns (λ c. omega arith) (λ c. omega arith) (λ c. omega arith) (search needs) (search needs)
+    (search needs) (λ c. omega arith) (λ c. omega arith) loop-again same-length-2 returns-2)

@@ -17,20 +17,11 @@ Inv-loop work₀ n p₀ work p = (p ≤ n) × (4 * n ≤ length work) × (n ≤ 
 abbrev μ-loop : tie.MeasureT-loop
 μ-loop work₀ n p₀ work p = p
 
-no-groups-requires : tie.Need-no-groups-requires Inv-loop μ-loop
-no-groups-requires c κs = search needs
-
 loop-holds : tie.Need-loop-holds Inv-loop μ-loop
 loop-holds c = (omega arith, omega (arith, c .before .before .no-groups .ensures .same), omega arith, λ w from. from)
 
-sub-p : tie.Need-sub-p Inv-loop μ-loop
-sub-p c = omega arith
-
 put-group-requires : tie.Need-put-group-requires Inv-loop μ-loop
 put-group-requires c κs = (omega arith, omega arith, omega arith)
-
-loop-less : tie.Need-loop-less Inv-loop μ-loop
-loop-less c = omega arith
 
 loop-again : tie.Need-loop-again Inv-loop μ-loop
 loop-again c = let inv = c .before .before .before .before .before .loop .inv in
@@ -45,14 +36,5 @@ returns c = subst (λ (m : ℕ). GroupsFrom (c .before .before .before .before .
 pub put-groups-spec : {M : Type 1} → statement M
 put-groups-spec =
     tie.close
-    (tie.spec
-    Inv-loop
-    μ-loop
-    no-groups-requires
-    loop-holds
-    sub-p
-    put-group-requires
-    loop-less
-    loop-again
-    same-length
-    returns)
+    (tie.spec Inv-loop μ-loop (search needs) loop-holds (λ c. omega arith) put-group-requires (λ c. omega arith)
+    loop-again same-length returns)

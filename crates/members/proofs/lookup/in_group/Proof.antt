@@ -8,15 +8,6 @@ use Rattle.members.proofs.lookup.in_group.Statement.{statement}
 use Rattle.members.proofs.lookup.in_group.Tie as tie
 use Rattle.search.specs.Search.{targetOf, TargetInside}
 
-find-target-requires : tie.Need-find-target-requires
-find-target-requires c κs = search needs
-
-enum-known-j : tie.Need-enum-known-j
-enum-known-j c = search needs
-
-enum-told : tie.Need-enum-told
-enum-told c = search needs
-
 returns : tie.Need-returns
 returns c = λ limit ready several. among-missing ready _ _ several (sym (c .before .before .find-target .ensures .1 (ready .accepted)) ∙ ap targetOf (c .enum-told .given .1))
 
@@ -35,12 +26,5 @@ returns-2 c = λ limit ready several. among-found ready _ _ several _ (sym (c .b
 pub in-group-spec : {M : Type 1} → statement M
 in-group-spec =
     tie.close
-    (tie.spec
-    find-target-requires
-    enum-known-j
-    enum-told
-    returns
-    add-result
-    mul-result
-    shared-slice-read-result
+    (tie.spec (search needs) (search needs) (search needs) returns add-result mul-result shared-slice-read-result
     returns-2)

@@ -24,15 +24,6 @@ loop-holds : tie.Need-loop-holds Inv-loop μ-loop
 unfolding countSum
 loop-holds c = (omega arith, c .before .before .pre .0, refl, firsts-none _ _ _)
 
-block-at-requires : tie.Need-block-at-requires Inv-loop μ-loop
-block-at-requires c κs = search needs
-
-enum-known-block : tie.Need-enum-known-block Inv-loop μ-loop
-enum-known-block c = search needs
-
-enum-told : tie.Need-enum-told Inv-loop μ-loop
-enum-told c = search needs
-
 same-length : tie.Need-same-length Inv-loop μ-loop
 same-length c = c .before .before .before .before .loop .inv .3 .same
 
@@ -43,29 +34,8 @@ cast-work : tie.Need-cast-work Inv-loop μ-loop
 cast-work c = let is : IsBlock _ _ _ _ = record { accepted = c .before .before .before .before .before .before .before .before .pre .3; found = sym (c .before .before .before .block-at .ensures) ∙ c .before .block .given .1; starts = c .before .before .before .before .before .loop .inv .2 } in
     omega (arith, among is, few-instrs _ _ (c .before .before .before .before .before .before .before .before .pre .3))
 
-mul-work : tie.Need-mul-work Inv-loop μ-loop
-mul-work c = omega arith
-
-add-work : tie.Need-add-work Inv-loop μ-loop
-add-work c = omega arith
-
-mul-work-2 : tie.Need-mul-work-2 Inv-loop μ-loop
-mul-work-2 c = omega arith
-
 slice-write-work : tie.Need-slice-write-work Inv-loop μ-loop
 slice-write-work c = omega (arith, c .before .before .before .before .before .loop .inv .3 .same)
-
-cast-wrapping-add-usize : tie.Need-cast-wrapping-add-usize Inv-loop μ-loop
-cast-wrapping-add-usize c = search needs
-
-wrapping-add-usize-requires : tie.Need-wrapping-add-usize-requires Inv-loop μ-loop
-wrapping-add-usize-requires c κs = search needs
-
-add-i : tie.Need-add-i Inv-loop μ-loop
-add-i c = omega arith
-
-loop-less : tie.Need-loop-less Inv-loop μ-loop
-loop-less c = omega arith
 
 loop-again : tie.Need-loop-again Inv-loop μ-loop
 loop-again c = let is : IsBlock _ _ _ _ = record { accepted = c .before .before .before .before .before .before .before .before .before .before .pre .3; found = sym (c .before .before .before .before .before .block-at .ensures) ∙ c .before .before .before .block .given .1; starts = c .before .before .before .before .before .before .before .loop .inv .2 } in
@@ -80,24 +50,6 @@ returns-2 c = firsts-all _ _ _ _ _ (omega arith) (c .before .loop .inv .3)
 pub put-firsts-spec : {M : Type 1} → statement M
 put-firsts-spec =
     tie.close
-    (tie.spec
-    Inv-loop
-    μ-loop
-    loop-holds
-    block-at-requires
-    enum-known-block
-    enum-told
-    same-length
-    returns
-    cast-work
-    mul-work
-    add-work
-    mul-work-2
-    slice-write-work
-    cast-wrapping-add-usize
-    wrapping-add-usize-requires
-    add-i
-    loop-less
-    loop-again
-    same-length-2
-    returns-2)
+    (tie.spec Inv-loop μ-loop loop-holds (search needs) (search needs) (search needs) same-length returns cast-work
+    (λ c. omega arith) (λ c. omega arith) (λ c. omega arith) slice-write-work (search needs) (search needs)
+    (λ c. omega arith) (λ c. omega arith) loop-again same-length-2 returns-2)

@@ -6,18 +6,6 @@ use Prim.Native.Nat.{_+_, _*_}
 use Rattle.members.proofs.rows.first_of.Statement.{statement}
 use Rattle.members.proofs.rows.first_of.Tie as tie
 
-mul-result : tie.Need-mul-result
-mul-result c = search needs
-
-add-result : tie.Need-add-result
-add-result c = search needs
-
-mul-result-2 : tie.Need-mul-result-2
-mul-result-2 c = search needs
-
-shared-slice-read-result : tie.Need-shared-slice-read-result
-shared-slice-read-result c = search needs
-
 cast-result : tie.Need-cast-result
 cast-result c = omega (arith, c .shared-slice-known .given (3 * c .before .args .n + c .before .args .i))
 
@@ -25,6 +13,4 @@ returns : tie.Need-returns
 returns c = λ f limit ready. ready .firsts _ (c .before .pre .2)
 
 pub first-of-spec : {M : Type 1} → statement M
-first-of-spec =
-    tie.close
-    (tie.spec mul-result add-result mul-result-2 shared-slice-read-result cast-result returns)
+first-of-spec = tie.close (tie.spec (search needs) (search needs) (search needs) (search needs) cast-result returns)

@@ -25,45 +25,12 @@ same-more work n p end same e q l h =
       | no d ↦ same q l (omega arith)
     ]
 
-mul-group : tie.Need-mul-group Inv-loop μ-loop
-mul-group c = omega arith
-
-add-group : tie.Need-add-group Inv-loop μ-loop
-add-group c = omega arith
-
-mul-group-2 : tie.Need-mul-group-2 Inv-loop μ-loop
-mul-group-2 c = omega arith
-
-shared-slice-read-group : tie.Need-shared-slice-read-group Inv-loop μ-loop
-shared-slice-read-group c = omega arith
-
-add-end : tie.Need-add-end Inv-loop μ-loop
-add-end c = omega arith
-
 loop-holds : tie.Need-loop-holds Inv-loop μ-loop
 loop-holds c = (omega arith, omega arith, c .before .pre .0, λ q l h. ap (λ (m : ℕ). getD (c .before .args .work .now) (2 * c .before .args .n + m) 0) (omega arith))
-
-mul-if1 : tie.Need-mul-if1 Inv-loop μ-loop
-mul-if1 c = omega arith
-
-add-if1 : tie.Need-add-if1 Inv-loop μ-loop
-add-if1 c = omega arith
-
-mul-if1-2 : tie.Need-mul-if1-2 Inv-loop μ-loop
-mul-if1-2 c = omega arith
-
-shared-slice-read-if1 : tie.Need-shared-slice-read-if1 Inv-loop μ-loop
-shared-slice-read-if1 c = omega arith
 
 returns : tie.Need-returns Inv-loop μ-loop
 returns c = let inv = c .before .before .before .loop .inv in
     ((inv .0, inv .1), λ f limit g ready is. end-next ready _ g _ is (inv .0) (inv .1) (inv .3) (λ h. c .if1 .taken))
-
-add-end-2 : tie.Need-add-end-2 Inv-loop μ-loop
-add-end-2 c = omega arith
-
-loop-less : tie.Need-loop-less Inv-loop μ-loop
-loop-less c = omega arith
 
 loop-again : tie.Need-loop-again Inv-loop μ-loop
 loop-again c = let inv = c .before .before .before .loop .inv in
@@ -76,21 +43,6 @@ returns-2 c = let inv = c .before .loop .inv in
 pub group-end-spec : {M : Type 1} → statement M
 group-end-spec =
     tie.close
-    (tie.spec
-    Inv-loop
-    μ-loop
-    mul-group
-    add-group
-    mul-group-2
-    shared-slice-read-group
-    add-end
-    loop-holds
-    mul-if1
-    add-if1
-    mul-if1-2
-    shared-slice-read-if1
-    returns
-    add-end-2
-    loop-less
-    loop-again
-    returns-2)
+    (tie.spec Inv-loop μ-loop (λ c. omega arith) (λ c. omega arith) (λ c. omega arith) (λ c. omega arith)
+    (λ c. omega arith) loop-holds (λ c. omega arith) (λ c. omega arith) (λ c. omega arith) (λ c. omega arith) returns
+    (λ c. omega arith) (λ c. omega arith) loop-again returns-2)

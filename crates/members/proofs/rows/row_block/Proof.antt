@@ -7,12 +7,6 @@ use Rattle.members.proofs.Places.{row-member}
 use Rattle.members.proofs.rows.row_block.Statement.{statement}
 use Rattle.members.proofs.rows.row_block.Tie as tie
 
-mul-result : tie.Need-mul-result
-mul-result c = search needs
-
-shared-slice-read-result : tie.Need-shared-slice-read-result
-shared-slice-read-result c = search needs
-
 cast-result : tie.Need-cast-result
 cast-result c = omega (arith, c .shared-slice-known .given (c .before .args .p))
 
@@ -20,4 +14,4 @@ returns : tie.Need-returns
 returns c = (refl, λ f n limit g k ready is h. row-member ready _ g k is h)
 
 pub row-block-spec : {M : Type 1} → statement M
-row-block-spec = tie.close (tie.spec mul-result shared-slice-read-result cast-result returns)
+row-block-spec = tie.close (tie.spec (search needs) (search needs) cast-result returns)

@@ -18,50 +18,8 @@ abbrev μ-loop : tie.MeasureT-loop
 loop-holds : tie.Need-loop-holds Inv-loop μ-loop
 loop-holds c = (omega arith, refl, rows.rows-none (now (c .args .work)) (now (c .args .plan)) (c .args .n))
 
-mul-plan : tie.Need-mul-plan Inv-loop μ-loop
-mul-plan c = omega arith
-
-add-plan : tie.Need-add-plan Inv-loop μ-loop
-add-plan c = omega arith
-
-mul-plan-2 : tie.Need-mul-plan-2 Inv-loop μ-loop
-mul-plan-2 c = omega arith
-
-shared-slice-read-plan : tie.Need-shared-slice-read-plan Inv-loop μ-loop
-shared-slice-read-plan c = omega arith
-
-mul-plan-3 : tie.Need-mul-plan-3 Inv-loop μ-loop
-mul-plan-3 c = omega arith
-
-mul-plan-4 : tie.Need-mul-plan-4 Inv-loop μ-loop
-mul-plan-4 c = omega arith
-
-slice-write-plan : tie.Need-slice-write-plan Inv-loop μ-loop
-slice-write-plan c = omega arith
-
-mul-plan-5 : tie.Need-mul-plan-5 Inv-loop μ-loop
-mul-plan-5 c = omega arith
-
-shared-slice-read-plan-2 : tie.Need-shared-slice-read-plan-2 Inv-loop μ-loop
-shared-slice-read-plan-2 c = omega arith
-
-mul-plan-6 : tie.Need-mul-plan-6 Inv-loop μ-loop
-mul-plan-6 c = omega arith
-
-add-plan-2 : tie.Need-add-plan-2 Inv-loop μ-loop
-add-plan-2 c = omega arith
-
-mul-plan-7 : tie.Need-mul-plan-7 Inv-loop μ-loop
-mul-plan-7 c = omega arith
-
 slice-write-plan-2 : tie.Need-slice-write-plan-2 Inv-loop μ-loop
 slice-write-plan-2 c = simp length-set (omega arith)
-
-add-p : tie.Need-add-p Inv-loop μ-loop
-add-p c = omega arith
-
-loop-less : tie.Need-loop-less Inv-loop μ-loop
-loop-less c = omega arith
 
 loop-again : tie.Need-loop-again Inv-loop μ-loop
 loop-again c = let inv = c .before .before .before .loop .inv in
@@ -84,25 +42,7 @@ returns c = let done : c .before .loop .p ≡ c .before .before .args .n = omega
 pub put-rows-spec : {M : Type 1} → statement M
 put-rows-spec =
     tie.close
-    (tie.spec
-    Inv-loop
-    μ-loop
-    loop-holds
-    mul-plan
-    add-plan
-    mul-plan-2
-    shared-slice-read-plan
-    mul-plan-3
-    mul-plan-4
-    slice-write-plan
-    mul-plan-5
-    shared-slice-read-plan-2
-    mul-plan-6
-    add-plan-2
-    mul-plan-7
-    slice-write-plan-2
-    add-p
-    loop-less
-    loop-again
-    same-length
-    returns)
+    (tie.spec Inv-loop μ-loop loop-holds (λ c. omega arith) (λ c. omega arith) (λ c. omega arith) (λ c. omega arith)
+    (λ c. omega arith) (λ c. omega arith) (λ c. omega arith) (λ c. omega arith) (λ c. omega arith) (λ c. omega arith)
+    (λ c. omega arith) (λ c. omega arith) slice-write-plan-2 (λ c. omega arith) (λ c. omega arith) loop-again
+    same-length returns)

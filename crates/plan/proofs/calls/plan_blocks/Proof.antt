@@ -14,24 +14,9 @@ use Rattle.plan.proofs.calls.plan_blocks.Statement.{statement}
 use Rattle.plan.proofs.calls.plan_blocks.Tie as tie
 use Rattle.plan.specs.Calls.{partLimit, plannedOf, madePlan}
 
-mul-if1 : tie.Need-mul-if1
-mul-if1 c = search needs
-
 returns : tie.Need-returns
 unfolding plannedOf
 returns c = refused-8 (madePlan partLimit) _ (c .before .before .before .before .pre .0) _ (c .before .before .before .before .pre .1) _ _ (omega arith)
-
-mul-if2 : tie.Need-mul-if2
-mul-if2 c = search needs
-
-mul-clear : tie.Need-mul-clear
-mul-clear c = search needs
-
-clear-requires : tie.Need-clear-requires
-clear-requires c κs = search needs
-
-same-length : tie.Need-same-length
-same-length c = search needs
 
 returns-2 : tie.Need-returns-2
 unfolding plannedOf
@@ -40,21 +25,6 @@ returns-2 c = let pre = c .before .before .before .before .before .before .befor
 
 group-blocks-requires : tie.Need-group-blocks-requires
 group-blocks-requires c κs = (omega arith, omega (arith, few-blocks _ _ (c .before .before .before .before .before .before .pre .0), c .before .before .before .before .before .before .pre .1), c .before .before .before .before .before .before .pre .1)
-
-put-rows-requires : tie.Need-put-rows-requires
-put-rows-requires c κs = search needs
-
-mul-clear-2 : tie.Need-mul-clear-2
-mul-clear-2 c = search needs
-
-clear-requires-2 : tie.Need-clear-requires-2
-clear-requires-2 c κs = search needs
-
-same-length-2 : tie.Need-same-length-2
-same-length-2 c = search needs
-
-same-length-3 : tie.Need-same-length-3
-same-length-3 c = search needs
 
 returns-3 : tie.Need-returns-3
 unfolding plannedOf
@@ -68,18 +38,5 @@ returns-3 c = let f = c .before .before .before .before .before .before .before 
 pub plan-blocks-spec : {M : Type 1} → statement M
 plan-blocks-spec =
     tie.close
-    (tie.spec
-    mul-if1
-    returns
-    mul-if2
-    mul-clear
-    clear-requires
-    same-length
-    returns-2
-    group-blocks-requires
-    put-rows-requires
-    mul-clear-2
-    clear-requires-2
-    same-length-2
-    same-length-3
-    returns-3)
+    (tie.spec (search needs) returns (search needs) (search needs) (search needs) (search needs) returns-2
+    group-blocks-requires (search needs) (search needs) (search needs) (search needs) (search needs) returns-3)

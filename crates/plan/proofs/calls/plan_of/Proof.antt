@@ -10,12 +10,6 @@ use Rattle.plan.proofs.calls.plan_of.Statement.{statement}
 use Rattle.plan.proofs.calls.plan_of.Tie as tie
 use Rattle.plan.specs.Calls.{plannedOf, callOnFile, planCall}
 
-check-requires : tie.Need-check-requires
-check-requires c κs = search needs
-
-enum-known-blocks : tie.Need-enum-known-blocks
-enum-known-blocks c = search needs
-
 cast-plan-blocks : tie.Need-cast-plan-blocks
 cast-plan-blocks c = let checked = c .before .before .before .before .before .check .ensures in
     let given = c .before .before .before .blocks2 .given .1 in
@@ -24,15 +18,6 @@ cast-plan-blocks c = let checked = c .before .before .before .before .before .ch
 plan-blocks-requires : tie.Need-plan-blocks-requires
 plan-blocks-requires c κs = let checked = c .before .before .before .before .before .check .ensures in
     (accepted-file _ _ checked _ _ (c .before .before .before .blocks2 .given .1), accepted-blocks _ _ checked _ _ (c .before .before .before .blocks2 .given .1))
-
-enum-known-number : tie.Need-enum-known-number
-enum-known-number c = search needs
-
-same-length : tie.Need-same-length
-same-length c = search needs
-
-same-length-2 : tie.Need-same-length-2
-same-length-2 c = search needs
 
 returns : tie.Need-returns
 returns c = c .before .before .before .before .plan-blocks .ensures ∙ ap (λ p. planCall p (now (c .before .before .before .before .before .before .before .before .before .before .before .before .before .before .args .work)) (now (c .before .before .before .before .before .before .before .before .before .before .before .before .before .before .args .result))) (sym (accepted-file _ _ (c .before .before .before .before .before .before .before .before .before .before .check .ensures) _ _ (c .before .before .before .before .before .before .before .before .blocks2 .given .1)))
@@ -44,13 +29,5 @@ returns-2 c = rw (refused-file _ _ (c .before .before .before .check .ensures) _
 pub plan-of-spec : {M : Type 1} → statement M
 plan-of-spec =
     tie.close
-    (tie.spec
-    check-requires
-    enum-known-blocks
-    cast-plan-blocks
-    plan-blocks-requires
-    enum-known-number
-    same-length
-    same-length-2
-    returns
-    returns-2)
+    (tie.spec (search needs) (search needs) cast-plan-blocks plan-blocks-requires (search needs) (search needs)
+    (search needs) returns returns-2)

@@ -17,27 +17,6 @@ abbrev μ-loop : tie.MeasureT-loop
 loop-holds : tie.Need-loop-holds Inv-loop μ-loop
 loop-holds c = grouping.counting-none _ _ _
 
-cast-work : tie.Need-cast-work Inv-loop μ-loop
-cast-work c = search needs
-
-mul-work : tie.Need-mul-work Inv-loop μ-loop
-mul-work c = omega arith
-
-slice-write-work : tie.Need-slice-write-work Inv-loop μ-loop
-slice-write-work c = omega arith
-
-count-of-requires : tie.Need-count-of-requires Inv-loop μ-loop
-count-of-requires c κs = search needs
-
-add-sum : tie.Need-add-sum Inv-loop μ-loop
-add-sum c = omega arith
-
-add-i : tie.Need-add-i Inv-loop μ-loop
-add-i c = omega arith
-
-loop-less : tie.Need-loop-less Inv-loop μ-loop
-loop-less c = omega arith
-
 loop-again : tie.Need-loop-again Inv-loop μ-loop
 loop-again c = grouping.counting-more _ _ _ _ _ _ _ (c .before .before .before .before .before .pre .0) (c .before .loop-test .taken) (c .count-of .ensures .0) (c .count-of .ensures .1) (c .before .before .loop .inv)
 
@@ -51,17 +30,5 @@ returns c = let done : c .before .loop .i ≡ c .before .before .before .before 
 pub first-instrs-spec : {M : Type 1} → statement M
 first-instrs-spec =
     tie.close
-    (tie.spec
-    Inv-loop
-    μ-loop
-    loop-holds
-    cast-work
-    mul-work
-    slice-write-work
-    count-of-requires
-    add-sum
-    add-i
-    loop-less
-    loop-again
-    same-length
-    returns)
+    (tie.spec Inv-loop μ-loop loop-holds (search needs) (λ c. omega arith) (λ c. omega arith) (search needs)
+    (λ c. omega arith) (λ c. omega arith) (λ c. omega arith) loop-again same-length returns)

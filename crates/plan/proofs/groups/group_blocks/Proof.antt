@@ -8,19 +8,10 @@ use borrow.Author.Needs.{needs}
 use Rattle.plan.proofs.groups.group_blocks.Statement.{statement}
 use Rattle.plan.proofs.groups.group_blocks.Tie as tie
 
-first-instrs-requires : tie.Need-first-instrs-requires
-first-instrs-requires c κs = search needs
-
 join-blocks-requires : tie.Need-join-blocks-requires
 join-blocks-requires c κs = let pre = c .before .before .before .before .before .before .before .pre in
     let firsts = c .before .before .before .first-instrs .ensures in
     ((omega (arith, firsts .same, pre .0), pre .1, pre .2), λ a i h. firsts .firsts a (pre .2) i h)
-
-put-roots-requires : tie.Need-put-roots-requires
-put-roots-requires c κs = search needs
-
-link-members-requires : tie.Need-link-members-requires
-link-members-requires c κs = search needs
 
 place-blocks-requires : tie.Need-place-blocks-requires
 place-blocks-requires c κs = let pre = c .before .before .before .before .before .before .before .before .before .before .before .before .before .before .before .before .before .before .before .pre in
@@ -30,9 +21,6 @@ place-blocks-requires c κs = let pre = c .before .before .before .before .befor
     let linked = c .before .before .before .link-members .ensures in
     let room : 4 * c .before .before .before .before .before .before .before .before .before .before .before .before .before .before .before .before .before .before .before .args .n ≤ length (c .before .before .before .before .before .before .before .before .before .before .before .before .before .before .before .first-instrs .last .1 .0) = omega (arith, firsts .same, pre .0) in
     grouping.place-asks (now (c .before .before .before .before .before .before .before .before .before .before .before .before .before .before .before .before .before .before .before .args .file)) _ (c .before .before .before .before .before .before .before .before .before .before .before .before .before .before .before .before .before .before .before .args .limit) _ _ _ _ (pre .1) (pre .2) room joined rooted (linked .0) (linked .1)
-
-same-length : tie.Need-same-length
-same-length c = search needs
 
 returns : tie.Need-returns
 returns c = let pre = c .before .before .before .before .before .before .before .before .before .before .before .before .before .before .before .before .before .before .before .before .before .before .pre in
@@ -46,11 +34,5 @@ returns c = let pre = c .before .before .before .before .before .before .before 
 pub group-blocks-spec : {M : Type 1} → statement M
 group-blocks-spec =
     tie.close
-    (tie.spec
-    first-instrs-requires
-    join-blocks-requires
-    put-roots-requires
-    link-members-requires
-    place-blocks-requires
-    same-length
+    (tie.spec (search needs) join-blocks-requires (λ c κs. search needs) (λ c κs. search needs) place-blocks-requires (search needs)
     returns)

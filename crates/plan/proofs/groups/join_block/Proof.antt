@@ -11,20 +11,8 @@ use borrow.Author.Tests.{not-true, not-false}
 use Rattle.plan.proofs.groups.join_block.Statement.{statement}
 use Rattle.plan.proofs.groups.join_block.Tie as tie
 
-block-at-requires : tie.Need-block-at-requires
-block-at-requires c κs = search needs
-
-enum-known-block : tie.Need-enum-known-block
-enum-known-block c = search needs
-
-enum-told : tie.Need-enum-told
-enum-told c = search needs
-
 returns : tie.Need-returns
 returns c = joining.block-missing _ _ _ _ _ (c .before .before .block-at .ensures) (c .before .before .before .before .before .pre .0 .2) (c .before .before .before .before .before .pre .0 .3) (c .enum-told .given .1)
-
-on-page-8-requires : tie.Need-on-page-8-requires
-on-page-8-requires c κs = search needs
 
 returns-2 : tie.Need-returns-2
 returns-2 c =
@@ -32,24 +20,6 @@ returns-2 c =
     let pre = known .before .before .before .before .before .pre in
     joining.block-apart _ _ _ _ _ (known .before .before .block-at .ensures) (pre .0 .2) (pre .0 .3) _ (known .block .given .1)
     (sym (c .before .on-page-8 .ensures) ∙ not-true _ (c .if1 .taken))
-
-mul-wide : tie.Need-mul-wide
-mul-wide c = search needs
-
-slice-read-wide : tie.Need-slice-read-wide
-slice-read-wide c = search needs
-
-wide-requires : tie.Need-wide-requires
-wide-requires c κs = search needs
-
-exits-at-requires : tie.Need-exits-at-requires
-exits-at-requires c κs = search needs
-
-join-exits-requires : tie.Need-join-exits-requires
-join-exits-requires c κs = search needs
-
-same-length : tie.Need-same-length
-same-length c = search needs
 
 returns-3 : tie.Need-returns-3
 returns-3 c = let args = c .before .before .before .before .before .before .before .before .before .before .before .before .before .before .before .args in
@@ -66,17 +36,5 @@ returns-3 c = let args = c .before .before .before .before .before .before .befo
 pub join-block-spec : {M : Type 1} → statement M
 join-block-spec =
     tie.close
-    (tie.spec
-    block-at-requires
-    enum-known-block
-    enum-told
-    returns
-    on-page-8-requires
-    returns-2
-    mul-wide
-    slice-read-wide
-    wide-requires
-    exits-at-requires
-    join-exits-requires
-    same-length
-    returns-3)
+    (tie.spec (search needs) (search needs) (search needs) returns (search needs) returns-2 (search needs)
+    (search needs) (search needs) (search needs) (λ c κs. search needs) (search needs) returns-3)

@@ -15,21 +15,6 @@ Inv-loop file work₀ n end i₀ work i = grouping.Edges file n i work₀ work
 abbrev μ-loop : tie.MeasureT-loop
 μ-loop file work₀ n end i₀ work i = n - i
 
-mul-end : tie.Need-mul-end Inv-loop μ-loop
-mul-end c = search needs
-
-mul-own-roots : tie.Need-mul-own-roots Inv-loop μ-loop
-mul-own-roots c = search needs
-
-sub-own-roots : tie.Need-sub-own-roots Inv-loop μ-loop
-sub-own-roots c = search needs
-
-part-own-roots-start : tie.Need-part-own-roots-start Inv-loop μ-loop
-part-own-roots-start c = search needs
-
-part-own-roots-end : tie.Need-part-own-roots-end Inv-loop μ-loop
-part-own-roots-end c = search needs
-
 own-roots-requires : tie.Need-own-roots-requires Inv-loop μ-loop
 own-roots-requires c κs = let w = now (c .before .before .before .args .work) in
     let n = c .before .before .before .args .n in
@@ -44,12 +29,6 @@ join-block-requires c κs = let pre = c .before .before .before .before .before 
     let inv = c .before .before .loop .inv in
     let asks = grouping.edges-asks _ _ _ _ _ (grouping.own-room (now (c .before .before .before .before .before .before .before .before .before .args .file)) _ _ _ (pre .0 .0) own) (λ a. grouping.own-firsts _ _ _ _ (pre .0 .0) own (pre .1 a)) inv in
     ((asks .0, pre .0 .1, c .before .loop-test .taken, pre .0 .2), (inv .forest, asks .1))
-
-add-i : tie.Need-add-i Inv-loop μ-loop
-add-i c = omega arith
-
-loop-less : tie.Need-loop-less Inv-loop μ-loop
-loop-less c = omega arith
 
 loop-again : tie.Need-loop-again Inv-loop μ-loop
 loop-again c = grouping.edges-more _ _ _ _ _ _ (c .before .before .before .before .loop-test .taken) (c .before .before .before .before .before .before .before .before .before .before .before .before .pre .0 .2) (c .before .before .before .before .before .loop .inv) (c .before .before .join-block .ensures)
@@ -66,19 +45,6 @@ returns c = let pre = c .before .before .before .before .before .before .before 
 pub join-blocks-spec : {M : Type 1} → statement M
 join-blocks-spec =
     tie.close
-    (tie.spec
-    Inv-loop
-    μ-loop
-    mul-end
-    mul-own-roots
-    sub-own-roots
-    part-own-roots-start
-    part-own-roots-end
-    own-roots-requires
-    loop-holds
-    join-block-requires
-    add-i
-    loop-less
-    loop-again
-    same-length
+    (tie.spec Inv-loop μ-loop (search needs) (search needs) (search needs) (search needs) (search needs)
+    own-roots-requires loop-holds join-block-requires (λ c. omega arith) (λ c. omega arith) loop-again same-length
     returns)

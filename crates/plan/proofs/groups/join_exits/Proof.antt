@@ -6,18 +6,9 @@ use borrow.Author.Needs.{needs}
 use Rattle.plan.proofs.groups.join_exits.Statement.{statement}
 use Rattle.plan.proofs.groups.join_exits.Tie as tie
 
-enum-told : tie.Need-enum-told
-enum-told c = search needs
-
-enum-known-exits : tie.Need-enum-known-exits
-enum-known-exits c = search needs
-
 join-key-requires : tie.Need-join-key-requires
 join-key-requires c κs = let pre = c .before .before .before .before .before .before .pre in
     (pre .0, deeper (pre .1) _ (omega arith))
-
-enum-known-exits-2 : tie.Need-enum-known-exits-2
-enum-known-exits-2 c = search needs
 
 join-key-requires-2 : tie.Need-join-key-requires-2
 join-key-requires-2 c κs = let pre = c .before .before .before .before .before .before .pre in
@@ -31,14 +22,8 @@ join-key-requires-3 c κs = let pre = c .before .before .before .before .before 
 returns : tie.Need-returns
 returns c = joining.exits-none _ _ _ _ _ (c .enum-told .given .1)
 
-same-length : tie.Need-same-length
-same-length c = search needs
-
 returns-2 : tie.Need-returns-2
 returns-2 c = joining.exits-one _ _ _ _ _ _ _ (c .before .before .before .before .before .exits .given .1) (c .before .before .join-key .ensures)
-
-same-length-2 : tie.Need-same-length-2
-same-length-2 c = search needs
 
 returns-3 : tie.Need-returns-3
 returns-3 c = joining.exits-two _ _ _ _ _ _ _ _ _ (c .before .before .before .before .before .before .before .before .before .exits2 .given .1) (c .before .before .before .before .before .before .join-key2 .ensures) (c .before .before .join-key3 .ensures)
@@ -46,15 +31,5 @@ returns-3 c = joining.exits-two _ _ _ _ _ _ _ _ _ (c .before .before .before .be
 pub join-exits-spec : {M : Type 1} → statement M
 join-exits-spec =
     tie.close
-    (tie.spec
-    enum-told
-    enum-known-exits
-    join-key-requires
-    enum-known-exits-2
-    join-key-requires-2
-    join-key-requires-3
-    returns
-    same-length
-    returns-2
-    same-length-2
-    returns-3)
+    (tie.spec (search needs) (search needs) join-key-requires (search needs) join-key-requires-2 join-key-requires-3
+    returns (search needs) returns-2 (search needs) returns-3)

@@ -6,32 +6,8 @@ use borrow.Author.Needs.{needs}
 use Rattle.plan.proofs.groups.join_key.Statement.{statement}
 use Rattle.plan.proofs.groups.join_key.Tie as tie
 
-find-target-requires : tie.Need-find-target-requires
-find-target-requires c κs = search needs
-
-enum-known-j : tie.Need-enum-known-j
-enum-known-j c = search needs
-
-enum-told : tie.Need-enum-told
-enum-told c = search needs
-
 returns : tie.Need-returns
 returns c = joining.join-nothing _ _ _ _ _ _ (c .before .before .find-target .ensures .1) (c .enum-told .given .1)
-
-mul-end : tie.Need-mul-end
-mul-end c = search needs
-
-mul-hang-under : tie.Need-mul-hang-under
-mul-hang-under c = search needs
-
-sub-hang-under : tie.Need-sub-hang-under
-sub-hang-under c = search needs
-
-part-hang-under-start : tie.Need-part-hang-under-start
-part-hang-under-start c = search needs
-
-part-hang-under-end : tie.Need-part-hang-under-end
-part-hang-under-end c = search needs
 
 hang-under-requires : tie.Need-hang-under-requires
 hang-under-requires c κs = let w = now (c .before .before .before .before .before .before .before .args .work) in
@@ -39,25 +15,11 @@ hang-under-requires c κs = let w = now (c .before .before .before .before .befo
     let pre = c .before .before .before .before .before .before .before .pre .0 in
     rw (lending.lent-is n w, lending.quarter-length n w (pre .0)) (c .before .before .before .before .before .before .before .pre .1, (pre .2, joining.target-inside _ _ _ _ (c .before .before .before .before .find-target .ensures .0) (c .before .before .j .given .1) (pre .3)))
 
-same-length : tie.Need-same-length
-same-length c = search needs
-
 returns-2 : tie.Need-returns-2
 returns-2 c = joining.join-at _ _ _ _ _ _ (c .before .before .before .before .before .before .before .find-target .ensures .1) _ _ (c .before .before .before .before .before .before .before .before .before .before .pre .0 .0) (c .before .before .before .before .before .j .given .1) (rw lending.lent-is at (c .before .before .hang-under .ensures))
 
 pub join-key-spec : {M : Type 1} → statement M
 join-key-spec =
     tie.close
-    (tie.spec
-    find-target-requires
-    enum-known-j
-    enum-told
-    returns
-    mul-end
-    mul-hang-under
-    sub-hang-under
-    part-hang-under-start
-    part-hang-under-end
-    hang-under-requires
-    same-length
-    returns-2)
+    (tie.spec (search needs) (search needs) (search needs) returns (search needs) (search needs) (search needs)
+    (search needs) (search needs) hang-under-requires (search needs) returns-2)

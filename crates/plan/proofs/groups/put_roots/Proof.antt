@@ -24,12 +24,6 @@ put-root-requires c κs = let inv = c .before .before .loop .inv in
     let room : 4 * c .before .before .before .before .args .n ≤ length (c .before .before .loop .work) = omega (arith, inv .4 .same) in
     ((room, inv .2, c .before .loop-test .taken), lending.rooted-forest _ _ _ _ (inv .4) (inv .3))
 
-add-i : tie.Need-add-i Inv-loop μ-loop
-add-i c = omega arith
-
-loop-less : tie.Need-loop-less Inv-loop μ-loop
-loop-less c = omega arith
-
 loop-again : tie.Need-loop-again Inv-loop μ-loop
 loop-again c = let inv = c .before .before .before .before .before .loop .inv in
     (omega arith, inv .1, inv .2, inv .3, lending.rooted-more _ _ _ _ _ (inv .1) (c .before .before .before .before .loop-test .taken) (inv .4) (c .before .before .put-root .ensures))
@@ -44,13 +38,5 @@ returns c = let done : c .before .loop .i ≡ c .before .before .before .args .n
 pub put-roots-spec : {M : Type 1} → statement M
 put-roots-spec =
     tie.close
-    (tie.spec
-    Inv-loop
-    μ-loop
-    loop-holds
-    put-root-requires
-    add-i
-    loop-less
-    loop-again
-    same-length
+    (tie.spec Inv-loop μ-loop loop-holds put-root-requires (λ c. omega arith) (λ c. omega arith) loop-again same-length
     returns)

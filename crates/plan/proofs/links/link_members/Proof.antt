@@ -14,20 +14,11 @@ Inv-loop work₀ n left₀ work left = linking.Linking work₀ n left work
 abbrev μ-loop : tie.MeasureT-loop
 μ-loop work₀ n left₀ work left = left
 
-no-members-requires : tie.Need-no-members-requires Inv-loop μ-loop
-no-members-requires c κs = search needs
-
 loop-holds : tie.Need-loop-holds Inv-loop μ-loop
 loop-holds c = linking.linking-none _ _ _ (c .before .before .before .before .before .pre .0) (c .before .before .before .before .before .pre .1) (c .before .before .no-members .ensures)
 
-sub-left : tie.Need-sub-left Inv-loop μ-loop
-sub-left c = omega arith
-
 link-one-requires : tie.Need-link-one-requires Inv-loop μ-loop
 link-one-requires c κs = linking.linking-asks _ _ _ _ (c .before .loop-test .taken) (c .before .before .loop .inv)
-
-loop-less : tie.Need-loop-less Inv-loop μ-loop
-loop-less c = omega arith
 
 loop-again : tie.Need-loop-again Inv-loop μ-loop
 loop-again c = rw (c .before .before .link-one .ensures) (linking.linking-more _ _ _ _ (c .before .before .before .before .loop-test .taken) (c .before .before .before .before .before .loop .inv))
@@ -45,14 +36,5 @@ returns c = let filled = linking.outside-fill _ _ _ (c .before .before .before .
 pub link-members-spec : {M : Type 1} → statement M
 link-members-spec =
     tie.close
-    (tie.spec
-    Inv-loop
-    μ-loop
-    no-members-requires
-    loop-holds
-    sub-left
-    link-one-requires
-    loop-less
-    loop-again
-    same-length
-    returns)
+    (tie.spec Inv-loop μ-loop (search needs) loop-holds (λ c. omega arith) link-one-requires (λ c. omega arith)
+    loop-again same-length returns)

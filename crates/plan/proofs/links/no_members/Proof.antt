@@ -15,26 +15,8 @@ Inv-loop work₀ n start r₀ work r = (r ≤ n) × Filled n r work₀ work
 abbrev μ-loop : tie.MeasureT-loop
 μ-loop work₀ n start r₀ work r = n - r
 
-mul-start : tie.Need-mul-start Inv-loop μ-loop
-mul-start c = search needs
-
 loop-holds : tie.Need-loop-holds Inv-loop μ-loop
 loop-holds c = (omega arith, filled-none _ _)
-
-add-work : tie.Need-add-work Inv-loop μ-loop
-add-work c = omega arith
-
-mul-work : tie.Need-mul-work Inv-loop μ-loop
-mul-work c = omega arith
-
-slice-write-work : tie.Need-slice-write-work Inv-loop μ-loop
-slice-write-work c = omega arith
-
-add-r : tie.Need-add-r Inv-loop μ-loop
-add-r c = omega arith
-
-loop-less : tie.Need-loop-less Inv-loop μ-loop
-loop-less c = omega arith
 
 loop-again : tie.Need-loop-again Inv-loop μ-loop
 loop-again c = (omega arith, filled-more _ _ _ _ (omega arith) (omega arith) (c .before .loop .inv .1))
@@ -49,16 +31,5 @@ returns c = let done : c .before .loop .r ≡ c .before .before .args .n = omega
 pub no-members-spec : {M : Type 1} → statement M
 no-members-spec =
     tie.close
-    (tie.spec
-    Inv-loop
-    μ-loop
-    mul-start
-    loop-holds
-    add-work
-    mul-work
-    slice-write-work
-    add-r
-    loop-less
-    loop-again
-    same-length
-    returns)
+    (tie.spec Inv-loop μ-loop (search needs) loop-holds (λ c. omega arith) (λ c. omega arith) (λ c. omega arith)
+    (λ c. omega arith) (λ c. omega arith) loop-again same-length returns)

@@ -3,14 +3,8 @@ use borrow.Author.Needs.{needs}
 use Rattle.plan.proofs.order.close_part.Statement.{statement}
 use Rattle.plan.proofs.order.close_part.Tie as tie
 
-add-result : tie.Need-add-result
-add-result c = search needs
-
 returns : tie.Need-returns
 returns c = rw (c .if1 .taken)
 
-returns-2 : tie.Need-returns-2
-returns-2 c = search needs
-
 pub close-part-spec : {M : Type 1} → statement M
-close-part-spec = tie.close (tie.spec add-result returns returns-2)
+close-part-spec = tie.close (tie.spec (search needs) returns (λ c. search needs))

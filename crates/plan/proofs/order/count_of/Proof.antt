@@ -8,26 +8,13 @@ use borrow.Author.Needs.{needs}
 use Rattle.plan.proofs.order.count_of.Statement.{statement}
 use Rattle.plan.proofs.order.count_of.Tie as tie
 
-block-at-requires : tie.Need-block-at-requires
-block-at-requires c κs = search needs
-
-enum-known-block : tie.Need-enum-known-block
-enum-known-block c = search needs
-
-enum-told : tie.Need-enum-told
-enum-told c = search needs
-
 returns : tie.Need-returns
 unfolding recordAt
 returns c = (search needs, λ a h. absurd (omega (arith, missing _ a _ (sym (c .before .before .block-at .ensures) ∙ c .enum-told .given .1))))
-
-cast-result : tie.Need-cast-result
-cast-result c = search needs
 
 returns-2 : tie.Need-returns-2
 unfolding recordAt
 returns-2 c = (search needs, λ a h. ap (λ (r : BlockRecord). r .count) (found-record _ _ _ (sym (c .before .before .before .before .block-at .ensures) ∙ c .before .before .block .given .1)))
 
 pub count-of-spec : {M : Type 1} → statement M
-count-of-spec =
-    tie.close (tie.spec block-at-requires enum-known-block enum-told returns cast-result returns-2)
+count-of-spec = tie.close (tie.spec (search needs) (search needs) (search needs) returns (search needs) returns-2)

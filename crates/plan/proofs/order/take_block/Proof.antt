@@ -4,12 +4,6 @@ use borrow.Author.Needs.{needs}
 use Rattle.plan.proofs.order.take_block.Statement.{statement}
 use Rattle.plan.proofs.order.take_block.Tie as tie
 
-add-total : tie.Need-add-total
-add-total c = search needs
-
-add-t8 : tie.Need-add-t8
-add-t8 c = search needs
-
 returns : tie.Need-returns
 returns c = rw (lt-ltb _ _ (c .before .before .if1 .taken), c .before .if2 .taken)
 
@@ -20,4 +14,4 @@ returns-3 : tie.Need-returns-3
 returns-3 c = rw (le-ltb _ _ (c .if1 .left))
 
 pub take-block-spec : {M : Type 1} → statement M
-take-block-spec = tie.close (tie.spec add-total add-t8 returns returns-2 returns-3)
+take-block-spec = tie.close (tie.spec (search needs) (search needs) returns returns-2 returns-3)

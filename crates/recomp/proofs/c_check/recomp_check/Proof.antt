@@ -5,15 +5,6 @@ use borrow.Author.Needs.{needs}
 use Rattle.recomp.proofs.c_check.recomp_check.Statement.{statement}
 use Rattle.recomp.proofs.c_check.recomp_check.Tie as tie
 
-check-requires : tie.Need-check-requires
-check-requires c κs = search needs
-
-enum-known-b : tie.Need-enum-known-b
-enum-known-b c = search needs
-
-enum-known-number : tie.Need-enum-known-number
-enum-known-number c = search needs
-
 returns : tie.Need-returns
 unfolding answerOf
 returns c = rw (← c .before .before .before .check .ensures, c .before .b .given .1)
@@ -23,5 +14,4 @@ unfolding answerOf
 returns-2 c = rw (← c .before .before .before .check .ensures, c .before .number .given .1)
 
 pub recomp-check-spec : {M : Type 1} → statement M
-recomp-check-spec =
-    tie.close (tie.spec check-requires enum-known-b enum-known-number returns returns-2)
+recomp-check-spec = tie.close (tie.spec (search needs) (search needs) (search needs) returns returns-2)

@@ -9,18 +9,9 @@ use borrow.Author.Needs.{needs}
 use Rattle.recomp.proofs.units.unit.Statement.{statement}
 use Rattle.recomp.proofs.units.unit.Tie as tie
 
-unit-of-requires : tie.Need-unit-of-requires
-unit-of-requires c κs = search needs
-
-same-length : tie.Need-same-length
-same-length c = search needs
-
-same-length-2 : tie.Need-same-length-2
-same-length-2 c = search needs
-
 returns : tie.Need-returns
 returns c = let file = now (c .before .before .before .before .before .before .before .before .before .before .args .file) in
     (c .before .before .before .before .unit-of .ensures, (demand-3-of hashMultiplier partLimit (c .before .before .before .before .before .before .before .before .before .before .args .max-bytes) file, meaning-of hashMultiplier file))
 
 pub unit-spec : {M : Type 1} → statement M
-unit-spec = tie.close (tie.spec unit-of-requires same-length same-length-2 returns)
+unit-spec = tie.close (tie.spec (search needs) (search needs) (search needs) returns)

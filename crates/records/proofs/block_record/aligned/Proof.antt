@@ -7,12 +7,6 @@ use borrow.Author.Needs.{needs}
 use Rattle.records.proofs.block_record.aligned.Statement.{statement}
 use Rattle.records.proofs.block_record.aligned.Tie as tie
 
-addr-requires : tie.Need-addr-requires
-addr-requires c κs = search needs
-
-thumb-requires : tie.Need-thumb-requires
-thumb-requires c κs = search needs
-
 returns : tie.Need-returns
 unfolding aligned
 returns c = rw (← c .before .thumb .ensures, c .if1 .taken) (ap (λ (n : ℕ). eqb (n % 2) 0) (c .before .before .addr .ensures))
@@ -22,4 +16,4 @@ unfolding aligned
 returns-2 c = rw (← c .before .thumb .ensures, c .if1 .left) (ap (λ (n : ℕ). eqb (n % 4) 0) (c .before .before .addr .ensures))
 
 pub aligned-spec : {M : Type 1} → statement M
-aligned-spec = tie.close (tie.spec addr-requires thumb-requires returns returns-2)
+aligned-spec = tie.close (tie.spec (search needs) (search needs) returns returns-2)

@@ -7,12 +7,6 @@ use borrow.Author.Needs.{needs}
 use Rattle.records.proofs.block_record.block_right.Statement.{statement}
 use Rattle.records.proofs.block_record.block_right.Tie as tie
 
-count-requires : tie.Need-count-requires
-count-requires c κs = search needs
-
-flags-requires : tie.Need-flags-requires
-flags-requires c κs = search needs
-
 returns : tie.Need-returns
 returns c = rules.wrong-flags _ _ (omega arith)
 
@@ -22,29 +16,11 @@ returns-2 c = rules.no-count _ _ (omega arith)
 returns-3 : tie.Need-returns-3
 returns-3 c = rules.large-count _ _ (omega arith)
 
-aligned-requires : tie.Need-aligned-requires
-aligned-requires c κs = search needs
-
 returns-4 : tie.Need-returns-4
 returns-4 c = rules.not-aligned _ _ (sym (c .before .aligned .ensures) ∙ not-true _ (c .if4 .taken))
 
-addr-requires : tie.Need-addr-requires
-addr-requires c κs = search needs
-
-cast-if5 : tie.Need-cast-if5
-cast-if5 c = search needs
-
-byte-length-requires : tie.Need-byte-length-requires
-byte-length-requires c κs = search needs
-
-add-if5 : tie.Need-add-if5
-add-if5 c = search needs
-
 returns-5 : tie.Need-returns-5
 returns-5 c = rules.end-past _ _ (omega arith)
-
-code-right-requires : tie.Need-code-right-requires
-code-right-requires c κs = search needs
 
 returns-6 : tie.Need-returns-6
 returns-6 c = c .code-right .ensures ∙ rules.right-but-code _ _ (omega arith) (omega arith) (omega arith) (sym (c .before .before .before .before .before .aligned .ensures) ∙ not-false _ (c .before .before .before .before .if4 .left)) (omega arith)
@@ -52,18 +28,5 @@ returns-6 c = c .code-right .ensures ∙ rules.right-but-code _ _ (omega arith) 
 pub block-right-spec : {M : Type 1} → statement M
 block-right-spec =
     tie.close
-    (tie.spec
-    count-requires
-    flags-requires
-    returns
-    returns-2
-    returns-3
-    aligned-requires
-    returns-4
-    addr-requires
-    cast-if5
-    byte-length-requires
-    add-if5
-    returns-5
-    code-right-requires
-    returns-6)
+    (tie.spec (search needs) (search needs) returns returns-2 returns-3 (search needs) returns-4 (search needs)
+    (search needs) (search needs) (search needs) returns-5 (search needs) returns-6)

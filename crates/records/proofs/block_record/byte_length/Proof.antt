@@ -5,18 +5,8 @@ use Rattle.records.specs.BlockRecord.{lengthOf}
 use Rattle.records.proofs.block_record.byte_length.Statement.{statement}
 use Rattle.records.proofs.block_record.byte_length.Tie as tie
 
-count-requires : tie.Need-count-requires
-count-requires c κs = search needs
-
-thumb-requires : tie.Need-thumb-requires
-thumb-requires c κs = search needs
-
-instrs-length-requires : tie.Need-instrs-length-requires
-instrs-length-requires c κs = search needs
-
 returns : tie.Need-returns
 returns c = (c .instrs-length .ensures .0 ∙ ap₂ lengthOf (c .before .before .count .ensures) (c .before .thumb .ensures), c .instrs-length .ensures .1)
 
 pub byte-length-spec : {M : Type 1} → statement M
-byte-length-spec =
-    tie.close (tie.spec count-requires thumb-requires instrs-length-requires returns)
+byte-length-spec = tie.close (tie.spec (search needs) (search needs) (search needs) returns)

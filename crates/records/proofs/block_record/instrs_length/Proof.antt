@@ -4,12 +4,6 @@ use borrow.Author.Needs.{needs}
 use Rattle.records.proofs.block_record.instrs_length.Statement.{statement}
 use Rattle.records.proofs.block_record.instrs_length.Tie as tie
 
-mul-result : tie.Need-mul-result
-mul-result c = search needs
-
-mul-result-2 : tie.Need-mul-result-2
-mul-result-2 c = search needs
-
 returns : tie.Need-returns
 returns c = rw (c .if1 .taken) (omega arith)
 
@@ -17,4 +11,4 @@ returns-2 : tie.Need-returns-2
 returns-2 c = rw (c .if1 .left) (omega arith)
 
 pub instrs-length-spec : {M : Type 1} → statement M
-instrs-length-spec = tie.close (tie.spec mul-result mul-result-2 returns returns-2)
+instrs-length-spec = tie.close (tie.spec (search needs) (search needs) returns returns-2)

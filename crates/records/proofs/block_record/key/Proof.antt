@@ -6,17 +6,8 @@ use Rattle.records.specs.BlockRecord.{keyPlus}
 use Rattle.records.proofs.block_record.key.Statement.{statement}
 use Rattle.records.proofs.block_record.key.Tie as tie
 
-addr-requires : tie.Need-addr-requires
-addr-requires c κs = search needs
-
-thumb-requires : tie.Need-thumb-requires
-thumb-requires c κs = search needs
-
-key-plus-requires : tie.Need-key-plus-requires
-key-plus-requires c κs = search needs
-
 returns : tie.Need-returns
 returns c = (c .key-plus .ensures .0 ∙ ap₂ keyPlus (c .before .before .addr .ensures) (c .before .thumb .ensures), c .key-plus .ensures .1)
 
 pub key-spec : {M : Type 1} → statement M
-key-spec = tie.close (tie.spec addr-requires thumb-requires key-plus-requires returns)
+key-spec = tie.close (tie.spec (search needs) (search needs) (search needs) returns)

@@ -5,9 +5,6 @@ use borrow.Author.Needs.{needs}
 use Rattle.records.proofs.block_record.key_plus.Statement.{statement}
 use Rattle.records.proofs.block_record.key_plus.Tie as tie
 
-add-result : tie.Need-add-result
-add-result c = search needs
-
 returns : tie.Need-returns
 returns c = rw (c .if1 .taken) (omega arith)
 
@@ -15,4 +12,4 @@ returns-2 : tie.Need-returns-2
 returns-2 c = rw (c .if1 .left) (omega arith)
 
 pub key-plus-spec : {M : Type 1} → statement M
-key-plus-spec = tie.close (tie.spec add-result returns returns-2)
+key-plus-spec = tie.close (tie.spec (search needs) returns returns-2)

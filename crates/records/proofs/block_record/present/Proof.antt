@@ -3,11 +3,5 @@ use borrow.Author.Needs.{needs}
 use Rattle.records.proofs.block_record.present.Statement.{statement}
 use Rattle.records.proofs.block_record.present.Tie as tie
 
-flags-requires : tie.Need-flags-requires
-flags-requires c κs = search needs
-
-returns : tie.Need-returns
-returns c = cc
-
 pub present-spec : {M : Type 1} → statement M
-present-spec = tie.close (tie.spec flags-requires returns)
+present-spec = tie.close (tie.spec (search needs) (λ c. cc))

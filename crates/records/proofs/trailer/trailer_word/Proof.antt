@@ -9,21 +9,9 @@ returns : tie.Need-returns
 unfolding trailerWord
 returns c = simp (lt-leb _ _ (c .if1 .taken))
 
-sub-word : tie.Need-sub-word
-sub-word c = search needs
-
-mul-word : tie.Need-mul-word
-mul-word c = search needs
-
-add-word : tie.Need-add-word
-add-word c = search needs
-
-word-requires : tie.Need-word-requires
-word-requires c κs = search needs
-
 returns-2 : tie.Need-returns-2
 unfolding trailerWord
 returns-2 c = simp (le-leb _ _ (c .before .if1 .left)) (c .word .ensures)
 
 pub trailer-word-spec : {M : Type 1} → statement M
-trailer-word-spec = tie.close (tie.spec returns sub-word mul-word add-word word-requires returns-2)
+trailer-word-spec = tie.close (tie.spec returns (search needs) (search needs) (search needs) (search needs) returns-2)

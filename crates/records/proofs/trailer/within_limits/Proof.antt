@@ -8,18 +8,11 @@ use borrow.Author.Needs.{needs}
 use Rattle.records.proofs.trailer.within_limits.Statement.{statement}
 use Rattle.records.proofs.trailer.within_limits.Tie as tie
 
-trailer-word-requires : tie.Need-trailer-word-requires
-trailer-word-requires c κs = search needs
-
 returns : tie.Need-returns
 returns c = rules.many-blocks _ (omega arith)
-
-trailer-word-requires-2 : tie.Need-trailer-word-requires-2
-trailer-word-requires-2 c κs = search needs
 
 returns-2 : tie.Need-returns-2
 returns-2 c = ap (λ (n : ℕ). leb n 1048576) (c .trailer-word2 .ensures) ∙ rules.few-blocks _ (omega arith)
 
 pub within-limits-spec : {M : Type 1} → statement M
-within-limits-spec =
-    tie.close (tie.spec trailer-word-requires returns trailer-word-requires-2 returns-2)
+within-limits-spec = tie.close (tie.spec (search needs) returns (search needs) returns-2)

@@ -4,21 +4,6 @@ use Rattle.block_exits.specs.Calls.{exitingOf}
 use Rattle.replay_answers.proofs.exits_cases.answer.Statement.{statement}
 use Rattle.replay_answers.proofs.exits_cases.answer.Tie as tie
 
-exits-of-requires : tie.Need-exits-of-requires
-exits-of-requires c κs = search needs
-
-enum-known-exits : tie.Need-enum-known-exits
-enum-known-exits c = search needs
-
-listed-requires : tie.Need-listed-requires
-listed-requires c κs = search needs
-
-enum-known-number : tie.Need-enum-known-number
-enum-known-number c = search needs
-
-cast-t8 : tie.Need-cast-t8
-cast-t8 c = search needs
-
 returns : tie.Need-returns
 unfolding exitingOf
 returns c = rw (← c .before .before .before .before .exits-of .ensures, c .before .before .exits .given .1, c .listed .ensures)
@@ -30,4 +15,4 @@ returns-2 c = rw (← c .before .before .before .exits-of .ensures, c .before .n
 pub answer-spec : {M : Type 1} → statement M
 answer-spec =
     tie.close
-    (tie.spec exits-of-requires enum-known-exits listed-requires enum-known-number cast-t8 returns returns-2)
+    (tie.spec (search needs) (search needs) (search needs) (search needs) (search needs) returns returns-2)

@@ -21,20 +21,11 @@ abbrev μ-loop : tie.MeasureT-loop
 loop-holds : tie.Need-loop-holds Inv-loop μ-loop
 loop-holds c = (lit< tt, c .fits .n .fits, sym (zero-add _))
 
-add-k : tie.Need-add-k Inv-loop μ-loop
-add-k c = omega arith
-
-loop-less : tie.Need-loop-less Inv-loop μ-loop
-loop-less c = omega arith
-
 loop-again : tie.Need-loop-again Inv-loop μ-loop
 loop-again c =
     let i = c .before .loop .inv in
     let m = count-more 16 16 (c .before .loop .k) (c .before .loop .rest) (lit< tt) (omega arith) (i .1) in
     (m .0, m .1, i .2 ∙ m .2)
-
-add-result : tie.Need-add-result Inv-loop μ-loop
-add-result c = omega arith
 
 returns : tie.Need-returns Inv-loop μ-loop
 unfolding hexadecimal
@@ -45,4 +36,5 @@ returns c =
 
 pub hexadecimal-length-spec : {M : Type 1} → statement M
 hexadecimal-length-spec =
-    tie.close (tie.spec Inv-loop μ-loop loop-holds add-k loop-less loop-again add-result returns)
+    tie.close
+    (tie.spec Inv-loop μ-loop loop-holds (λ c. omega arith) (λ c. omega arith) loop-again (λ c. omega arith) returns)
