@@ -1,7 +1,110 @@
-//! The calls of include/recomp.h, declared.
+//! The calls of include/recomp.h: declared, and behind safe functions that hand over every number,
+//! what the call returned first, then those that it was lent, in the header's order.
+
+/// What a lent number holds before a call, so that one left unwritten shows.
+const UNWRITTEN: u64 = 0x5555_5555_5555_5555;
+
+pub fn check(file: &[u8]) -> (u32, [u64; 3]) {
+    let [mut at, mut blocks, mut instructions] = [UNWRITTEN; 3];
+    // SAFETY: the slice and the three numbers outlive the call, which keeps none of them.
+    let number = unsafe {
+        recomp_check(
+            file.as_ptr(),
+            file.len(),
+            &mut at,
+            &mut blocks,
+            &mut instructions,
+        )
+    };
+    (number, [at, blocks, instructions])
+}
+
+pub fn exits(file: &[u8], block: u64) -> (u32, [u64; 4]) {
+    let [mut at, mut count, mut first, mut second] = [UNWRITTEN; 4];
+    // SAFETY: the slice and the four numbers outlive the call, which keeps none of them.
+    let number = unsafe {
+        recomp_exits(
+            file.as_ptr(),
+            file.len(),
+            block,
+            &mut at,
+            &mut count,
+            &mut first,
+            &mut second,
+        )
+    };
+    (number, [at, count, first, second])
+}
+
+pub fn plan(file: &[u8], work: &mut [u32], plan: &mut [u32]) -> (u32, [u64; 2]) {
+    let [mut at, mut blocks] = [UNWRITTEN; 2];
+    // SAFETY: the three slices and the two numbers are apart and outlive the call, which keeps none
+    // of them.
+    let number = unsafe {
+        recomp_plan(
+            file.as_ptr(),
+            file.len(),
+            work.as_mut_ptr(),
+            work.len(),
+            plan.as_mut_ptr(),
+            plan.len(),
+            &mut at,
+            &mut blocks,
+        )
+    };
+    (number, [at, blocks])
+}
+
+pub fn listing(file: &[u8], work: &mut [u32], text: &mut [u8]) -> (u32, [u64; 2]) {
+    let [mut at, mut length] = [UNWRITTEN; 2];
+    // SAFETY: the three slices and the two numbers are apart and outlive the call, which keeps none
+    // of them.
+    let number = unsafe {
+        recomp_listing(
+            file.as_ptr(),
+            file.len(),
+            work.as_mut_ptr(),
+            work.len(),
+            text.as_mut_ptr(),
+            text.len(),
+            &mut at,
+            &mut length,
+        )
+    };
+    (number, [at, length])
+}
+
+pub fn unit(
+    file: &[u8],
+    max_bytes: u64,
+    unit: u64,
+    work: &mut [u32],
+    text: &mut [u8],
+) -> (u32, [u64; 4]) {
+    let [mut at, mut length, mut done, mut last] = [UNWRITTEN; 4];
+    // SAFETY: the three slices and the four numbers are apart and outlive the call, which keeps none
+    // of them.
+    let number = unsafe {
+        recomp_unit(
+            file.as_ptr(),
+            file.len(),
+            max_bytes,
+            unit,
+            work.as_mut_ptr(),
+            work.len(),
+            text.as_mut_ptr(),
+            text.len(),
+            &mut at,
+            &mut length,
+            &mut done,
+            &mut last,
+        )
+    };
+    (number, [at, length, done, last])
+}
 
 extern "C" {
-    pub fn recomp_check(
+    fn recomp_check(
         file: *const u8,
         file_len: usize,
         at: *mut u64,
@@ -9,7 +112,7 @@ extern "C" {
         instructions: *mut u64,
     ) -> u32;
 
-    pub fn recomp_exits(
+    fn recomp_exits(
         file: *const u8,
         file_len: usize,
         block: u64,
@@ -19,7 +122,7 @@ extern "C" {
         second: *mut u64,
     ) -> u32;
 
-    pub fn recomp_plan(
+    fn recomp_plan(
         file: *const u8,
         file_len: usize,
         work: *mut u32,
@@ -30,7 +133,7 @@ extern "C" {
         blocks: *mut u64,
     ) -> u32;
 
-    pub fn recomp_listing(
+    fn recomp_listing(
         file: *const u8,
         file_len: usize,
         work: *mut u32,
@@ -41,7 +144,7 @@ extern "C" {
         length: *mut u64,
     ) -> u32;
 
-    pub fn recomp_unit(
+    fn recomp_unit(
         file: *const u8,
         file_len: usize,
         max_bytes: u64,

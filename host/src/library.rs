@@ -1,10 +1,9 @@
-//! The calls of the proved library behind safe functions. They test nothing themselves: what each
-//! call answers and leaves in what it is lent is said in include/recomp.h and proved.
+//! The calls of the proved library with their answers as values or a refusal. They test nothing
+//! themselves: what each call answers and leaves in what it is lent is said in include/recomp.h and
+//! proved.
 
 #[path = "interface.rs"]
 mod interface;
-
-use interface::{recomp_check, recomp_exits, recomp_listing, recomp_plan, recomp_unit};
 
 /// The number of a refusal and the block or instruction that it names, or 0.
 #[derive(Clone, Copy, Debug, PartialEq, Eq)]
@@ -39,17 +38,7 @@ fn answer<A>(number: u32, at: u64, values: A) -> Result<A, Refused> {
 }
 
 pub fn check(file: &[u8]) -> Result<Counts, Refused> {
-    let [mut at, mut blocks, mut instructions] = [0; 3];
-    // SAFETY: the slice and the three numbers outlive the call, which keeps none of them.
-    let number = unsafe {
-        recomp_check(
-            file.as_ptr(),
-            file.len(),
-            &mut at,
-            &mut blocks,
-            &mut instructions,
-        )
-    };
+    let (number, [at, blocks, instructions]) = interface::check(file);
     let counts = Counts {
         blocks,
         instructions,
@@ -59,60 +48,20 @@ pub fn check(file: &[u8]) -> Result<Counts, Refused> {
 
 /// The keys that block `block` can statically go to, at most two.
 pub fn exits(file: &[u8], block: u64) -> Result<Vec<u64>, Refused> {
-    let [mut at, mut count, mut first, mut second] = [0; 4];
-    // SAFETY: the slice and the four numbers outlive the call, which keeps none of them.
-    let number = unsafe {
-        recomp_exits(
-            file.as_ptr(),
-            file.len(),
-            block,
-            &mut at,
-            &mut count,
-            &mut first,
-            &mut second,
-        )
-    };
+    let (number, [at, count, first, second]) = interface::exits(file, block);
     let keys = [first, second].into_iter().take(count as usize);
     answer(number, at, keys.collect())
 }
 
 /// The number of blocks; `plan` then has group and block for each, in its front.
 pub fn plan(file: &[u8], work: &mut [u32], plan: &mut [u32]) -> Result<u64, Refused> {
-    let [mut at, mut blocks] = [0; 2];
-    // SAFETY: the three slices and the two numbers are apart and outlive the call, which keeps none
-    // of them.
-    let number = unsafe {
-        recomp_plan(
-            file.as_ptr(),
-            file.len(),
-            work.as_mut_ptr(),
-            work.len(),
-            plan.as_mut_ptr(),
-            plan.len(),
-            &mut at,
-            &mut blocks,
-        )
-    };
+    let (number, [at, blocks]) = interface::plan(file, work, plan);
     answer(number, at, blocks)
 }
 
 /// The length of the listing; `text` then has it in its front.
 pub fn listing(file: &[u8], work: &mut [u32], text: &mut [u8]) -> Result<u64, Refused> {
-    let [mut at, mut length] = [0; 2];
-    // SAFETY: the three slices and the two numbers are apart and outlive the call, which keeps none
-    // of them.
-    let number = unsafe {
-        recomp_listing(
-            file.as_ptr(),
-            file.len(),
-            work.as_mut_ptr(),
-            work.len(),
-            text.as_mut_ptr(),
-            text.len(),
-            &mut at,
-            &mut length,
-        )
-    };
+    let (number, [at, length]) = interface::listing(file, work, text);
     answer(number, at, length)
 }
 
@@ -125,25 +74,7 @@ pub fn unit(
     work: &mut [u32],
     text: &mut [u8],
 ) -> Result<Unit, Refused> {
-    let [mut at, mut length, mut done, mut last] = [0; 4];
-    // SAFETY: the three slices and the four numbers are apart and outlive the call, which keeps none
-    // of them.
-    let number = unsafe {
-        recomp_unit(
-            file.as_ptr(),
-            file.len(),
-            max_bytes,
-            unit,
-            work.as_mut_ptr(),
-            work.len(),
-            text.as_mut_ptr(),
-            text.len(),
-            &mut at,
-            &mut length,
-            &mut done,
-            &mut last,
-        )
-    };
+    let (number, [at, length, done, last]) = interface::unit(file, max_bytes, unit, work, text);
     let values = Unit {
         length,
         done,

@@ -1,4 +1,4 @@
-//! The calls of the proved library, as its C interface has them, behind safe functions.
+//! The calls of the proved library, with every number that its C interface hands over.
 
 // Each program calls some of them.
 #![allow(dead_code)]
@@ -6,27 +6,13 @@
 #[path = "../../host/src/interface.rs"]
 mod interface;
 
-use interface::{recomp_check, recomp_exits, recomp_listing, recomp_plan, recomp_unit};
 use recomp_tools::check::Numbers;
 use recomp_tools::listing::ListingNumbers;
 use recomp_tools::model::{ExitNumbers, PlanNumbers};
 use recomp_tools::units::UnitNumbers;
 
-/// What a lent number holds before a call, so that one left unwritten shows.
-const UNWRITTEN: u64 = 0x5555_5555_5555_5555;
-
 pub fn check(file: &[u8]) -> Numbers {
-    let [mut at, mut blocks, mut instructions] = [UNWRITTEN; 3];
-    // SAFETY: the slice and the three numbers outlive the call, which keeps none of them.
-    let number = unsafe {
-        recomp_check(
-            file.as_ptr(),
-            file.len(),
-            &mut at,
-            &mut blocks,
-            &mut instructions,
-        )
-    };
+    let (number, [at, blocks, instructions]) = interface::check(file);
     Numbers {
         number,
         at,
@@ -36,19 +22,7 @@ pub fn check(file: &[u8]) -> Numbers {
 }
 
 pub fn exits(file: &[u8], block: u64) -> ExitNumbers {
-    let [mut at, mut count, mut first, mut second] = [UNWRITTEN; 4];
-    // SAFETY: the slice and the four numbers outlive the call, which keeps none of them.
-    let number = unsafe {
-        recomp_exits(
-            file.as_ptr(),
-            file.len(),
-            block,
-            &mut at,
-            &mut count,
-            &mut first,
-            &mut second,
-        )
-    };
+    let (number, [at, count, first, second]) = interface::exits(file, block);
     ExitNumbers {
         number,
         at,
@@ -59,40 +33,12 @@ pub fn exits(file: &[u8], block: u64) -> ExitNumbers {
 }
 
 pub fn plan(file: &[u8], work: &mut [u32], plan: &mut [u32]) -> PlanNumbers {
-    let [mut at, mut blocks] = [UNWRITTEN; 2];
-    // SAFETY: the three slices and the two numbers are apart and outlive the call, which keeps none
-    // of them.
-    let number = unsafe {
-        recomp_plan(
-            file.as_ptr(),
-            file.len(),
-            work.as_mut_ptr(),
-            work.len(),
-            plan.as_mut_ptr(),
-            plan.len(),
-            &mut at,
-            &mut blocks,
-        )
-    };
+    let (number, [at, blocks]) = interface::plan(file, work, plan);
     PlanNumbers { number, at, blocks }
 }
 
 pub fn listing(file: &[u8], work: &mut [u32], text: &mut [u8]) -> ListingNumbers {
-    let [mut at, mut length] = [UNWRITTEN; 2];
-    // SAFETY: the three slices and the two numbers are apart and outlive the call, which keeps none
-    // of them.
-    let number = unsafe {
-        recomp_listing(
-            file.as_ptr(),
-            file.len(),
-            work.as_mut_ptr(),
-            work.len(),
-            text.as_mut_ptr(),
-            text.len(),
-            &mut at,
-            &mut length,
-        )
-    };
+    let (number, [at, length]) = interface::listing(file, work, text);
     ListingNumbers { number, at, length }
 }
 
@@ -104,25 +50,7 @@ pub fn unit(
     work: &mut [u32],
     text: &mut [u8],
 ) -> UnitNumbers {
-    let [mut at, mut length, mut done, mut last] = [UNWRITTEN; 4];
-    // SAFETY: the three slices and the four numbers are apart and outlive the call, which keeps none
-    // of them.
-    let number = unsafe {
-        recomp_unit(
-            file.as_ptr(),
-            file.len(),
-            max_bytes,
-            unit,
-            work.as_mut_ptr(),
-            work.len(),
-            text.as_mut_ptr(),
-            text.len(),
-            &mut at,
-            &mut length,
-            &mut done,
-            &mut last,
-        )
-    };
+    let (number, [at, length, done, last]) = interface::unit(file, max_bytes, unit, work, text);
     UnitNumbers {
         number,
         at,
