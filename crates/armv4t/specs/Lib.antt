@@ -6,3 +6,4 @@ pub mod RegisterList
 pub mod Instr
 pub mod Bit0
 pub mod Fused
+pub mod InRange

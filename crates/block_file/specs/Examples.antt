@@ -45,6 +45,6 @@ Each : List (List ℕ × Answer Counts) → Type 0
 Each [] = Unit {0}
 Each ((f, a) ∷ more) = (checkAnswer (parse f) ≡ a) × Each more
 
-holds : Each cases
+small-files : Each cases
 unfolding Each cases threeBlocks checkAnswer parse blocksFrom blockAt instrTotal trailerWord withinLimits trailerRight aligned codeRight blockRight keyRises countSum largest within evenFields instrRight
-holds = (refl, (refl, (refl, (refl, (refl, (refl, (refl, (refl, tt))))))))
+small-files = (refl, (refl, (refl, (refl, (refl, (refl, (refl, (refl, tt))))))))

@@ -6,7 +6,7 @@ use mathlib.Core.List.{List, [], _∷_}
 use mathlib.Core.Option.{Option, none, some, Option·some-injective}
 use lib.Dec.{T, leb, eqb, eqb→eq}
 use Rattle.c_tree.specs.Expr.{Ty, s8, s16, s32, u32, s64, u64, Name, x-pc, Var, Place, reg, var, Expr}
-use Rattle.c_tree.specs.Stmt.{Plain, registers, local, declare, adds, set, drop, run, write, tick, Test, guard, gate, other, Simple, gap, begin, plain, label, goto, ret, retIf, interp, retInterp, call, switch, Code, end, _⨾_, when, braces, Helper, ror32, op-adds, proc, f-nz, f-c, f-nz64, params}
+use Rattle.c_tree.specs.Stmt.{Plain, registers, local, declare, adds, set, discard, run, write, tick, Test, guard, gate, other, Simple, gap, recordMark, plain, label, goto, ret, retIf, interp, retInterp, call, switch, Code, end, _⨾_, when, braces, Helper, ror32, op-adds, proc, f-nz, f-c, f-nz64, params}
 use Rattle.c_meaning.specs.Types.{width, signed, sameTy}
 use Rattle.c_meaning.specs.State.{bind, update, index, Cell, Scope, State, setScopes, enter, outer, leave, declareIn, declared, assignIn, assigned, put, interpretedKey, interpreted, find, Declares}
 use Rattle.c_meaning.specs.Eval.{ty, eval, evalAs}
@@ -131,7 +131,7 @@ assigned-over y k v (f ∷ fs) = assignIn-over (f k) y k v f fs (assigned y k v 
 -- a statement calls the interpreter only if it may
 abbrev Permits : Bool → Simple → Type 0
 Permits may (gap l n) = Unit {0}
-Permits may (begin k i n) = Unit {0}
+Permits may (recordMark k i n) = Unit {0}
 Permits may (plain o s) = Unit {0}
 Permits may (label k) = Unit {0}
 Permits may (goto o k) = Unit {0}
@@ -155,7 +155,7 @@ Quiet c = Allows false c
 
 any-permits : (s : Simple) → Permits true s
 any-permits (gap l n) = tt
-any-permits (begin k i n) = tt
+any-permits (recordMark k i n) = tt
 any-permits (plain o s) = tt
 any-permits (label k) = tt
 any-permits (goto o k) = tt
@@ -253,7 +253,7 @@ module _ (may : Bool) where
         all-bind (call-kept op-adds (k ∷ l ∷ i ∷ []) u) λ q h. all-value (returned (q .1)) λ r.
         behind z u p (behind u (q .0) h (put-kept (var (u32, x)) r (q .0)))
     exec-kept (set p o e) z = all-value (eval R e z) λ k. all-value (newValue o p (ty e) k z) λ x. put-kept p x z
-    exec-kept (drop x) z = all-value (find (index (x .1)) (z .scopes)) λ p. all-cond (sameTy (x .0) (p .0)) (defined (kept-refl z)) undefined
+    exec-kept (discard x) z = all-value (find (index (x .1)) (z .scopes)) λ p. all-cond (sameTy (x .0) (p .0)) (defined (kept-refl z)) undefined
     exec-kept (run p e) z =
         all-value (evalAs R (procTy p) e z) λ k. all-bind (call-kept (proc p) (k ∷ []) z) λ q h. ended-kept (q .1) z (q .0) h
     exec-kept (write w d e) z = all-value (evalAs R u32 d z) λ a. all-value (evalAs R u32 e z) λ x. defined (kept-refl z)
@@ -271,7 +271,7 @@ module _ (may : Bool) where
     step-kept : (s : Simple) → Permits may s → (z : State) → All (KeptBy z) (step R C s z)
     unfolding step
     step-kept (gap l n) a z = defined (kept-refl z)
-    step-kept (begin k i n) a z = defined (kept-refl z)
+    step-kept (recordMark k i n) a z = defined (kept-refl z)
     step-kept (plain o s) a z = all-bind (exec-kept s z) λ u p. defined p
     step-kept (label k) a z = defined (kept-refl z)
     step-kept (goto o k) a z = defined (kept-refl z)

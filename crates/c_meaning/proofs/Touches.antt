@@ -1,7 +1,7 @@
 -- Writes touch memory only, and tick, guard and chain gate neither register nor memory.
 use Prim.Native.Nat.{ℕ}
 use mathlib.Core.Path.{_≡_, refl}
-use mathlib.Core.Bool.{Bool, not}
+use mathlib.Core.Bool.{not}
 use mathlib.Core.Option.{Option, none, some}
 use lib.Dec.{eqb}
 use Rattle.c_tree.specs.Expr.{u32, Width, Expr}

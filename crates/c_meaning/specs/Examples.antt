@@ -6,7 +6,7 @@ use mathlib.Core.List.{[], _∷_}
 use mathlib.Core.Option.{Option, none, some}
 use Rattle.words.specs.Word.{AND, OR, EOR}
 use Rattle.c_tree.specs.Expr.{s8, s32, u32, s64, word, udec, int, x-r, x-pc, reg, var, mul, add, sub, shl, shr, land, lor, w8, w32, lit, get, par, bin, cast, ror, read}
-use Rattle.c_tree.specs.Stmt.{is, plus, f-nz, f-c, local, declare, adds, set, drop, run, write, gate, other, common, plain, goto, ret, retIf, interp, retInterp, end, _⨾_, when, braces}
+use Rattle.c_tree.specs.Stmt.{is, plus, f-nz, f-c, local, declare, adds, set, discard, run, write, gate, other, common, plain, goto, ret, retIf, interp, retInterp, end, _⨾_, when, braces}
 use Rattle.c_tree.specs.Preamble.{v32}
 use Rattle.c_meaning.specs.State.{bind, update, State, empty}
 use Rattle.c_meaning.specs.Eval.{eval, evalAs}
@@ -111,11 +111,11 @@ no-value : after 0 (perform (local (u32, x-r) ∷ set (reg 0) is (v32 x-r) ∷ [
 unfolding perform eval evalAs exec execs others
 no-value = refl
 
-dropped : after 0 (perform (local (u32, x-r) ∷ drop (u32, x-r) ∷ []) begin) ≡ some 0
+dropped : after 0 (perform (local (u32, x-r) ∷ discard (u32, x-r) ∷ []) begin) ≡ some 0
 unfolding perform eval evalAs exec execs others
 dropped = refl
 
-not-dropped : after 0 (perform (drop (u32, x-r) ∷ []) begin) ≡ none
+not-dropped : after 0 (perform (discard (u32, x-r) ∷ []) begin) ≡ none
 unfolding perform eval evalAs exec execs others
 not-dropped = refl
 

@@ -5,7 +5,7 @@ use mathlib.Core.List.{List, [], _∷_}
 use mathlib.Core.Option.{Option, none, some}
 use lib.Dec.{eqb}
 use Rattle.c_tree.specs.Expr.{Ty, u32, u64, Name, x-pc, Var, Place, var, Bin, add, band, bor, Expr}
-use Rattle.c_tree.specs.Stmt.{Set, is, plus, and, or, Proc, f-nz, f-c, f-nz64, Plain, registers, local, declare, adds, set, drop, run, write, tick, Test, guard, gate, other, Simple, gap, begin, plain, label, goto, ret, retIf, interp, retInterp, call, switch, Code, end, _⨾_, when, braces, Helper, op-adds, proc}
+use Rattle.c_tree.specs.Stmt.{Set, is, plus, and, or, Proc, f-nz, f-c, f-nz64, Plain, registers, local, declare, adds, set, discard, run, write, tick, Test, guard, gate, other, Simple, gap, recordMark, plain, label, goto, ret, retIf, interp, retInterp, call, switch, Code, end, _⨾_, when, braces, Helper, op-adds, proc}
 use Rattle.c_meaning.specs.Types.{sameTy, common, convert}
 use Rattle.c_meaning.specs.State.{bind, index, State, setMem, setScopes, answered, interpretedKey, interpreted, enter, leave, find, value, declared, put, placeTy, store}
 use Rattle.c_meaning.specs.Eval.{ty, binValue, eval, evalAs}
@@ -80,7 +80,7 @@ module _ (rorAnswer : ℕ → ℕ → Option ℕ) (helperCall : Helper → List 
       bind (evalAs rorAnswer u32 d u) λ k. bind (evalAs rorAnswer u32 e u) λ l. bind (evalAs rorAnswer u32 f u) λ i.
       bind (helperCall op-adds (k ∷ l ∷ i ∷ []) u) λ q. bind (returned (q .1)) λ r. put (var (u32, x)) r (q .0)
   exec (set p o e) z = bind (eval rorAnswer e z) λ k. bind (newValue o p (ty e) k z) λ x. put p x z
-  exec (drop x) z = bind (find (index (x .1)) (z .scopes)) λ p. cond (sameTy (x .0) (p .0)) (some z) none
+  exec (discard x) z = bind (find (index (x .1)) (z .scopes)) λ p. cond (sameTy (x .0) (p .0)) (some z) none
   exec (run p e) z = bind (evalAs rorAnswer (procTy p) e z) λ k. bind (helperCall (proc p) (k ∷ []) z) λ q. ended (q .1) (q .0)
   exec (write w d e) z = bind (evalAs rorAnswer u32 d z) λ a. bind (evalAs rorAnswer u32 e z) λ x. some (setMem (store w a x (z .mem)) z)
   exec (tick n) z = some z
@@ -106,7 +106,7 @@ module _ (rorAnswer : ℕ → ℕ → Option ℕ) (helperCall : Helper → List 
   unfoldable pub step : Simple → State → Outcome
   unfolding evalAs exec asks
   step (gap l n) z = some (z, on)
-  step (begin k i n) z = some (z, on)
+  step (recordMark k i n) z = some (z, on)
   step (plain o p) z = bind (exec p z) λ u. some (u, on)
   step (label k) z = some (z, on)
   step (goto o k) z = some (z, to k)

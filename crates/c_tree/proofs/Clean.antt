@@ -13,7 +13,7 @@ use lib.Dec.{eqb, leb}
 use Rattle.text.specs.Digits.{glyph, numeral, fixed}
 use Rattle.text.specs.Doc.{Doc, nothing, raw, text, dec, hex, hex8, hex16, _▸_, chars, decimal, hexadecimal, hexadecimal8, hexadecimal16, print, each}
 use Rattle.c_tree.specs.Expr.{Ty, s8, s16, s32, u32, s64, u64, Style, word, caps, uhex, udec, int, Name, x-r, x-base, x-ob, x-addr, x-t, x-s, x-cn, x-cz, x-cc, x-cv, x-pc, x-v, x-n, x-a, x-b, x-cin, x-w, Var, Place, reg, var, Un, compl, lnot, Bin, mul, add, sub, shl, shr, eq, ne, band, bxor, bor, land, lor, operator, Width, w8, w16, w32, Expr, lit, get, par, un, bin, orLine, cast, pick, ror, read}
-use Rattle.c_tree.specs.Stmt.{Set, is, plus, and, or, Proc, f-nz, f-c, f-nz64, Plain, registers, local, declare, adds, set, drop, run, write, tick, Test, guard, gate, other}
+use Rattle.c_tree.specs.Stmt.{Set, is, plus, and, or, Proc, f-nz, f-c, f-nz64, Plain, registers, local, declare, adds, set, discard, run, write, tick, Test, guard, gate, other}
 use Rattle.c_tree.specs.Print.{tyName, upper, constantText, name, typed, placeText, unText, bits, exprText, setText, procName, declarator, plainText, testText}
 use Rattle.c_tree.specs.Binds.{level, binds, declaratorsBind, plainBinds, testBinds}
 
@@ -273,7 +273,7 @@ plain-clean (adds x d e f) h =
     & expr-clean f (right (binds false d && binds false e) (binds false f) h)
     & ok refl
 plain-clean (set p o e) h = place-clean p & set-clean o & expr-clean e h
-plain-clean (drop x) h = ok refl & name-clean (x .1)
+plain-clean (discard x) h = ok refl & name-clean (x .1)
 plain-clean (run p e) h = proc-clean p & ok refl & expr-clean e h & ok refl
 plain-clean (write w d e) h =
     ok refl

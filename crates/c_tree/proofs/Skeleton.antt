@@ -7,7 +7,7 @@ use mathlib.Core.List.{List, [], _∷_, _++_}
 use lib.Dec.{eqb}
 use Rattle.armv4t.specs.Bit0.{clearBit0}
 use Rattle.text.specs.Doc.{Doc, nothing, text, _▸_, chars, print}
-use Rattle.c_tree.specs.Stmt.{Simple, gap, begin, plain, label, goto, ret, retIf, interp, retInterp, call, switch, Code, end, _⨾_, when, braces}
+use Rattle.c_tree.specs.Stmt.{Simple, gap, recordMark, plain, label, goto, ret, retIf, interp, retInterp, call, switch, Code, end, _⨾_, when, braces}
 use Rattle.c_tree.specs.Print.{keyText, spaces, casesText, simpleText, codeText}
 use Rattle.c_tree.specs.Binds.{binds, testBinds, simpleBinds, codeBinds}
 use Rattle.c_tree.proofs.Clean.{stop, cleanByte, clean, Clean, left, right, ok, _&_, dec-clean, hex8-clean, expr-clean, test-clean, plain-clean}
@@ -24,7 +24,7 @@ caseSkeleton (k ∷ ks) = 59 ∷ caseSkeleton ks
 
 abbrev pub simpleSkeleton : Simple → List ℕ
 simpleSkeleton (gap l n) = []
-simpleSkeleton (begin k i n) = []
+simpleSkeleton (recordMark k i n) = []
 simpleSkeleton (plain o p) = 59 ∷ []
 simpleSkeleton (label k) = 59 ∷ []
 simpleSkeleton (goto o k) = 59 ∷ []
@@ -106,7 +106,7 @@ cases-stops n (k ∷ ks) = lit refl ⊕ free (dec-clean n) ⊕ lit refl ⊕ key-
 simple-stops : (s : Simple) → simpleBinds false s ≡ true → Has (simpleText s) (simpleSkeleton s)
 unfolding simpleBinds
 simple-stops (gap l n) h = line-free l ⊕ spaces-free n
-simple-stops (begin k i n) h = none
+simple-stops (recordMark k i n) h = none
 simple-stops (plain o p) h = free (plain-clean p h) ⊕ lit refl
 simple-stops (label k) h = lit refl ⊕ key-free k ⊕ lit refl
 simple-stops (goto o k) h = lit refl ⊕ key-free k ⊕ lit refl

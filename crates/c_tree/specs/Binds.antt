@@ -6,7 +6,7 @@ use mathlib.Core.Bool.{Bool, true, false, _&&_}
 use mathlib.Core.List.{List, [], _∷_}
 use lib.Dec.{leb}
 use Rattle.c_tree.specs.Expr.{Name, operator, Expr, lit, get, par, un, bin, orLine, cast, pick, ror, read}
-use Rattle.c_tree.specs.Stmt.{Plain, registers, local, declare, adds, set, drop, run, write, tick, Test, guard, gate, other, Simple, gap, begin, plain, label, goto, ret, retIf, interp, retInterp, call, switch, Code, end, _⨾_, when, braces, helper, block, group, Top, opening, function, blank, extern, table, count}
+use Rattle.c_tree.specs.Stmt.{Plain, registers, local, declare, adds, set, discard, run, write, tick, Test, guard, gate, other, Simple, gap, recordMark, plain, label, goto, ret, retIf, interp, retInterp, call, switch, Code, end, _⨾_, when, braces, helper, block, group, Top, opening, function, blank, extern, table, count}
 
 -- the level of an expression in the grammar: 14 primary and postfix, 13 unary and cast, 12 to 3 binary, 2 conditional
 unfoldable pub level : Expr → ℕ
@@ -49,7 +49,7 @@ plainBinds l (local x) = true
 plainBinds l (declare x e ds) = binds l e && declaratorsBind l ds
 plainBinds l (adds x d e f) = binds l d && binds l e && binds l f
 plainBinds l (set p o e) = binds l e
-plainBinds l (drop x) = true
+plainBinds l (discard x) = true
 plainBinds l (run p e) = binds l e
 plainBinds l (write w d e) = binds l d && binds l e
 plainBinds l (tick n) = true
@@ -66,7 +66,7 @@ testBinds l false (other e) = binds l e
 unfoldable pub simpleBinds : Bool → Simple → Bool
 unfolding binds plainBinds testBinds
 simpleBinds l (gap b n) = true
-simpleBinds l (begin k i n) = true
+simpleBinds l (recordMark k i n) = true
 simpleBinds l (plain o p) = plainBinds l p
 simpleBinds l (label k) = true
 simpleBinds l (goto o k) = true

@@ -6,7 +6,7 @@ use mathlib.Core.List.{List, [], _∷_}
 use Rattle.text.specs.Digits.{numeral, fixed}
 use Rattle.text.specs.Doc.{text, dec, _▸_, decimal, hexadecimal8, hexadecimal16, print, flat}
 use Rattle.c_tree.specs.Expr.{u32, word, udec, int, x-r, x-s, x-cn, x-cz, x-cc, x-cv, x-pc, reg, lnot, shl, shr, band, ne, land, Expr, lit, get, par, un, bin}
-use Rattle.c_tree.specs.Stmt.{is, f-nz, f-c, Plain, registers, local, declare, set, drop, run, tick, guard, gate, other, native, common, gap, begin, plain, label, goto, ret, retIf, interp, retInterp, call, switch, Code, end, _⨾_, when, braces, block, group, Top, function, blank, extern, table, count}
+use Rattle.c_tree.specs.Stmt.{is, f-nz, f-c, Plain, registers, local, declare, set, discard, run, tick, guard, gate, other, native, common, gap, recordMark, plain, label, goto, ret, retIf, interp, retInterp, call, switch, Code, end, _⨾_, when, braces, block, group, Top, function, blank, extern, table, count}
 use Rattle.c_tree.specs.Print.{exprText, codeText, unitText}
 use Rattle.c_tree.specs.Binds.{level, binds, declaratorsBind, plainBinds, testBinds, simpleBinds, codeBinds}
 use Rattle.c_tree.specs.Preamble.{v32}
@@ -22,7 +22,7 @@ bit n = bin band (par (bin shr (v32 x-s) (lit int n))) (lit udec 1)
 -- ands r0, r1, r2, lsl #3, if HI
 abbrev ands : Code
 ands =
-    begin 0x02000000 0 1
+    recordMark 0x02000000 0 1
     ⨾ gap false 4
     ⨾ braces
     (gap false 1
@@ -82,7 +82,7 @@ lone =
     ⨾ gap true 4
     ⨾ plain common (local (u32, x-pc))
     ⨾ gap false 1
-    ⨾ plain common (drop (u32, x-pc))
+    ⨾ plain common (discard (u32, x-pc))
     ⨾ gap true 4
     ⨾ when common true (guard 0x02000000 4 0x12ab)
     (gap false 1 ⨾ plain common (set (reg 15) is (lit word 0x02000000)) ⨾ gap false 1 ⨾ retInterp 0x02000000 0 ⨾ gap false 1 ⨾ end)

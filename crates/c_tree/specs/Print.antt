@@ -7,7 +7,7 @@ use lib.Dec.{eqb, leb}
 use Rattle.armv4t.specs.Bit0.{clearBit0}
 use Rattle.text.specs.Doc.{Doc, nothing, raw, text, dec, hex, hex8, hex16, _▸_, hexadecimal8, each}
 use Rattle.c_tree.specs.Expr.{Ty, s8, s16, s32, u32, s64, u64, Style, word, caps, uhex, udec, int, Name, x-r, x-base, x-ob, x-addr, x-t, x-s, x-cn, x-cz, x-cc, x-cv, x-pc, x-v, x-n, x-a, x-b, x-cin, x-w, Var, Place, reg, var, Un, compl, lnot, operator, Width, w8, w16, w32, Expr, lit, get, par, un, bin, orLine, cast, pick, ror, read}
-use Rattle.c_tree.specs.Stmt.{Set, is, plus, and, or, Proc, f-nz, f-c, f-nz64, Plain, registers, local, declare, adds, set, drop, run, write, tick, Test, guard, gate, other, Simple, gap, begin, plain, label, goto, ret, retIf, interp, retInterp, call, switch, Code, end, _⨾_, when, braces, Helper, ror32, op-adds, proc, params, Head, helper, block, group, Top, opening, function, blank, extern, table, count}
+use Rattle.c_tree.specs.Stmt.{Set, is, plus, and, or, Proc, f-nz, f-c, f-nz64, Plain, registers, local, declare, adds, set, discard, run, write, tick, Test, guard, gate, other, Simple, gap, recordMark, plain, label, goto, ret, retIf, interp, retInterp, call, switch, Code, end, _⨾_, when, braces, Helper, ror32, op-adds, proc, params, Head, helper, block, group, Top, opening, function, blank, extern, table, count}
 use Rattle.c_tree.specs.Opening.{openingText}
 
 -- the names of the types
@@ -109,7 +109,7 @@ plainText (local x) = typed x
 plainText (declare x e ds) = typed x ▸ text " = " ▸ exprText e ▸ each declarator ds
 plainText (adds x d e f) = typed (u32, x) ▸ text " = op_adds(c, " ▸ exprText d ▸ text ", " ▸ exprText e ▸ text ", " ▸ exprText f ▸ text ")"
 plainText (set p o e) = placeText p ▸ text (setText o) ▸ exprText e
-plainText (drop x) = text "(void)" ▸ text (name (x .1))
+plainText (discard x) = text "(void)" ▸ text (name (x .1))
 plainText (run p e) = text (procName p) ▸ text "(c, " ▸ exprText e ▸ text ")"
 plainText (write w d e) = text "a->write" ▸ text (bits w) ▸ text "(m, " ▸ exprText d ▸ text ", " ▸ exprText e ▸ text ")"
 plainText (tick n) = text "a->tick(m, " ▸ dec n ▸ text "u)"
@@ -137,7 +137,7 @@ casesText n (k ∷ ks) = text "    case " ▸ dec n ▸ text "u: goto L_" ▸ ke
 -- a statement without braces
 abbrev pub simpleText : Simple → Doc
 simpleText (gap l n) = text (cond l "\n" "") ▸ spaces n
-simpleText (begin k i n) = nothing
+simpleText (recordMark k i n) = nothing
 simpleText (plain o p) = plainText p ▸ text ";"
 simpleText (label k) = text "L_" ▸ keyText k ▸ text ":;"
 simpleText (goto o k) = text "goto L_" ▸ keyText k ▸ text ";"

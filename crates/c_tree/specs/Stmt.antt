@@ -20,7 +20,7 @@ pub data Plain : Type 0 where
   declare : Var → Expr → List (Name × Expr) → Plain  -- uint32_t cn = e, cz = e: inline_body, emit_block, PREAMBLE. The names behind the first have its type
   adds : Name → Expr → Expr → Expr → Plain  -- uint32_t r = op_adds(c, e, e, e): inline_body
   set : Place → Set → Expr → Plain  -- c[15] = e: all over
-  drop : Var → Plain  -- (void)r: inline_body, emit_block, emit_group
+  discard : Var → Plain  -- (void)r: inline_body, emit_block, emit_group
   run : Proc → Expr → Plain  -- f_nz(c, e): inline_body
   write : Width → Expr → Expr → Plain  -- a->write32(m, e, e): inline_body
   tick : ℕ → Plain  -- a->tick(m, {}u): flush_ticks
@@ -39,7 +39,7 @@ pub data Owner : Type 0 where
 -- a statement that holds no other code, or white space, or a mark that prints nothing
 pub data Simple : Type 0 where
   gap : Bool → ℕ → Simple  -- white space: a line end if true, then so many spaces
-  begin : ℕ → ℕ → ℕ → Simple  -- a mark: here starts the text of native records of a block: key, index of the first record, how many
+  recordMark : ℕ → ℕ → ℕ → Simple  -- a mark: here starts the text of native records of a block: key, index of the first record, how many
   plain : Owner → Plain → Simple
   label : ℕ → Simple  -- L_08000000_a:; : emit_block
   goto : Owner → ℕ → Simple  -- goto L_08000000_a;: transfer

@@ -10,9 +10,9 @@ use Rattle.members.specs.Members.{membersOf, memberKeys}
 use Rattle.block_file.specs.Address.{among}
 use Rattle.members.specs.Prepared.{Ready}
 use Rattle.emit_block.specs.declared.member.Member.{Member}
-use Rattle.emit_block.specs.Walk.{Stands}
+use Rattle.emit_block.specs.Walk.{IsMember}
 
-module _ {f work : List ℕ} {m : Member} {ks : List ℕ} (s : Stands f work m ks) (key : ℕ) where
+module _ {f work : List ℕ} {m : Member} {ks : List ℕ} (s : IsMember f work m ks) (key : ℕ) where
   -- a block with others in its group
   pub inside-group : (r : Bool) → m .several ≡ true
       → ((limit : ℕ) → Ready f (m .blocks) limit work → 2 ≤ length (membersOf limit (blocksOf f) (m .group)) → r ≡ among key (memberKeys (blocksOf f) (membersOf limit (blocksOf f) (m .group))))

@@ -17,8 +17,7 @@ use Rattle.instr_records.specs.Decode.{timedAt}
 use Rattle.block_file.specs.Parse.{instrsFrom}
 use Rattle.block_file.specs.Read.{IsBlock}
 use Rattle.block_exits.proofs.Closing.{instrAt, readInstr, read-as}
-use Rattle.forms.specs.InlineBody.{apart}
-use Rattle.forms.specs.Block.{flushTicks, setWord, closingLines}
+use Rattle.forms.specs.Block.{flushTicks, closingLines, pcLine}
 use Rattle.emit_block.specs.declared.instrs.Next.{Next}
 use Rattle.emit_block.specs.Walk.{instrsOf, nextOf}
 use Rattle.emit_block.proofs.FormsFrom.{drop-instr, drop-all}
@@ -49,12 +48,12 @@ module _ {f : List ℕ} {i : ℕ} {r : BlockRecord} {first : ℕ} (is : IsBlock 
 
 -- the lines before the closing transfer of consecutive instructions: the address behind the last one
 pub closing-address : (f : List ℕ) (thumb : Bool) (n k addr cycles : ℕ)
-    → closingLines cycles (instrsFrom f (suc n) k addr thumb) ≡ flushTicks cycles ++ apart (setWord 15 ((addr + sizeOf thumb * suc n) % 2 ^ 32) ∷ [])
+    → closingLines cycles (instrsFrom f (suc n) k addr thumb) ≡ flushTicks cycles ++ pcLine ((addr + sizeOf thumb * suc n) % 2 ^ 32)
 unfolding timedAt
 closing-address f thumb zero k addr cycles =
     let one : addr + sizeOf thumb ≡ addr + sizeOf thumb * 1 = rw (mul-suc, mul-zero) (omega arith) in
-    ap (λ (a : ℕ). flushTicks cycles ++ apart (setWord 15 (a % 2 ^ 32) ∷ [])) one
+    ap (λ (a : ℕ). flushTicks cycles ++ pcLine (a % 2 ^ 32)) one
 closing-address f thumb (suc n) k addr cycles =
     let more : addr + sizeOf thumb + sizeOf thumb * suc n ≡ addr + sizeOf thumb * suc (suc n) = rw mul-suc (omega arith) in
     closing-address f thumb n (suc k) (addr + sizeOf thumb) cycles
-    ∙ ap (λ (a : ℕ). flushTicks cycles ++ apart (setWord 15 (a % 2 ^ 32) ∷ [])) more
+    ∙ ap (λ (a : ℕ). flushTicks cycles ++ pcLine (a % 2 ^ 32)) more

@@ -15,7 +15,7 @@ use Rattle.forms.specs.Forms.{Form, native, shell, Body}
 use Rattle.forms.specs.Block.{emitPair, emitInstr, consForm, emitInstrs}
 use Rattle.block_file.specs.Address.{region}
 use Rattle.forms.proofs.Cycles.{own, instr-cycles}
-use Rattle.lowering.specs.Block.{rest}
+use Rattle.lowering.specs.Block.{codeFrom}
 use Rattle.emit_block.specs.declared.instrs.Next.{Next}
 use Rattle.emit_instr.specs.declared.step.Step.{Step}
 use Rattle.emit_instr.specs.Onward.{Onward}
@@ -40,8 +40,8 @@ module _ (f : List ℕ) (r : BlockRecord) (first : ℕ) (ks : List ℕ) (b : Bod
   -- an instruction that makes no pair
   pub alone-recorded : nextOf (x .instr) (drop (suc j) (instrsOf f r first)) ≡ Next.Alone → x .cost ≤ 65535
       → s .cycles ≡ emitInstr (r .thumb) (region (r .addr)) cycles x .1
-      → Onward out at (rest ks b j (emitInstr (r .thumb) (region (r .addr)) cycles x .0 ∷ formsFrom f r first (suc j) (s .cycles) .0))
-      (cond (s .done) end (rest ks b (j + 1) (formsFrom f r first (suc j) (s .cycles) .0))) out′ (s .at)
+      → Onward out at (codeFrom ks b j (emitInstr (r .thumb) (region (r .addr)) cycles x .0 ∷ formsFrom f r first (suc j) (s .cycles) .0))
+      (cond (s .done) end (codeFrom ks b (j + 1) (formsFrom f r first (suc j) (s .cycles) .0))) out′ (s .at)
       → Recorded f r first ks b j cycles out at out′ s
   alone-recorded alone small pending onward =
       let form : Form = emitInstr (r .thumb) (region (r .addr)) cycles x .0 in
@@ -52,16 +52,16 @@ module _ (f : List ℕ) (r : BlockRecord) (first : ℕ) (ks : List ℕ) (b : Bod
       ∙ ap (λ (n : ℕ). consForm form (emitInstrs (r .thumb) (region (r .addr)) n ys)) (sym pending) in
       record {
         onward =
-            subst (λ (p : List Form × ℕ). Onward out at (rest ks b j (p .0)) (cond (s .done) end (rest ks b (suc j) (formsFrom f r first (suc j) (s .cycles) .0))) out′ (s .at))
+            subst (λ (p : List Form × ℕ). Onward out at (codeFrom ks b j (p .0)) (cond (s .done) end (codeFrom ks b (suc j) (formsFrom f r first (suc j) (s .cycles) .0))) out′ (s .at))
             (sym all)
-            (subst (λ (n : ℕ). Onward out at (rest ks b j (form ∷ formsFrom f r first (suc j) (s .cycles) .0)) (cond (s .done) end (rest ks b n (formsFrom f r first (suc j) (s .cycles) .0))) out′ (s .at)) (add-one j) onward);
+            (subst (λ (n : ℕ). Onward out at (codeFrom ks b j (form ∷ formsFrom f r first (suc j) (s .cycles) .0)) (cond (s .done) end (codeFrom ks b n (formsFrom f r first (suc j) (s .cycles) .0))) out′ (s .at)) (add-one j) onward);
         same = λ _. ap (λ (p : List Form × ℕ). p .1) all;
         few = omega (arith, pending-most (r .thumb) (region (r .addr)) cycles x, pending, small);
       }
 
   -- a fused pair: nothing stands behind it
   pub pair-recorded : (target ret cost : ℕ) → nextOf (x .instr) (drop (suc j) (instrsOf f r first)) ≡ Next.Pair target ret cost → s .done ≡ true → s .cycles ≡ 0
-      → ((fs : List Form) → Onward out at (rest ks b j (Form.native (emitPair (cycles + (x .cost + cost)) target ret) ∷ fs)) end out′ (s .at))
+      → ((fs : List Form) → Onward out at (codeFrom ks b j (Form.native (emitPair (cycles + (x .cost + cost)) target ret) ∷ fs)) end out′ (s .at))
       → Recorded f r first ks b j cycles out at out′ s
   pair-recorded target ret cost next done none onward =
       let forms = instrs-pair (r .thumb) (region (r .addr)) cycles x (drop (suc j) (instrsOf f r first)) target ret cost next in
@@ -69,8 +69,8 @@ module _ (f : List ℕ) (r : BlockRecord) (first : ℕ) (ks : List ℕ) (b : Bod
       ap (λ (ys : List TimedInstr). emitInstrs (r .thumb) (region (r .addr)) cycles ys .0) here ∙ forms .1 in
       record {
         onward =
-            subst (λ (d : Bool). Onward out at (rest ks b j (formsFrom f r first j cycles .0)) (cond d end (rest ks b (suc j) (formsFrom f r first (suc j) (s .cycles) .0))) out′ (s .at)) (sym done)
-            (subst (λ (fs : List Form). Onward out at (rest ks b j fs) end out′ (s .at)) (sym all) (onward (forms .0)));
+            subst (λ (d : Bool). Onward out at (codeFrom ks b j (formsFrom f r first j cycles .0)) (cond d end (codeFrom ks b (suc j) (formsFrom f r first (suc j) (s .cycles) .0))) out′ (s .at)) (sym done)
+            (subst (λ (fs : List Form). Onward out at (codeFrom ks b j fs) end out′ (s .at)) (sym all) (onward (forms .0)));
         same = λ e. absurd (true≢false (sym done ∙ e));
         few = omega (arith, none);
       }

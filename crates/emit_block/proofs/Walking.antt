@@ -3,7 +3,7 @@
 use Prim.Native.Nat.{ℕ, suc, _+_, _-_, _*_, _%_, _≤_, _^_}
 use mathlib.Core.Path.{_≡_, refl, sym, ap, _∙_, subst}
 use mathlib.Core.Bool.{Bool, true, false, cond}
-use mathlib.Core.List.{List, [], _∷_, _++_}
+use mathlib.Core.List.{List, [], _++_}
 use package.native.Mathlib.Numerals.{add-one}
 use package.native.Mathlib.Omega.{arith}
 use lib.ListN.{length, drop}
@@ -15,14 +15,13 @@ use Rattle.block_file.specs.Read.{IsBlock}
 use Rattle.block_exits.specs.Exits.{keyOf}
 use Rattle.block_file.proofs.IsBlock.{some-instr}
 use Rattle.block_exits.proofs.OwnKey.{key-plus}
-use Rattle.text.specs.Wrote.{Wrote, top}
+use Rattle.text.specs.Wrote.{Wrote, maxUsize}
 use Rattle.c_tree.specs.Stmt.{end}
 use Rattle.c_tree.specs.Print.{codeText}
 use Rattle.forms.specs.Forms.{Form, Body}
-use Rattle.forms.specs.InlineBody.{apart}
-use Rattle.forms.specs.Block.{flushTicks, setWord, emitInstrs, closingLines}
+use Rattle.forms.specs.Block.{flushTicks, emitInstrs, closingLines, pcLine}
 use Rattle.block_file.specs.Address.{region}
-use Rattle.lowering.specs.Block.{bodyEnd, rest}
+use Rattle.lowering.specs.Block.{bodyEnd, codeFrom}
 use Rattle.emit_instr.specs.declared.step.Step.{Step}
 use Rattle.emit_instr.specs.Onward.{Onward}
 use Rattle.emit_instr.proofs.Onward.{stay, then, finish}
@@ -32,10 +31,10 @@ use Rattle.emit_block.proofs.Reading.{closing-address}
 
 module _ {f : List ℕ} {r : BlockRecord} {first : ℕ} {ks : List ℕ} {b : Body} {out : List ℕ} {at : ℕ} where
   -- no record yet
-  pub walked-none : IsBody f r first b → length out ≤ top → at ≤ top → Walked f r first ks b out at 0 0 out at
+  pub walked-none : IsBody f r first b → length out ≤ maxUsize → at ≤ maxUsize → Walked f r first ks b out at 0 0 out at
   walked-none body small fits =
       record {
-        onward = subst (λ (fs : List Form). Onward out at (rest ks b 0 (b .forms)) (rest ks b 0 fs) out at) (body .forms) (stay (rest ks b 0 (b .forms)) small fits);
+        onward = subst (λ (fs : List Form). Onward out at (codeFrom ks b 0 (b .forms)) (codeFrom ks b 0 fs) out at) (body .forms) (stay (codeFrom ks b 0 (b .forms)) small fits);
         same = refl;
         few = omega arith;
       }
@@ -45,18 +44,18 @@ module _ {f : List ℕ} {r : BlockRecord} {first : ℕ} {ks : List ℕ} {b : Bod
     pub walked-more : {out₂ : List ℕ} {s : Step} → Recorded f r first ks b j cycles out₁ p out₂ s → s .done ≡ false
         → Walked f r first ks b out at (j + 1) (s .cycles) out₂ (s .at)
     walked-more {out₂} {s} recorded goes =
-        let next : Onward out₁ p (rest ks b j (formsFrom f r first j cycles .0)) (rest ks b (suc j) (formsFrom f r first (suc j) (s .cycles) .0)) out₂ (s .at) =
-        subst (λ (d : Bool). Onward out₁ p (rest ks b j (formsFrom f r first j cycles .0)) (cond d end (rest ks b (suc j) (formsFrom f r first (suc j) (s .cycles) .0))) out₂ (s .at)) goes (recorded .onward) in
+        let next : Onward out₁ p (codeFrom ks b j (formsFrom f r first j cycles .0)) (codeFrom ks b (suc j) (formsFrom f r first (suc j) (s .cycles) .0)) out₂ (s .at) =
+        subst (λ (d : Bool). Onward out₁ p (codeFrom ks b j (formsFrom f r first j cycles .0)) (cond d end (codeFrom ks b (suc j) (formsFrom f r first (suc j) (s .cycles) .0))) out₂ (s .at)) goes (recorded .onward) in
         let all : Walked f r first ks b out at (suc j) (s .cycles) out₂ (s .at) =
         record { onward = then (walked .onward) next; same = sym (recorded .same goes) ∙ walked .same; few = omega (arith, recorded .few, walked .few) } in
         subst (λ (n : ℕ). Walked f r first ks b out at n (s .cycles) out₂ (s .at)) (sym (add-one j)) all
 
     -- a record behind which nothing stands
     pub walked-done : {out₂ : List ℕ} {s : Step} → Recorded f r first ks b j cycles out₁ p out₂ s → s .done ≡ true
-        → Wrote out at (codeText (rest ks b 0 (b .forms))) out₂ (s .at)
+        → Wrote out at (codeText (codeFrom ks b 0 (b .forms))) out₂ (s .at)
     walked-done {out₂} {s} recorded done =
         finish (then (walked .onward)
-        (subst (λ (d : Bool). Onward out₁ p (rest ks b j (formsFrom f r first j cycles .0)) (cond d end (rest ks b (suc j) (formsFrom f r first (suc j) (s .cycles) .0))) out₂ (s .at)) done (recorded .onward)))
+        (subst (λ (d : Bool). Onward out₁ p (codeFrom ks b j (formsFrom f r first j cycles .0)) (cond d end (codeFrom ks b (suc j) (formsFrom f r first (suc j) (s .cycles) .0))) out₂ (s .at)) done (recorded .onward)))
 
     -- all records: no form is left, and the cycles pending are those of the whole block
     nothing-left : j ≡ r .count → formsFrom f r first j cycles ≡ ([], cycles)
@@ -68,24 +67,24 @@ module _ {f : List ℕ} {r : BlockRecord} {first : ℕ} {ks : List ℕ} {b : Bod
     pub walked-cycles : j ≡ r .count → cycles ≡ formsFrom f r first 0 0 .1
     walked-cycles e = sym (ap (λ (p : List Form × ℕ). p .1) (nothing-left e)) ∙ walked .same
 
-    pub walked-end : {out₂ : List ℕ} {q : ℕ} → j ≡ r .count → Onward out₁ p (rest ks b j []) end out₂ q
-        → Wrote out at (codeText (rest ks b 0 (b .forms))) out₂ q
+    pub walked-end : {out₂ : List ℕ} {q : ℕ} → j ≡ r .count → Onward out₁ p (codeFrom ks b j []) end out₂ q
+        → Wrote out at (codeText (codeFrom ks b 0 (b .forms))) out₂ q
     walked-end {out₂} {q} e last =
-        finish (then (walked .onward) (subst (λ (n : List Form × ℕ). Onward out₁ p (rest ks b j (n .0)) end out₂ q) (sym (nothing-left e)) last))
+        finish (then (walked .onward) (subst (λ (n : List Form × ℕ). Onward out₁ p (codeFrom ks b j (n .0)) end out₂ q) (sym (nothing-left e)) last))
 
 -- where the closing transfer of a block goes
 module _ {f : List ℕ} {i : ℕ} {r : BlockRecord} {first : ℕ} {b : Body} (is : IsBlock f i r first) (body : IsBody f r first b) where
   -- the lines before it set PC to the address behind the block
   pub end-lines : (cycles next : ℕ) → cycles ≡ formsFrom f r first 0 0 .1 → next ≡ (r .addr + sizeOf (r .thumb) * r .count) % 2 ^ 32
-      → b .closing ≡ flushTicks cycles ++ apart (setWord 15 next ∷ [])
+      → b .closing ≡ flushTicks cycles ++ pcLine next
   end-lines cycles next pending e =
       let some : r .count ≡ suc (r .count - 1) = omega (arith, some-instr is) in
       body .closing
       ∙ ap (λ (n : ℕ). closingLines n (instrsOf f r first)) (sym pending)
       ∙ ap (λ (n : ℕ). closingLines cycles (instrsFrom f n first (r .addr) (r .thumb))) some
       ∙ closing-address f (r .thumb) (r .count - 1) first (r .addr) cycles
-      ∙ ap (λ (n : ℕ). flushTicks cycles ++ apart (setWord 15 ((r .addr + sizeOf (r .thumb) * n) % 2 ^ 32) ∷ [])) (sym some)
-      ∙ ap (λ (n : ℕ). flushTicks cycles ++ apart (setWord 15 n ∷ [])) (sym e)
+      ∙ ap (λ (n : ℕ). flushTicks cycles ++ pcLine ((r .addr + sizeOf (r .thumb) * n) % 2 ^ 32)) (sym some)
+      ∙ ap (λ (n : ℕ). flushTicks cycles ++ pcLine n) (sym e)
 
   end-even : (thumb : Bool) (addr count : ℕ) → keyOf addr thumb ≡ keyPlus addr thumb
       → keyPlus ((addr + lengthOf count thumb) % 2 ^ 32) thumb ≡ keyOf ((addr + sizeOf thumb * count) % 2 ^ 32) thumb

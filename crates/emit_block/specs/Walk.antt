@@ -17,7 +17,7 @@ use Rattle.c_tree.specs.Stmt.{end}
 use Rattle.forms.specs.Forms.{Form, Body}
 use Rattle.forms.specs.Block.{emitInstrs, closingLines}
 use Rattle.block_file.specs.Address.{region}
-use Rattle.lowering.specs.Block.{rest}
+use Rattle.lowering.specs.Block.{codeFrom}
 use Rattle.emit_block.specs.declared.member.Member.{Member}
 use Rattle.emit_block.specs.declared.instrs.Next.{Next}
 use Rattle.emit_instr.specs.declared.step.Step.{Step}
@@ -40,15 +40,15 @@ pub record IsBody (f : List ℕ) (r : BlockRecord) (first : ℕ) (b : Body) : Ty
   pub closing : b .closing ≡ closingLines (formsFrom f r first 0 0 .1) (instrsOf f r first)
 
 -- where a block stands in the plan that the work numbers have: ks are the keys that a transfer goes to by a goto, those of its group if it has several blocks
-pub record Stands (f work : List ℕ) (m : Member) (ks : List ℕ) : Type 0 where
+pub record IsMember (f work : List ℕ) (m : Member) (ks : List ℕ) : Type 0 where
   pub limit : ℕ
   pub ready : Ready f (m .blocks) limit work
   pub several : m .several ≡ true → 2 ≤ length (membersOf limit (blocksOf f) (m .group))
   pub keys : ks ≡ cond (m .several) (memberKeys (blocksOf f) (membersOf limit (blocksOf f) (m .group))) []
 
 -- a block of an accepted file, as the walk has it
-pub record Here (f work : List ℕ) (m : Member) (r : BlockRecord) (first : ℕ) (ks : List ℕ) (b : Body) : Type 0 where
-  pub stands : Stands f work m ks
+pub record IsMemberBlock (f work : List ℕ) (m : Member) (r : BlockRecord) (first : ℕ) (ks : List ℕ) (b : Body) : Type 0 where
+  pub stands : IsMember f work m ks
   pub is : IsBlock f (m .index) r first
   pub body : IsBody f r first b
 
@@ -64,12 +64,12 @@ nextOf x (y ∷ ys) = fusedNext (fuse x (y .instr)) (y .cost)
 
 -- the record with index j was written, with cycles pending before it
 pub record Recorded (f : List ℕ) (r : BlockRecord) (first : ℕ) (ks : List ℕ) (b : Body) (j cycles : ℕ) (out : List ℕ) (at : ℕ) (out′ : List ℕ) (s : Step) : Type 0 where
-  pub onward : Onward out at (rest ks b j (formsFrom f r first j cycles .0)) (cond (s .done) end (rest ks b (suc j) (formsFrom f r first (suc j) (s .cycles) .0))) out′ (s .at)
+  pub onward : Onward out at (codeFrom ks b j (formsFrom f r first j cycles .0)) (cond (s .done) end (codeFrom ks b (suc j) (formsFrom f r first (suc j) (s .cycles) .0))) out′ (s .at)
   pub same : s .done ≡ false → formsFrom f r first j cycles .1 ≡ formsFrom f r first (suc j) (s .cycles) .1
   pub few : s .cycles ≤ cycles + 65535
 
 -- the records before index j were written, and cycles are pending
 pub record Walked (f : List ℕ) (r : BlockRecord) (first : ℕ) (ks : List ℕ) (b : Body) (out : List ℕ) (at j cycles : ℕ) (out′ : List ℕ) (p : ℕ) : Type 0 where
-  pub onward : Onward out at (rest ks b 0 (b .forms)) (rest ks b j (formsFrom f r first j cycles .0)) out′ p
+  pub onward : Onward out at (codeFrom ks b 0 (b .forms)) (codeFrom ks b j (formsFrom f r first j cycles .0)) out′ p
   pub same : formsFrom f r first j cycles .1 ≡ formsFrom f r first 0 0 .1
   pub few : cycles ≤ 65535 * j

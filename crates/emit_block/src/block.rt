@@ -10,6 +10,7 @@ use emit_flow::emit_defer;
 use emit_flow::emit_guard;
 use fnv::hash;
 use members::first_of;
+use records::block_record::instrs_length;
 ghost use mathlib.Core.Path.{_≡_};
 ghost use mathlib.Core.Bool.{cond};
 ghost use mathlib.Core.List.{List, map};
@@ -26,8 +27,8 @@ ghost use Rattle.forms.specs.Block.{bodyOf};
 ghost use Rattle.block_file.specs.Address.{outsideRomBios};
 ghost use Rattle.lowering.specs.Block.{blockCode};
 ghost use Rattle.lowering.specs.Units.{defaultBody};
-ghost use Rattle.lowering.specs.Measured.{seen};
-ghost use Rattle.emit_block.specs.Walk.{Stands};
+ghost use Rattle.lowering.specs.Measured.{hashedIf};
+ghost use Rattle.emit_block.specs.Walk.{IsMember};
 
 // The multiplier of the guards' hash.
 const MULTIPLIER: u64 = 4294967731;
@@ -47,8 +48,7 @@ fn is_guarded(addr: u32) -> bool
 fn length_of(block: BlockRecord) -> u64
     ensures { λ r. ⌜ r ≡ lengthOf (block .count) (block .thumb) ⌝ }
 {
-    let n = block.count as u64;
-    if block.thumb { n * 2 } else { n * 4 }
+    instrs_length(block.count, block.thumb) as u64
 }
 
 // The hash of a block's code bytes, or 0 where the text is only measured.
@@ -73,7 +73,7 @@ pub fn emit_block(
     hashing: bool,
 ) -> usize
     requires { ⌜ (4 * m .blocks ≤ length (now work)) × (m .blocks ≤ 65536) × (m .blocks ≡ blockCount (now file)) × (m .index < m .blocks) ⌝ }
-    ensures { λ r. ⌜ ((ks : List ℕ) → Stands (now (file .entry)) (now (work .entry)) m ks → Wrote (now (out .entry)) at (codeText (blockCode ks (seen hashing (getD (map (bodyOf hashMultiplier) (blocksOf (now (file .entry)))) (m .index) defaultBody)))) (now (out .exit)) r) ⌝ }
+    ensures { λ r. ⌜ ((ks : List ℕ) → IsMember (now (file .entry)) (now (work .entry)) m ks → Wrote (now (out .entry)) at (codeText (blockCode ks (hashedIf hashing (getD (map (bodyOf hashMultiplier) (blocksOf (now (file .entry)))) (m .index) defaultBody)))) (now (out .exit)) r) ⌝ }
 {
     let FoundBlock::At(block) = block_at(file, m.index) else {
         return at;

@@ -26,11 +26,11 @@ ghost use Rattle.c_tree.specs.Stmt.{end};
 ghost use Rattle.forms.specs.Forms.{Form, Body};
 ghost use Rattle.forms.specs.Block.{emitPair};
 ghost use Rattle.block_file.specs.Read.{IsBlock};
-ghost use Rattle.lowering.specs.Block.{rest};
+ghost use Rattle.lowering.specs.Block.{codeFrom};
 ghost use Rattle.emit_block.specs.declared.instrs.Next.{Next};
 ghost use Rattle.emit_instr.specs.Onward.{Onward};
 ghost use Rattle.emit_instr.specs.Steps.{Reaches};
-ghost use Rattle.emit_block.specs.Walk.{instrsOf, Stands, Here, nextOf, Recorded};
+ghost use Rattle.emit_block.specs.Walk.{instrsOf, IsMember, IsMemberBlock, nextOf, Recorded};
 
 // What an instruction makes with the one behind it.
 pub(crate) enum Next {
@@ -84,7 +84,7 @@ fn next_of(file: &[u8], block: BlockRecord, first: usize, j: u32, x: Instr) -> N
 // Whether a branch goes to a block of the same group; the answer for other operations is of no use.
 fn branch_inside(file: &[u8], work: &[u32], m: Member, thumb: bool, op: Op) -> bool
     requires { ⌜ (4 * m .blocks ≤ length (now work)) × (m .blocks ≤ 65536) × (m .blocks ≡ blockCount (now file)) × (m .index < m .blocks) ⌝ }
-    ensures { λ r. ⌜ ((ks : List ℕ) → Stands (now (file .entry)) (now (work .entry)) m ks → Reaches ks thumb r op) ⌝ }
+    ensures { λ r. ⌜ ((ks : List ℕ) → IsMember (now (file .entry)) (now (work .entry)) m ks → Reaches ks thumb r op) ⌝ }
 {
     match op {
         Op::Branch { target, .. } => is_inside(file, work, m, key_of(target, thumb)),
@@ -105,7 +105,7 @@ fn emit_fused(
     ret: u32,
 ) -> usize
     requires { ⌜ (4 * m .blocks ≤ length (now work)) × (m .blocks ≤ 65536) × (m .blocks ≡ blockCount (now file)) × (m .index < m .blocks) ⌝ }
-    ensures { λ r. ⌜ ((ks : List ℕ) (b : Body) (j : ℕ) (fs : List Form) → Stands (now (file .entry)) (now (work .entry)) m ks → b .addr ≡ src → Onward (now (out .entry)) at (rest ks b j (Form.native (emitPair cycles target ret) ∷ fs)) end (now (out .exit)) r) ⌝ }
+    ensures { λ r. ⌜ ((ks : List ℕ) (b : Body) (j : ℕ) (fs : List Form) → IsMember (now (file .entry)) (now (work .entry)) m ks → b .addr ≡ src → Onward (now (out .entry)) at (codeFrom ks b j (Form.native (emitPair cycles target ret) ∷ fs)) end (now (out .exit)) r) ⌝ }
 {
     let inside = is_inside(file, work, m, set_bit0(target));
     emit_pair(out, at, cycles, target, ret, inside, src)
@@ -124,7 +124,7 @@ fn emit_alone(
     j: u32,
 ) -> Step
     requires { ⌜ (4 * m .blocks ≤ length (now work)) × (m .blocks ≤ 65536) × (m .blocks ≡ blockCount (now file)) × (m .index < m .blocks) × (j < block .count) ⌝ }
-    ensures { λ r. ⌜ ((ks : List ℕ) (b : Body) (first : ℕ) → Here (now (file .entry)) (now (work .entry)) m block first ks b → drop j (instrsOf (now (file .entry)) block first) ≡ x ∷ drop (suc j) (instrsOf (now (file .entry)) block first) → nextOf (x .instr) (drop (suc j) (instrsOf (now (file .entry)) block first)) ≡ Next.Alone → x .cost ≤ 65535 → cycles ≤ 65535 * j → Recorded (now (file .entry)) block first ks b j cycles (now (out .entry)) at (now (out .exit)) r) ⌝ }
+    ensures { λ r. ⌜ ((ks : List ℕ) (b : Body) (first : ℕ) → IsMemberBlock (now (file .entry)) (now (work .entry)) m block first ks b → drop j (instrsOf (now (file .entry)) block first) ≡ x ∷ drop (suc j) (instrsOf (now (file .entry)) block first) → nextOf (x .instr) (drop (suc j) (instrsOf (now (file .entry)) block first)) ≡ Next.Alone → x .cost ≤ 65535 → cycles ≤ 65535 * j → Recorded (now (file .entry)) block first ks b j cycles (now (out .entry)) at (now (out .exit)) r) ⌝ }
 {
     let instr = x.instr;
     let op = instr.op;
@@ -157,7 +157,7 @@ pub(crate) fn emit_record(
     j: u32,
 ) -> Step
     requires { ⌜ (4 * m .blocks ≤ length (now work)) × (m .blocks ≤ 65536) × (m .blocks ≡ blockCount (now file)) × (m .index < m .blocks) × (j < block .count) ⌝ }
-    ensures { λ r. ⌜ ((ks : List ℕ) (b : Body) → Here (now (file .entry)) (now (work .entry)) m block first ks b → cycles ≤ 65535 * j → Recorded (now (file .entry)) block first ks b j cycles (now (out .entry)) at (now (out .exit)) r) ⌝ }
+    ensures { λ r. ⌜ ((ks : List ℕ) (b : Body) → IsMemberBlock (now (file .entry)) (now (work .entry)) m block first ks b → cycles ≤ 65535 * j → Recorded (now (file .entry)) block first ks b j cycles (now (out .entry)) at (now (out .exit)) r) ⌝ }
 {
     let FoundInstr::At(x) = instr_of(file, block, first, j) else {
         return Step {

@@ -6,7 +6,7 @@ ghost use Prim.Native.Nat.{ℕ, _*_, _≤_, _<_};
 ghost use lib.ListN.{length};
 ghost use Rattle.records.specs.Trailer.{blockCount};
 ghost use Rattle.block_file.specs.Address.{among};
-ghost use Rattle.emit_block.specs.Walk.{Stands};
+ghost use Rattle.emit_block.specs.Walk.{IsMember};
 
 pub struct Member {
     // How many blocks the file has.
@@ -22,7 +22,7 @@ pub struct Member {
 // Whether a transfer to a key is a goto. A lone block has none.
 pub(crate) fn is_inside(file: &[u8], work: &[u32], m: Member, key: u32) -> bool
     requires { ⌜ (4 * m .blocks ≤ length (now work)) × (m .blocks ≤ 65536) × (m .blocks ≡ blockCount (now file)) × (m .index < m .blocks) ⌝ }
-    ensures { λ r. ⌜ ((ks : List ℕ) → Stands (now (file .entry)) (now (work .entry)) m ks → among key ks ≡ r) ⌝ }
+    ensures { λ r. ⌜ ((ks : List ℕ) → IsMember (now (file .entry)) (now (work .entry)) m ks → among key ks ≡ r) ⌝ }
 {
     if m.several {
         in_group(file, work, m.blocks, m.group, m.index, key)

@@ -15,9 +15,9 @@ ghost use Rattle.text.specs.Wrote.{Wrote};
 ghost use Rattle.c_tree.specs.Stmt.{end};
 ghost use Rattle.c_tree.specs.Print.{codeText};
 ghost use Rattle.forms.specs.Forms.{Body};
-ghost use Rattle.lowering.specs.Block.{rest};
+ghost use Rattle.lowering.specs.Block.{codeFrom};
 ghost use Rattle.emit_instr.specs.Onward.{Onward};
-ghost use Rattle.emit_block.specs.Walk.{formsFrom, Here};
+ghost use Rattle.emit_block.specs.Walk.{formsFrom, IsMemberBlock};
 
 // The closing transfer, to the key behind the block.
 fn emit_end(
@@ -30,7 +30,7 @@ fn emit_end(
     cycles: u64,
 ) -> usize
     requires { ⌜ (4 * m .blocks ≤ length (now work)) × (m .blocks ≤ 65536) × (m .blocks ≡ blockCount (now file)) × (m .index < m .blocks) ⌝ }
-    ensures { λ r. ⌜ ((ks : List ℕ) (b : Body) (first j : ℕ) → Here (now (file .entry)) (now (work .entry)) m block first ks b → cycles ≡ formsFrom (now (file .entry)) block first 0 0 .1 → Onward (now (out .entry)) at (rest ks b j []) end (now (out .exit)) r) ⌝ }
+    ensures { λ r. ⌜ ((ks : List ℕ) (b : Body) (first j : ℕ) → IsMemberBlock (now (file .entry)) (now (work .entry)) m block first ks b → cycles ≡ formsFrom (now (file .entry)) block first 0 0 .1 → Onward (now (out .entry)) at (codeFrom ks b j []) end (now (out .exit)) r) ⌝ }
 {
     let next = instr_addr(block.addr, block.thumb, block.count);
     let key = key_of(next, block.thumb);
@@ -49,7 +49,7 @@ pub(crate) fn emit_records(
     first: usize,
 ) -> usize
     requires { ⌜ (4 * m .blocks ≤ length (now work)) × (m .blocks ≤ 65536) × (m .blocks ≡ blockCount (now file)) × (m .index < m .blocks) ⌝ }
-    ensures { λ r. ⌜ ((ks : List ℕ) (b : Body) → Here (now (file .entry)) (now (work .entry)) m block first ks b → Wrote (now (out .entry)) at (codeText (rest ks b 0 (b .forms))) (now (out .exit)) r) ⌝ }
+    ensures { λ r. ⌜ ((ks : List ℕ) (b : Body) → IsMemberBlock (now (file .entry)) (now (work .entry)) m block first ks b → Wrote (now (out .entry)) at (codeText (codeFrom ks b 0 (b .forms))) (now (out .exit)) r) ⌝ }
 {
     let mut p = at;
     let mut cycles: u64 = 0;

@@ -8,12 +8,11 @@ use Rattle.text.specs.Doc.{text, _▸_, flat}
 use Rattle.c_tree.specs.Expr.{Expr}
 use Rattle.c_tree.specs.Stmt.{Plain, guard, Owner, common, plain, retInterp, Code, end, _⨾_, when, braces}
 use Rattle.c_tree.specs.Print.{exprText, plainText, codeText}
-use Rattle.forms.specs.Forms.{Lines, Native, straight, holds, branch, pop, Form, shell, records, Body}
-use Rattle.forms.specs.InlineBody.{apart}
-use Rattle.forms.specs.Block.{flushTicks, setWord}
+use Rattle.forms.specs.Forms.{Lines, Native, straight, straightIf, branch, pop, Form, shell, records, Body}
+use Rattle.forms.specs.Block.{flushTicks, pcLine}
 use Rattle.records.specs.BlockRecord.{keyPlus}
-use Rattle.lowering.specs.Block.{bodyKey, bodyLength, bodyEnd, nl, sp, line, lines, transfer, closing, conditional, leave, nativeText, shellCode, rest, defer, underGuard}
-use Rattle.emit_flow.specs.Pieces.{straightOpen, straightEnd, beforeCondition, behindCondition, behindConditional, holdsOpen, holdsEnd}
+use Rattle.lowering.specs.Block.{bodyKey, bodyLength, bodyEnd, nl, sp, line, lines, transfer, closing, conditional, leave, nativeText, shellCode, codeFrom, defer, underGuard, closingCode}
+use Rattle.emit_flow.specs.Pieces.{straightOpen, straightEnd, beforeCondition, behindCondition, behindConditional, straightIfOpen, straightIfEnd}
 use Rattle.emit_flow.proofs.Pieces.{lines-behind}
 
 -- lines in braces
@@ -26,13 +25,13 @@ straight-text ks a o t l c k =
     ∙ ap (flat (codeText (lines common 4 t end) ▸ straightOpen)) (lines-behind o common 8 l (sp 4 ⨾ end) (flat (text "}" ▸ codeText (nl ⨾ c)) k))
 
 -- lines behind a condition
-pub holds-text : (ks : List ℕ) (a : ℕ) (o : Owner) (t : Lines) (e : Expr) (l : Lines) (c : Code) (k : List ℕ)
-    → flat (codeText (nativeText ks a o (holds t e l) c)) k
-    ≡ flat (codeText (lines common 4 t end) ▸ beforeCondition ▸ exprText e ▸ holdsOpen ▸ codeText (lines common 8 l end) ▸ holdsEnd ▸ codeText c) k
+pub straight-if-text : (ks : List ℕ) (a : ℕ) (o : Owner) (t : Lines) (e : Expr) (l : Lines) (c : Code) (k : List ℕ)
+    → flat (codeText (nativeText ks a o (straightIf t e l) c)) k
+    ≡ flat (codeText (lines common 4 t end) ▸ beforeCondition ▸ exprText e ▸ straightIfOpen ▸ codeText (lines common 8 l end) ▸ straightIfEnd ▸ codeText c) k
 unfolding nativeText
-holds-text ks a o t e l c k =
+straight-if-text ks a o t e l c k =
     lines-behind o common 4 t (conditional o e (nl ⨾ lines o 8 l (sp 6 ⨾ end)) c) k
-    ∙ ap (flat (codeText (lines common 4 t end) ▸ beforeCondition ▸ exprText e ▸ holdsOpen))
+    ∙ ap (flat (codeText (lines common 4 t end) ▸ beforeCondition ▸ exprText e ▸ straightIfOpen))
     (lines-behind o common 8 l (sp 6 ⨾ end) (flat (behindConditional ▸ codeText c) k))
 
 -- a branch behind a condition
@@ -60,38 +59,38 @@ shell-behind b i key t c k =
 -- the guard, and the code behind it
 pub guard-behind : (ks : List ℕ) (b : Body) (h : ℕ) (k : List ℕ)
     → flat (codeText (underGuard ks b (some h))) k
-    ≡ flat (codeText (sp 4 ⨾ when common true (guard (b .addr) (bodyLength b) h) (sp 1 ⨾ defer b (sp 1 ⨾ end)) (nl ⨾ end)) ▸ codeText (rest ks b 0 (b .forms))) k
+    ≡ flat (codeText (sp 4 ⨾ when common true (guard (b .addr) (bodyLength b) h) (sp 1 ⨾ defer b (sp 1 ⨾ end)) (nl ⨾ end)) ▸ codeText (codeFrom ks b 0 (b .forms))) k
 unfolding underGuard
 guard-behind ks b h k = refl
 
 -- the text from a native record on: its mark prints nothing
-pub rest-native : (ks : List ℕ) (b : Body) (i : ℕ) (r : Native) (rs : List Form) (k : List ℕ)
-    → flat (codeText (rest ks b i (Form.native r ∷ rs))) k
-    ≡ flat (codeText (nativeText ks (b .addr) (Owner.native (bodyKey b)) r (rest ks b (i + records r) rs))) k
-unfolding rest
-rest-native ks b i r rs k = refl
+pub code-native : (ks : List ℕ) (b : Body) (i : ℕ) (r : Native) (rs : List Form) (k : List ℕ)
+    → flat (codeText (codeFrom ks b i (Form.native r ∷ rs))) k
+    ≡ flat (codeText (nativeText ks (b .addr) (Owner.native (bodyKey b)) r (codeFrom ks b (i + records r) rs))) k
+unfolding codeFrom
+code-native ks b i r rs k = refl
 
 -- from a shell on that has others behind it
-pub rest-shell : (ks : List ℕ) (b : Body) (i : ℕ) (h : Bool) (t : Lines) (key : ℕ) (r : Form) (rs : List Form) (k : List ℕ)
-    → flat (codeText (rest ks b i (shell h t key ∷ r ∷ rs))) k
-    ≡ flat (codeText (lines common 4 t (shellCode b i key end)) ▸ codeText (rest ks b (i + 1) (r ∷ rs))) k
-unfolding rest
-rest-shell ks b i h t key r rs k = shell-behind b i key t (rest ks b (i + 1) (r ∷ rs)) k
+pub code-shell : (ks : List ℕ) (b : Body) (i : ℕ) (h : Bool) (t : Lines) (key : ℕ) (r : Form) (rs : List Form) (k : List ℕ)
+    → flat (codeText (codeFrom ks b i (shell h t key ∷ r ∷ rs))) k
+    ≡ flat (codeText (lines common 4 t (shellCode b i key end)) ▸ codeText (codeFrom ks b (i + 1) (r ∷ rs))) k
+unfolding codeFrom
+code-shell ks b i h t key r rs k = shell-behind b i key t (codeFrom ks b (i + 1) (r ∷ rs)) k
 
 -- the last shell, and the closing transfer where it is an unfused half
-pub rest-last : (ks : List ℕ) (b : Body) (i : ℕ) (h : Bool) (t : Lines) (key : ℕ) (k : List ℕ)
-    → flat (codeText (rest ks b i (shell h t key ∷ []))) k
+pub code-last : (ks : List ℕ) (b : Body) (i : ℕ) (h : Bool) (t : Lines) (key : ℕ) (k : List ℕ)
+    → flat (codeText (codeFrom ks b i (shell h t key ∷ []))) k
     ≡ flat (codeText (lines common 4 t (sp 4 ⨾ retInterp (bodyKey b) i ⨾ nl ⨾ end)) ▸ codeText (cond h (closing ks b) end)) k
-unfolding rest
-rest-last ks b i h t key k =
+unfolding codeFrom
+code-last ks b i h t key k =
     lines-behind common common 4 t (sp 4 ⨾ retInterp (bodyKey b) i ⨾ nl ⨾ cond h (closing ks b) end) k
     ∙ sym (lines-behind common common 4 t (sp 4 ⨾ retInterp (bodyKey b) i ⨾ nl ⨾ end) (flat (codeText (cond h (closing ks b) end)) k))
 
 -- the end of a block, by the cycles pending there and where it goes on
-pub closing-text : (ks : List ℕ) (b : Body) (cycles next key : ℕ) (k : List ℕ) → b .closing ≡ flushTicks cycles ++ apart (setWord 15 next ∷ [])
+pub closing-text : (ks : List ℕ) (b : Body) (cycles next key : ℕ) (k : List ℕ) → b .closing ≡ flushTicks cycles ++ pcLine next
     → keyPlus (bodyEnd b) (b .thumb) ≡ key
-    → flat (codeText (closing ks b)) k ≡ flat (codeText (lines common 4 (flushTicks cycles ++ apart (setWord 15 next ∷ [])) (transfer ks (b .addr) common 4 key end))) k
+    → flat (codeText (closing ks b)) k ≡ flat (codeText (closingCode ks (b .addr) (flushTicks cycles ++ pcLine next) key)) k
 unfolding closing
 closing-text ks b cycles next key k e f =
-    ap (λ (l : Lines). flat (codeText (lines common 4 l (transfer ks (b .addr) common 4 (keyPlus (bodyEnd b) (b .thumb)) end))) k) e
-    ∙ ap (λ (n : ℕ). flat (codeText (lines common 4 (flushTicks cycles ++ apart (setWord 15 next ∷ [])) (transfer ks (b .addr) common 4 n end))) k) f
+    ap (λ (l : Lines). flat (codeText (closingCode ks (b .addr) l (keyPlus (bodyEnd b) (b .thumb)))) k) e
+    ∙ ap (λ (n : ℕ). flat (codeText (closingCode ks (b .addr) (flushTicks cycles ++ pcLine next) n)) k) f

@@ -4,13 +4,13 @@ use Prim.Native.Nat.{ℕ}
 use mathlib.Core.Bool.{Bool, cond}
 use mathlib.Core.List.{List}
 use Rattle.text.specs.Doc.{text, _▸_, flat}
-use Rattle.c_tree.specs.Stmt.{Test, Owner, common, Simple, gap, begin, plain, label, goto, ret, retIf, interp, retInterp, call, switch, Code, end, _⨾_, when, braces}
+use Rattle.c_tree.specs.Stmt.{Test, Owner, common, Simple, gap, recordMark, plain, label, goto, ret, retIf, interp, retInterp, call, switch, Code, end, _⨾_, when, braces}
 use Rattle.c_tree.specs.Print.{testText, simpleText, codeText}
 
 -- a statement without its marks; where a record's text starts is no space
 abbrev pub unmarkedSimple : Simple → Simple
 unmarkedSimple (gap l n) = gap l n
-unmarkedSimple (begin k i n) = begin 0 0 0
+unmarkedSimple (recordMark k i n) = recordMark 0 0 0
 unmarkedSimple (plain o p) = plain common p
 unmarkedSimple (label k) = label k
 unmarkedSimple (goto o k) = goto common k
@@ -30,7 +30,7 @@ unmarked (braces b c) = braces (unmarked b) (unmarked c)
 
 simple-text : (s : Simple) (k : List ℕ) → flat (simpleText (unmarkedSimple s)) k ≡ flat (simpleText s) k
 simple-text (gap l n) k = refl
-simple-text (begin l i n) k = refl
+simple-text (recordMark l i n) k = refl
 simple-text (plain o p) k = refl
 simple-text (label l) k = refl
 simple-text (goto o l) k = refl

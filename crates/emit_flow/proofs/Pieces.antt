@@ -17,8 +17,8 @@ use Rattle.c_tree.specs.Preamble.{preamble}
 use Rattle.c_tree.proofs.Preamble.{helpersText, preamble-text}
 use Rattle.forms.specs.Forms.{Lines, jump, bx, Body}
 use Rattle.forms.specs.InlineBody.{only, apart}
-use Rattle.forms.specs.Block.{flushTicks, setWord, emitPair, branchRegs}
-use Rattle.lowering.specs.Block.{nl, sp, line, lines, chain, transfer, conditional, nativeText, defer, underGuard}
+use Rattle.forms.specs.Block.{flushTicks, setWord, emitPair, branchRegs, pcLine}
+use Rattle.lowering.specs.Block.{nl, sp, line, lines, gotoCode, transfer, conditional, nativeText, defer, underGuard}
 use Rattle.block_file.specs.Address.{among}
 use Rattle.lowering.specs.Units.{unitHead}
 use Rattle.emit_flow.specs.Pieces.{beforeCondition, behindCondition, behindConditional}
@@ -54,9 +54,9 @@ ticked o cycles ms c =
 
 -- a transfer by what decides it, and the code behind it
 transfer-by : (inside up : Bool) (o p : Owner) (n key : ℕ) (c : Code) (k : List ℕ)
-    → flat (codeText (cond inside (chain up o n key c) (sp n ⨾ ret o (lit word key) ⨾ nl ⨾ c))) k
-    ≡ flat (codeText (cond inside (chain up p n key end) (sp n ⨾ ret p (lit word key) ⨾ nl ⨾ end))) (flat (codeText c) k)
-unfolding chain
+    → flat (codeText (cond inside (gotoCode up o n key c) (sp n ⨾ ret o (lit word key) ⨾ nl ⨾ c))) k
+    ≡ flat (codeText (cond inside (gotoCode up p n key end) (sp n ⨾ ret p (lit word key) ⨾ nl ⨾ end))) (flat (codeText c) k)
+unfolding gotoCode
 transfer-by false up o p n key c k = refl
 transfer-by true false o p n key c k = refl
 transfer-by true true o p n key c k = refl
@@ -74,14 +74,14 @@ unfolding transfer
 returned ks a o n key e = rw e refl
 
 pub gated : (ks : List ℕ) (a : ℕ) (o : Owner) (n key : ℕ) → among key ks ≡ true → leb (clearBit0 key) a ≡ true
-    → flat (codeText (sp n ⨾ retIf common gate (lit word key) ⨾ nl ⨾ end) ▸ codeText (chain false common n key end)) []
+    → flat (codeText (sp n ⨾ retIf common gate (lit word key) ⨾ nl ⨾ end) ▸ codeText (gotoCode false common n key end)) []
     ≡ flat (codeText (transfer ks a o n key end)) []
-unfolding transfer chain
+unfolding transfer gotoCode
 gated ks a o n key e f = rw (e, f) refl
 
 pub ungated : (ks : List ℕ) (a : ℕ) (o : Owner) (n key : ℕ) → among key ks ≡ true → leb (clearBit0 key) a ≡ false
-    → flat (codeText (chain false common n key end)) [] ≡ flat (codeText (transfer ks a o n key end)) []
-unfolding transfer chain
+    → flat (codeText (gotoCode false common n key end)) [] ≡ flat (codeText (transfer ks a o n key end)) []
+unfolding transfer gotoCode
 ungated ks a o n key e f = rw (e, f) refl
 
 -- cycles that are not 0 are ticked
@@ -94,20 +94,20 @@ pub lr-set : (n : ℕ) → flat (text "    c[14] = 0x" ▸ hex8 n ▸ text "u;\n
 unfolding decimal numeral
 lr-set n = refl
 
-pub pc-set : (n : ℕ) → flat (text "    c[15] = 0x" ▸ hex8 n ▸ text "u;\n") [] ≡ flat (codeText (lines common 4 (apart (setWord 15 n ∷ [])) end)) []
+pub pc-set : (n : ℕ) → flat (text "    c[15] = 0x" ▸ hex8 n ▸ text "u;\n") [] ≡ flat (codeText (lines common 4 (pcLine n) end)) []
 unfolding decimal numeral
 pc-set n = refl
 
 -- the lines of a branch that is always taken, and the code behind them
 pub linked : (link : Bool) (back target : ℕ) (o : Owner) (c : Code) (k : List ℕ)
-    → flat (codeText (lines common 4 (apart (only link (setWord 14 back))) end) ▸ codeText (lines common 4 (apart (setWord 15 target ∷ [])) end) ▸ codeText c) k
+    → flat (codeText (lines common 4 (apart (only link (setWord 14 back))) end) ▸ codeText (lines common 4 (pcLine target) end) ▸ codeText c) k
     ≡ flat (codeText (lines o 4 (apart (branchRegs link back target)) c)) k
 linked true back target o c k = refl
 linked false back target o c k = refl
 
 -- a branch that is always taken
 pub jumped : (ks : List ℕ) (a : ℕ) (o : Owner) (cycles : ℕ) (link : Bool) (back target key : ℕ) (c : Code)
-    → flat (codeText (lines common 4 (flushTicks cycles) end) ▸ codeText (lines common 4 (apart (only link (setWord 14 back))) end) ▸ codeText (lines common 4 (apart (setWord 15 target ∷ [])) end) ▸ codeText (transfer ks a o 4 key end)) []
+    → flat (codeText (lines common 4 (flushTicks cycles) end) ▸ codeText (lines common 4 (apart (only link (setWord 14 back))) end) ▸ codeText (lines common 4 (pcLine target) end) ▸ codeText (transfer ks a o 4 key end)) []
     ≡ flat (codeText (nativeText ks a o (jump (flushTicks cycles ++ apart (branchRegs link back target)) key) c)) []
 unfolding nativeText
 jumped ks a o cycles link back target key c =
@@ -133,7 +133,7 @@ taken ks a o l key =
 
 -- a fused pair
 pub paired : (ks : List ℕ) (a : ℕ) (o : Owner) (cycles target back : ℕ) (c : Code) (to key : ℕ) → to ≡ clearBit0 target → key ≡ setBit0 target
-    → flat (codeText (lines common 4 (flushTicks cycles) end) ▸ codeText (lines common 4 (apart (setWord 14 back ∷ [])) end) ▸ codeText (lines common 4 (apart (setWord 15 to ∷ [])) end) ▸ codeText (transfer ks a o 4 key end)) []
+    → flat (codeText (lines common 4 (flushTicks cycles) end) ▸ codeText (lines common 4 (apart (setWord 14 back ∷ [])) end) ▸ codeText (lines common 4 (pcLine to) end) ▸ codeText (transfer ks a o 4 key end)) []
     ≡ flat (codeText (nativeText ks a o (emitPair cycles target back) c)) []
 unfolding nativeText
 paired ks a o cycles target back c to key e f =

@@ -33,11 +33,11 @@ abbrev pub behindConditional : Doc
 behindConditional = text "}" ▸ codeText (sp 1 ⨾ end) ▸ text "}" ▸ codeText (nl ⨾ end)
 
 -- the same around lines, with their line ends and indents
-abbrev pub holdsOpen : Doc
-holdsOpen = behindCondition ▸ codeText (nl ⨾ end)
+abbrev pub straightIfOpen : Doc
+straightIfOpen = behindCondition ▸ codeText (nl ⨾ end)
 
-abbrev pub holdsEnd : Doc
-holdsEnd = codeText (sp 6 ⨾ end) ▸ behindConditional
+abbrev pub straightIfEnd : Doc
+straightIfEnd = codeText (sp 6 ⨾ end) ▸ behindConditional
 
 -- the head of a block's function, with c and pc
 abbrev pub blockOpen : ℕ → Doc

@@ -1,6 +1,6 @@
 // The braces around the lines of a record that is carried out here.
 ghost use Rattle.text.specs.Wrote.{Wrote};
-ghost use Rattle.emit_flow.specs.Pieces.{straightOpen, straightEnd, beforeCondition, holdsOpen, holdsEnd};
+ghost use Rattle.emit_flow.specs.Pieces.{straightOpen, straightEnd, beforeCondition, straightIfOpen, straightIfEnd};
 
 // Before the lines of a record without a condition.
 pub fn open_straight(out: &mut [u8], at: usize) -> usize
@@ -28,15 +28,15 @@ pub fn open_conditional(out: &mut [u8], at: usize) -> usize
 }
 
 // Between the condition and the lines that it is for.
-pub fn open_holds(out: &mut [u8], at: usize) -> usize
-    ensures { λ r. ⌜ Wrote (now (out .entry)) at holdsOpen (now (out .exit)) r ⌝ }
+pub fn open_straight_if(out: &mut [u8], at: usize) -> usize
+    ensures { λ r. ⌜ Wrote (now (out .entry)) at straightIfOpen (now (out .exit)) r ⌝ }
 {
     text::put(out, at, b") {\n")
 }
 
 // Behind those lines.
-pub fn close_holds(out: &mut [u8], at: usize) -> usize
-    ensures { λ r. ⌜ Wrote (now (out .entry)) at holdsEnd (now (out .exit)) r ⌝ }
+pub fn close_straight_if(out: &mut [u8], at: usize) -> usize
+    ensures { λ r. ⌜ Wrote (now (out .entry)) at straightIfEnd (now (out .exit)) r ⌝ }
 {
     text::put(out, at, b"      } }\n")
 }

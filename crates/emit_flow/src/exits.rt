@@ -1,4 +1,4 @@
-// Branches, fused pairs, Bx, and the closing transfer.
+// Branches, fused pairs, and the closing transfer.
 use crate::flow::flush_ticks;
 use crate::flow::set_lr;
 use crate::flow::set_pc;
@@ -6,20 +6,19 @@ use crate::flow::transfer;
 use armv4t::clear_bit0;
 use armv4t::set_bit0;
 ghost use mathlib.Core.Path.{_≡_};
-ghost use mathlib.Core.List.{List, [], _∷_, _++_};
+ghost use mathlib.Core.List.{List, _++_};
 ghost use Prim.Native.Nat.{ℕ};
 ghost use Rattle.text.specs.Doc.{_▸_};
 ghost use Rattle.text.specs.Wrote.{Wrote};
 ghost use Rattle.armv4t.specs.Bit0.{setBit0};
 ghost use Rattle.c_tree.specs.Stmt.{Owner, common, Code, end, _⨾_};
-ghost use Rattle.c_tree.specs.Print.{exprText, codeText};
-ghost use Rattle.forms.specs.Forms.{jump, bx};
+ghost use Rattle.c_tree.specs.Print.{codeText};
+ghost use Rattle.forms.specs.Forms.{jump};
 ghost use Rattle.forms.specs.InlineBody.{only, apart};
-ghost use Rattle.forms.specs.Block.{flushTicks, setWord, emitPair, branchRegs};
-ghost use Rattle.lowering.specs.Block.{nl, sp, line, lines, transfer as Block·transfer, nativeText};
+ghost use Rattle.forms.specs.Block.{flushTicks, setWord, pcLine, emitPair, branchRegs};
+ghost use Rattle.lowering.specs.Block.{nl, sp, line, lines, transfer as Block·transfer, closingCode, nativeText};
 ghost use Rattle.block_file.specs.Address.{among};
 ghost use Rattle.emit_flow.specs.Pieces.{behindCondition, behindConditional};
-ghost use Rattle.forms.specs.Operands.{regOf};
 
 // The registers of a branch, behind its condition.
 fn put_taken(out: &mut [u8], at: usize, link: bool, ret: u32, target: u32) -> usize
@@ -98,36 +97,9 @@ pub fn emit_pair(
     transfer(out, s, inside, src, set_bit0(target), false)
 }
 
-// A register, or the value of PC in its place.
-pub fn put_reg(out: &mut [u8], at: usize, r: u8, pc: u32) -> usize
-    ensures { λ n. ⌜ Wrote (now (out .entry)) at (exprText (regOf pc r)) (now (out .exit)) n ⌝ }
-{
-    if r == 15 {
-        let p = text::put_then_hex8(out, at, b"0x", pc);
-        text::put(out, p, b"u")
-    } else {
-        let p = text::put_then_dec(out, at, b"c[", r as u64);
-        text::put(out, p, b"]")
-    }
-}
-
-// A Bx.
-pub fn emit_bx(out: &mut [u8], at: usize, cycles: u64, r: u8, pc: u32) -> usize
-    ensures { λ n. ⌜ ((ks : List ℕ) (a : ℕ) (o : Owner) (c : Code) → Wrote (now (out .entry)) at (codeText (nativeText ks a o (bx (flushTicks cycles) (regOf pc r)) c)) (now (out .exit)) n) ⌝ }
-{
-    let p = flush_ticks(out, at, cycles);
-    let q = text::put(out, p, b"    { uint32_t t = ");
-    let s = put_reg(out, q, r, pc);
-    text::put(
-        out,
-        s,
-        b";\n      if (t & 1u) { c[16] |= 0x20u; c[15] = t & ~1u; return (t & ~1u) | 1u; }\n      c[16] &= ~0x20u; c[15] = t & ~3u; return t & ~3u; }\n",
-    )
-}
-
 // The end of a block that goes on at address next, whose key is given too, behind its ticks.
 pub fn put_closing(out: &mut [u8], at: usize, next: u32, inside: bool, src: u32, key: u32) -> usize
-    ensures { λ r. ⌜ ((ks : List ℕ) → among key ks ≡ inside → Wrote (now (out .entry)) at (codeText (lines common 4 (apart (setWord 15 next ∷ [])) (Block·transfer ks src common 4 key end))) (now (out .exit)) r) ⌝ }
+    ensures { λ r. ⌜ ((ks : List ℕ) → among key ks ≡ inside → Wrote (now (out .entry)) at (codeText (closingCode ks src (pcLine next) key)) (now (out .exit)) r) ⌝ }
 {
     let p = set_pc(out, at, next);
     transfer(out, p, inside, src, key, false)

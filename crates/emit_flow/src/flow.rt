@@ -10,8 +10,8 @@ ghost use Rattle.c_tree.specs.Expr.{word, lit};
 ghost use Rattle.c_tree.specs.Stmt.{gate, Owner, common, ret, retIf, end, _⨾_};
 ghost use Rattle.c_tree.specs.Print.{codeText};
 ghost use Rattle.forms.specs.InlineBody.{apart};
-ghost use Rattle.forms.specs.Block.{flushTicks, setWord};
-ghost use Rattle.lowering.specs.Block.{nl, sp, lines, chain, transfer};
+ghost use Rattle.forms.specs.Block.{flushTicks, setWord, pcLine};
+ghost use Rattle.lowering.specs.Block.{nl, sp, lines, gotoCode, transfer};
 ghost use Rattle.block_file.specs.Address.{among};
 ghost use Rattle.emit_flow.specs.Pieces.{indent};
 
@@ -36,7 +36,7 @@ pub(crate) fn set_lr(out: &mut [u8], at: usize, n: u32) -> usize
 
 // r15 set to n.
 pub(crate) fn set_pc(out: &mut [u8], at: usize, n: u32) -> usize
-    ensures { λ r. ⌜ Wrote (now (out .entry)) at (codeText (lines common 4 (apart (setWord 15 n ∷ [])) end)) (now (out .exit)) r ⌝ }
+    ensures { λ r. ⌜ Wrote (now (out .entry)) at (codeText (lines common 4 (pcLine n) end)) (now (out .exit)) r ⌝ }
 {
     let p = text::put_then_hex8(out, at, b"    c[15] = 0x", n);
     text::put(out, p, b"u;\n")
@@ -55,7 +55,7 @@ fn put_indent(out: &mut [u8], at: usize, deep: bool) -> usize
 
 // A goto in a line of its own.
 fn put_goto(out: &mut [u8], at: usize, key: u32, deep: bool) -> usize
-    ensures { λ r. ⌜ Wrote (now (out .entry)) at (codeText (chain false common (indent deep) key end)) (now (out .exit)) r ⌝ }
+    ensures { λ r. ⌜ Wrote (now (out .entry)) at (codeText (gotoCode false common (indent deep) key end)) (now (out .exit)) r ⌝ }
 {
     let p = put_indent(out, at, deep);
     let q = put_then_key(out, p, b"goto L_", key);

@@ -1,19 +1,18 @@
 // A record left to the interpreter.
 use crate::flow::flush_ticks;
 use crate::flow::set_pc;
-ghost use mathlib.Core.List.{[], _∷_, _++_};
+ghost use mathlib.Core.List.{_++_};
 ghost use Prim.Native.Nat.{ℕ};
 ghost use Rattle.text.specs.Wrote.{Wrote};
 ghost use Rattle.c_tree.specs.Stmt.{common, retInterp, end, _⨾_};
 ghost use Rattle.c_tree.specs.Print.{codeText};
 ghost use Rattle.forms.specs.Forms.{Body};
-ghost use Rattle.forms.specs.InlineBody.{apart};
-ghost use Rattle.forms.specs.Block.{flushTicks, setWord};
+ghost use Rattle.forms.specs.Block.{flushTicks, pcLine};
 ghost use Rattle.lowering.specs.Block.{nl, sp, lines, shellCode};
 
 // One that has others behind it: on to them if the interpreter comes to their key.
 pub fn emit_shell(out: &mut [u8], at: usize, cycles: u64, addr: u32, expect: u32) -> usize
-    ensures { λ r. ⌜ ((b : Body) (i : ℕ) → Wrote (now (out .entry)) at (codeText (lines common 4 (flushTicks cycles ++ apart (setWord 15 addr ∷ [])) (shellCode b i expect end))) (now (out .exit)) r) ⌝ }
+    ensures { λ r. ⌜ ((b : Body) (i : ℕ) → Wrote (now (out .entry)) at (codeText (lines common 4 (flushTicks cycles ++ pcLine addr) (shellCode b i expect end))) (now (out .exit)) r) ⌝ }
 {
     let p = flush_ticks(out, at, cycles);
     let q = set_pc(out, p, addr);
@@ -23,7 +22,7 @@ pub fn emit_shell(out: &mut [u8], at: usize, cycles: u64, addr: u32, expect: u32
 
 // The last of a block.
 pub fn emit_last_shell(out: &mut [u8], at: usize, cycles: u64, addr: u32) -> usize
-    ensures { λ r. ⌜ ((k i : ℕ) → Wrote (now (out .entry)) at (codeText (lines common 4 (flushTicks cycles ++ apart (setWord 15 addr ∷ [])) (sp 4 ⨾ retInterp k i ⨾ nl ⨾ end))) (now (out .exit)) r) ⌝ }
+    ensures { λ r. ⌜ ((k i : ℕ) → Wrote (now (out .entry)) at (codeText (lines common 4 (flushTicks cycles ++ pcLine addr) (sp 4 ⨾ retInterp k i ⨾ nl ⨾ end))) (now (out .exit)) r) ⌝ }
 {
     let p = flush_ticks(out, at, cycles);
     let q = set_pc(out, p, addr);

@@ -5,14 +5,14 @@ use native.Mathlib.Omega.{arith}
 use mathlib.Core.List.{List}
 use lib.ListN.{length}
 use Rattle.text.specs.Doc.{Doc, nothing, _▸_, flat}
-use Rattle.text.specs.Wrote.{top, Wrote}
+use Rattle.text.specs.Wrote.{maxUsize, Wrote}
 use Rattle.text.proofs.Laws.{none, seq, said, kept as Wrote·kept}
 use Rattle.c_tree.specs.Stmt.{Code, end}
 use Rattle.c_tree.specs.Print.{codeText}
 use Rattle.emit_instr.specs.Onward.{Onward}
 
 -- nothing was written
-pub stay : {o : List ℕ} {at : ℕ} (c : Code) → length o ≤ top → at ≤ top → Onward o at c c o at
+pub stay : {o : List ℕ} {at : ℕ} (c : Code) → length o ≤ maxUsize → at ≤ maxUsize → Onward o at c c o at
 stay c h k = record { doc = nothing; wrote = none h k; text = λ l. refl }
 
 -- a doc was written that stands between the two codes
@@ -49,5 +49,5 @@ same-to c e v = record { doc = v .doc; wrote = v .wrote; text = λ k. v .text k 
 pub kept : {o o′ : List ℕ} {at r : ℕ} {a b : Code} → Onward o at a b o′ r → length o′ ≡ length o
 kept v = Wrote·kept (v .wrote)
 
-pub reached : {o o′ : List ℕ} {at r : ℕ} {a b : Code} → Onward o at a b o′ r → r ≤ top
+pub reached : {o o′ : List ℕ} {at r : ℕ} {a b : Code} → Onward o at a b o′ r → r ≤ maxUsize
 reached v = omega (arith, v .wrote .next)

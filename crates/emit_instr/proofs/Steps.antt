@@ -5,7 +5,7 @@ use mathlib.Core.Bool.{Bool, true, false, cond}
 use mathlib.Core.List.{List, _∷_}
 use Rattle.c_tree.specs.Stmt.{end}
 use Rattle.forms.specs.Forms.{Form, Body}
-use Rattle.lowering.specs.Block.{rest}
+use Rattle.lowering.specs.Block.{codeFrom}
 use Rattle.emit_instr.specs.declared.step.Step.{Step}
 use Rattle.emit_instr.specs.Onward.{Onward}
 use Rattle.emit_instr.specs.Steps.{Steps}
@@ -16,9 +16,9 @@ module _ {o o′ ks : List ℕ} {at j : ℕ} {b : Body} {fs : List Form} {r : St
   same-form f g e s = subst (λ (x : Form × ℕ). Steps o at ks b j x fs o′ r) e s
 
   -- the forms behind it are still to be written
-  pub goes-on : {f : Form × ℕ} → r .done ≡ false → Steps o at ks b j f fs o′ r → Onward o at (rest ks b j (f .0 ∷ fs)) (rest ks b (j + 1) fs) o′ (r .at)
-  goes-on {f} e s = subst (λ (d : Bool). Onward o at (rest ks b j (f .0 ∷ fs)) (cond d end (rest ks b (j + 1) fs)) o′ (r .at)) e (s .onward)
+  pub goes-on : {f : Form × ℕ} → r .done ≡ false → Steps o at ks b j f fs o′ r → Onward o at (codeFrom ks b j (f .0 ∷ fs)) (codeFrom ks b (j + 1) fs) o′ (r .at)
+  goes-on {f} e s = subst (λ (d : Bool). Onward o at (codeFrom ks b j (f .0 ∷ fs)) (cond d end (codeFrom ks b (j + 1) fs)) o′ (r .at)) e (s .onward)
 
   -- nothing is
-  pub ends : {f : Form × ℕ} → r .done ≡ true → Steps o at ks b j f fs o′ r → Onward o at (rest ks b j (f .0 ∷ fs)) end o′ (r .at)
-  ends {f} e s = subst (λ (d : Bool). Onward o at (rest ks b j (f .0 ∷ fs)) (cond d end (rest ks b (j + 1) fs)) o′ (r .at)) e (s .onward)
+  pub ends : {f : Form × ℕ} → r .done ≡ true → Steps o at ks b j f fs o′ r → Onward o at (codeFrom ks b j (f .0 ∷ fs)) end o′ (r .at)
+  ends {f} e s = subst (λ (d : Bool). Onward o at (codeFrom ks b j (f .0 ∷ fs)) (cond d end (codeFrom ks b (j + 1) fs)) o′ (r .at)) e (s .onward)

@@ -11,14 +11,14 @@ use Rattle.c_tree.specs.Stmt.{Plain, Owner, common, retInterp, end, _⨾_}
 use Rattle.c_tree.specs.Print.{exprText, codeText}
 use Rattle.block_exits.specs.Exits.{keyOf}
 use Rattle.armv4t.specs.Cond.{isAl}
-use Rattle.forms.specs.Forms.{Lines, Native, straight, holds, branch, jump, Form, shell, records, Body}
+use Rattle.forms.specs.Forms.{Lines, Native, straight, straightIf, branch, jump, Form, shell, records, Body}
 use Rattle.forms.specs.Operands.{condExpr}
 use Rattle.forms.specs.InlineBody.{apart}
-use Rattle.forms.specs.Block.{flushTicks, setWord, emitBranch, branchRegs}
+use Rattle.forms.specs.Block.{flushTicks, emitBranch, branchRegs, pcLine}
 use Rattle.records.specs.BlockRecord.{keyPlus}
-use Rattle.lowering.specs.Block.{bodyKey, bodyEnd, nl, sp, line, lines, transfer, nativeText, shellCode, rest}
+use Rattle.lowering.specs.Block.{bodyKey, bodyEnd, nl, sp, line, lines, transfer, nativeText, shellCode, codeFrom, closingCode}
 use Rattle.emit_flow.specs.Pieces.{beforeCondition, behindCondition, behindConditional}
-use Rattle.emit_flow.proofs.Blocks.{straight-text, holds-text, branch-text, rest-native, rest-shell, rest-last, closing-text}
+use Rattle.emit_flow.proofs.Blocks.{straight-text, straight-if-text, branch-text, code-native, code-shell, code-last, closing-text}
 use Rattle.emit_instr.specs.Onward.{Onward}
 use Rattle.emit_instr.specs.Steps.{empty, lowered}
 use Rattle.emit_instr.proofs.Onward.{by}
@@ -26,70 +26,70 @@ use Rattle.emit_instr.proofs.Onward.{by}
 module _ {o o′ : List ℕ} {at r : ℕ} (ks : List ℕ) (b : Body) (j : ℕ) where
   -- an exit, whose text has nothing behind it, from the block's address
   pub exit-step : (n : Native) (src : ℕ) (fs : List Form) → b .addr ≡ src
-      → Wrote o at (codeText (nativeText ks src (Owner.native (bodyKey b)) n (rest ks b (j + records n) fs))) o′ r
-      → Onward o at (rest ks b j (Form.native n ∷ fs)) end o′ r
+      → Wrote o at (codeText (nativeText ks src (Owner.native (bodyKey b)) n (codeFrom ks b (j + records n) fs))) o′ r
+      → Onward o at (codeFrom ks b j (Form.native n ∷ fs)) end o′ r
   exit-step n src fs q w =
       by _ end w
-      (λ k. rest-native ks b j n fs k
-      ∙ ap (λ (a : ℕ). flat (codeText (nativeText ks a (Owner.native (bodyKey b)) n (rest ks b (j + records n) fs))) k) q)
+      (λ k. code-native ks b j n fs k
+      ∙ ap (λ (a : ℕ). flat (codeText (nativeText ks a (Owner.native (bodyKey b)) n (codeFrom ks b (j + records n) fs))) k) q)
 
   -- lines in braces, behind a condition or not
   pub lowered-step : (al : Bool) (t : Lines) (e : Expr) (l : Lines) (fs : List Form)
       → Wrote o at (codeText (lines common 4 t end) ▸ lowered al e l) o′ r
-      → Onward o at (rest ks b j (Form.native (cond al (straight t l) (holds t e l)) ∷ fs)) (rest ks b (j + 1) fs) o′ r
+      → Onward o at (codeFrom ks b j (Form.native (cond al (straight t l) (straightIf t e l)) ∷ fs)) (codeFrom ks b (j + 1) fs) o′ r
   lowered-step true t e l fs w =
       by _ _ w
-      (λ k. rest-native ks b j (straight t l) fs k ∙ straight-text ks (b .addr) (Owner.native (bodyKey b)) t l (rest ks b (j + 1) fs) k)
+      (λ k. code-native ks b j (straight t l) fs k ∙ straight-text ks (b .addr) (Owner.native (bodyKey b)) t l (codeFrom ks b (j + 1) fs) k)
   lowered-step false t e l fs w =
       by _ _ w
-      (λ k. rest-native ks b j (holds t e l) fs k ∙ holds-text ks (b .addr) (Owner.native (bodyKey b)) t e l (rest ks b (j + 1) fs) k)
+      (λ k. code-native ks b j (straightIf t e l) fs k ∙ straight-if-text ks (b .addr) (Owner.native (bodyKey b)) t e l (codeFrom ks b (j + 1) fs) k)
 
   -- a branch that is always taken, from the block's address
   pub jump-step : (al : Bool) (t u : Lines) (e : Expr) (l : List Plain) (key src : ℕ) (fs : List Form) → al ≡ true → b .addr ≡ src
-      → Wrote o at (codeText (nativeText ks src (Owner.native (bodyKey b)) (jump t key) (rest ks b (j + 1) fs))) o′ r
-      → Onward o at (rest ks b j (Form.native (cond al (jump t key) (branch u e l key)) ∷ fs)) end o′ r
+      → Wrote o at (codeText (nativeText ks src (Owner.native (bodyKey b)) (jump t key) (codeFrom ks b (j + 1) fs))) o′ r
+      → Onward o at (codeFrom ks b j (Form.native (cond al (jump t key) (branch u e l key)) ∷ fs)) end o′ r
   jump-step true t u e l key src fs p q w = exit-step (jump t key) src fs q w
   jump-step false t u e l key src fs p q w = absurd (true≢false (sym p))
 
   -- a branch behind a condition
   pub branch-step : (al : Bool) (t u : Lines) (e : Expr) (l : List Plain) (key src : ℕ) (fs : List Form) → al ≡ false → b .addr ≡ src
       → Wrote o at ((codeText (lines common 4 u end) ▸ beforeCondition ▸ exprText e) ▸ behindCondition ▸ codeText (sp 1 ⨾ line (Owner.native (bodyKey b)) l (nl ⨾ transfer ks src (Owner.native (bodyKey b)) 8 key (sp 6 ⨾ end))) ▸ behindConditional) o′ r
-      → Onward o at (rest ks b j (Form.native (cond al (jump t key) (branch u e l key)) ∷ fs)) (rest ks b (j + 1) fs) o′ r
+      → Onward o at (codeFrom ks b j (Form.native (cond al (jump t key) (branch u e l key)) ∷ fs)) (codeFrom ks b (j + 1) fs) o′ r
   branch-step true t u e l key src fs p q w = absurd (true≢false p)
   branch-step false t u e l key src fs p q w =
       by _ _ w
-      (λ k. rest-native ks b j (branch u e l key) fs k ∙ branch-text ks (b .addr) (Owner.native (bodyKey b)) u e l key (rest ks b (j + 1) fs) k
-      ∙ ap (λ (n : ℕ). flat (((codeText (lines common 4 u end) ▸ beforeCondition ▸ exprText e) ▸ behindCondition ▸ codeText (sp 1 ⨾ line (Owner.native (bodyKey b)) l (nl ⨾ transfer ks n (Owner.native (bodyKey b)) 8 key (sp 6 ⨾ end))) ▸ behindConditional) ▸ codeText (rest ks b (j + 1) fs)) k) q)
+      (λ k. code-native ks b j (branch u e l key) fs k ∙ branch-text ks (b .addr) (Owner.native (bodyKey b)) u e l key (codeFrom ks b (j + 1) fs) k
+      ∙ ap (λ (n : ℕ). flat (((codeText (lines common 4 u end) ▸ beforeCondition ▸ exprText e) ▸ behindCondition ▸ codeText (sp 1 ⨾ line (Owner.native (bodyKey b)) l (nl ⨾ transfer ks n (Owner.native (bodyKey b)) 8 key (sp 6 ⨾ end))) ▸ behindConditional) ▸ codeText (codeFrom ks b (j + 1) fs)) k) q)
 
   -- a shell that has others behind it
   pub shell-step : (high last : Bool) (t : Lines) (key : ℕ) (fs : List Form) → last ≡ empty fs → last ≡ false
       → Wrote o at (codeText (lines common 4 t (shellCode b j key end))) o′ r
-      → Onward o at (rest ks b j (shell high t key ∷ fs)) (cond (not high && last) end (rest ks b (j + 1) fs)) o′ r
+      → Onward o at (codeFrom ks b j (shell high t key ∷ fs)) (cond (not high && last) end (codeFrom ks b (j + 1) fs)) o′ r
   shell-step high last t key [] p q w = absurd (true≢false (sym p ∙ q))
   shell-step high true t key (f ∷ fs) p q w = absurd (true≢false q)
-  shell-step true false t key (f ∷ fs) p q w = by _ _ w (λ k. rest-shell ks b j true t key f fs k)
-  shell-step false false t key (f ∷ fs) p q w = by _ _ w (λ k. rest-shell ks b j false t key f fs k)
+  shell-step true false t key (f ∷ fs) p q w = by _ _ w (λ k. code-shell ks b j true t key f fs k)
+  shell-step false false t key (f ∷ fs) p q w = by _ _ w (λ k. code-shell ks b j false t key f fs k)
 
   -- the last shell; behind an unfused half stands the closing transfer
   pub last-step : (high last : Bool) (t : Lines) (key : ℕ) (fs : List Form) → last ≡ empty fs → last ≡ true
       → Wrote o at (codeText (lines common 4 t (sp 4 ⨾ retInterp (bodyKey b) j ⨾ nl ⨾ end))) o′ r
-      → Onward o at (rest ks b j (shell high t key ∷ fs)) (cond (not high && last) end (rest ks b (j + 1) fs)) o′ r
-  unfolding rest
+      → Onward o at (codeFrom ks b j (shell high t key ∷ fs)) (cond (not high && last) end (codeFrom ks b (j + 1) fs)) o′ r
+  unfolding codeFrom
   last-step high last t key (f ∷ fs) p q w = absurd (true≢false (sym q ∙ p))
   last-step high false t key [] p q w = absurd (true≢false (sym q))
-  last-step true true t key [] p q w = by _ _ w (λ k. rest-last ks b j true t key k)
-  last-step false true t key [] p q w = by _ _ w (λ k. rest-last ks b j false t key k)
+  last-step true true t key [] p q w = by _ _ w (λ k. code-last ks b j true t key k)
+  last-step false true t key [] p q w = by _ _ w (λ k. code-last ks b j false t key k)
 
   -- the end of a block, by the cycles pending there and where it goes on
-  pub closing-step : (cycles next key src : ℕ) → b .closing ≡ flushTicks cycles ++ apart (setWord 15 next ∷ [])
+  pub closing-step : (cycles next key src : ℕ) → b .closing ≡ flushTicks cycles ++ pcLine next
       → keyPlus (bodyEnd b) (b .thumb) ≡ key → b .addr ≡ src
-      → Wrote o at (codeText (lines common 4 (flushTicks cycles ++ apart (setWord 15 next ∷ [])) (transfer ks src common 4 key end))) o′ r
-      → Onward o at (rest ks b j []) end o′ r
-  unfolding rest
+      → Wrote o at (codeText (closingCode ks src (flushTicks cycles ++ pcLine next) key)) o′ r
+      → Onward o at (codeFrom ks b j []) end o′ r
+  unfolding codeFrom
   closing-step cycles next key src p q e w =
       by _ end w
       (λ k. closing-text ks b cycles next key k p q
-      ∙ ap (λ (a : ℕ). flat (codeText (lines common 4 (flushTicks cycles ++ apart (setWord 15 next ∷ [])) (transfer ks a common 4 key end))) k) e)
+      ∙ ap (λ (a : ℕ). flat (codeText (closingCode ks a (flushTicks cycles ++ pcLine next) key)) k) e)
 
 -- a branch by its key and the address behind it
 pub branch-form : (thumb : Bool) (cycles : ℕ) (i : Instr) (link : Bool) (target back key : ℕ) → back ≡ (i .addr + 4) % 2 ^ 32

@@ -11,9 +11,9 @@ use Rattle.c_tree.specs.Stmt.{common, end}
 use Rattle.c_tree.specs.Print.{exprText, codeText}
 use Rattle.block_exits.specs.Exits.{keyOf}
 use Rattle.forms.specs.Forms.{Lines, Form, Body}
-use Rattle.lowering.specs.Block.{lines, rest}
+use Rattle.lowering.specs.Block.{lines, codeFrom}
 use Rattle.block_file.specs.Address.{among}
-use Rattle.emit_flow.specs.Pieces.{straightOpen, straightEnd, beforeCondition, holdsOpen, holdsEnd}
+use Rattle.emit_flow.specs.Pieces.{straightOpen, straightEnd, beforeCondition, straightIfOpen, straightIfEnd}
 use Rattle.emit_instr.specs.declared.step.Step.{Step}
 use Rattle.emit_instr.specs.Onward.{Onward}
 
@@ -24,7 +24,7 @@ empty (f ∷ fs) = false
 
 -- A form was written, behind which others stand, and the cycles pending behind it are as said; done: nothing is left to write, not even the others
 pub record Steps (out : List ℕ) (at : ℕ) (ks : List ℕ) (b : Body) (j : ℕ) (f : Form × ℕ) (fs : List Form) (out′ : List ℕ) (r : Step) : Type 0 where
-  pub onward : Onward out at (rest ks b j (f .0 ∷ fs)) (cond (r .done) end (rest ks b (j + 1) fs)) out′ (r .at)
+  pub onward : Onward out at (codeFrom ks b j (f .0 ∷ fs)) (cond (r .done) end (codeFrom ks b (j + 1) fs)) out′ (r .at)
   pub cycles : r .cycles ≡ f .1
 
 -- the key of a branch's target is among those of the group, or not; nothing is asked of other operations
@@ -48,4 +48,4 @@ Reaches ks thumb inside (Undefined raw) = Unit
 -- the text of lines in braces, behind the condition e unless it always holds (true)
 abbrev pub lowered : Bool → Expr → Lines → Doc
 lowered true e l = straightOpen ▸ codeText (lines common 8 l end) ▸ straightEnd
-lowered false e l = beforeCondition ▸ exprText e ▸ holdsOpen ▸ codeText (lines common 8 l end) ▸ holdsEnd
+lowered false e l = beforeCondition ▸ exprText e ▸ straightIfOpen ▸ codeText (lines common 8 l end) ▸ straightIfEnd

@@ -10,11 +10,11 @@ pub(crate) fn with_cost(cycles: u64, cost: u16) -> u64
     std::num::wrapping_add_u64(cycles, cost as u64)
 }
 
-// The cycles pending behind an instruction; those before it are ticked already if it touches memory (bus).
-pub(crate) fn pending(bus: bool, cycles: u64, cost: u16) -> u64
-    ensures { λ r. ⌜ (cycles + cost < 2 ^ 64 → r ≡ cond bus 0 cycles + cost) ⌝ }
+// The cycles pending behind an instruction; those before it are ticked already if it touches memory (touches_bus).
+pub(crate) fn pending(touches_bus: bool, cycles: u64, cost: u16) -> u64
+    ensures { λ r. ⌜ (cycles + cost < 2 ^ 64 → r ≡ cond «touches_bus» 0 cycles + cost) ⌝ }
 {
-    if bus {
+    if touches_bus {
         cost as u64
     } else {
         with_cost(cycles, cost)

@@ -11,13 +11,13 @@ ghost use Prim.Native.Nat.{ℕ, _+_};
 ghost use Rattle.c_tree.specs.Stmt.{end};
 ghost use Rattle.forms.specs.Forms.{Form, Body};
 ghost use Rattle.forms.specs.Block.{emitShell};
-ghost use Rattle.lowering.specs.Block.{rest};
+ghost use Rattle.lowering.specs.Block.{codeFrom};
 ghost use Rattle.emit_instr.specs.Onward.{Onward};
 ghost use Rattle.emit_instr.specs.Steps.{empty, Steps};
 
 // A shell, also for an unfused ThumbBlHigh (high), behind which the closing transfer stands where it is the last of its block.
 fn put_shell(out: &mut [u8], at: usize, thumb: bool, cycles: u64, i: Instr, last: bool) -> usize
-    ensures { λ r. ⌜ ((high : Bool) (ks : List ℕ) (b : Body) (j : ℕ) (fs : List Form) → last ≡ empty fs → Onward (now (out .entry)) at (rest ks b j (emitShell thumb high cycles i ∷ fs)) (cond (not high && last) end (rest ks b (j + 1) fs)) (now (out .exit)) r) ⌝ }
+    ensures { λ r. ⌜ ((high : Bool) (ks : List ℕ) (b : Body) (j : ℕ) (fs : List Form) → last ≡ empty fs → Onward (now (out .entry)) at (codeFrom ks b j (emitShell thumb high cycles i ∷ fs)) (cond (not high && last) end (codeFrom ks b (j + 1) fs)) (now (out .exit)) r) ⌝ }
 {
     if last {
         emit_last_shell(out, at, cycles, i.addr)

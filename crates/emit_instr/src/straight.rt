@@ -6,12 +6,12 @@ use crate::shells::emit_interpreted;
 use crate::step::Step;
 use armv4t::Instr;
 use block_file::TimedInstr;
-use emit_flow::close_holds;
 use emit_flow::close_straight;
+use emit_flow::close_straight_if;
 use emit_flow::flush_ticks;
 use emit_flow::open_conditional;
-use emit_flow::open_holds;
 use emit_flow::open_straight;
+use emit_flow::open_straight_if;
 use emit_mem::is_al;
 use emit_operands::put_cond_expr;
 ghost use mathlib.Core.Path.{_≡_};
@@ -31,10 +31,10 @@ ghost use Rattle.lowering.specs.Block.{lines};
 ghost use Rattle.emit_instr.specs.Steps.{empty, Steps, lowered};
 
 // The cycles pending before an instruction that touches memory; they stay pending before another.
-fn put_ticks(out: &mut [u8], at: usize, bus: bool, cycles: u64) -> usize
-    ensures { λ r. ⌜ Wrote (now (out .entry)) at (codeText (lines common 4 (cond bus (flushTicks cycles) []) end)) (now (out .exit)) r ⌝ }
+fn put_ticks(out: &mut [u8], at: usize, touches_bus: bool, cycles: u64) -> usize
+    ensures { λ r. ⌜ Wrote (now (out .entry)) at (codeText (lines common 4 (cond «touches_bus» (flushTicks cycles) []) end)) (now (out .exit)) r ⌝ }
 {
-    if bus {
+    if touches_bus {
         flush_ticks(out, at, cycles)
     } else {
         at
@@ -51,15 +51,15 @@ fn put_straight(out: &mut [u8], at: usize, thumb: bool, i: Instr) -> usize
 }
 
 // The same behind its condition.
-fn put_holds(out: &mut [u8], at: usize, thumb: bool, i: Instr) -> usize
+fn put_straight_if(out: &mut [u8], at: usize, thumb: bool, i: Instr) -> usize
     ensures { λ r. ⌜ ((body : Lines) → inlineBody thumb i ≡ some body → Wrote (now (out .entry)) at (lowered false (condExpr (i .cond)) body) (now (out .exit)) r) ⌝ }
 {
     let condition = i.cond;
     let p = open_conditional(out, at);
     let q = put_cond_expr(out, p, condition);
-    let s = open_holds(out, q);
+    let s = open_straight_if(out, q);
     let t = put_body(out, s, thumb, i);
-    close_holds(out, t)
+    close_straight_if(out, t)
 }
 
 // The lines of an instruction, behind its condition unless it always holds.
@@ -70,7 +70,7 @@ fn put_lowered(out: &mut [u8], at: usize, thumb: bool, i: Instr) -> usize
     if is_al(condition) {
         put_straight(out, at, thumb, i)
     } else {
-        put_holds(out, at, thumb, i)
+        put_straight_if(out, at, thumb, i)
     }
 }
 
@@ -79,37 +79,37 @@ fn emit_lowered(
     out: &mut [u8],
     at: usize,
     thumb: bool,
-    bus: bool,
+    touches_bus: bool,
     cycles: u64,
     x: TimedInstr,
 ) -> Step
-    ensures { λ r. ⌜ ((body : Lines) → inlineBody thumb (x .instr) ≡ some body → (ks : List ℕ) (b : Body) (j : ℕ) (fs : List Form) → cycles + x .cost < 2 ^ 64 → Steps (now (out .entry)) at ks b j (emitLines thumb bus cycles x (some body)) fs (now (out .exit)) r) ⌝ }
+    ensures { λ r. ⌜ ((body : Lines) → inlineBody thumb (x .instr) ≡ some body → (ks : List ℕ) (b : Body) (j : ℕ) (fs : List Form) → cycles + x .cost < 2 ^ 64 → Steps (now (out .entry)) at ks b j (emitLines thumb «touches_bus» cycles x (some body)) fs (now (out .exit)) r) ⌝ }
 {
-    let p = put_ticks(out, at, bus, cycles);
+    let p = put_ticks(out, at, touches_bus, cycles);
     let i = x.instr;
     let q = put_lowered(out, p, thumb, i);
     Step {
         at: q,
-        cycles: pending(bus, cycles, x.cost),
+        cycles: pending(touches_bus, cycles, x.cost),
         done: false,
     }
 }
 
-// An instruction of a block that goes on behind it; bus: it touches memory. last: it is the block's last.
+// An instruction of a block that goes on behind it; touches_bus: it touches memory. last: it is the block's last.
 pub(crate) fn emit_straight(
     out: &mut [u8],
     at: usize,
     thumb: bool,
-    bus: bool,
+    touches_bus: bool,
     cycles: u64,
     x: TimedInstr,
     last: bool,
 ) -> Step
-    ensures { λ r. ⌜ ((ks : List ℕ) (b : Body) (j : ℕ) (fs : List Form) → last ≡ empty fs → cycles + x .cost < 2 ^ 64 → Steps (now (out .entry)) at ks b j (emitStraight thumb bus cycles x) fs (now (out .exit)) r) ⌝ }
+    ensures { λ r. ⌜ ((ks : List ℕ) (b : Body) (j : ℕ) (fs : List Form) → last ≡ empty fs → cycles + x .cost < 2 ^ 64 → Steps (now (out .entry)) at ks b j (emitStraight thumb «touches_bus» cycles x) fs (now (out .exit)) r) ⌝ }
 {
     let i = x.instr;
     if is_inlined(thumb, i) {
-        emit_lowered(out, at, thumb, bus, cycles, x)
+        emit_lowered(out, at, thumb, touches_bus, cycles, x)
     } else {
         emit_interpreted(out, at, thumb, cycles, i, last)
     }

@@ -18,8 +18,8 @@ use Rattle.forms.specs.Forms.{Body}
 use Rattle.forms.specs.Block.{bodyOf}
 use Rattle.lowering.specs.Block.{bodyKey, sp}
 use Rattle.lowering.specs.Units.{forwarders, lastUnitEnd, defaultBody, bodiesOf}
-use Rattle.lowering.specs.Measured.{seen}
-use Rattle.lowering.proofs.Measured.{seen-keys}
+use Rattle.lowering.specs.Measured.{hashedIf}
+use Rattle.lowering.proofs.Measured.{hashed-keys}
 use Rattle.emit_flow.specs.Pieces.{tableOpen, tableEnd}
 use Rattle.emit_flow.proofs.Units.{end-text, each-map}
 use Rattle.emit_tables.specs.Tables.{HaveKeys}
@@ -42,12 +42,12 @@ member-keys multiplier bs (i ∷ is) = ap₂ (λ (k : ℕ) (ks : List ℕ). k �
     at (c ∷ cs) (suc j) = at cs j
 
 -- the same of bodies that are written or measured
-pub seen-body-keys : (written : Bool) (multiplier : ℕ) (bs : List Block) → HaveKeys (map (seen written) (map (bodyOf multiplier) bs)) (map blockKey bs)
-seen-body-keys written multiplier bs = seen-keys written (map (bodyOf multiplier) bs) ∙ body-keys multiplier bs
+pub hashed-body-keys : (written : Bool) (multiplier : ℕ) (bs : List Block) → HaveKeys (map (hashedIf written) (map (bodyOf multiplier) bs)) (map blockKey bs)
+hashed-body-keys written multiplier bs = hashed-keys written (map (bodyOf multiplier) bs) ∙ body-keys multiplier bs
 
-pub seen-member-keys : (written : Bool) (multiplier : ℕ) (bs : List Block) (is : List ℕ)
-    → HaveKeys (map (seen written) (bodiesOf (map (bodyOf multiplier) bs) is)) (memberKeys bs is)
-seen-member-keys written multiplier bs is = seen-keys written (bodiesOf (map (bodyOf multiplier) bs) is) ∙ member-keys multiplier bs is
+pub hashed-member-keys : (written : Bool) (multiplier : ℕ) (bs : List Block) (is : List ℕ)
+    → HaveKeys (map (hashedIf written) (bodiesOf (map (bodyOf multiplier) bs) is)) (memberKeys bs is)
+hashed-member-keys written multiplier bs is = hashed-keys written (bodiesOf (map (bodyOf multiplier) bs) is) ∙ member-keys multiplier bs is
 
 -- the end of the last unit
 pub end-keys : (bs : List Body) (ks : List ℕ) (n : ℕ) (k : List ℕ) → HaveKeys bs ks → n ≡ length ks

@@ -10,7 +10,7 @@ use mathlib.Core.Option.{none, some, Option·none-ne-some, Option·some-injectiv
 use lib.Dec.{leb}
 use lib.ListN.{length, length as ListN·length, getD, take, drop, getElem?, length-map, length-drop}
 use lib.Seq.{take-suc, drop-cons, drop-length, getD-drop}
-use Rattle.text.specs.Wrote.{top}
+use Rattle.text.specs.Wrote.{maxUsize}
 use Rattle.fnv.specs.Fnv.{hashMultiplier}
 use Rattle.block_file.specs.Parse.{blocksOf, Accepted}
 use Rattle.plan.specs.Plan.{groups}
@@ -129,7 +129,7 @@ module _ {f : List ℕ} {n limit : ℕ} {work : List ℕ} (ready : Ready f n lim
   next = emitGroup (bodiesOf (fileBodies f) (getD (groups limit (blocksOf f)) (g + w .size) []))
 
   module _ (left : q < n) (end at′ : ℕ) (ends : end ≡ startOf (groups limit (blocksOf f)) (suc (g + w .size)))
-      (long : at′ ≡ after at (emitGroup (bodiesOf (fileBodies f) (getD (groups limit (blocksOf f)) (g + w .size) [])))) (most : max ≤ top) where
+      (long : at′ ≡ after at (emitGroup (bodiesOf (fileBodies f) (getD (groups limit (blocksOf f)) (g + w .size) [])))) (most : max ≤ maxUsize) where
     inside : g + w .size < length (groups limit (blocksOf f))
     inside = group-left ready (g + w .size) (omega (arith, w .here))
 

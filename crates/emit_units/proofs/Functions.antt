@@ -15,7 +15,7 @@ use Rattle.plan.proofs.Listing.{map-at}
 use Rattle.c_tree.specs.Print.{casesText, codeText, unitText}
 use Rattle.forms.specs.Forms.{Body}
 use Rattle.lowering.specs.Block.{bodyKey, blockCode}
-use Rattle.lowering.specs.Measured.{seen}
+use Rattle.lowering.specs.Measured.{hashedIf}
 use Rattle.lowering.specs.Units.{labelled, forwarders, emitGroup, defaultBody, bodiesOf}
 use Rattle.emit_flow.specs.Pieces.{blockOpen, functionEnd, groupOpen, switchEnd}
 use Rattle.emit_flow.proofs.Units.{block-text, group-text, member-text}
@@ -28,13 +28,13 @@ pub members-each : (written : Bool) (f ks is : List ℕ) (k : List ℕ) → flat
 unfolding bodiesOf labelled
 members-each written f ks [] k = refl
 members-each written f ks (i ∷ is) k =
-    let b : Body = seen written (getD (fileBodies f) i defaultBody) in
-    ap (flat (labelledText written f ks i)) (members-each written f ks is k) ∙ sym (member-text ks b (map (seen written) (bodiesOf (fileBodies f) is)) k)
+    let b : Body = hashedIf written (getD (fileBodies f) i defaultBody) in
+    ap (flat (labelledText written f ks i)) (members-each written f ks is k) ∙ sym (member-text ks b (map (hashedIf written) (bodiesOf (fileBodies f) is)) k)
 
 -- as many bodies as members
-pub members-count : (written : Bool) (f is : List ℕ) → length (map (seen written) (bodiesOf (fileBodies f) is)) ≡ length is
+pub members-count : (written : Bool) (f is : List ℕ) → length (map (hashedIf written) (bodiesOf (fileBodies f) is)) ≡ length is
 unfolding bodiesOf
-members-count written f is = length-map (bodiesOf (fileBodies f) is) (seen written) ∙ length-map is (λ (i : ℕ). getD (fileBodies f) i defaultBody)
+members-count written f is = length-map (bodiesOf (fileBodies f) is) (hashedIf written) ∙ length-map is (λ (i : ℕ). getD (fileBodies f) i defaultBody)
 
 -- the key of a member, by its place
 pub member-key : (limit : ℕ) (f : List ℕ) (g k : ℕ) → k < length (getD (groups limit (blocksOf f)) g [])
@@ -47,12 +47,12 @@ member-key limit f g k inside =
 
 -- a lone block: ks is its key
 pub lone-wrote : (written : Bool) (f is ks : List ℕ) (key : ℕ) {o o₁ o₂ o₃ : List ℕ} {at r₁ r₂ r₃ : ℕ} → length is ≡ 1
-    → HaveKeys (map (seen written) (bodiesOf (fileBodies f) is)) ks → key ≡ getD ks 0 0 → Wrote o at (blockOpen key) o₁ r₁
+    → HaveKeys (map (hashedIf written) (bodiesOf (fileBodies f) is)) ks → key ≡ getD ks 0 0 → Wrote o at (blockOpen key) o₁ r₁
     → Wrote o₁ r₁ (memberText written f [] (getD is 0 0)) o₂ r₂ → Wrote o₂ r₂ functionEnd o₃ r₃ → Wrote o at (groupText written f is) o₃ r₃
 unfolding bodiesOf emitGroup
 lone-wrote written f [] ks key one keys first head code close = absurd (omega arith)
 lone-wrote written f (i ∷ []) ks key one keys first head code close =
-    let b : Body = seen written (getD (fileBodies f) i defaultBody) in
+    let b : Body = hashedIf written (getD (fileBodies f) i defaultBody) in
     let same : key ≡ bodyKey b = first ∙ ap (λ (js : List ℕ). getD js 0 0) (sym keys) in
     said (seq head (seq code close)) (ap (λ (k : ℕ). flat (blockOpen k ▸ codeText (blockCode [] b) ▸ functionEnd) []) same ∙ sym (block-text b []))
 lone-wrote written f (i ∷ j ∷ is) ks key one keys first head code close = absurd (omega arith)

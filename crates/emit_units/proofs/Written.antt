@@ -8,7 +8,7 @@ use mathlib.Core.List.{List, [], _∷_, _++_, map}
 use lib.ListN.{length, getD, take, drop, length-drop}
 use lib.Seq.{getD-drop}
 use Rattle.text.specs.Doc.{_▸_, flat, each}
-use Rattle.text.specs.Wrote.{top, Wrote}
+use Rattle.text.specs.Wrote.{maxUsize, Wrote}
 use Rattle.text.proofs.Laws.{none, seq, said, each-append, each-more}
 use Rattle.block_file.specs.Parse.{blocksOf}
 use Rattle.plan.specs.Plan.{groups}
@@ -18,17 +18,17 @@ use Rattle.members.proofs.Places.{start-next, group-has}
 use Rattle.c_tree.specs.Stmt.{Top}
 use Rattle.c_tree.specs.Print.{topText, unitText}
 use Rattle.forms.specs.Forms.{Body}
-use Rattle.lowering.specs.Measured.{seen}
+use Rattle.lowering.specs.Measured.{hashedIf}
 use Rattle.lowering.specs.Units.{emitGroup, unitHead, lastUnitEnd, bodiesOf}
-use Rattle.lowering.proofs.Measured.{seen-written}
+use Rattle.lowering.proofs.Measured.{hashed-written}
 use Rattle.emit_units.specs.declared.extents.Extent.{Extent}
 use Rattle.emit_units.specs.Groups.{fileBodies, groupText}
 use Rattle.emit_units.specs.Units.{grown, unitGroups, unitTree, Takes}
 
 -- bodies as they are written are themselves
-all-written : (bs : List Body) → map (seen true) bs ≡ bs
+all-written : (bs : List Body) → map (hashedIf true) bs ≡ bs
 all-written [] = refl
-all-written (b ∷ bs) = ap₂ (λ (c : Body) (cs : List Body). c ∷ cs) (seen-written b) (all-written bs)
+all-written (b ∷ bs) = ap₂ (λ (c : Body) (cs : List Body). c ∷ cs) (hashed-written b) (all-written bs)
 
 -- a tree with some groups behind it
 grown-text : (f : List ℕ) (ts : List Top) (gs : List (List ℕ)) (k : List ℕ)
@@ -73,7 +73,7 @@ pub record PutTo (f : List ℕ) (limit g size p : ℕ) (o : List ℕ) (at : ℕ)
   pub here : p ≡ startOf (groups limit (blocksOf f)) (g + count)
   pub wrote : Wrote o at (each (groupText true f) (take count (drop g (groups limit (blocksOf f))))) o′ r
 
-pub put-none : {f : List ℕ} {limit g size : ℕ} {e : Extent} → Takes f limit g size e → (o : List ℕ) (at : ℕ) → length o ≤ top → at ≤ top
+pub put-none : {f : List ℕ} {limit g size : ℕ} {e : Extent} → Takes f limit g size e → (o : List ℕ) (at : ℕ) → length o ≤ maxUsize → at ≤ maxUsize
     → PutTo f limit g size (e .start) o at o at
 put-none {f} {limit} {g} t o at h k =
     record {

@@ -11,7 +11,7 @@ use Rattle.c_tree.specs.Print.{codeText, unitText}
 use Rattle.forms.specs.Block.{bodyOf}
 use Rattle.forms.specs.Forms.{Body}
 use Rattle.lowering.specs.Block.{bodyKey, nl, blockCode}
-use Rattle.lowering.specs.Measured.{seen}
+use Rattle.lowering.specs.Measured.{hashedIf}
 use Rattle.lowering.specs.Units.{emitGroup, labelled, defaultBody, bodiesOf}
 use Rattle.emit_tables.specs.Tables.{groupKeys}
 
@@ -21,7 +21,7 @@ fileBodies f = map (bodyOf hashMultiplier) (blocksOf f)
 
 -- the code of block i, written or measured, where ks are the keys of its group
 abbrev pub memberText : Bool → List ℕ → List ℕ → ℕ → Doc
-memberText written f ks i = codeText (blockCode ks (seen written (getD (fileBodies f) i defaultBody)))
+memberText written f ks i = codeText (blockCode ks (hashedIf written (getD (fileBodies f) i defaultBody)))
 
 -- the same with its label before it and a line end behind
 abbrev pub labelledText : Bool → List ℕ → List ℕ → ℕ → Doc
@@ -30,11 +30,11 @@ labelledText written f ks i =
 
 -- the labelled code of some blocks, written or measured, where ks are the keys of their group
 abbrev pub membersText : Bool → List ℕ → List ℕ → List ℕ → Doc
-membersText written f ks is = codeText (labelled ks (map (seen written) (bodiesOf (fileBodies f) is)))
+membersText written f ks is = codeText (labelled ks (map (hashedIf written) (bodiesOf (fileBodies f) is)))
 
 -- the functions of a group of some blocks, written or measured
 abbrev pub groupText : Bool → List ℕ → List ℕ → Doc
-groupText written f is = unitText (emitGroup (map (seen written) (bodiesOf (fileBodies f) is)))
+groupText written f is = unitText (emitGroup (map (hashedIf written) (bodiesOf (fileBodies f) is)))
 
 -- the keys that a member of group g transfers to by a goto: none where it is alone
 abbrev pub keysWithin : Bool → ℕ → List ℕ → ℕ → List ℕ

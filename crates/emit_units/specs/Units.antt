@@ -5,7 +5,7 @@ use mathlib.Core.Bool.{Bool, cond}
 use mathlib.Core.List.{List, [], _∷_, _++_, map}
 use mathlib.Core.Option.{none, some}
 use lib.ListN.{length, take, drop, getElem?}
-use Rattle.text.specs.Wrote.{top}
+use Rattle.text.specs.Wrote.{maxUsize}
 use Rattle.fnv.specs.Fnv.{hashMultiplier}
 use Rattle.block_file.specs.Parse.{blocksOf}
 use Rattle.plan.specs.Plan.{groups}
@@ -19,7 +19,7 @@ use Rattle.emit_units.specs.Groups.{fileBodies}
 
 -- the length of at bytes and the text of a tree, or the largest `usize` where that is less
 abbrev pub after : ℕ → List Top → ℕ
-after at ts = min (at + length (textOf ts)) top
+after at ts = min (at + length (textOf ts)) maxUsize
 
 -- a tree with some groups behind it
 unfoldable pub grown : List Body → List Top → List (List ℕ) → List Top

@@ -16,7 +16,7 @@ ghost use Rattle.block_file.specs.Parse.{Parsed, parse, blocksOf, Accepted};
 ghost use Rattle.plan.specs.Calls.{partLimit, handOver};
 ghost use Rattle.lowering.specs.Units.{unit};
 ghost use Rattle.members.specs.Prepared.{Ready};
-ghost use Rattle.emit_units.specs.Calls.{translatedOf, madeUnit, unitCall};
+ghost use Rattle.emit_units.specs.Calls.{translatedOf, unitCall};
 
 // The answer of the call for a unit.
 pub enum Translated {
@@ -29,7 +29,7 @@ pub enum Translated {
 // Unit k of an accepted file with n blocks, by the plan in the work numbers.
 fn answer_unit(file: &[u8], max: u64, k: u64, work: &[u32], out: &mut [u8], n: usize) -> Translated
     requires { ⌜ Ready (now file) n partLimit (now work) ⌝ }
-    ensures { λ r. ⌜ ((w : List ℕ) → record { answer = translatedOf r; work = w; result = now (out .exit) } ≡ handOver (madeUnit (unit hashMultiplier partLimit max (blocksOf (now (file .entry))) k)) w (now (out .entry))) ⌝ }
+    ensures { λ r. ⌜ ((w : List ℕ) → record { answer = translatedOf r; work = w; result = now (out .exit) } ≡ handOver (unit hashMultiplier partLimit max (blocksOf (now (file .entry))) k) w (now (out .entry))) ⌝ }
 {
     let FoundUnit::At(e) = find_unit(file, work, n, max, k) else {
         return Translated::Refused { number: 9, at: 0 };

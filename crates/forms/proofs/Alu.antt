@@ -12,7 +12,7 @@ use Rattle.words.proofs.Bits.{bool-ext, not-top}
 use Rattle.armv4t.specs.declared.AluOp.{AluOp}
 use Rattle.armv4t.specs.declared.AluOp.the-variants.{And, Eor, Sub, Rsb, Add, Adc, Sbc, Rsc, Tst, Teq, Cmp, Cmn, Orr, Mov, Bic, Mvn}
 use Rattle.c_tree.specs.Expr.{u32, x-r, udec, add, compl, Expr, lit, un, bin}
-use Rattle.c_tree.specs.Stmt.{f-nz, f-c, Plain, adds, drop, run, proc}
+use Rattle.c_tree.specs.Stmt.{f-nz, f-c, Plain, adds, discard, run, proc}
 use Rattle.c_tree.specs.Preamble.{v32}
 use Rattle.c_meaning.specs.State.{State, index, empty, setC, enter, find, cellValue}
 use Rattle.c_meaning.specs.Exec.{on, exec}
@@ -36,7 +36,7 @@ flag-back false = refl
 
 -- c[rd] = r; or (void)r;
 last : {z : State} {m : Machine} {x : ℕ} (b : Bool) (rd : ℕ) → rd < 15 → x < 4294967296 → Agrees z m → find (index x-r) (z .scopes) ≡ some (u32, some x)
-    → Makes (cond b (drop (u32, x-r)) (setReg rd (v32 x-r)) ∷ []) z (cond b m (M.setReg rd x m))
+    → Makes (cond b (discard (u32, x-r)) (setReg rd (v32 x-r)) ∷ []) z (cond b m (M.setReg rd x m))
 unfolding exec
 last true rd h l a q = step (rw q) (stop a)
 last {x = x} false rd h l a q = step (do-reg (r-var (u32, x-r) refl (ap (cellValue u32) q) l) rd (omega (arith, h))) (stop (with-reg a rd x h))
@@ -47,7 +47,7 @@ Always e m x = (u : State) → Agrees u m → Reads e u x
 
 module _ {z : State} {m : Machine} (s : Sound m) (a : Agrees z m) (rd : ℕ) (h : rd < 15) (b : Bool) where
   tail : Plain
-  tail = cond b (drop (u32, x-r)) (setReg rd (v32 x-r))
+  tail = cond b (discard (u32, x-r)) (setReg rd (v32 x-r))
 
   -- uint32_t r = e; f_nz(c, r); f_c(c, co); and the last
   logical-ok : (w : Bool) (e : Expr) (co : Option Expr) (x : ℕ) (new : Bool) → Always e m x → ((y : State) → Regs y m → Carries co y (m .c) new)
@@ -149,11 +149,11 @@ turned false = refl
 module _ {z : State} {m : Machine} (s : Sound m) (a : Agrees z m) (rd : ℕ) (h : rd < 15) where
   -- x - y - i, with the carry's expression for 1 - i
   less-ok : (b w : Bool) (d e f : Expr) (x y i : ℕ) → Always d m x → Always e m y → Always f m (1 - i) → i < 2
-      → Makes (cond w (adds x-r d (un compl e) f) (let32 x-r (bin add (bin add d (un compl e)) f)) ∷ cond b (drop (u32, x-r)) (setReg rd (v32 x-r)) ∷ [])
+      → Makes (cond w (adds x-r d (un compl e) f) (let32 x-r (bin add (bin add d (un compl e)) f)) ∷ cond b (discard (u32, x-r)) (setReg rd (v32 x-r)) ∷ [])
       (enter z) (let q = less x y i in let m1 = cond w (setFlags (bit (q .0) 31) (eqb (q .0) 0) (q .1) (q .2) m) m in cond b m1 (M.setReg rd (q .0) m1))
   unfolding tail
   less-ok b w d e f x y i p q t l =
-      subst (λ (q : ℕ × Bool × Bool). Makes (cond w (adds x-r d (un compl e) f) (let32 x-r (bin add (bin add d (un compl e)) f)) ∷ cond b (drop (u32, x-r)) (setReg rd (v32 x-r)) ∷ []) (enter z) (let m1 = cond w (setFlags (bit (q .0) 31) (eqb (q .0) 0) (q .1) (q .2) m) m in cond b m1 (M.setReg rd (q .0) m1)))
+      subst (λ (q : ℕ × Bool × Bool). Makes (cond w (adds x-r d (un compl e) f) (let32 x-r (bin add (bin add d (un compl e)) f)) ∷ cond b (discard (u32, x-r)) (setReg rd (v32 x-r)) ∷ []) (enter z) (let m1 = cond w (setFlags (bit (q .0) 31) (eqb (q .0) 0) (q .1) (q .2) m) m in cond b m1 (M.setReg rd (q .0) m1)))
       (sub-plus x y i (p z a .small) (q z a .small) l)
       (sum-ok s a rd h b w d (un compl e) f x (NOT y) (1 - i) p (λ u g. r-not (q u g)) t (omega arith))
 

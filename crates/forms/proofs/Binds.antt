@@ -30,7 +30,7 @@ use Rattle.c_tree.specs.Stmt.{Plain}
 use Rattle.c_tree.specs.Preamble.{v32}
 use Rattle.c_tree.proofs.Clean.{left, right}
 use Rattle.c_tree.specs.Binds.{level, binds, declaratorsBind, plainBinds}
-use Rattle.forms.specs.Forms.{Lines, Native, straight, holds, branch, jump, pair, bx, pop, Form, native, shell}
+use Rattle.forms.specs.Forms.{Lines, Native, straight, straightIf, branch, jump, pair, bx, pop, Form, native, shell}
 use Rattle.forms.specs.Operands.{condExpr, regExpr, carryIn, shiftExprs, op2Exprs}
 use Rattle.forms.specs.InlineBody.{only, apart, let32, setReg, result, logicalC, logical, sum, alu, aluBody, mulBody, mulLongBody, baseExpr, shiftedOffset, offsetExpr, step, loaded, stored, access, memBody, listed, loads, movedBase, start, storedReg, stores, transfers, blockMemBody, opBody, inlineBody}
 use Rattle.armv4t.specs.RegisterList.{names}
@@ -51,7 +51,7 @@ linesBind (l ∷ ls) = plainsBind l && linesBind ls
 -- all that a native form holds
 abbrev pub nativeBinds : Native → Bool
 nativeBinds (straight t l) = linesBind t && linesBind l
-nativeBinds (holds t e l) = linesBind t && binds false e && linesBind l
+nativeBinds (straightIf t e l) = linesBind t && binds false e && linesBind l
 nativeBinds (branch t e s k) = linesBind t && binds false e && plainsBind s
 nativeBinds (jump t k) = linesBind t
 nativeBinds (pair t k) = linesBind t
@@ -392,16 +392,16 @@ word-binds r n = refl
 shell-fits : (thumb high : Bool) (cycles : ℕ) (i : Instr) → formBinds (emitShell thumb high cycles i) ≡ true
 shell-fits thumb high cycles i = lines-append (ticks-bound cycles) (apart-bound (one (word-binds 15 (i .addr)))) .lines
 
-lines-fits : (thumb bus : Bool) (cycles : ℕ) (x : TimedInstr) (body : Option Lines) → MaybeBound body → formBinds (emitLines thumb bus cycles x body .0) ≡ true
-lines-fits thumb bus cycles x none h = shell-fits thumb false cycles (x .instr)
-lines-fits thumb bus cycles x (some body) h =
-    let t : Bound (cond bus (flushTicks cycles) []) = either Bound bus (ticks-bound cycles) (record { lines = refl }) in
+lines-fits : (thumb touchesBus : Bool) (cycles : ℕ) (x : TimedInstr) (body : Option Lines) → MaybeBound body → formBinds (emitLines thumb touchesBus cycles x body .0) ≡ true
+lines-fits thumb touchesBus cycles x none h = shell-fits thumb false cycles (x .instr)
+lines-fits thumb touchesBus cycles x (some body) h =
+    let t : Bound (cond touchesBus (flushTicks cycles) []) = either Bound touchesBus (ticks-bound cycles) (record { lines = refl }) in
     either (λ r. nativeBinds r ≡ true) (isAl (x .instr .cond)) (both _ _ (t .lines) (h .lines))
     (both _ _ (both _ _ (t .lines) (cond-binds (x .instr .cond))) (h .lines))
 
-straight-fits : (thumb bus : Bool) (cycles : ℕ) (x : TimedInstr) → formBinds (emitStraight thumb bus cycles x .0) ≡ true
+straight-fits : (thumb touchesBus : Bool) (cycles : ℕ) (x : TimedInstr) → formBinds (emitStraight thumb touchesBus cycles x .0) ≡ true
 unfolding inlineBody
-straight-fits thumb bus cycles x = lines-fits thumb bus cycles x (inlineBody thumb (x .instr)) (op-bound thumb (x .instr) (x .instr .op))
+straight-fits thumb touchesBus cycles x = lines-fits thumb touchesBus cycles x (inlineBody thumb (x .instr)) (op-bound thumb (x .instr) (x .instr .op))
 
 branch-fits : (thumb : Bool) (cycles : ℕ) (i : Instr) (link : Bool) (target : ℕ) → nativeBinds (emitBranch thumb cycles i link target) ≡ true
 branch-fits thumb cycles i link target =

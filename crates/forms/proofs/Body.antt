@@ -25,7 +25,7 @@ use Rattle.forms.specs.Forms.{Lines}
 use Rattle.forms.specs.Operands.{regExpr, op2Exprs}
 use Rattle.forms.specs.InlineBody.{apart, let32, aluBody, mulBody, baseExpr, shiftedOffset, offsetExpr, step as direction, access, memBody}
 use Rattle.manual.specs.Machine.{Machine, R, Sound}
-use Rattle.manual.specs.InRange.{OperandInRange, OffsetInRange, InRange}
+use Rattle.armv4t.specs.InRange.{OperandInRange, OffsetInRange, InRange}
 use Rattle.manual.specs.Shifter.{shift, shifter}
 use Rattle.manual.specs.DataProcessing.{isAdd, isWordOffset, dataProcessing}
 use Rattle.manual.specs.Multiply.{multiply, multiplyLong}

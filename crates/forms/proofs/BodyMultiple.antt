@@ -19,7 +19,7 @@ use Rattle.forms.specs.InlineBody.{blockMemBody}
 use Rattle.forms.specs.InlineBody as F
 use Rattle.manual.specs.Machine.{Machine, Sound}
 use Rattle.manual.specs.Machine as M
-use Rattle.manual.specs.InRange.{InRange}
+use Rattle.armv4t.specs.InRange.{InRange}
 use Rattle.manual.specs.Transfer.{moved}
 use Rattle.manual.specs.Multiple.{listed, start, loadAll, loadMultiple, lowest, storeMultiple}
 use Rattle.manual.specs.Execute.{onward, loadMultiplePc}

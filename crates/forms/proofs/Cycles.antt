@@ -16,11 +16,11 @@ use Rattle.armv4t.specs.Fused.{fuse}
 use Rattle.instr_records.specs.declared.decode.TimedInstr.{TimedInstr}
 use Rattle.block_file.specs.Parse.{Block}
 use Rattle.armv4t.specs.Cond.{isAl}
-use Rattle.c_tree.specs.Stmt.{Plain, registers, local, declare, adds, set, drop as discard, run, write, tick}
-use Rattle.forms.specs.Forms.{Lines, straight, holds, branch, jump, pair, bx, pop, Form, native, shell}
+use Rattle.c_tree.specs.Stmt.{Plain, registers, local, declare, adds, set, discard, run, write, tick}
+use Rattle.forms.specs.Forms.{Lines, straight, straightIf, branch, jump, pair, bx, pop, Form, native, shell}
 use Rattle.forms.proofs.RecordCount.{recordCount, instr-count}
 use Rattle.forms.specs.InlineBody.{apart, inlineBody}
-use Rattle.forms.specs.Block.{flushTicks, setWord, emitPair, emitBranch, nativeExit, isPop, emitLines, emitStraight, emitOp, emitInstr, emitInstrs, closingLines, bodyOf}
+use Rattle.forms.specs.Block.{flushTicks, setWord, emitPair, emitBranch, nativeExit, isPop, emitLines, emitStraight, emitOp, emitInstr, emitInstrs, closingLines, bodyOf, pcLine}
 use Rattle.block_file.specs.Address.{region}
 use Rattle.forms.proofs.Every.{either, fused-or}
 
@@ -49,7 +49,7 @@ linesTicks (l ∷ ls) = lineTicks l + linesTicks ls
 -- of the ticks in the lines before a form
 abbrev pub formTicks : Form → ℕ
 formTicks (native (straight t l)) = linesTicks t
-formTicks (native (holds t e l)) = linesTicks t
+formTicks (native (straightIf t e l)) = linesTicks t
 formTicks (native (branch t e s k)) = linesTicks t
 formTicks (native (jump t k)) = linesTicks t
 formTicks (native (pair t k)) = linesTicks t
@@ -89,8 +89,8 @@ ticks-alone (suc n) = omega arith
 record Kept (cycles cost : ℕ) (s : Form × ℕ) : Type 0 where
   kept : formTicks (s .0) + s .1 ≡ cycles + own (s .0) cost
 
-lines-kept : (thumb bus : Bool) (cycles : ℕ) (x : TimedInstr) (body : Option Lines) → Kept cycles (x .cost) (emitLines thumb bus cycles x body)
-lines-kept thumb bus cycles x none = record { kept = omega (arith, ticks-all cycles (apart (setWord 15 (x .instr .addr) ∷ []))) }
+lines-kept : (thumb touchesBus : Bool) (cycles : ℕ) (x : TimedInstr) (body : Option Lines) → Kept cycles (x .cost) (emitLines thumb touchesBus cycles x body)
+lines-kept thumb touchesBus cycles x none = record { kept = omega (arith, ticks-all cycles (pcLine (x .instr .addr))) }
 lines-kept thumb true cycles x (some body) =
     record {
       kept =
@@ -100,15 +100,15 @@ lines-kept thumb true cycles x (some body) =
 lines-kept thumb false cycles x (some body) =
     record { kept = either (λ r. formTicks (native r) + (cycles + x .cost) ≡ cycles + x .cost) (isAl (x .instr .cond)) (omega arith) (omega arith) }
 
-straight-kept : (thumb bus : Bool) (cycles : ℕ) (x : TimedInstr) → Kept cycles (x .cost) (emitStraight thumb bus cycles x)
-straight-kept thumb bus cycles x = lines-kept thumb bus cycles x (inlineBody thumb (x .instr))
+straight-kept : (thumb touchesBus : Bool) (cycles : ℕ) (x : TimedInstr) → Kept cycles (x .cost) (emitStraight thumb touchesBus cycles x)
+straight-kept thumb touchesBus cycles x = lines-kept thumb touchesBus cycles x (inlineBody thumb (x .instr))
 
 branch-ticks : (thumb : Bool) (cycles : ℕ) (i : Instr) (link : Bool) (target : ℕ) → formTicks (native (emitBranch thumb cycles i link target)) ≡ cycles
 branch-ticks thumb cycles i true target =
     either (λ r. formTicks (native r) ≡ cycles) (isAl (i .cond))
     (omega (arith, ticks-all cycles (apart (setWord 14 ((i .addr + 4) % 2 ^ 32) ∷ setWord 15 target ∷ [])))) (ticks-alone cycles)
 branch-ticks thumb cycles i false target =
-    either (λ r. formTicks (native r) ≡ cycles) (isAl (i .cond)) (omega (arith, ticks-all cycles (apart (setWord 15 target ∷ [])))) (ticks-alone cycles)
+    either (λ r. formTicks (native r) ≡ cycles) (isAl (i .cond)) (omega (arith, ticks-all cycles (pcLine target))) (ticks-alone cycles)
 
 op-kept : (thumb : Bool) (region cycles : ℕ) (x : TimedInstr) (o : Op) → Kept cycles (x .cost) (emitOp thumb region cycles x o)
 op-kept thumb region cycles x (Alu op s rd rn op2) = straight-kept thumb false cycles x
@@ -119,7 +119,7 @@ op-kept thumb region cycles x (Bx rm) =
     either (Kept cycles (x .cost)) (nativeExit region (x .instr)) (record { kept = omega (arith, ticks-alone (cycles + x .cost)) })
     (straight-kept thumb false cycles x)
 op-kept thumb region cycles x (Branch link target) = record { kept = omega (arith, branch-ticks thumb (cycles + x .cost) (x .instr) link target) }
-op-kept thumb region cycles x (ThumbBlHigh lr) = record { kept = omega (arith, ticks-all cycles (apart (setWord 15 (x .instr .addr) ∷ []))) }
+op-kept thumb region cycles x (ThumbBlHigh lr) = record { kept = omega (arith, ticks-all cycles (pcLine (x .instr .addr))) }
 op-kept thumb region cycles x (ThumbBlLow off) = straight-kept thumb false cycles x
 op-kept thumb region cycles x (Mem load width signed rd rn offset pre up writeback) = straight-kept thumb true cycles x
 op-kept thumb region cycles x (BlockMem load rn rlist pre up s-bit writeback) =
@@ -180,13 +180,13 @@ instrs-cycles thumb region cycles xs = instrs-kept thumb region cycles xs .kept
 
 -- the lines before the closing transfer: what is pending, then the address after the last instruction
 pub closing-last : (cycles : ℕ) (xs : List TimedInstr) (x : TimedInstr)
-    → closingLines cycles (xs ++ (x ∷ [])) ≡ flushTicks cycles ++ apart (setWord 15 ((x .instr .addr + sizeOf (x .instr .thumb)) % 2 ^ 32) ∷ [])
+    → closingLines cycles (xs ++ (x ∷ [])) ≡ flushTicks cycles ++ pcLine ((x .instr .addr + sizeOf (x .instr .thumb)) % 2 ^ 32)
 closing-last cycles [] x = refl
 closing-last cycles (y ∷ []) x = refl
 closing-last cycles (y ∷ z ∷ xs) x = closing-last cycles (z ∷ xs) x
 
 closing-ticks : (cycles : ℕ) (x : TimedInstr) (xs : List TimedInstr) → linesTicks (closingLines cycles (x ∷ xs)) ≡ cycles
-closing-ticks cycles x [] = omega (arith, ticks-all cycles (apart (setWord 15 ((x .instr .addr + sizeOf (x .instr .thumb)) % 2 ^ 32) ∷ [])))
+closing-ticks cycles x [] = omega (arith, ticks-all cycles (pcLine ((x .instr .addr + sizeOf (x .instr .thumb)) % 2 ^ 32)))
 closing-ticks cycles x (y ∷ ys) = closing-ticks cycles y ys
 
 -- a block, which has an instruction: its ticks are the costs of its native records

@@ -40,12 +40,12 @@ record All (P : Form → Type 0) (rs : List Form × ℕ) : Type 0 where
 
 module _ (P : Form → Type 0)
     (shells : (thumb high : Bool) (cycles : ℕ) (i : Instr) → P (emitShell thumb high cycles i))
-    (straights : (thumb bus : Bool) (cycles : ℕ) (x : TimedInstr) → P (emitStraight thumb bus cycles x .0))
+    (straights : (thumb touchesBus : Bool) (cycles : ℕ) (x : TimedInstr) → P (emitStraight thumb touchesBus cycles x .0))
     (branches : (thumb : Bool) (cycles : ℕ) (i : Instr) (link : Bool) (target : ℕ) → P (native (emitBranch thumb cycles i link target)))
     (bxs : (cycles : ℕ) (i : Instr) (rm : ℕ) → P (native (bx (flushTicks cycles) (regExpr i rm))))
     (pops : (thumb : Bool) (cycles rn rlist : ℕ) → P (native (emitPop thumb cycles rn (listed rlist 15)))) where
-  straight-one : (thumb bus : Bool) (cycles : ℕ) (x : TimedInstr) → One P (emitStraight thumb bus cycles x)
-  straight-one thumb bus cycles x = record { form = straights thumb bus cycles x }
+  straight-one : (thumb touchesBus : Bool) (cycles : ℕ) (x : TimedInstr) → One P (emitStraight thumb touchesBus cycles x)
+  straight-one thumb touchesBus cycles x = record { form = straights thumb touchesBus cycles x }
 
   op-one : (thumb : Bool) (region cycles : ℕ) (x : TimedInstr) (o : Op) → One P (emitOp thumb region cycles x o)
   op-one thumb region cycles x (Alu op s rd rn op2) = straight-one thumb false cycles x

@@ -32,11 +32,11 @@ use Rattle.c_tree.specs.Expr.{x-ob, reg, udec, add, Expr, lit, get, bin}
 use Rattle.c_tree.specs.Stmt.{Plain}
 use Rattle.c_tree.specs.Preamble.{v32}
 use Rattle.c_tree.specs.Print.{exprText, plainText}
-use Rattle.forms.specs.Forms.{Lines, Native, straight, holds, branch, jump, pair, bx, pop, Form, native, shell}
+use Rattle.forms.specs.Forms.{Lines, Native, straight, straightIf, branch, jump, pair, bx, pop, Form, native, shell}
 use Rattle.forms.specs.Operands.{condExpr, regExpr, shiftExprs, op2Exprs}
 use Rattle.forms.specs.InlineBody.{only, apart, setReg, result, logical, sum, alu, aluBody, mulBody, mulLongBody, baseExpr, shiftedOffset, offsetExpr, loaded, stored, access, memBody, listed, loads, movedBase, start, storedReg, stores, transfers, blockMemBody, opBody, inlineBody}
 use Rattle.armv4t.specs.RegisterList.{names}
-use Rattle.forms.specs.Block.{flushTicks, setWord, emitShell, emitPair, emitPop, emitBranch, emitLines, emitStraight, emitInstrs, closingLines, bodyOf}
+use Rattle.forms.specs.Block.{flushTicks, setWord, emitShell, emitPair, emitPop, emitBranch, emitLines, emitStraight, emitInstrs, closingLines, bodyOf, pcLine}
 use Rattle.block_file.specs.Address.{region}
 use Rattle.forms.proofs.Every.{either, Each, every-form}
 
@@ -53,7 +53,7 @@ linesMost (l ∷ ls) = 9 + plainsMost l + linesMost ls
 -- all that a native form holds
 abbrev pub nativeMost : Native → ℕ
 nativeMost (straight t l) = linesMost t + linesMost l
-nativeMost (holds t e l) = linesMost t + most (exprText e) + linesMost l
+nativeMost (straightIf t e l) = linesMost t + most (exprText e) + linesMost l
 nativeMost (branch t e s k) = linesMost t + most (exprText e) + plainsMost s
 nativeMost (jump t k) = linesMost t
 nativeMost (pair t k) = linesMost t
@@ -322,19 +322,19 @@ ticks-within (suc n) = omega arith
 
 shell-fits : (thumb high : Bool) (cycles : ℕ) (i : Instr) → formMost (emitShell thumb high cycles i) ≤ 2200
 shell-fits thumb high cycles i =
-    omega (arith, lines-append (flushTicks cycles) (apart (setWord 15 (i .addr) ∷ [])), ticks-within cycles)
+    omega (arith, lines-append (flushTicks cycles) (pcLine (i .addr)), ticks-within cycles)
 
-lines-fits : (thumb bus : Bool) (cycles : ℕ) (x : TimedInstr) (body : Option Lines) → MaybeWithin 2100 body → formMost (emitLines thumb bus cycles x body .0) ≤ 2200
-lines-fits thumb bus cycles x none h = shell-fits thumb false cycles (x .instr)
-lines-fits thumb bus cycles x (some body) h =
-    let t : Within 44 (cond bus (flushTicks cycles) []) =
-    either (Within 44) bus (record { within = ticks-within cycles }) (record { within = omega arith }) in
+lines-fits : (thumb touchesBus : Bool) (cycles : ℕ) (x : TimedInstr) (body : Option Lines) → MaybeWithin 2100 body → formMost (emitLines thumb touchesBus cycles x body .0) ≤ 2200
+lines-fits thumb touchesBus cycles x none h = shell-fits thumb false cycles (x .instr)
+lines-fits thumb touchesBus cycles x (some body) h =
+    let t : Within 44 (cond touchesBus (flushTicks cycles) []) =
+    either (Within 44) touchesBus (record { within = ticks-within cycles }) (record { within = omega arith }) in
     either (λ r. nativeMost r ≤ 2200) (isAl (x .instr .cond)) (omega (arith, t .within, h .within))
     (omega (arith, t .within, cond-short (x .instr .cond) .short, h .within))
 
-straight-fits : (thumb bus : Bool) (cycles : ℕ) (x : TimedInstr) → formMost (emitStraight thumb bus cycles x .0) ≤ 2200
+straight-fits : (thumb touchesBus : Bool) (cycles : ℕ) (x : TimedInstr) → formMost (emitStraight thumb touchesBus cycles x .0) ≤ 2200
 unfolding inlineBody
-straight-fits thumb bus cycles x = lines-fits thumb bus cycles x (inlineBody thumb (x .instr)) (op-within thumb (x .instr) (x .instr .op))
+straight-fits thumb touchesBus cycles x = lines-fits thumb touchesBus cycles x (inlineBody thumb (x .instr)) (op-within thumb (x .instr) (x .instr .op))
 
 branch-fits : (thumb : Bool) (cycles : ℕ) (i : Instr) (link : Bool) (target : ℕ) → nativeMost (emitBranch thumb cycles i link target) ≤ 2200
 branch-fits thumb cycles i true target =
@@ -343,7 +343,7 @@ branch-fits thumb cycles i true target =
     (omega (arith, ticks-within cycles, cond-short (i .cond) .short))
 branch-fits thumb cycles i false target =
     either (λ r. nativeMost r ≤ 2200) (isAl (i .cond))
-    (omega (arith, lines-append (flushTicks cycles) (apart (setWord 15 target ∷ [])), ticks-within cycles))
+    (omega (arith, lines-append (flushTicks cycles) (pcLine target), ticks-within cycles))
     (omega (arith, ticks-within cycles, cond-short (i .cond) .short))
 
 pop-fits : (thumb : Bool) (cycles rn : ℕ) (regs : List ℕ) → length regs ≤ 15 → nativeMost (emitPop thumb cycles rn regs) ≤ 2200
@@ -365,7 +365,7 @@ pair-fits cycles target ret =
 
 closing-within : (cycles : ℕ) (xs : List TimedInstr) → linesMost (closingLines cycles xs) ≤ 100
 closing-within cycles [] = omega arith
-closing-within cycles (x ∷ []) = omega (arith, lines-append (flushTicks cycles) (apart (setWord 15 ((x .instr .addr + sizeOf (x .instr .thumb)) % 2 ^ 32) ∷ [])), ticks-within cycles)
+closing-within cycles (x ∷ []) = omega (arith, lines-append (flushTicks cycles) (pcLine ((x .instr .addr + sizeOf (x .instr .thumb)) % 2 ^ 32)), ticks-within cycles)
 closing-within cycles (x ∷ y ∷ rest) = closing-within cycles (y ∷ rest)
 
 -- each form of a block holds at most 2,200 bytes

@@ -26,15 +26,15 @@ abbrev pub recordCounts : List Form → ℕ
 recordCounts [] = 0
 recordCounts (r ∷ rs) = recordCount r + recordCounts rs
 
-lines-count : (thumb bus : Bool) (cycles : ℕ) (x : TimedInstr) (body : Option Lines) → recordCount (emitLines thumb bus cycles x body .0) ≡ 1
-lines-count thumb bus cycles x none = refl
-lines-count thumb bus cycles x (some body) = either (λ r. records r ≡ 1) (isAl (x .instr .cond)) refl refl
+lines-count : (thumb touchesBus : Bool) (cycles : ℕ) (x : TimedInstr) (body : Option Lines) → recordCount (emitLines thumb touchesBus cycles x body .0) ≡ 1
+lines-count thumb touchesBus cycles x none = refl
+lines-count thumb touchesBus cycles x (some body) = either (λ r. records r ≡ 1) (isAl (x .instr .cond)) refl refl
 
 -- an instruction that is not fused is one record
 pub instr-count : (thumb : Bool) (region cycles : ℕ) (x : TimedInstr) → recordCount (emitInstr thumb region cycles x .0) ≡ 1
 instr-count =
     every-instr (λ r. recordCount r ≡ 1) (λ thumb high cycles i. refl)
-    (λ thumb bus cycles x. lines-count thumb bus cycles x (inlineBody thumb (x .instr)))
+    (λ thumb touchesBus cycles x. lines-count thumb touchesBus cycles x (inlineBody thumb (x .instr)))
     (λ thumb cycles i link target. either (λ r. records r ≡ 1) (isAl (i .cond)) refl refl)
     (λ cycles i rm. refl)
     (λ thumb cycles rn rlist. refl)

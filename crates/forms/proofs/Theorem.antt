@@ -2,7 +2,7 @@
 use Rattle.armv4t.specs.declared.Op.{Op}
 use Rattle.armv4t.specs.declared.Op.the-variants.{Alu, Mul, MulLong, Swap, Bx, Branch, ThumbBlHigh, ThumbBlLow, Mem, BlockMem, Mrs, MsrReg, MsrImm, Swi, Undefined}
 use Rattle.armv4t.specs.declared.Instr.{Instr}
-use Rattle.manual.specs.InRange.{InRange}
+use Rattle.armv4t.specs.InRange.{InRange}
 use Rattle.forms.specs.Means.{OpMeans}
 use Rattle.forms.proofs.Body.{not-none, alu-means, mul-means, mul-long-means, mem-means}
 use Rattle.forms.proofs.BodyMultiple.{block-mem-means}

@@ -20,7 +20,7 @@ use Rattle.block_exits.specs.Exits.{keyOf, fallThrough}
 use Rattle.armv4t.specs.Cond.{isAl}
 use Rattle.c_tree.specs.Expr.{word, udec, x-addr, reg, compl, add, band, bor, w32, lit, get, un, bin, read}
 use Rattle.c_tree.specs.Stmt.{Plain, tick}
-use Rattle.forms.specs.Forms.{Lines, Native, straight, holds, branch, jump, pair, bx, pop, Form, native, shell, Body}
+use Rattle.forms.specs.Forms.{Lines, Native, straight, straightIf, branch, jump, pair, bx, pop, Form, native, shell, Body}
 use Rattle.forms.specs.Operands.{condExpr, regExpr}
 use Rattle.forms.specs.InlineBody.{only, apart, let32, setReg, aligned, listed, loads, inlineBody}
 use Rattle.armv4t.specs.RegisterList.{names}
@@ -35,9 +35,13 @@ flushTicks (suc n) = (tick (suc n) ∷ []) ∷ []
 abbrev pub setWord : ℕ → ℕ → Plain
 setWord r n = setReg r (lit word n)
 
+-- c[15] = next; in a line of its own
+abbrev pub pcLine : ℕ → Lines
+pcLine next = apart (setWord 15 next ∷ [])
+
 -- emit_shell: high if it is for an unfused ThumbBlHigh
 abbrev pub emitShell : Bool → Bool → ℕ → Instr → Form
-emitShell thumb high cycles i = shell high (flushTicks cycles ++ apart (setWord 15 (i .addr) ∷ [])) (fallThrough thumb i)
+emitShell thumb high cycles i = shell high (flushTicks cycles ++ pcLine (i .addr)) (fallThrough thumb i)
 
 -- a fused pair to a target; the cycles are those pending with its own
 abbrev pub emitPair : ℕ → ℕ → ℕ → Native
@@ -74,14 +78,14 @@ emitPop thumb cycles rn regs =
 -- an instruction with the lines that it is lowered to, or none, and the cycles pending behind it; bus: it touches memory, so what is pending is flushed
 -- before its own cost is added
 abbrev pub emitLines : Bool → Bool → ℕ → TimedInstr → Option Lines → Form × ℕ
-emitLines thumb bus cycles x none = (emitShell thumb false cycles (x .instr), 0)
-emitLines thumb bus cycles x (some body) =
-    let ticks : Lines = cond bus (flushTicks cycles) [] in
-    (native (cond (isAl (x .instr .cond)) (straight ticks body) (holds ticks (condExpr (x .instr .cond)) body)), cond bus 0 cycles + x .cost)
+emitLines thumb touchesBus cycles x none = (emitShell thumb false cycles (x .instr), 0)
+emitLines thumb touchesBus cycles x (some body) =
+    let ticks : Lines = cond touchesBus (flushTicks cycles) [] in
+    (native (cond (isAl (x .instr .cond)) (straight ticks body) (straightIf ticks (condExpr (x .instr .cond)) body)), cond touchesBus 0 cycles + x .cost)
 
 -- a straight-line instruction: inlined, or for the interpreter
 abbrev pub emitStraight : Bool → Bool → ℕ → TimedInstr → Form × ℕ
-emitStraight thumb bus cycles x = emitLines thumb bus cycles x (inlineBody thumb (x .instr))
+emitStraight thumb touchesBus cycles x = emitLines thumb touchesBus cycles x (inlineBody thumb (x .instr))
 
 -- an instruction that is not fused, by its operation, and the cycles pending behind it
 abbrev pub emitOp : Bool → ℕ → ℕ → TimedInstr → Op → Form × ℕ
@@ -131,7 +135,7 @@ emitInstrs thumb region cycles (x ∷ y ∷ rest) =
 -- the lines before the closing transfer, by the last instruction
 abbrev pub closingLines : ℕ → List TimedInstr → Lines
 closingLines cycles [] = []
-closingLines cycles (x ∷ []) = flushTicks cycles ++ apart (setWord 15 ((x .instr .addr + sizeOf (x .instr .thumb)) % 2 ^ 32) ∷ [])
+closingLines cycles (x ∷ []) = flushTicks cycles ++ pcLine ((x .instr .addr + sizeOf (x .instr .thumb)) % 2 ^ 32)
 closingLines cycles (x ∷ y ∷ rest) = closingLines cycles (y ∷ rest)
 
 -- the hash of a block's code bytes, or their absence

@@ -14,7 +14,7 @@ Lines = List (List Plain)
 -- the text of a native record (document 01), or of a fused pair; the first lines, at indent 4, are a tick or none and what else stands before
 pub data Native : Type 0 where
   straight : Lines → Lines → Native  -- { lines at 8 }
-  holds : Lines → Expr → Lines → Native  -- { flags; if (e) { lines at 8 } }
+  straightIf : Lines → Expr → Lines → Native  -- { flags; if (e) { lines at 8 } }
   branch : Lines → Expr → List Plain → ℕ → Native  -- { flags; if (e) { one line; transfer to a key at 8 } }
   jump : Lines → ℕ → Native  -- transfer to a key at 4
   pair : Lines → ℕ → Native  -- the same, for a fused pair
@@ -29,7 +29,7 @@ pub data Form : Type 0 where
 -- how many records a native form carries out
 abbrev pub records : Native → ℕ
 records (straight t l) = 1
-records (holds t e l) = 1
+records (straightIf t e l) = 1
 records (branch t e s k) = 1
 records (jump t k) = 1
 records (pair t k) = 2

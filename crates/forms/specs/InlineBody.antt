@@ -20,7 +20,7 @@ use Rattle.armv4t.specs.AluOp.{isCompare}
 use Rattle.armv4t.specs.Instr.{pcValue}
 use Rattle.armv4t.specs.RegisterList.{names}
 use Rattle.c_tree.specs.Expr.{Ty, s8, s16, s32, u32, s64, u64, word, uhex, udec, int, Name, x-r, x-base, x-ob, x-addr, reg, var, compl, Bin, mul, add, sub, shl, shr, band, bxor, bor, Width, w8, w16, w32, Expr, lit, get, par, un, bin, cast, pick, ror, read}
-use Rattle.c_tree.specs.Stmt.{is, plus, f-nz, f-c, f-nz64, Plain, declare, adds, set, drop, run, write}
+use Rattle.c_tree.specs.Stmt.{is, plus, f-nz, f-c, f-nz64, Plain, declare, adds, set, discard, run, write}
 use Rattle.c_tree.specs.Preamble.{v32}
 use Rattle.forms.specs.Forms.{Lines}
 use Rattle.forms.specs.Operands.{regExpr, carryIn, shiftExprs, op2Exprs}
@@ -45,7 +45,7 @@ setReg r e = set (reg r) is e
 
 -- the last statement of an Alu: compares have no result
 abbrev pub result : AluOp → ℕ → Plain
-result op rd = cond (isCompare op) (drop (u32, x-r)) (setReg rd (v32 x-r))
+result op rd = cond (isCompare op) (discard (u32, x-r)) (setReg rd (v32 x-r))
 
 -- logical_c
 abbrev pub logicalC : Option Expr → List Plain

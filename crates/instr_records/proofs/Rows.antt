@@ -13,7 +13,7 @@ use lib.Seq.{take-all, paste, take-paste, length-paste, length-take-le, getD-tak
 use lib.Dec.{leb, eqb}
 use lib.ListN.{length, getD, take, drop, length-drop, List·getD-eq-default}
 use Rattle.records.specs.Bytes.{byteAt}
-use Rattle.instr_records.specs.InstrRecord.{byKind, any, fields, free, largest, rowsTo, within, even, evenFields, instrRight}
+use Rattle.instr_records.specs.InstrRecord.{byKind, maxByte, fields, free, largest, rowsTo, within, even, evenFields, instrRight}
 use Rattle.instr_records.proofs.Match.{below, alike, alike→eq}
 
 -- one number more is ruled out
@@ -42,7 +42,7 @@ digits kind form h =
 pub numbered : (kind form k m : ℕ) → k < 10 → ((x : ℕ) → fields k x ≡ fields kind x) → ((x : ℕ) → fields x m ≡ fields x form)
     → largest ((10 * m + k) % 10) ((10 * m + k) / 10) ≡ largest kind form
 unfolding largest
-numbered kind form k m h e g = ap (λ (r : List ℕ). 14 ∷ 15 ∷ any ∷ any ∷ r) (digits k m h ∙ e m ∙ g kind)
+numbered kind form k m h e g = ap (λ (r : List ℕ). 14 ∷ 15 ∷ maxByte ∷ maxByte ∷ r) (digits k m h ∙ e m ∙ g kind)
 
 -- the last digit of the numbers of one kind
 pub last-digit : (kind : ℕ) {n : ℕ} → (n ≡ kind) ⊎ ((n ≡ 10 + kind) ⊎ (n ≡ 20 + kind)) → n % 10 ≡ kind % 10
@@ -90,10 +90,10 @@ row-there n h = alike→eq _ _ (below stands 30 tt h)
 -- the row of one number more, put in two parts behind those before it
 pub rows-next : (rows row : List ℕ) (n : ℕ) → length row ≡ 12 → length rows ≡ 480 → n < 30
     → take (16 * n) rows ≡ rowsTo n → row ≡ fields (n % 10) (n / 10)
-    → take (16 * (n + 1)) (paste (paste rows (16 * n) (14 ∷ 15 ∷ any ∷ any ∷ []) 4) (16 * n + 4) row (length row)) ≡ rowsTo (n + 1)
+    → take (16 * (n + 1)) (paste (paste rows (16 * n) (14 ∷ 15 ∷ maxByte ∷ maxByte ∷ []) 4) (16 * n + 4) row (length row)) ≡ rowsTo (n + 1)
 unfolding rowsTo largest
 rows-next rows row n r l h e g =
-    let head : List ℕ = 14 ∷ 15 ∷ any ∷ any ∷ [] in
+    let head : List ℕ = 14 ∷ 15 ∷ maxByte ∷ maxByte ∷ [] in
     let first = paste rows (16 * n) head 4 in
     let long : length first ≡ 480 = length-paste rows (16 * n) head 4 (omega arith) (omega arith) ∙ l in
     let more : 16 * (n + 1) ≡ 16 * n + 4 + 12 = omega arith in

@@ -7,14 +7,14 @@ use lib.Dec.{leb, eqb}
 use Rattle.records.specs.Bytes.{byteAt}
 
 -- The largest values of bytes by what they hold.
-abbrev pub flag : ℕ
-flag = 1
+abbrev pub maxFlag : ℕ
+maxFlag = 1
 
-abbrev pub reg : ℕ
-reg = 15
+abbrev pub maxReg : ℕ
+maxReg = 15
 
-abbrev pub any : ℕ
-any = 255
+abbrev pub maxByte : ℕ
+maxByte = 255
 
 -- one row by the form in byte 8; a form that does not exist is out of range in the first row
 abbrev pub byForm : ℕ → List ℕ → List ℕ → List ℕ → List ℕ
@@ -22,35 +22,35 @@ byForm form value amount register = getD (value ∷ amount ∷ register ∷ []) 
 
 -- bytes 4 to 15 of a kind that leaves them free
 abbrev pub free : List ℕ
-free = any ∷ any ∷ any ∷ any ∷ any ∷ any ∷ any ∷ any ∷ any ∷ any ∷ any ∷ any ∷ []
+free = maxByte ∷ maxByte ∷ maxByte ∷ maxByte ∷ maxByte ∷ maxByte ∷ maxByte ∷ maxByte ∷ maxByte ∷ maxByte ∷ maxByte ∷ maxByte ∷ []
 
 -- the largest value of each of bytes 4 to 15, kind by kind: operations, flags, registers, forms, shift kinds, amounts, and 0 for what must be zero
 abbrev pub byKind : ℕ → List (List ℕ)
 byKind form =
     -- Alu: operation, s, rd, rn, form, ror or rm, shift kind, amount or rs, value
-    byForm form (15 ∷ flag ∷ reg ∷ reg ∷ 0 ∷ 30 ∷ 0 ∷ 0 ∷ any ∷ any ∷ any ∷ any ∷ [])
-    (15 ∷ flag ∷ reg ∷ reg ∷ 1 ∷ reg ∷ 3 ∷ 31 ∷ 0 ∷ 0 ∷ 0 ∷ 0 ∷ [])
-    (15 ∷ flag ∷ reg ∷ reg ∷ 2 ∷ reg ∷ 3 ∷ reg ∷ 0 ∷ 0 ∷ 0 ∷ 0 ∷ [])
+    byForm form (15 ∷ maxFlag ∷ maxReg ∷ maxReg ∷ 0 ∷ 30 ∷ 0 ∷ 0 ∷ maxByte ∷ maxByte ∷ maxByte ∷ maxByte ∷ [])
+    (15 ∷ maxFlag ∷ maxReg ∷ maxReg ∷ 1 ∷ maxReg ∷ 3 ∷ 31 ∷ 0 ∷ 0 ∷ 0 ∷ 0 ∷ [])
+    (15 ∷ maxFlag ∷ maxReg ∷ maxReg ∷ 2 ∷ maxReg ∷ 3 ∷ maxReg ∷ 0 ∷ 0 ∷ 0 ∷ 0 ∷ [])
     -- Mul: acc, s, rd, rn, rs, rm
-    ∷ (flag ∷ flag ∷ reg ∷ reg ∷ reg ∷ reg ∷ 0 ∷ 0 ∷ 0 ∷ 0 ∷ 0 ∷ 0 ∷ [])
+    ∷ (maxFlag ∷ maxFlag ∷ maxReg ∷ maxReg ∷ maxReg ∷ maxReg ∷ 0 ∷ 0 ∷ 0 ∷ 0 ∷ 0 ∷ 0 ∷ [])
     -- MulLong: signed, acc, s, rd_hi, rd_lo, rs, rm
-    ∷ (flag ∷ flag ∷ flag ∷ reg ∷ reg ∷ reg ∷ reg ∷ 0 ∷ 0 ∷ 0 ∷ 0 ∷ 0 ∷ [])
+    ∷ (maxFlag ∷ maxFlag ∷ maxFlag ∷ maxReg ∷ maxReg ∷ maxReg ∷ maxReg ∷ 0 ∷ 0 ∷ 0 ∷ 0 ∷ 0 ∷ [])
     -- Swap
     ∷ free
     -- Bx: rm
-    ∷ (reg ∷ 0 ∷ 0 ∷ 0 ∷ 0 ∷ 0 ∷ 0 ∷ 0 ∷ 0 ∷ 0 ∷ 0 ∷ 0 ∷ [])
+    ∷ (maxReg ∷ 0 ∷ 0 ∷ 0 ∷ 0 ∷ 0 ∷ 0 ∷ 0 ∷ 0 ∷ 0 ∷ 0 ∷ 0 ∷ [])
     -- Branch: link, target
-    ∷ (flag ∷ 0 ∷ 0 ∷ 0 ∷ 0 ∷ 0 ∷ 0 ∷ 0 ∷ any ∷ any ∷ any ∷ any ∷ [])
+    ∷ (maxFlag ∷ 0 ∷ 0 ∷ 0 ∷ 0 ∷ 0 ∷ 0 ∷ 0 ∷ maxByte ∷ maxByte ∷ maxByte ∷ maxByte ∷ [])
     -- ThumbBlHigh: lr_partial
-    ∷ (0 ∷ 0 ∷ 0 ∷ 0 ∷ 0 ∷ 0 ∷ 0 ∷ 0 ∷ any ∷ any ∷ any ∷ any ∷ [])
+    ∷ (0 ∷ 0 ∷ 0 ∷ 0 ∷ 0 ∷ 0 ∷ 0 ∷ 0 ∷ maxByte ∷ maxByte ∷ maxByte ∷ maxByte ∷ [])
     -- ThumbBlLow: off
-    ∷ (0 ∷ 0 ∷ 0 ∷ 0 ∷ 0 ∷ 0 ∷ 0 ∷ 0 ∷ any ∷ any ∷ 0 ∷ 0 ∷ [])
+    ∷ (0 ∷ 0 ∷ 0 ∷ 0 ∷ 0 ∷ 0 ∷ 0 ∷ 0 ∷ maxByte ∷ maxByte ∷ 0 ∷ 0 ∷ [])
     -- Mem: five flag bits, width, rd, rn, form, rm, shift kind, amount or rs, value
-    ∷ byForm form (31 ∷ 2 ∷ reg ∷ reg ∷ 0 ∷ 0 ∷ 0 ∷ 0 ∷ any ∷ any ∷ 0 ∷ 0 ∷ [])
-    (31 ∷ 2 ∷ reg ∷ reg ∷ 1 ∷ reg ∷ 3 ∷ 31 ∷ 0 ∷ 0 ∷ 0 ∷ 0 ∷ [])
-    (31 ∷ 2 ∷ reg ∷ reg ∷ 2 ∷ reg ∷ 3 ∷ reg ∷ 0 ∷ 0 ∷ 0 ∷ 0 ∷ [])
+    ∷ byForm form (31 ∷ 2 ∷ maxReg ∷ maxReg ∷ 0 ∷ 0 ∷ 0 ∷ 0 ∷ maxByte ∷ maxByte ∷ 0 ∷ 0 ∷ [])
+    (31 ∷ 2 ∷ maxReg ∷ maxReg ∷ 1 ∷ maxReg ∷ 3 ∷ 31 ∷ 0 ∷ 0 ∷ 0 ∷ 0 ∷ [])
+    (31 ∷ 2 ∷ maxReg ∷ maxReg ∷ 2 ∷ maxReg ∷ 3 ∷ maxReg ∷ 0 ∷ 0 ∷ 0 ∷ 0 ∷ [])
     -- BlockMem: five flag bits, rn, rlist
-    ∷ (31 ∷ 0 ∷ reg ∷ 0 ∷ 0 ∷ 0 ∷ 0 ∷ 0 ∷ any ∷ any ∷ 0 ∷ 0 ∷ [])
+    ∷ (31 ∷ 0 ∷ maxReg ∷ 0 ∷ 0 ∷ 0 ∷ 0 ∷ 0 ∷ maxByte ∷ maxByte ∷ 0 ∷ 0 ∷ [])
     -- Mrs, MsrReg, MsrImm, Swi, Undefined
     ∷ []
 
@@ -60,7 +60,7 @@ fields kind form = getD (byKind form) kind free
 
 -- the largest value of each byte of a record: kind, condition, cost, and the fields of its kind
 unfoldable pub largest : ℕ → ℕ → List ℕ
-largest kind form = 14 ∷ 15 ∷ any ∷ any ∷ fields kind form
+largest kind form = 14 ∷ 15 ∷ maxByte ∷ maxByte ∷ fields kind form
 
 -- the rows of the numbers below n one after another; a row's number has the kind as its last digit and the form before it
 unfoldable pub rowsTo : ℕ → List ℕ

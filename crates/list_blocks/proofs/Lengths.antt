@@ -6,7 +6,7 @@ use native.Mathlib.Omega.{arith}
 use lib.ListN.{length}
 use Rattle.block_file.specs.Parse.{Block, blockKey}
 use Rattle.text.specs.Doc.{print}
-use Rattle.text.specs.Wrote.{top}
+use Rattle.text.specs.Wrote.{maxUsize}
 use Rattle.text.proofs.Lengths.{most, length-most}
 use Rattle.block_exits.specs.Exits.{exits}
 use Rattle.plan.specs.Plan.{plan}
@@ -31,5 +31,5 @@ pub listing-most : (limit : ℕ) (bs : List Block) → length (print (listing li
 unfolding listing
 listing-most limit bs = omega (arith, length-most (listing limit bs), lines-most (plan limit bs) 0 bs)
 
-pub listing-short : (limit : ℕ) (bs : List Block) → length bs ≤ 65536 → length (print (listing limit bs)) < top
+pub listing-short : (limit : ℕ) (bs : List Block) → length bs ≤ 65536 → length (print (listing limit bs)) < maxUsize
 listing-short limit bs h = omega (arith, listing-most limit bs)

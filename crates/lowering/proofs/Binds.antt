@@ -13,11 +13,11 @@ use Rattle.c_tree.specs.Expr.{Expr}
 use Rattle.c_tree.specs.Stmt.{Plain, Owner, common, Code, end, _⨾_, plain, Top, extern, table, count}
 use Rattle.c_tree.specs.Binds.{level, binds, declaratorsBind, plainBinds, testBinds, simpleBinds, codeBinds, topBinds, treeBinds}
 use Rattle.c_tree.proofs.Laws.{binds-append}
-use Rattle.forms.specs.Forms.{Lines, Native, straight, holds, branch, jump, pair, bx, pop, Form, shell, records, Body}
+use Rattle.forms.specs.Forms.{Lines, Native, straight, straightIf, branch, jump, pair, bx, pop, Form, shell, records, Body}
 use Rattle.forms.specs.Block.{bodyOf}
 use Rattle.forms.proofs.Binds.{plainsBind, linesBind, nativeBinds, formBinds, forms-bind, closing-lines-bind}
 use Rattle.forms.proofs.Every.{Each}
-use Rattle.lowering.specs.Block.{bodyKey, nl, sp, leave, line, lines, chain, transfer, closing, conditional, nativeText, rest, underGuard, blockCode}
+use Rattle.lowering.specs.Block.{bodyKey, nl, sp, leave, line, lines, gotoCode, transfer, closing, conditional, nativeText, codeFrom, underGuard, blockCode}
 use Rattle.block_file.specs.Address.{among, outsideRomBios}
 use Rattle.lowering.specs.Units.{withLocals, emitBlock, labelled, groupCode, forwarders, emitGroup, unitHead, lastUnitEnd, TranslationUnit, textOf, cut, defaultBody, bodiesOf, unitsOf}
 
@@ -50,14 +50,14 @@ unfolding codeBinds simpleBinds
 lines-bind o n [] c h k = k
 lines-bind o n (l ∷ ls) c h k = line-binds o l _ (left (plainsBind l) (linesBind ls) h) (lines-bind o n ls c (right-true (plainsBind l) (linesBind ls) h) k)
 
-chain-binds : (b : Bool) (o : Owner) (n k : ℕ) (c : Code) → codeBinds false c ≡ true → codeBinds false (chain b o n k c) ≡ true
-unfolding codeBinds simpleBinds testBinds binds chain
-chain-binds true o n k c h = h
-chain-binds false o n k c h = h
+goto-binds : (b : Bool) (o : Owner) (n k : ℕ) (c : Code) → codeBinds false c ≡ true → codeBinds false (gotoCode b o n k c) ≡ true
+unfolding codeBinds simpleBinds testBinds binds gotoCode
+goto-binds true o n k c h = h
+goto-binds false o n k c h = h
 
 transfer-binds : (ks : List ℕ) (a : ℕ) (o : Owner) (n k : ℕ) (c : Code) → codeBinds false c ≡ true → codeBinds false (transfer ks a o n k c) ≡ true
 unfolding codeBinds simpleBinds binds transfer
-transfer-binds ks a o n k c h = pick (among k ks) _ _ (chain-binds (leb (clearBit0 k) a) o n k c h) h
+transfer-binds ks a o n k c h = pick (among k ks) _ _ (goto-binds (leb (clearBit0 k) a) o n k c h) h
 
 conditional-binds : (o : Owner) (e : Expr) (b c : Code) → binds false e ≡ true → codeBinds false b ≡ true → codeBinds false c ≡ true → codeBinds false (conditional o e b c) ≡ true
 unfolding codeBinds simpleBinds plainBinds declaratorsBind testBinds binds level
@@ -67,7 +67,7 @@ native-binds : (ks : List ℕ) (a : ℕ) (o : Owner) (r : Native) (c : Code) →
 unfolding codeBinds simpleBinds plainBinds declaratorsBind testBinds binds level nativeText
 native-binds ks a o (straight t l) c h k =
     lines-bind o 4 t _ (left (linesBind t) (linesBind l) h) (both _ (codeBinds false c) (lines-bind o 8 l _ (right-true (linesBind t) (linesBind l) h) refl) k)
-native-binds ks a o (holds t e l) c h k =
+native-binds ks a o (straightIf t e l) c h k =
     let te = left (linesBind t && binds false e) (linesBind l) h in
     lines-bind o 4 t _ (left (linesBind t) (binds false e) te)
     (conditional-binds o e (nl ⨾ lines o 8 l (sp 6 ⨾ end)) c (right-true (linesBind t) (binds false e) te) (lines-bind o 8 l (sp 6 ⨾ end) (right-true (linesBind t && binds false e) (linesBind l) h) refl) k)
@@ -97,22 +97,22 @@ module _ (ks : List ℕ) (b : Body) (bound : linesBind (b .closing) ≡ true) wh
   unfolding codeBinds closing
   closing-binds = lines-bind common 4 (b .closing) _ bound (transfer-binds ks (b .addr) common 4 _ end refl)
 
-  rest-binds : (i : ℕ) (rs : List Form) → AllBind rs → codeBinds false (rest ks b i rs) ≡ true
-  unfolding codeBinds simpleBinds testBinds binds level rest
-  rest-binds i [] h = closing-binds
-  rest-binds i (Form.native r ∷ rs) h = native-binds ks (b .addr) _ r _ (h .0) (rest-binds (i + records r) rs (h .1))
-  rest-binds i (shell true t k ∷ []) h = lines-bind common 4 t _ (h .0) closing-binds
-  rest-binds i (shell false t k ∷ []) h = lines-bind common 4 t _ (h .0) refl
-  rest-binds i (shell u t k ∷ r ∷ rs) h = lines-bind common 4 t _ (h .0) (rest-binds (i + 1) (r ∷ rs) (h .1))
+  code-from-binds : (i : ℕ) (rs : List Form) → AllBind rs → codeBinds false (codeFrom ks b i rs) ≡ true
+  unfolding codeBinds simpleBinds testBinds binds level codeFrom
+  code-from-binds i [] h = closing-binds
+  code-from-binds i (Form.native r ∷ rs) h = native-binds ks (b .addr) _ r _ (h .0) (code-from-binds (i + records r) rs (h .1))
+  code-from-binds i (shell true t k ∷ []) h = lines-bind common 4 t _ (h .0) closing-binds
+  code-from-binds i (shell false t k ∷ []) h = lines-bind common 4 t _ (h .0) refl
+  code-from-binds i (shell u t k ∷ r ∷ rs) h = lines-bind common 4 t _ (h .0) (code-from-binds (i + 1) (r ∷ rs) (h .1))
 
   guard-binds : (h : Option ℕ) → AllBind (b .forms) → codeBinds false (underGuard ks b h) ≡ true
   unfolding codeBinds simpleBinds plainBinds testBinds binds underGuard
   guard-binds none h = refl
-  guard-binds (some x) h = rest-binds 0 (b .forms) h
+  guard-binds (some x) h = code-from-binds 0 (b .forms) h
 
   pub block-binds : AllBind (b .forms) → codeBinds false (blockCode ks b) ≡ true
   unfolding blockCode
-  block-binds h = pick (outsideRomBios (b .addr)) _ _ (guard-binds (b .hash) h) (rest-binds 0 (b .forms) h)
+  block-binds h = pick (outsideRomBios (b .addr)) _ _ (guard-binds (b .hash) h) (code-from-binds 0 (b .forms) h)
 
 -- blocks that bind
 abbrev pub Binding : Body → Type 0

@@ -23,7 +23,7 @@ use Rattle.forms.specs.InlineBody.{apart}
 use Rattle.forms.specs.Block.{flushTicks, branchRegs, emitBranch}
 use Rattle.lowering.specs.Block.{nativeText}
 use Rattle.manual.specs.Machine.{Machine, setReg, Sound}
-use Rattle.manual.specs.InRange.{InRange}
+use Rattle.armv4t.specs.InRange.{InRange}
 use Rattle.manual.specs.Conditions.{passed}
 use Rattle.manual.specs.Unsaid.{noInstructionOf, isNv}
 use Rattle.manual.specs.Execute.{key, operation, execute, branch, keyBehind}

@@ -224,7 +224,7 @@ module _ (i : Instr) (rm : ℕ) (hm : rm ≤ 15) (ks : List ℕ) (a : ℕ) (o : 
       go true q =
           record {
             end = leave (leave odd-state);
-            way = back (target / 2 * 2 + 1);
+            exit = back (target / 2 * 2 + 1);
             ends = around (thumb-ends q);
             leads = rw q;
             pc = rw q (twos target);
@@ -236,7 +236,7 @@ module _ (i : Instr) (rm : ℕ) (hm : rm ≤ 15) (ks : List ℕ) (a : ℕ) (o : 
       go false q =
           record {
             end = leave even-state;
-            way = back (target / 4 * 4);
+            exit = back (target / 4 * 4);
             ends = around (arm-ends q);
             leads = rw q (ap some (plus-zero (target / 4 * 4)));
             pc = rw q (zeros target);

@@ -18,13 +18,13 @@ use Rattle.forms.specs.Operands.{condExpr, flags}
 use Rattle.forms.specs.InlineBody.{only, apart}
 use Rattle.forms.specs.Block.{flushTicks, setWord}
 use Rattle.block_file.specs.Address.{among}
-use Rattle.lowering.specs.Block.{nl, sp, line, conditional, chain, transfer, nativeText}
+use Rattle.lowering.specs.Block.{nl, sp, line, conditional, gotoCode, transfer, nativeText}
 use Rattle.manual.specs.Machine.{Machine, setReg, Sound}
 use Rattle.manual.specs.Conditions.{passed}
 use Rattle.manual.specs.Unsaid.{isNv}
 use Rattle.forms.specs.Agree.{Agrees}
 use Rattle.forms.specs.Means.{statements}
-use Rattle.lowering.specs.Text.{Continues, goal, Leaves}
+use Rattle.lowering.specs.Text.{Continues, destination, Leaves}
 use Rattle.forms.proofs.Gives.{lt-true}
 use Rattle.lowering.proofs.Lines.{run-line, run-lines}
 use Rattle.forms.proofs.Body.{not-none, all-of}
@@ -35,22 +35,22 @@ use Rattle.forms.proofs.Steps.{ne, with-scopes, with-reg}
 -- a transfer to a key leads there, and touches neither registers nor memory
 pub record Transfers (ks : List ℕ) (a : ℕ) (o : Owner) (n k : ℕ) (z : State) : Type 0 where
   pub end : State
-  pub way : Goes
-  pub ends : (c : Code) → run (transfer ks a o n k c) z ≡ some (end, way)
-  pub leads : goal way ≡ some k
+  pub exit : Goes
+  pub ends : (c : Code) → run (transfer ks a o n k c) z ≡ some (end, exit)
+  pub leads : destination exit ≡ some k
   pub regs : end .c ≡ z .c
   pub memory : end .mem ≡ z .mem
 
 -- the transfer by the answers of the group and of the gate
 pub transfers : (ks : List ℕ) (a : ℕ) (o : Owner) (n k : ℕ) (z : State) → k < 4294967296 → Transfers ks a o n k z
-unfolding transfer chain run runs step asks evalAs eval
+unfolding transfer gotoCode run runs step asks evalAs eval
 transfers ks a o n k z h = go (among k ks) refl (leb (clearBit0 k) a) refl (eqb (z .answers 0) 0) refl
   where
     go : (b : Bool) → among k ks ≡ b → (d : Bool) → leb (clearBit0 k) a ≡ d → (y : Bool) → eqb (z .answers 0) 0 ≡ y → Transfers ks a o n k z
-    go false p d q y r = record { end = z; way = back k; ends = λ c. rw (p, lt-true h); leads = refl; regs = refl; memory = refl }
-    go true p false q y r = record { end = z; way = to k; ends = λ c. rw (p, q); leads = refl; regs = refl; memory = refl }
-    go true p true q true r = record { end = answered z; way = to k; ends = λ c. rw (p, q, r); leads = refl; regs = refl; memory = refl }
-    go true p true q false r = record { end = answered z; way = back k; ends = λ c. rw (p, q, r, lt-true h); leads = refl; regs = refl; memory = refl }
+    go false p d q y r = record { end = z; exit = back k; ends = λ c. rw (p, lt-true h); leads = refl; regs = refl; memory = refl }
+    go true p false q y r = record { end = z; exit = to k; ends = λ c. rw (p, q); leads = refl; regs = refl; memory = refl }
+    go true p true q true r = record { end = answered z; exit = to k; ends = λ c. rw (p, q, r); leads = refl; regs = refl; memory = refl }
+    go true p true q false r = record { end = answered z; exit = back k; ends = λ c. rw (p, q, r, lt-true h); leads = refl; regs = refl; memory = refl }
 
 -- the state behind what a branch sets: R14 if it links, and c[15]
 abbrev branched : Bool → ℕ → ℕ → State → State
@@ -91,7 +91,7 @@ module _ (ks : List ℕ) (a : ℕ) (o : Owner) (n : ℕ) (link : Bool) (ret targ
       let t = transfers ks a o 4 k y hk in
       record {
         end = t .end;
-        way = t .way;
+        exit = t .exit;
         ends = λ c.
             run-lines o 4 (flushTicks n ++ apart ps) (transfer ks a o 4 k end) z
             ∙ ap (λ (q : Option State). bind q (run (transfer ks a o 4 k end))) (ticks-first n (apart ps) z ∙ ap (λ (qs : List Plain). perform qs z) (all-of ps) ∙ sets-do link ret target hr ht z)
@@ -105,16 +105,16 @@ module _ (ks : List ℕ) (a : ℕ) (o : Owner) (n : ℕ) (link : Bool) (ret targ
       ps = only link (setWord 14 ret) ++ (setWord 15 target ∷ [])
 
 -- what leads away leads past what stands behind
-away : (w : Goes) (z : State) (f : State → Outcome) {k : ℕ} → goal w ≡ some k → next w z f ≡ some (z, w)
+away : (w : Goes) (z : State) (f : State → Outcome) {k : ℕ} → destination w ≡ some k → next w z f ≡ some (z, w)
 away on z f e = absurd (not-none e)
 away (to l) z f e = refl
 away (back l) z f e = refl
 
-pub closed-out : (b c : Code) (z : State) (w : Goes) {y : State} {k : ℕ} → goal w ≡ some k → run b (enter z) ≡ some (y, w) → run (braces b c) z ≡ some (leave y, w)
+pub closed-out : (b c : Code) (z : State) (w : Goes) {y : State} {k : ℕ} → destination w ≡ some k → run b (enter z) ≡ some (y, w) → run (braces b c) z ≡ some (leave y, w)
 unfolding run runs
 closed-out b c z w {y} h e = ap (λ (q : Outcome). bind q (λ r. next (r .1) (leave (r .0)) (run c))) e ∙ away w (leave y) (run c) h
 
-when-out : (o : Owner) (e : Expr) (b : Code) (u : State) (w : Goes) {y : State} {k : ℕ} → goal w ≡ some k → eval rotated e u ≡ some 1 → run b (enter u) ≡ some (y, w)
+when-out : (o : Owner) (e : Expr) (b : Code) (u : State) (w : Goes) {y : State} {k : ℕ} → destination w ≡ some k → eval rotated e u ≡ some 1 → run b (enter u) ≡ some (y, w)
     → run (when o false (other e) b (sp 1 ⨾ end)) u ≡ some (leave y, w)
 unfolding run runs step asks
 when-out o e b u w {y} h q p = rw q (ap (λ (q : Outcome). bind q (λ r. next (r .1) (leave (r .0)) (run (sp 1 ⨾ end)))) p ∙ away w (leave y) (run (sp 1 ⨾ end)) h)
@@ -131,13 +131,13 @@ module _ (ks : List ℕ) (a : ℕ) (o : Owner) (n : ℕ) (link : Bool) (ret targ
       let t = transfers ks a o 8 k y hk in
       record {
         end = leave (leave (t .end));
-        way = t .way;
+        exit = t .exit;
         ends = λ d.
             behind-ticks o 4 n (conditional o (condExpr c) b d) z
-            ∙ closed-out (sp 1 ⨾ line o flags (gap true 6 ⨾ when o false (other (condExpr c)) b (sp 1 ⨾ end))) (nl ⨾ d) z (t .way) (t .leads)
+            ∙ closed-out (sp 1 ⨾ line o flags (gap true 6 ⨾ when o false (other (condExpr c)) b (sp 1 ⨾ end))) (nl ⨾ d) z (t .exit) (t .leads)
             (run-line o flags (gap true 6 ⨾ when o false (other (condExpr c)) b (sp 1 ⨾ end)) (enter z)
             ∙ ap (λ (q : Option State). bind q (run (gap true 6 ⨾ when o false (other (condExpr c)) b (sp 1 ⨾ end)))) (declared s g)
-            ∙ when-out o (condExpr c) b u (t .way) (t .leads) (test s g c nv true pass)
+            ∙ when-out o (condExpr c) b u (t .exit) (t .leads) (test s g c nv true pass)
             (run-line o ps (nl ⨾ transfer ks a o 8 k (sp 6 ⨾ end)) (enter u)
             ∙ ap (λ (q : Option State). bind q (run (nl ⨾ transfer ks a o 8 k (sp 6 ⨾ end)))) (sets-do link ret target hr ht (enter u))
             ∙ t .ends (sp 6 ⨾ end)));

@@ -17,7 +17,7 @@ use Rattle.plan.proofs.Cutting.{instructions, instructions-append, instructions
 use Rattle.plan.proofs.GroupLaws.{groups-once, groups-only, group-inside}
 use Rattle.plan.proofs.Listing.{count, counted, member-at, map-at}
 use Rattle.forest.proofs.Roots.{length-range, range-own}
-use Rattle.text.specs.Wrote.{top}
+use Rattle.text.specs.Wrote.{maxUsize}
 use Rattle.text.specs.Digits.{fixed}
 use Rattle.text.specs.Doc.{hex8, text, _▸_, hexadecimal8, print, each}
 use Rattle.text.proofs.Lengths.{most, length-most}
@@ -27,12 +27,12 @@ use Rattle.c_tree.specs.Preamble.{v32}
 use Rattle.c_tree.specs.Print.{exprText, keyText, spaces, casesText, codeText, rowText, unitText}
 use Rattle.c_tree.proofs.Laws.{length-unit}
 use Rattle.c_tree.proofs.Lengths.{most-append}
-use Rattle.forms.specs.Forms.{Lines, Native, straight, holds, branch, jump, pair, bx, pop, Form, shell, records, Body}
+use Rattle.forms.specs.Forms.{Lines, Native, straight, straightIf, branch, jump, pair, bx, pop, Form, shell, records, Body}
 use Rattle.forms.proofs.RecordCount.{recordCounts, body-count}
 use Rattle.forms.specs.Block.{bodyOf}
 use Rattle.forms.proofs.Every.{either, Each}
 use Rattle.forms.proofs.Lengths.{plainsMost, linesMost, nativeMost, formMost, forms-within, closing-short}
-use Rattle.lowering.specs.Block.{bodyKey, bodyEnd, nl, sp, line, lines, chain, transfer, closing, conditional, leave, toThumb, toArm, nativeText, shellCode, rest, underGuard, blockCode}
+use Rattle.lowering.specs.Block.{bodyKey, bodyEnd, nl, sp, line, lines, gotoCode, transfer, closing, conditional, leave, toThumb, toArm, nativeText, shellCode, codeFrom, underGuard, blockCode}
 use Rattle.records.specs.BlockRecord.{keyPlus}
 use Rattle.block_file.specs.Address.{among, outsideRomBios}
 use Rattle.lowering.specs.Units.{withLocals, emitBlock, labelled, groupCode, forwarders, emitGroup, unitHead, lastUnitEnd, TranslationUnit, textOf, cut, defaultBody, bodiesOf, unitsOf}
@@ -57,15 +57,15 @@ lines-most : (o : Owner) (n : ℕ) (ls : Lines) (c : Code) → n ≤ 8 → codeM
 lines-most o n [] c h = omega arith
 lines-most o n (l ∷ ls) c h = omega (arith, h, spaces-most n, line-most o l (nl ⨾ lines o n ls c), lines-most o n ls c h)
 
-chain-most : (b : Bool) (o : Owner) (n k : ℕ) (c : Code) → n ≤ 8 → codeMost (chain b o n k c) ≤ 80 + codeMost c
-unfolding chain
-chain-most true o n k c h = omega (arith, h, spaces-most n, key-most k)
-chain-most false o n k c h = omega (arith, h, spaces-most n, key-most k)
+goto-most : (b : Bool) (o : Owner) (n k : ℕ) (c : Code) → n ≤ 8 → codeMost (gotoCode b o n k c) ≤ 80 + codeMost c
+unfolding gotoCode
+goto-most true o n k c h = omega (arith, h, spaces-most n, key-most k)
+goto-most false o n k c h = omega (arith, h, spaces-most n, key-most k)
 
 transfer-most : (ks : List ℕ) (a : ℕ) (o : Owner) (n k : ℕ) (c : Code) → n ≤ 8 → codeMost (transfer ks a o n k c) ≤ 80 + codeMost c
 unfolding transfer
 transfer-most ks a o n k c h =
-    either (λ (d : Code). codeMost d ≤ 80 + codeMost c) (among k ks) (chain-most (leb (clearBit0 k) a) o n k c h) (omega (arith, h, spaces-most n))
+    either (λ (d : Code). codeMost d ≤ 80 + codeMost c) (among k ks) (goto-most (leb (clearBit0 k) a) o n k c h) (omega (arith, h, spaces-most n))
 
 conditional-most : (o : Owner) (e : Expr) (b c : Code) → codeMost (conditional o e b c) ≤ 300 + most (exprText e) + codeMost b + codeMost c
 conditional-most o e b c = omega arith
@@ -79,7 +79,7 @@ native-most ks a o (straight t l) c =
       lines-most o 4 t (sp 4 ⨾ braces (nl ⨾ lines o 8 l (sp 4 ⨾ end)) (nl ⨾ c)) (omega arith),
       lines-most o 8 l (sp 4 ⨾ end) (omega arith),
     )
-native-most ks a o (holds t e l) c =
+native-most ks a o (straightIf t e l) c =
     let body : Code = nl ⨾ lines o 8 l (sp 6 ⨾ end) in
     omega (
       arith,
@@ -118,7 +118,7 @@ native-most ks a o (pop t p l q e) c =
 -- a form stands for a record at least
 records-some : (r : Native) → 1 ≤ records r
 records-some (straight t l) = omega arith
-records-some (holds t e l) = omega arith
+records-some (straightIf t e l) = omega arith
 records-some (branch t e s k) = omega arith
 records-some (jump t k) = omega arith
 records-some (pair t k) = omega arith
@@ -142,38 +142,38 @@ module _ (ks : List ℕ) (b : Body) (short : Short b) where
         transfer-most ks (b .addr) common 4 (keyPlus (bodyEnd b) (b .thumb)) end (omega arith),
       )
 
-  rest-most : (i : ℕ) (rs : List Form) → Each (λ (r : Form). formMost r ≤ 2200) rs → codeMost (rest ks b i rs) ≤ 180 + recordCounts rs * 2600
-  unfolding rest
-  rest-most i [] h = omega (arith, closing-most)
-  rest-most i (Form.native r ∷ rs) h =
+  code-from-most : (i : ℕ) (rs : List Form) → Each (λ (r : Form). formMost r ≤ 2200) rs → codeMost (codeFrom ks b i rs) ≤ 180 + recordCounts rs * 2600
+  unfolding codeFrom
+  code-from-most i [] h = omega (arith, closing-most)
+  code-from-most i (Form.native r ∷ rs) h =
       omega (
         arith,
         h .0,
         records-some r,
-        native-most ks (b .addr) (Owner.native (bodyKey b)) r (rest ks b (i + records r) rs),
-        rest-most (i + records r) rs (h .1),
+        native-most ks (b .addr) (Owner.native (bodyKey b)) r (codeFrom ks b (i + records r) rs),
+        code-from-most (i + records r) rs (h .1),
       )
-  rest-most i (shell true t k ∷ []) h =
+  code-from-most i (shell true t k ∷ []) h =
       omega (arith, h .0, closing-most, lines-most common 4 t (sp 4 ⨾ retInterp (bodyKey b) i ⨾ nl ⨾ closing ks b) (omega arith))
-  rest-most i (shell false t k ∷ []) h = omega (arith, h .0, lines-most common 4 t (sp 4 ⨾ retInterp (bodyKey b) i ⨾ nl ⨾ end) (omega arith))
-  rest-most i (shell u t k ∷ r ∷ rs) h =
+  code-from-most i (shell false t k ∷ []) h = omega (arith, h .0, lines-most common 4 t (sp 4 ⨾ retInterp (bodyKey b) i ⨾ nl ⨾ end) (omega arith))
+  code-from-most i (shell u t k ∷ r ∷ rs) h =
       omega (
         arith,
         h .0,
-        lines-most common 4 t (shellCode b i k (rest ks b (i + 1) (r ∷ rs))) (omega arith),
-        rest-most (i + 1) (r ∷ rs) (h .1),
+        lines-most common 4 t (shellCode b i k (codeFrom ks b (i + 1) (r ∷ rs))) (omega arith),
+        code-from-most (i + 1) (r ∷ rs) (h .1),
       )
 
   guard-most : (h : Option ℕ) → codeMost (underGuard ks b h) ≤ 400 + b .count * 2600
   unfolding underGuard
   guard-most none = omega arith
-  guard-most (some x) = omega (arith, short .count, rest-most 0 (b .forms) (short .forms))
+  guard-most (some x) = omega (arith, short .count, code-from-most 0 (b .forms) (short .forms))
 
   code-most : codeMost (blockCode ks b) ≤ 400 + b .count * 2600
   unfolding blockCode
   code-most =
       either (λ (c : Code). codeMost c ≤ 400 + b .count * 2600) (outsideRomBios (b .addr)) (guard-most (b .hash))
-      (omega (arith, short .count, rest-most 0 (b .forms) (short .forms)))
+      (omega (arith, short .count, code-from-most 0 (b .forms) (short .forms)))
 
   -- the text of a block
   pub block-most : length (print (codeText (blockCode ks b))) ≤ 400 + b .count * 2600
@@ -402,7 +402,7 @@ module _ (limit : ℕ) (bs : List Block) where
 
 -- the text of every unit of an accepted file: at most 2,778,730,600 bytes by its limits
 pub units-short : (f : List ℕ) (bs : List Block) → parse f ≡ Parsed.accepted bs → (multiplier limit max : ℕ) (u : TranslationUnit)
-    → List·Memᴰ u (unitsOf max (map (bodyOf multiplier) bs) (groups limit bs)) → length (textOf (u .tree)) < top
+    → List·Memᴰ u (unitsOf max (map (bodyOf multiplier) bs) (groups limit bs)) → length (textOf (u .tree)) < maxUsize
 units-short f bs accepted multiplier limit max u m =
     omega (
       arith,

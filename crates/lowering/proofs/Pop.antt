@@ -133,7 +133,7 @@ module _ {z : State} {m : Machine} (s : Sound m) (a : Agrees z m) (rn : ℕ) (hn
         let y : State = setC 15 v (r .end) in
         record {
           end = leave y;
-          way = back k;
+          exit = back k;
           ends = λ c.
               behind-ticks o 4 n (sp 4 ⨾ braces (sp 1 ⨾ plain o (let32 x-addr (get (reg rn))) ⨾ rest) (nl ⨾ end)) z
               ∙ closed-out (sp 1 ⨾ plain o (let32 x-addr (get (reg rn))) ⨾ rest) (nl ⨾ end) z (back k) refl

@@ -23,11 +23,11 @@ use Rattle.c_tree.specs.Print.{codeText}
 use Rattle.fnv.specs.Fnv.{hashMultiplier}
 use Rattle.forms.specs.Block.{emitInstr, emitInstrs, bodyOf}
 use Rattle.forms.specs.InlineBody.{inlineBody}
-use Rattle.lowering.specs.Block.{chain, transfer, closing, nativeText, rest, underGuard, blockCode}
+use Rattle.lowering.specs.Block.{gotoCode, transfer, closing, nativeText, codeFrom, underGuard, blockCode}
 use Rattle.block_file.specs.Address.{outsideRomBios}
 use Rattle.lowering.specs.Units.{withLocals, emitBlock, emitGroup, lastUnitEnd, textOf, cut, bodiesOf, unitsOf}
 use Rattle.search.specs.Target.{target}
-use Rattle.plan.specs.Plan.{joinExits, joinBlocks, parents, members, insert, sortByKey, parts, groupsFrom, groups, rowsFrom, plan}
+use Rattle.plan.specs.Plan.{joinExits, joinBlocks, parents, withRoot, insert, sortByKey, parts, groupsFrom, groups, rowsFrom, plan}
 
 -- an instruction of one cycle
 timed : ℕ → Bool → Cond → Op → TimedInstr
@@ -121,5 +121,5 @@ each g h (List·Memᴰ·tail m) e = each g h m (cc)
 
 -- each starred case holds
 pub starred : (c : Case) → List·Memᴰ c cases → defined c ≡ stated c
-unfolding exits instrExits fuse cases one pair long short two timed swi from lone defined stated bodyOf emitInstrs emitInstr inlineBody blockCode outsideRomBios underGuard rest nativeText transfer chain closing unitsOf cut bodiesOf lastUnitEnd textOf emitGroup emitBlock withLocals print decimal numeral hexadecimal hexadecimal8 hexadecimal16 fixed plan rowsFrom groups groupsFrom parts sortByKey insert members parents joinBlocks joinExits target follow
+unfolding exits instrExits fuse cases one pair long short two timed swi from lone defined stated bodyOf emitInstrs emitInstr inlineBody blockCode outsideRomBios underGuard codeFrom nativeText transfer gotoCode closing unitsOf cut bodiesOf lastUnitEnd textOf emitGroup emitBlock withLocals print decimal numeral hexadecimal hexadecimal8 hexadecimal16 fixed plan rowsFrom groups groupsFrom parts sortByKey insert withRoot parents joinBlocks joinExits target follow
 starred c m = each defined stated m refl

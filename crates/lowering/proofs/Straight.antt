@@ -9,7 +9,7 @@ use Rattle.armv4t.specs.declared.Instr.{Instr}
 use Rattle.instr_records.specs.declared.decode.TimedInstr.{TimedInstr}
 use Rattle.c_tree.specs.Stmt.{Owner}
 use Rattle.c_meaning.specs.State.{State}
-use Rattle.forms.specs.Forms.{Lines, Native, straight, holds, Form, native, shell}
+use Rattle.forms.specs.Forms.{Lines, Native, straight, straightIf, Form, native, shell}
 use Rattle.forms.specs.Operands.{condExpr}
 use Rattle.forms.specs.InlineBody.{inlineBody}
 use Rattle.forms.specs.Block.{flushTicks, emitLines, emitStraight}
@@ -22,7 +22,7 @@ use Rattle.forms.specs.Means.{OpMeans}
 use Rattle.lowering.specs.Text.{Continues}
 use Rattle.lowering.specs.Records.{isNamedDifference}
 use Rattle.lowering.proofs.Outcome.{Outcome, done, skipped, outcome, al-passes, not-nv, not-different}
-use Rattle.lowering.proofs.Wrapped.{straight-text, holds-text}
+use Rattle.lowering.proofs.Wrapped.{straight-text, straight-if-text}
 
 -- a shell is not native, and a native form is that one
 is-native : Form → Type 0
@@ -42,12 +42,12 @@ unfolding is-native
 not-shell e = subst is-native (sym e) tt
 
 -- what is native is lowered to lines
-pub lowered : (thumb bus : Bool) (cycles : ℕ) (x : TimedInstr) (r : Native) → emitStraight thumb bus cycles x .0 ≡ native r
-    → (ls : Lines) × (inlineBody thumb (x .instr) ≡ some ls) × (emitLines thumb bus cycles x (some ls) .0 ≡ native r)
-lowered thumb bus cycles x r q = go (inlineBody thumb (x .instr)) refl q
+pub lowered : (thumb touchesBus : Bool) (cycles : ℕ) (x : TimedInstr) (r : Native) → emitStraight thumb touchesBus cycles x .0 ≡ native r
+    → (ls : Lines) × (inlineBody thumb (x .instr) ≡ some ls) × (emitLines thumb touchesBus cycles x (some ls) .0 ≡ native r)
+lowered thumb touchesBus cycles x r q = go (inlineBody thumb (x .instr)) refl q
   where
-    go : (b : Option Lines) → inlineBody thumb (x .instr) ≡ b → emitLines thumb bus cycles x b .0 ≡ native r
-        → (ls : Lines) × (inlineBody thumb (x .instr) ≡ some ls) × (emitLines thumb bus cycles x (some ls) .0 ≡ native r)
+    go : (b : Option Lines) → inlineBody thumb (x .instr) ≡ b → emitLines thumb touchesBus cycles x b .0 ≡ native r
+        → (ls : Lines) × (inlineBody thumb (x .instr) ≡ some ls) × (emitLines thumb touchesBus cycles x (some ls) .0 ≡ native r)
     go none l q = absurd (not-shell q)
     go (some ls) l q = (ls, l, q)
 
@@ -71,34 +71,34 @@ module _ (x : TimedInstr) (p : OpMeans (x .instr) (x .instr .op)) (ks : List ℕ
         go (skipped t q) = absurd (true≢false (sym pass ∙ t))
 
     -- under another condition
-    under-means : Result (holds (flushTicks n) (condExpr (i .cond)) ls)
+    under-means : Result (straightIf (flushTicks n) (condExpr (i .cond)) ls)
     unfolding Result inlineBody
     under-means = go (outcome i m next e .1)
       where
         text : Machine → Type 0
-        text = Continues (nativeText ks a o (holds (flushTicks n) (condExpr (i .cond)) ls)) z
+        text = Continues (nativeText ks a o (straightIf (flushTicks n) (condExpr (i .cond)) ls)) z
 
         go : Outcome i m next → text (next .0) × (next .1 ≡ keyBehind i)
         go (done t u q) = (
           subst (λ (b : Bool). text (cond b (next .0) m)) t
-              (holds-text s g (i .cond) (not-nv i m d) ks a o n ls (λ t v h. p ls l v m s h u (not-different i m d t) next q .0)),
+              (straight-if-text s g (i .cond) (not-nv i m d) ks a o n ls (λ t v h. p ls l v m s h u (not-different i m d t) next q .0)),
           p ls l z m s g u (not-different i m d t) next q .1,
         )
         go (skipped t q) =
             subst (λ (n : Machine × ℕ). text (n .0) × (n .1 ≡ keyBehind i)) q
-            (subst (λ (b : Bool). text (cond b m m)) t (holds-text s g (i .cond) (not-nv i m d) ks a o n ls (λ y u h. absurd (true≢false (sym y ∙ t)))), refl)
+            (subst (λ (b : Bool). text (cond b m m)) t (straight-if-text s g (i .cond) (not-nv i m d) ks a o n ls (λ y u h. absurd (true≢false (sym y ∙ t)))), refl)
 
-    by-cond : (b : Bool) → isAl (i .cond) ≡ b → Result (cond b (straight (flushTicks n) ls) (holds (flushTicks n) (condExpr (i .cond)) ls))
+    by-cond : (b : Bool) → isAl (i .cond) ≡ b → Result (cond b (straight (flushTicks n) ls) (straightIf (flushTicks n) (condExpr (i .cond)) ls))
     by-cond true c = always-means (al-passes (i .cond) c m)
     by-cond false c = under-means
 
   by-bus : (ls : Lines) → inlineBody (i .thumb) i ≡ some ls → (cycles : ℕ) (b : Bool)
-      → Result (cond (isAl (i .cond)) (straight (cond b (flushTicks cycles) []) ls) (holds (cond b (flushTicks cycles) []) (condExpr (i .cond)) ls))
+      → Result (cond (isAl (i .cond)) (straight (cond b (flushTicks cycles) []) ls) (straightIf (cond b (flushTicks cycles) []) (condExpr (i .cond)) ls))
   by-bus ls l cycles true = by-cond ls l cycles (isAl (i .cond)) refl
   by-bus ls l cycles false = by-cond ls l 0 (isAl (i .cond)) refl
 
   -- a straight-line instruction that is native, where its operation means what it should
-  pub straight-means : (bus : Bool) (cycles : ℕ) (r : Native) → emitStraight (i .thumb) bus cycles x .0 ≡ native r
+  pub straight-means : (touchesBus : Bool) (cycles : ℕ) (r : Native) → emitStraight (i .thumb) touchesBus cycles x .0 ≡ native r
       → Continues (nativeText ks a o r) z (next .0) × (next .1 ≡ keyBehind i)
   unfolding Result
-  straight-means bus cycles r q = let w = lowered (i .thumb) bus cycles x r q in subst Result (native-same (w .2)) (by-bus (w .0) (w .1) cycles bus)
+  straight-means touchesBus cycles r q = let w = lowered (i .thumb) touchesBus cycles x r q in subst Result (native-same (w .2)) (by-bus (w .0) (w .1) cycles touchesBus)

@@ -20,7 +20,7 @@ use Rattle.forms.specs.Block.{flushTicks, nativeExit, isPop, emitPop, emitStrai
 use Rattle.forms.specs.Agree.{Agrees}
 use Rattle.lowering.specs.Block.{nativeText}
 use Rattle.manual.specs.Machine.{Machine, Sound}
-use Rattle.manual.specs.InRange.{InRange}
+use Rattle.armv4t.specs.InRange.{InRange}
 use Rattle.manual.specs.Conditions.{passed}
 use Rattle.manual.specs.Execute.{operation, execute, loadMultiplePc, keyBehind}
 use Rattle.manual.proofs.Kept.{WrittenOut, execute-said}
@@ -106,20 +106,20 @@ module _ (region : ℕ) (x : TimedInstr) (cycles : ℕ) (r : Native) where
   i = x .instr
 
   -- an indirect exit that is native by a test, and else a straight-line instruction
-  exit-or-straight : (P : Native → Type 0) (b : Bool) (n : Native) (bus : Bool) → (b ≡ true → P n) → (emitStraight (i .thumb) bus cycles x .0 ≡ native r → P r)
-      → cond b (native n, 0) (emitStraight (i .thumb) bus cycles x) .0 ≡ native r → P r
-  exit-or-straight P true n bus f h e = subst P (native-same e) (f refl)
-  exit-or-straight P false n bus f h e = h e
+  exit-or-straight : (P : Native → Type 0) (b : Bool) (n : Native) (touchesBus : Bool) → (b ≡ true → P n) → (emitStraight (i .thumb) touchesBus cycles x .0 ≡ native r → P r)
+      → cond b (native n, 0) (emitStraight (i .thumb) touchesBus cycles x) .0 ≡ native r → P r
+  exit-or-straight P true n touchesBus f h e = subst P (native-same e) (f refl)
+  exit-or-straight P false n touchesBus f h e = h e
 
   -- where a record is native its operation is written out
-  straight-written : (bus : Bool) → emitStraight (i .thumb) bus cycles x .0 ≡ native r → (op : Op) → i .op ≡ op → WrittenOut op
+  straight-written : (touchesBus : Bool) → emitStraight (i .thumb) touchesBus cycles x .0 ≡ native r → (op : Op) → i .op ≡ op → WrittenOut op
   unfolding inlineBody
-  straight-written bus e op q = let w = lowered (i .thumb) bus cycles x r e in subst WrittenOut q (body-written i (i .op) (w .0) (w .1))
+  straight-written touchesBus e op q = let w = lowered (i .thumb) touchesBus cycles x r e in subst WrittenOut q (body-written i (i .op) (w .0) (w .1))
 
   -- a straight-line instruction is no transfer
-  straight-onward : (bus : Bool) → emitStraight (i .thumb) bus cycles x .0 ≡ native r → isTransfer (i .op) ≡ false
+  straight-onward : (touchesBus : Bool) → emitStraight (i .thumb) touchesBus cycles x .0 ≡ native r → isTransfer (i .op) ≡ false
   unfolding inlineBody
-  straight-onward bus e = let w = lowered (i .thumb) bus cycles x r e in body-onward i (i .op) (w .0) (w .1)
+  straight-onward touchesBus e = let w = lowered (i .thumb) touchesBus cycles x r e in body-onward i (i .op) (w .0) (w .1)
 
   op-written : (op : Op) → i .op ≡ op → emitOp (i .thumb) region cycles x op .0 ≡ native r → WrittenOut op
   op-written (Alu op s rd rn op2) q e = straight-written false e (Alu op s rd rn op2) q
@@ -149,9 +149,9 @@ module _ (region : ℕ) (x : TimedInstr) (cycles : ℕ) (r : Native) where
     in-range : (op : Op) → i .op ≡ op → InRange op
     in-range op q = subst InRange q range
 
-    straight-acts : (bus : Bool) → emitStraight (i .thumb) bus cycles x .0 ≡ native r → Result r
+    straight-acts : (touchesBus : Bool) → emitStraight (i .thumb) touchesBus cycles x .0 ≡ native r → Result r
     unfolding Result
-    straight-acts bus e = let w = straight-means x (op-means i (i .op) range) ks at o s g d next ex bus cycles r e in continues (not-both (passed (i .cond) m) (isTransfer (i .op)) (straight-onward bus e)) (w .1) (w .0)
+    straight-acts touchesBus e = let w = straight-means x (op-means i (i .op) range) ks at o s g d next ex touchesBus cycles r e in continues (not-both (passed (i .cond) m) (isTransfer (i .op)) (straight-onward touchesBus e)) (w .1) (w .0)
 
     bx-acts : (rm : ℕ) → i .op ≡ Bx rm → isAl (i .cond) ≡ true → Result (bx (flushTicks (cycles + x .cost)) (regExpr i rm))
     unfolding Result

@@ -13,7 +13,7 @@ use Rattle.c_tree.specs.Stmt.{Owner}
 use Rattle.c_meaning.specs.State.{State}
 use Rattle.manual.specs.Machine.{Machine, Sound}
 use Rattle.manual.specs.Conditions.{passed}
-use Rattle.manual.specs.InRange.{InRange}
+use Rattle.armv4t.specs.InRange.{InRange}
 use Rattle.manual.specs.Unsaid.{noInstruction, unpredictable, isNv}
 use Rattle.manual.specs.Execute.{execute}
 use Rattle.manual.specs.Thumb.{Thumb, format-19-high, format-19-low, Fits, SignExtend11, ahead, decoded, thumbOperation}

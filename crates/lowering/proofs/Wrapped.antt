@@ -12,7 +12,7 @@ use Rattle.c_meaning.specs.State.{bind, State, enter, leave}
 use Rattle.c_meaning.specs.Eval.{eval}
 use Rattle.c_meaning.specs.Exec.{on, Outcome, next, exec, execs, asks, step, runs}
 use Rattle.c_meaning.specs.Helpers.{rotated, perform, run}
-use Rattle.forms.specs.Forms.{Lines, straight, holds}
+use Rattle.forms.specs.Forms.{Lines, straight, straightIf}
 use Rattle.forms.specs.Operands.{condExpr, flags}
 use Rattle.forms.specs.Block.{flushTicks}
 use Rattle.lowering.specs.Block.{nl, sp, lines, line, conditional, nativeText}
@@ -88,15 +88,15 @@ module _ {z : State} {m : Machine} (s : Sound m) (g : Agrees z m) (k : Cond) (nv
       ∙ e)
 
   -- { flags; if (e) { lines } }
-  pub holds-text : (ks : List ℕ) (a : ℕ) (o : Owner) (n : ℕ) (ls : Lines) {m1 : Machine} → (passed k m ≡ true → (u : State) → Agrees u m → Makes (statements ls) (enter u) m1)
-      → Continues (nativeText ks a o (holds (flushTicks n) (condExpr k) ls)) z (cond (passed k m) m1 m)
+  pub straight-if-text : (ks : List ℕ) (a : ℕ) (o : Owner) (n : ℕ) (ls : Lines) {m1 : Machine} → (passed k m ≡ true → (u : State) → Agrees u m → Makes (statements ls) (enter u) m1)
+      → Continues (nativeText ks a o (straightIf (flushTicks n) (condExpr k) ls)) z (cond (passed k m) m1 m)
   unfolding nativeText run runs step
-  holds-text ks a o n ls {m1} p = go (passed k m) refl
+  straight-if-text ks a o n ls {m1} p = go (passed k m) refl
     where
       b : Code
       b = nl ⨾ lines o 8 ls (sp 6 ⨾ end)
 
-      go : (t : Bool) → passed k m ≡ t → Continues (nativeText ks a o (holds (flushTicks n) (condExpr k) ls)) z (cond t m1 m)
+      go : (t : Bool) → passed k m ≡ t → Continues (nativeText ks a o (straightIf (flushTicks n) (condExpr k) ls)) z (cond t m1 m)
       go true q =
           let r = p q flagged (with-scopes g _) in
           record {

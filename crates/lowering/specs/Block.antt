@@ -5,13 +5,13 @@ use mathlib.Core.List.{List, [], _∷_}
 use mathlib.Core.Option.{Option, none, some}
 use lib.Dec.{leb}
 use Rattle.armv4t.specs.Bit0.{clearBit0}
-use Rattle.c_tree.specs.Expr.{u32, word, uhex, udec, int, x-t, x-s, x-cn, x-cz, x-cc, x-cv, x-pc, reg, compl, shr, ne, band, bor, Expr, lit, get, par, un, bin}
-use Rattle.c_tree.specs.Stmt.{is, and, or, Plain, declare, set, guard, gate, other, Owner, common, Simple, gap, begin, plain, goto, ret, retIf, interp, retInterp, Code, end, _⨾_, when, braces}
+use Rattle.c_tree.specs.Expr.{u32, word, uhex, udec, x-t, x-pc, reg, compl, ne, band, bor, Expr, lit, par, un, bin}
+use Rattle.c_tree.specs.Stmt.{is, and, or, Plain, declare, set, guard, gate, other, Owner, common, Simple, gap, recordMark, plain, goto, ret, retIf, interp, retInterp, Code, end, _⨾_, when, braces}
 use Rattle.c_tree.specs.Preamble.{v32}
 use Rattle.records.specs.BlockRecord.{lengthOf, keyPlus}
 use Rattle.block_file.specs.Address.{outsideRomBios, among}
 use Rattle.forms.specs.Operands.{flags}
-use Rattle.forms.specs.Forms.{Lines, Native, straight, holds, branch, jump, pair, bx, pop, Form, shell, records, Body}
+use Rattle.forms.specs.Forms.{Lines, Native, straight, straightIf, branch, jump, pair, bx, pop, Form, shell, records, Body}
 
 -- the key of a block: its address plus the Thumb bit
 abbrev pub bodyKey : Body → ℕ
@@ -44,18 +44,22 @@ lines o n [] c = c
 lines o n (l ∷ ls) c = sp n ⨾ line o l (nl ⨾ lines o n ls c)
 
 -- a goto: gated (document 01), with the chain gate before it, or plain
-unfoldable pub chain : Bool → Owner → ℕ → ℕ → Code → Code
-chain true o n k c = sp n ⨾ retIf o gate (lit word k) ⨾ nl ⨾ sp n ⨾ goto o k ⨾ nl ⨾ c
-chain false o n k c = sp n ⨾ goto o k ⨾ nl ⨾ c
+unfoldable pub gotoCode : Bool → Owner → ℕ → ℕ → Code → Code
+gotoCode true o n k c = sp n ⨾ retIf o gate (lit word k) ⨾ nl ⨾ sp n ⨾ goto o k ⨾ nl ⨾ c
+gotoCode false o n k c = sp n ⨾ goto o k ⨾ nl ⨾ c
 
 -- transfer: from the block at address a, to key k, at indent n. ks: the keys of a group of several, empty for a lone block.
 -- A goto if k is among them; gated if the target's address is not above the block's
 unfoldable pub transfer : List ℕ → ℕ → Owner → ℕ → ℕ → Code → Code
-transfer ks a o n k c = cond (among k ks) (chain (leb (clearBit0 k) a) o n k c) (sp n ⨾ ret o (lit word k) ⨾ nl ⨾ c)
+transfer ks a o n k c = cond (among k ks) (gotoCode (leb (clearBit0 k) a) o n k c) (sp n ⨾ ret o (lit word k) ⨾ nl ⨾ c)
+
+-- the end of the block at address a: lines, and the transfer to a key
+abbrev pub closingCode : List ℕ → ℕ → Lines → ℕ → Code
+closingCode ks a ls k = lines common 4 ls (transfer ks a common 4 k end)
 
 -- the closing transfer (document 01), to the key behind the block, with the lines before it
 unfoldable pub closing : List ℕ → Body → Code
-closing ks b = lines common 4 (b .closing) (transfer ks (b .addr) common 4 (keyPlus (bodyEnd b) (b .thumb)) end)
+closing ks b = closingCode ks (b .addr) (b .closing) (keyPlus (bodyEnd b) (b .thumb))
 
 -- t & ~1u, and t & ~3u
 abbrev pub masked : ℕ → Expr
@@ -81,7 +85,7 @@ conditional o e b c = sp 4 ⨾ braces (sp 1 ⨾ line o flags (gap true 6 ⨾ whe
 -- the text of a native record, every statement with its owner; an unconditional exit drops what would stand behind it
 unfoldable pub nativeText : List ℕ → ℕ → Owner → Native → Code → Code
 nativeText ks a o (straight t l) c = lines o 4 t (sp 4 ⨾ braces (nl ⨾ lines o 8 l (sp 4 ⨾ end)) (nl ⨾ c))
-nativeText ks a o (holds t e l) c = lines o 4 t (conditional o e (nl ⨾ lines o 8 l (sp 6 ⨾ end)) c)
+nativeText ks a o (straightIf t e l) c = lines o 4 t (conditional o e (nl ⨾ lines o 8 l (sp 6 ⨾ end)) c)
 nativeText ks a o (branch t e l k) c = lines o 4 t (conditional o e (sp 1 ⨾ line o l (nl ⨾ transfer ks a o 8 k (sp 6 ⨾ end))) c)
 nativeText ks a o (jump t k) c = lines o 4 t (transfer ks a o 4 k end)
 nativeText ks a o (pair t k) c = lines o 4 t (transfer ks a o 4 k end)
@@ -99,11 +103,11 @@ abbrev pub shellCode : Body → ℕ → ℕ → Code → Code
 shellCode b i k c = sp 4 ⨾ interp (bodyKey b) i ⨾ sp 1 ⨾ retIf common (other (bin ne (v32 x-pc) (lit word k))) (v32 x-pc) ⨾ nl ⨾ c
 
 -- the text of a block from the record with index i on. The last shell returns; behind an unfused half that is last stands the closing transfer
-unfoldable pub rest : List ℕ → Body → ℕ → List Form → Code
-rest ks b i [] = closing ks b
-rest ks b i (Form.native r ∷ rs) = begin (bodyKey b) i (records r) ⨾ nativeText ks (b .addr) (Owner.native (bodyKey b)) r (rest ks b (i + records r) rs)
-rest ks b i (shell h t k ∷ []) = lines common 4 t (sp 4 ⨾ retInterp (bodyKey b) i ⨾ nl ⨾ cond h (closing ks b) end)
-rest ks b i (shell h t k ∷ r ∷ rs) = lines common 4 t (shellCode b i k (rest ks b (i + 1) (r ∷ rs)))
+unfoldable pub codeFrom : List ℕ → Body → ℕ → List Form → Code
+codeFrom ks b i [] = closing ks b
+codeFrom ks b i (Form.native r ∷ rs) = recordMark (bodyKey b) i (records r) ⨾ nativeText ks (b .addr) (Owner.native (bodyKey b)) r (codeFrom ks b (i + records r) rs)
+codeFrom ks b i (shell h t k ∷ []) = lines common 4 t (sp 4 ⨾ retInterp (bodyKey b) i ⨾ nl ⨾ cond h (closing ks b) end)
+codeFrom ks b i (shell h t k ∷ r ∷ rs) = lines common 4 t (shellCode b i k (codeFrom ks b (i + 1) (r ∷ rs)))
 
 -- the interpreter in the block's place
 abbrev pub defer : Body → Code → Code
@@ -112,8 +116,8 @@ defer b c = plain common (set (reg 15) is (lit word (b .addr))) ⨾ sp 1 ⨾ ret
 -- a block outside regions 0 and 8: behind the guard, or without code bytes the interpreter alone
 unfoldable pub underGuard : List ℕ → Body → Option ℕ → Code
 underGuard ks b none = sp 4 ⨾ defer b (nl ⨾ end)
-underGuard ks b (some h) = sp 4 ⨾ when common true (guard (b .addr) (bodyLength b) h) (sp 1 ⨾ defer b (sp 1 ⨾ end)) (nl ⨾ rest ks b 0 (b .forms))
+underGuard ks b (some h) = sp 4 ⨾ when common true (guard (b .addr) (bodyLength b) h) (sp 1 ⨾ defer b (sp 1 ⨾ end)) (nl ⨾ codeFrom ks b 0 (b .forms))
 
 -- emit_block between its head, or label, and its close; ks: the keys of a group of several, empty for a lone block
 unfoldable pub blockCode : List ℕ → Body → Code
-blockCode ks b = cond (outsideRomBios (b .addr)) (underGuard ks b (b .hash)) (rest ks b 0 (b .forms))
+blockCode ks b = cond (outsideRomBios (b .addr)) (underGuard ks b (b .hash)) (codeFrom ks b 0 (b .forms))

@@ -5,15 +5,15 @@ use mathlib.Core.Option.{Option, none, some}
 use Rattle.forms.specs.Forms.{Body}
 
 -- a hash as it is written (true) or measured (false)
-abbrev pub seenHash : Bool → Option ℕ → Option ℕ
-seenHash written none = none
-seenHash written (some h) = some (cond written h 0)
+abbrev pub hashIf : Bool → Option ℕ → Option ℕ
+hashIf written none = none
+hashIf written (some h) = some (cond written h 0)
 
 -- a body as it is written (true) or measured (false)
-abbrev pub seen : Bool → Body → Body
-seen written b =
-    record { addr = b .addr; thumb = b .thumb; count = b .count; hash = seenHash written (b .hash); forms = b .forms; closing = b .closing }
+abbrev pub hashedIf : Bool → Body → Body
+hashedIf written b =
+    record { addr = b .addr; thumb = b .thumb; count = b .count; hash = hashIf written (b .hash); forms = b .forms; closing = b .closing }
 
 -- a body with 0 in the place of its hash, if it has one: what is measured instead of it
 abbrev pub measured : Body → Body
-measured = seen false
+measured = hashedIf false

@@ -18,17 +18,17 @@ pub record Continues (text : Code → Code) (z : State) (m : Machine) : Type 0 w
   pub same : Agrees end m
 
 -- the key that statements lead to, by goto or return
-abbrev pub goal : Goes → Option ℕ
-goal on = none
-goal (to k) = some k
-goal (back k) = some k
+abbrev pub destination : Goes → Option ℕ
+destination on = none
+destination (to k) = some k
+destination (back k) = some k
 
 -- text, run from z, ends defined in a state that agrees with a machine and holds a key's address in c[15], and leads to the key, whatever stands behind it
 pub record Leaves (text : Code → Code) (z : State) (next : Machine × ℕ) : Type 0 where
   pub end : State
-  pub way : Goes
-  pub ends : (c : Code) → run (text c) z ≡ some (end, way)
-  pub leads : goal way ≡ some (next .1)
+  pub exit : Goes
+  pub ends : (c : Code) → run (text c) z ≡ some (end, exit)
+  pub leads : destination exit ≡ some (next .1)
   pub pc : end .c 15 ≡ clearBit0 (next .1)
   pub same : Agrees end (next .0)
 

@@ -7,11 +7,12 @@ use lib.Dec.{leb}
 use lib.ListN.{length, getD, getElem?}
 use Rattle.text.specs.Doc.{print}
 use Rattle.c_tree.specs.Expr.{u32, x-pc}
-use Rattle.c_tree.specs.Stmt.{registers, local, drop, common, gap, plain, label, call, switch, Code, end, _⨾_, _⧺_, block, group, Top, function, blank, extern, table, count}
+use Rattle.c_tree.specs.Stmt.{registers, local, discard, common, gap, plain, label, call, switch, Code, end, _⨾_, _⧺_, block, group, Top, function, blank, extern, table, count}
 use Rattle.c_tree.specs.Print.{unitText}
 use Rattle.c_tree.specs.Preamble.{preamble}
 use Rattle.block_file.specs.Parse.{Block}
 use Rattle.plan.specs.Plan.{groups}
+use Rattle.plan.specs.Calls.{Made}
 use Rattle.forms.specs.Block.{bodyOf}
 use Rattle.forms.specs.Forms.{Body}
 use Rattle.lowering.specs.Block.{bodyKey, nl, sp, blockCode}
@@ -24,7 +25,7 @@ withLocals c =
     ⨾ gap true 4
     ⨾ plain common (local (u32, x-pc))
     ⨾ sp 1
-    ⨾ plain common (drop (u32, x-pc))
+    ⨾ plain common (discard (u32, x-pc))
     ⨾ nl
     ⨾ c
 
@@ -100,19 +101,19 @@ unitsFor bodyOf limit max bs = unitsOf max (map bodyOf bs) (groups limit bs)
 abbrev pub fileUnits : ℕ → ℕ → ℕ → List Block → List TranslationUnit
 fileUnits multiplier = unitsFor (bodyOf multiplier)
 
--- what is told of a unit: its text, the text's length, how many blocks are done up to its end, from the first unit on, and whether it is the last
+-- what is answered of a unit: how long its text is, how many blocks are done up to its end, from the first unit on, and whether it is the last
 pub record UnitAnswer : Type 0 where
-  pub text : List ℕ
   pub length : ℕ
   pub done : ℕ
   pub last : Bool
 
-abbrev pub unitAnswer : TranslationUnit → UnitAnswer
-unitAnswer u = record { text = textOf (u .tree); length = length (textOf (u .tree)); done = u .done; last = u .last }
+-- what the call for a unit makes: the values of its answer, and the text
+abbrev pub madeUnit : TranslationUnit → Made UnitAnswer
+madeUnit u = record { values = record { length = length (textOf (u .tree)); done = u .done; last = u .last }; content = textOf (u .tree) }
 
 -- unit k of a file's blocks, if there is one
-abbrev pub unit : ℕ → ℕ → ℕ → List Block → ℕ → Option UnitAnswer
-unit multiplier limit max bs k = getElem? (map unitAnswer (fileUnits multiplier limit max bs)) k
+abbrev pub unit : ℕ → ℕ → ℕ → List Block → ℕ → Option (Made UnitAnswer)
+unit multiplier limit max bs k = getElem? (map madeUnit (fileUnits multiplier limit max bs)) k
 
 -- how many units there are
 abbrev pub unitCount : ℕ → ℕ → ℕ → List Block → ℕ

@@ -26,7 +26,7 @@ use Rattle.armv4t.specs.declared.Instr.{Instr}
 use Rattle.armv4t.specs.AluOp.{isCompare}
 use Rattle.armv4t.specs.Instr.{sizeOf, pcAhead, pcValue}
 use Rattle.manual.specs.Machine.{two32, Machine, R, update, setReg, setRegs, setFlags, setMem, setT, Sound}
-use Rattle.manual.specs.InRange.{ShiftInRange, OperandInRange, InRange}
+use Rattle.armv4t.specs.InRange.{ShiftInRange, OperandInRange, InRange}
 use Rattle.manual.specs.Operators.{Arithmetic-Shift-Right, Rotate-Right, NOT, SignExtend8, SignExtend16}
 use Rattle.manual.specs.Conditions.{passed}
 use Rattle.manual.specs.Shifter.{shift, shiftBy, shifted, shifter}

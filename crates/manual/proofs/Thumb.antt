@@ -20,7 +20,7 @@ use Rattle.armv4t.specs.Bit0.{clearBit0, setBit0}
 use Rattle.words.specs.Word.{bit, oneIf}
 use Rattle.words.proofs.Bits.{is-false}
 use Rattle.manual.specs.Machine.{two32, Machine, Sound, R, update, setReg, setRegs, setMem}
-use Rattle.manual.specs.InRange.{InRange}
+use Rattle.armv4t.specs.InRange.{InRange}
 use Rattle.manual.specs.Operators.{CarryFrom, minus, OverflowFromAdd, SignExtend8}
 use Rattle.manual.specs.DataProcessing.{logical, plus}
 use Rattle.manual.specs.Transfer.{Memory4, setMemory4}

@@ -9,7 +9,7 @@ use Rattle.armv4t.specs.declared.Cond.the-variants.{Eq, Ne}
 use Rattle.armv4t.specs.declared.Op.the-variants.{Alu, Branch, BlockMem}
 use Rattle.manual.specs.Machine.{Machine, cpsr}
 use Rattle.manual.specs.Multiple.{listed}
-use Rattle.manual.specs.Thumb.{lsr-1, add-1, neg, add-5, push, pop, stmia, Thumb, format-1, format-2, format-4, format-6, format-12, format-14, format-15, format-16, format-19-high, format-19-low, decoded, thumbOperation}
+use Rattle.manual.specs.Thumb.{lsr-1, add-1, neg, add-5, push, pop, stmia, format-1, format-2, format-4, format-6, format-12, format-14, format-15, format-16, format-19-high, format-19-low, decoded, thumbOperation}
 
 -- register k holds 16 * k, C is set or not, other flags are clear, and each byte of memory is the low half of its address's low byte
 abbrev begin : Bool → Machine

@@ -22,10 +22,10 @@ use Rattle.c_meaning.specs.Exec.{back, exec, asks, step, runs}
 use Rattle.c_meaning.specs.Helpers.{run}
 use Rattle.c_meaning.proofs.Kept.{run-declares}
 use Rattle.manual.specs.Machine.{Machine, Sound}
-use Rattle.manual.specs.InRange.{InRange}
+use Rattle.armv4t.specs.InRange.{InRange}
 use Rattle.forms.specs.Block.{emitInstrs, hashOf, bodyOf}
 use Rattle.forms.proofs.Gives.{lt-true}
-use Rattle.lowering.specs.Block.{nl, sp, rest, defer, underGuard, blockCode}
+use Rattle.lowering.specs.Block.{nl, sp, codeFrom, defer, underGuard, blockCode}
 use Rattle.lowering.specs.Text.{Leaves}
 use Rattle.lowering.specs.Records.{RecordMeans, PairMeans, ClosingMeans}
 use Rattle.meaning.specs.Block.{isCovered, Sequence, Carries, inOrder, granted, absent, refused, BlockMeans}
@@ -96,13 +96,13 @@ unfolding underGuard bodyOf run runs step exec asks eval
 run-refused multiplier ks b h z l e = rw (e, lt-true l)
 
 run-granted : (multiplier : ℕ) (ks : List ℕ) (b : Block) (h : ℕ) (z : State) → eqb (z .answers 0) 0 ≡ false
-    → run (underGuard ks (bodyOf multiplier b) (some h)) z ≡ run (rest ks (bodyOf multiplier b) 0 (bodyOf multiplier b .forms)) (answered z)
+    → run (underGuard ks (bodyOf multiplier b) (some h)) z ≡ run (codeFrom ks (bodyOf multiplier b) 0 (bodyOf multiplier b .forms)) (answered z)
 unfolding underGuard run runs step asks
 run-granted multiplier ks b h z e = rw e
 
 -- the text of a block, by its address and its code bytes
 run-block : (multiplier : ℕ) (ks : List ℕ) (b : Block) (z : State) (o : Bool) (h : Option ℕ) → outsideRomBios (b .addr) ≡ o → hashOf multiplier b ≡ h
-    → run (blockCode ks (bodyOf multiplier b)) z ≡ run (cond o (underGuard ks (bodyOf multiplier b) h) (rest ks (bodyOf multiplier b) 0 (bodyOf multiplier b .forms))) z
+    → run (blockCode ks (bodyOf multiplier b)) z ≡ run (cond o (underGuard ks (bodyOf multiplier b) h) (codeFrom ks (bodyOf multiplier b) 0 (bodyOf multiplier b .forms))) z
 unfolding blockCode bodyOf
 run-block multiplier ks b z o h e f = rw (e, f)
 
@@ -124,7 +124,7 @@ module _ (multiplier : ℕ) (ks : List ℕ) (b : Block) (step : ℕ → ℕ → 
     -- its records, from a state that its text leads to
     in-order : ((out : Machine × ℕ) (n : ℕ) → Sequence step (region (b .addr)) 0 n (b .instrs) m out → Carries step (region (b .addr)) multiplier b z m out n)
         → (y : State) → Ready step 0 y m
-        → run (blockCode ks (bodyOf multiplier b)) z ≡ run (rest ks (bodyOf multiplier b) 0 (bodyOf multiplier b .forms)) y
+        → run (blockCode ks (bodyOf multiplier b)) z ≡ run (codeFrom ks (bodyOf multiplier b) 0 (bodyOf multiplier b .forms)) y
         → Claim
     unfolding bodyOf
     in-order by y p e =
@@ -181,6 +181,6 @@ block-means multiplier ks b means pairs closing ranges consecutive some-instr in
       d .2,
       d .3,
       l,
-      run-declares (blockCode ks (bodyOf multiplier b)) z (l .end) (l .way) (u32, x-pc) (l .ends end) declares,
+      run-declares (blockCode ks (bodyOf multiplier b)) z (l .end) (l .exit) (u32, x-pc) (l .ends end) declares,
       d .5 .each,
     )

@@ -24,7 +24,7 @@ use Rattle.c_meaning.specs.Exec.{Goes, Outcome, back, on, runs}
 use Rattle.c_meaning.specs.Helpers.{run}
 use Rattle.c_meaning.proofs.Kept.{Quiet, run-quiet, run-declares}
 use Rattle.manual.specs.Machine.{Machine, Sound}
-use Rattle.manual.specs.InRange.{InRange}
+use Rattle.armv4t.specs.InRange.{InRange}
 use Rattle.manual.specs.Conditions.{passed}
 use Rattle.manual.specs.Execute.{key, execute, keyBehind}
 use Rattle.manual.proofs.Kept.{execute-sound, execute-said}
@@ -32,7 +32,7 @@ use Rattle.forms.specs.Forms.{Native, Form, records}
 use Rattle.forms.specs.Block.{emitShell, emitPair, emitInstr, fusedOr, consForm, emitInstrs, bodyOf}
 use Rattle.forms.specs.Agree.{Agrees}
 use Rattle.forms.proofs.Steps.{with-scopes}
-use Rattle.lowering.specs.Block.{bodyKey, nl, nativeText, closing, rest}
+use Rattle.lowering.specs.Block.{bodyKey, nl, nativeText, closing, codeFrom}
 use Rattle.lowering.specs.Text.{Continues, Leaves, Acts, continues, leaves}
 use Rattle.lowering.specs.Records.{isTaken, RecordMeans, PairMeans, ClosingMeans}
 use Rattle.meaning.specs.Block.{Steps, Interprets, isNative, isCovered, Alone, leavesBy, final, away, transfers, CarriedOut, byManual, byInterpreter, Sequence, last, pair, more}
@@ -53,7 +53,7 @@ key-of-lt false a h = omega arith
 
 -- text that does what other text does from another state leaves as that does
 abbrev pub through : {text other : Code → Code} {z y : State} {out : Machine × ℕ} → ((c : Code) → run (text c) z ≡ run (other c) y) → Leaves other y out → Leaves text z out
-through p l = record { end = l .end; way = l .way; ends = λ c. p c ∙ l .ends c; leads = l .leads; pc = l .pc; same = l .same }
+through p l = record { end = l .end; exit = l .exit; ends = λ c. p c ∙ l .ends c; leads = l .leads; pc = l .pc; same = l .same }
 
 -- what is known of a record of a block
 pub record Known (ks : List ℕ) (b : Block) (x : TimedInstr) : Type 0 where
@@ -134,7 +134,7 @@ pub record Done (step : ℕ → ℕ → Machine → Machine × ℕ) (before mult
   pub after : ℕ
   pub sequence : Sequence step (region (b .addr)) before after xs m out
   pub sound : Sound (out .0)
-  pub leaves : Leaves (λ c. rest ks (bodyOf multiplier b) i fs) z out
+  pub leaves : Leaves (λ c. codeFrom ks (bodyOf multiplier b) i fs) z out
   pub left : Left step after (leaves .end)
 
 -- the interpreter at an address, from a state that agrees with a machine
@@ -149,7 +149,7 @@ module _ {step : ℕ → Machine → Machine × ℕ} (a : ℕ) (z : State) (m : 
   interpreter-leaves fs ends =
       record {
         end = setScopes fs (interpreted (setC 15 a z));
-        way = back (interpretedKey (setC 15 a z));
+        exit = back (interpretedKey (setC 15 a z));
         ends = ends;
         leads = ap some (stepped .answers);
         pc = stepped .pc;
@@ -184,7 +184,7 @@ module _ (multiplier : ℕ) (ks : List ℕ) (b : Block) (step : ℕ → ℕ → 
       native-done : (xs : List TimedInstr) (fs : List Form) → Alone x xs → Behind x xs fs
           → (i cycles : ℕ) (r : Native) → emitInstr (b .thumb) (region (b .addr)) cycles x .0 ≡ Form.native r
           → (before : ℕ) (z : State) (m : Machine) → Ready step before z m → Done step before multiplier ks b (x ∷ xs) m i (Form.native r ∷ fs) z
-      unfolding bodyOf rest run runs
+      unfolding bodyOf codeFrom run runs
       native-done xs fs alone behind i cycles r e before z m q =
           go (k .means .acts cycles r (own-set cycles ∙ e) owner z m (q .sound) (q .agrees) (no-difference _ (passed (x .instr .cond) m) _ (said .condition) (said .same)) next (outcome .1))
         where
@@ -218,7 +218,7 @@ module _ (multiplier : ℕ) (ks : List ℕ) (b : Block) (step : ℕ → ℕ → 
                 after = d .after;
                 sequence = d .sequence;
                 sound = d .sound;
-                leaves = through (λ d. c .goes (rest ks (bodyOf multiplier b) (i + records r) fs)) (d .leaves);
+                leaves = through (λ d. c .goes (codeFrom ks (bodyOf multiplier b) (i + records r) fs)) (d .leaves);
                 left = d .left;
               }
           go (leaves t l) =
@@ -227,8 +227,8 @@ module _ (multiplier : ℕ) (ks : List ℕ) (b : Block) (step : ℕ → ℕ → 
                 after = before;
                 sequence = last before before x xs m next alone carried (transfers (leaving t));
                 sound = still;
-                leaves = record { end = l .end; way = l .way; ends = λ c. l .ends (rest ks (bodyOf multiplier b) (i + records r) fs); leads = l .leads; pc = l .pc; same = l .same };
-                left = left-behind (q .left) (nativeText ks (b .addr) owner r end) (native-quiet ks (b .addr) owner r end tt) (l .way) (l .ends end);
+                leaves = record { end = l .end; exit = l .exit; ends = λ c. l .ends (codeFrom ks (bodyOf multiplier b) (i + records r) fs); leads = l .leads; pc = l .pc; same = l .same };
+                left = left-behind (q .left) (nativeText ks (b .addr) owner r end) (native-quiet ks (b .addr) owner r end tt) (l .exit) (l .ends end);
               }
 
     -- a shell
@@ -245,7 +245,7 @@ module _ (multiplier : ℕ) (ks : List ℕ) (b : Block) (step : ℕ → ℕ → 
         by-step = stepped (x .instr .addr) z m (left-now (q .left)) (q .sound) (q .agrees)
 
         shell-last : Done step before multiplier ks b (x ∷ []) m i (emitShell (b .thumb) high cycles (x .instr) ∷ []) z
-        unfolding rest
+        unfolding codeFrom
         shell-last =
             record {
               out = step before (x .instr .addr) m;
@@ -261,7 +261,7 @@ module _ (multiplier : ℕ) (ks : List ℕ) (b : Block) (step : ℕ → ℕ → 
 
         shell-done : (xs : List TimedInstr) (r : Form) (rs : List Form) → Alone x xs → Behind x xs (r ∷ rs)
             → Done step before multiplier ks b (x ∷ xs) m i (emitShell (b .thumb) high cycles (x .instr) ∷ r ∷ rs) z
-        unfolding rest
+        unfolding codeFrom
         shell-done xs r rs alone behind = go (eqb (interpretedKey (setC 15 (x .instr .addr) z)) (fallThrough (b .thumb) (x .instr))) refl
           where
             g : GoesOn (setC 15 (x .instr .addr) z)
@@ -272,13 +272,13 @@ module _ (multiplier : ℕ) (ks : List ℕ) (b : Block) (step : ℕ → ℕ → 
 
             -- by whether the interpreter answers the key behind the record
             branches : Bool → Outcome
-            branches t = cond t (run (rest ks (bodyOf multiplier b) (i + 1) (r ∷ rs)) after) (some (after, back (interpretedKey (setC 15 (x .instr .addr) z))))
+            branches t = cond t (run (codeFrom ks (bodyOf multiplier b) (i + 1) (r ∷ rs)) after) (some (after, back (interpretedKey (setC 15 (x .instr .addr) z))))
 
             starts : (t : Bool) → eqb (interpretedKey (setC 15 (x .instr .addr) z)) (fallThrough (b .thumb) (x .instr)) ≡ t
-                → run (rest ks (bodyOf multiplier b) i (emitShell (b .thumb) high cycles (x .instr) ∷ r ∷ rs)) z ≡ branches t
+                → run (codeFrom ks (bodyOf multiplier b) i (emitShell (b .thumb) high cycles (x .instr) ∷ r ∷ rs)) z ≡ branches t
             starts t e =
                 behind-address cycles (x .instr .addr) _ z (k .below)
-                ∙ g .goes (bodyOf multiplier b) i (fallThrough (b .thumb) (x .instr)) (rest ks (bodyOf multiplier b) (i + 1) (r ∷ rs)) fall-lt
+                ∙ g .goes (bodyOf multiplier b) i (fallThrough (b .thumb) (x .instr)) (codeFrom ks (bodyOf multiplier b) (i + 1) (r ∷ rs)) fall-lt
                 ∙ ap branches e
 
             go : (t : Bool) → eqb (interpretedKey (setC 15 (x .instr .addr) z)) (fallThrough (b .thumb) (x .instr)) ≡ t
@@ -306,7 +306,7 @@ module _ (multiplier : ℕ) (ks : List ℕ) (b : Block) (step : ℕ → ℕ → 
       → (target ret : ℕ) → fuse (x .instr) (y .instr) ≡ Pair target ret
       → (xs : List TimedInstr) (fs : List Form) (i cycles before : ℕ) (z : State) (m : Machine) → Ready step before z m
       → Done step before multiplier ks b (x ∷ y ∷ xs) m i (Form.native (emitPair cycles target ret) ∷ fs) z
-  unfolding bodyOf rest run runs
+  unfolding bodyOf codeFrom run runs
   pair-done x y k l means target ret e xs fs i cycles before z m q =
       let o : Owner = Owner.native (bodyKey (bodyOf multiplier b)) in
       let t = means target ret e cycles o z m (q .sound) (q .agrees) (half .0) (next .0) (half .1) (next .1) in
@@ -318,15 +318,15 @@ module _ (multiplier : ℕ) (ks : List ℕ) (b : Block) (step : ℕ → ℕ → 
         leaves =
             record {
               end = t .end;
-              way = t .way;
-              ends = λ c. t .ends (rest ks (bodyOf multiplier b) (i + 2) fs);
+              exit = t .exit;
+              ends = λ c. t .ends (codeFrom ks (bodyOf multiplier b) (i + 2) fs);
               leads = t .leads;
               pc = t .pc;
               same = t .same;
             };
         left =
             let r : Native = emitPair cycles target ret in
-            left-behind (q .left) (nativeText ks (b .addr) o r end) (native-quiet ks (b .addr) o r end tt) (t .way) (t .ends end);
+            left-behind (q .left) (nativeText ks (b .addr) o r end) (native-quiet ks (b .addr) o r end tt) (t .exit) (t .ends end);
       }
     where
       both : Half (x .instr .op) × Half (y .instr .op)
@@ -349,7 +349,7 @@ module _ (multiplier : ℕ) (ks : List ℕ) (b : Block) (step : ℕ → ℕ → 
 
   -- behind the last record stands the closing transfer
   behind-last : (x : TimedInstr) → ClosingMeans ks (bodyOf multiplier b) (x .instr) → Behind x [] []
-  unfolding rest
+  unfolding codeFrom
   behind-last x means before after m next carried stays to-next i z q =
       let l = means z (next .0) (q .agrees) in
       record {
@@ -358,8 +358,8 @@ module _ (multiplier : ℕ) (ks : List ℕ) (b : Block) (step : ℕ → ℕ → 
         sequence = last before after x [] m next tt carried (final refl);
         sound = q .sound;
         leaves =
-            record { end = l .end; way = l .way; ends = l .ends; leads = l .leads ∙ ap some (sym to-next); pc = l .pc ∙ ap clearBit0 (sym to-next); same = l .same };
-        left = left-behind (q .left) (closing ks (bodyOf multiplier b)) (closing-quiet ks (bodyOf multiplier b)) (l .way) (l .ends end);
+            record { end = l .end; exit = l .exit; ends = l .ends; leads = l .leads ∙ ap some (sym to-next); pc = l .pc ∙ ap clearBit0 (sym to-next); same = l .same };
+        left = left-behind (q .left) (closing ks (bodyOf multiplier b)) (closing-quiet ks (bodyOf multiplier b)) (l .exit) (l .ends end);
       }
 
   -- behind another stand those that follow

@@ -12,12 +12,11 @@ use Rattle.armv4t.specs.Instr.{sizeOf}
 use Rattle.instr_records.specs.declared.decode.TimedInstr.{TimedInstr}
 use Rattle.block_file.specs.Parse.{Block}
 use Rattle.block_file.specs.Address.{region}
-use Rattle.c_tree.specs.Stmt.{common, end}
+use Rattle.c_tree.specs.Stmt.{common}
 use Rattle.manual.specs.Execute.{key, following, keyBehind}
 use Rattle.forms.specs.Forms.{Lines}
-use Rattle.forms.specs.InlineBody.{apart}
-use Rattle.forms.specs.Block.{flushTicks, setWord, emitInstrs, closingLines, bodyOf}
-use Rattle.lowering.specs.Block.{bodyEnd, lines, transfer, nativeText, closing}
+use Rattle.forms.specs.Block.{flushTicks, emitInstrs, closingLines, bodyOf, pcLine}
+use Rattle.lowering.specs.Block.{bodyEnd, nativeText, closing, closingCode}
 use Rattle.records.specs.BlockRecord.{keyPlus}
 use Rattle.lowering.specs.Text.{Leaves}
 use Rattle.lowering.specs.Records.{ClosingMeans}
@@ -26,7 +25,7 @@ use Rattle.meaning.proofs.Ranges.{Consecutive}
 
 -- the lines before it are those of the last instruction
 last-lines : (n : ℕ) (us : List TimedInstr) (x : TimedInstr)
-    → closingLines n (us ++ (x ∷ [])) ≡ flushTicks n ++ apart (setWord 15 (following (x .instr)) ∷ [])
+    → closingLines n (us ++ (x ∷ [])) ≡ flushTicks n ++ pcLine (following (x .instr))
 last-lines n [] x = refl
 last-lines n (u ∷ []) x = refl
 last-lines n (u ∷ v ∷ us) x = last-lines n (v ∷ us) x
@@ -67,9 +66,9 @@ pub closing-means : (multiplier : ℕ) (ks : List ℕ) (b : Block) → Consecuti
     → (us : List TimedInstr) (x : TimedInstr) → b .instrs ≡ us ++ (x ∷ []) → ClosingMeans ks (bodyOf multiplier b) (x .instr)
 unfolding bodyOf closing nativeText
 closing-means multiplier ks b placed aligned us x e z m g =
-    subst (λ (ls : Lines). Leaves (λ c. lines common 4 ls (transfer ks (b .addr) common 4 (keyPlus (bodyEnd (bodyOf multiplier b)) (b .thumb)) end)) z (m, keyBehind (x .instr)))
+    subst (λ (ls : Lines). Leaves (λ c. closingCode ks (b .addr) ls (keyPlus (bodyEnd (bodyOf multiplier b)) (b .thumb))) z (m, keyBehind (x .instr)))
     (sym (ap (closingLines cycles) e ∙ last-lines cycles us x))
-    (subst (λ (k : ℕ). Leaves (λ c. lines common 4 (flushTicks cycles ++ apart (setWord 15 (following (x .instr)) ∷ [])) (transfer ks (b .addr) common 4 k end)) z (m, keyBehind (x .instr)))
+    (subst (λ (k : ℕ). Leaves (λ c. closingCode ks (b .addr) (flushTicks cycles ++ pcLine (following (x .instr))) k) z (m, keyBehind (x .instr)))
     same
     (jump-leaves ks (b .addr) common cycles false 0 (following (x .instr)) (keyBehind (x .instr)) (lit< tt) below (word .0) (word .1) g))
   where

@@ -10,8 +10,8 @@ use Rattle.c_tree.specs.Preamble.{v32}
 use Rattle.c_tree.specs.Stmt.{Plain, declare, other, Owner, common, gap, plain, ret, Code, end, _⨾_, when, braces}
 use Rattle.c_meaning.proofs.Kept.{Quiet}
 use Rattle.forms.specs.Operands.{flags}
-use Rattle.forms.specs.Forms.{Lines, Native, straight, holds, branch, jump, pair, bx, pop, Body}
-use Rattle.lowering.specs.Block.{nl, sp, line, lines, chain, transfer, closing, leave, toThumb, toArm, conditional, nativeText}
+use Rattle.forms.specs.Forms.{Lines, Native, straight, straightIf, branch, jump, pair, bx, pop, Body}
+use Rattle.lowering.specs.Block.{nl, sp, line, lines, gotoCode, transfer, closing, leave, toThumb, toArm, conditional, nativeText}
 
 line-quiet : (o : Owner) (ps : List Plain) (c : Code) → Quiet c → Quiet (line o ps c)
 line-quiet o [] c q = q
@@ -22,17 +22,17 @@ lines-quiet : (o : Owner) (n : ℕ) (ls : Lines) (c : Code) → Quiet c → Quie
 lines-quiet o n [] c q = q
 lines-quiet o n (l ∷ ls) c q = (tt, line-quiet o l (nl ⨾ lines o n ls c) (tt, lines-quiet o n ls c q))
 
-chain-quiet : (t : Bool) (o : Owner) (n k : ℕ) (c : Code) → Quiet c → Quiet (chain t o n k c)
-unfolding chain
-chain-quiet true o n k c q = (tt, (tt, (tt, (tt, (tt, (tt, q))))))
-chain-quiet false o n k c q = (tt, (tt, (tt, q)))
+goto-quiet : (t : Bool) (o : Owner) (n k : ℕ) (c : Code) → Quiet c → Quiet (gotoCode t o n k c)
+unfolding gotoCode
+goto-quiet true o n k c q = (tt, (tt, (tt, (tt, (tt, (tt, q))))))
+goto-quiet false o n k c q = (tt, (tt, (tt, q)))
 
 transfer-quiet : (ks : List ℕ) (a : ℕ) (o : Owner) (n k : ℕ) (c : Code) → Quiet c → Quiet (transfer ks a o n k c)
 unfolding transfer
 transfer-quiet ks a o n k c q = go (among k ks)
   where
-    go : (b : Bool) → Quiet (cond b (chain (leb (clearBit0 k) a) o n k c) (sp n ⨾ ret o (lit word k) ⨾ nl ⨾ c))
-    go true = chain-quiet (leb (clearBit0 k) a) o n k c q
+    go : (b : Bool) → Quiet (cond b (gotoCode (leb (clearBit0 k) a) o n k c) (sp n ⨾ ret o (lit word k) ⨾ nl ⨾ c))
+    go true = goto-quiet (leb (clearBit0 k) a) o n k c q
     go false = (tt, (tt, (tt, q)))
 
 pub closing-quiet : (ks : List ℕ) (b : Body) → Quiet (closing ks b)
@@ -60,7 +60,7 @@ unfolding nativeText
 native-quiet ks a o (straight t l) c q =
     lines-quiet o 4 t (sp 4 ⨾ braces (nl ⨾ lines o 8 l (sp 4 ⨾ end)) (nl ⨾ c))
     (braces-quiet (nl ⨾ lines o 8 l (sp 4 ⨾ end)) c (tt, lines-quiet o 8 l (sp 4 ⨾ end) (tt, tt)) q)
-native-quiet ks a o (holds t e l) c q =
+native-quiet ks a o (straightIf t e l) c q =
     lines-quiet o 4 t (conditional o e (nl ⨾ lines o 8 l (sp 6 ⨾ end)) c)
     (conditional-quiet o e (nl ⨾ lines o 8 l (sp 6 ⨾ end)) c (tt, lines-quiet o 8 l (sp 6 ⨾ end) (tt, tt)) q)
 native-quiet ks a o (branch t e l k) c q =

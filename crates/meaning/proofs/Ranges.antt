@@ -22,7 +22,7 @@ use Rattle.instr_records.specs.Decode.{flagAt, aluAt, mulAt, mulLongAt, memAt, 
 use Rattle.block_file.specs.Parse.{Block, Parsed, instrsFrom, blockAt, blocksFrom, parse}
 use Rattle.block_file.specs.Read.{recordAt}
 use Rattle.block_file.proofs.Accepted.{blocks-of, instr-right, has-instr, ends-inside, address-aligned, instrs-inside, record-reads}
-use Rattle.manual.specs.InRange.{InRange}
+use Rattle.armv4t.specs.InRange.{InRange}
 
 -- instructions of a block's set, one behind the other from an address on
 abbrev pub Consecutive : ℕ → Bool → List TimedInstr → Type 0

@@ -21,8 +21,8 @@ use Rattle.c_meaning.specs.Exec.{back, exec, execs, asks, step, runs}
 use Rattle.c_meaning.specs.Helpers.{perform, run}
 use Rattle.manual.proofs.Kept.{WrittenOut}
 use Rattle.forms.specs.Forms.{Lines, Native, Form, Body}
-use Rattle.forms.specs.InlineBody.{apart, inlineBody}
-use Rattle.forms.specs.Block.{flushTicks, setWord, emitShell, nativeExit, isPop, emitLines, emitOp, emitInstr, fusedOr, consForm, emitPair, emitInstrs}
+use Rattle.forms.specs.InlineBody.{inlineBody}
+use Rattle.forms.specs.Block.{flushTicks, emitShell, nativeExit, isPop, emitLines, emitOp, emitInstr, fusedOr, consForm, emitPair, emitInstrs, pcLine}
 use Rattle.forms.specs.Means.{statements}
 use Rattle.lowering.specs.Block.{sp, lines, shellCode}
 use Rattle.meaning.specs.Block.{isNative, isHalf}
@@ -36,14 +36,14 @@ pub data Emitted (thumb : Bool) (cycles : ℕ) (i : Instr) : Form → Bool → T
   as-shell : (high : Bool) → Emitted thumb cycles i (emitShell thumb high cycles i) false
 
 module _ (thumb : Bool) (region cycles : ℕ) (x : TimedInstr) where
-  lines-emitted : (bus : Bool) (o : Option Lines)
-      → Emitted thumb cycles (x .instr) (emitLines thumb bus cycles x o .0) (isNative (emitLines thumb bus 0 x o .0))
-  lines-emitted bus none = as-shell false
-  lines-emitted bus (some ls) = as-native _
+  lines-emitted : (touchesBus : Bool) (o : Option Lines)
+      → Emitted thumb cycles (x .instr) (emitLines thumb touchesBus cycles x o .0) (isNative (emitLines thumb touchesBus 0 x o .0))
+  lines-emitted touchesBus none = as-shell false
+  lines-emitted touchesBus (some ls) = as-native _
 
-  straight-emitted : (bus : Bool) → Emitted thumb cycles (x .instr) (emitLines thumb bus cycles x (inlineBody thumb (x .instr)) .0)
-      (isNative (emitLines thumb bus 0 x (inlineBody thumb (x .instr)) .0))
-  straight-emitted bus = lines-emitted bus (inlineBody thumb (x .instr))
+  straight-emitted : (touchesBus : Bool) → Emitted thumb cycles (x .instr) (emitLines thumb touchesBus cycles x (inlineBody thumb (x .instr)) .0)
+      (isNative (emitLines thumb touchesBus 0 x (inlineBody thumb (x .instr)) .0))
+  straight-emitted touchesBus = lines-emitted touchesBus (inlineBody thumb (x .instr))
 
   -- an exit, native or not
   exit-emitted : (b : Bool) (r s : Native) (p q : Form × ℕ) → Emitted thumb cycles (x .instr) (p .0) (isNative (q .0))
@@ -134,14 +134,14 @@ unfolding fuse
 halves high low target ret e = op-halves (high .op) (low .op) (low .addr) e
 
 -- c[15] = a; behind ticks
-address-set : (n a : ℕ) (z : State) → a < 4294967296 → perform (statements (flushTicks n ++ apart (setWord 15 a ∷ []))) z ≡ some (setC 15 a z)
+address-set : (n a : ℕ) (z : State) → a < 4294967296 → perform (statements (flushTicks n ++ pcLine a)) z ≡ some (setC 15 a z)
 unfolding perform execs exec eval
-address-set n a z h = rw (ticks-first n (apart (setWord 15 a ∷ [])) z, lt-true h)
+address-set n a z h = rw (ticks-first n (pcLine a) z, lt-true h)
 
 pub behind-address : (n a : ℕ) (c : Code) (z : State) → a < 4294967296
-    → run (lines common 4 (flushTicks n ++ apart (setWord 15 a ∷ [])) c) z ≡ run c (setC 15 a z)
+    → run (lines common 4 (flushTicks n ++ pcLine a) c) z ≡ run c (setC 15 a z)
 behind-address n a c z h =
-    run-lines common 4 (flushTicks n ++ apart (setWord 15 a ∷ [])) c z ∙ ap (λ (q : Option State). bind q (run c)) (address-set n a z h)
+    run-lines common 4 (flushTicks n ++ pcLine a) c z ∙ ap (λ (q : Option State). bind q (run c)) (address-set n a z h)
 
 -- return interp_one
 pub run-return : (k i : ℕ) (c : Code) (z : State) → run (sp 4 ⨾ retInterp k i ⨾ c) z ≡ some (interpreted z, back (interpretedKey z))

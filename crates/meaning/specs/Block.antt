@@ -34,7 +34,7 @@ pub record Steps (step : ℕ → Machine → Machine × ℕ) (z : State) (m : Ma
   pub answers : interpretedKey z ≡ step (z .c 15) m .1
   pub pc : interpreted z .c 15 ≡ clearBit0 (step (z .c 15) m .1)
 
--- one call of interp_one does so from every state that agrees with a machine
+-- one call of interp_one does so from every state that agrees with a sound machine
 abbrev pub Interprets : (ℕ → Machine → Machine × ℕ) → Interpreter → Type 0
 Interprets step f = (z : State) (m : Machine) → z .interpreter 0 ≡ f → Sound m → Agrees z m → Steps step z m
 
@@ -65,7 +65,8 @@ isHalf (Undefined raw) = false
 abbrev pub isSaid : Instr → Bool
 isSaid i = not (noInstruction i || unpredictable (i .op) || isNv (i .cond) || differsIn i (i .op))
 
--- whether a record of a block in a region is covered: the interpreter carries it out, or the manual says what it does
+-- whether a record of a block in a region is covered: the manual says what it does, or the interpreter carries it out; half of a Thumb BL, which may be fused, is
+-- covered by the manual alone
 abbrev pub isCovered : ℕ → TimedInstr → Bool
 isCovered region x = (not (isNative (emitInstr (x .instr .thumb) region 0 x .0)) && not (isHalf (x .instr .op))) || isSaid (x .instr)
 
@@ -86,13 +87,13 @@ pub data Ends (region : ℕ) (x : TimedInstr) (xs : List TimedInstr) (m : Machin
 
 -- step k is what the call of interp_one with the number k does, from 0 on
 module _ (step : ℕ → ℕ → Machine → Machine × ℕ) (region : ℕ) where
-  -- what becomes of a machine by a record that is not fused, with the number of calls before it and behind it: a native one (document 01) by the manual, another by
-  -- the interpreter
+  -- what becomes of a machine by a record that is not fused, with the number of calls made when it begins and when it is done: a native one (document 01) by the
+  -- manual, another by the interpreter
   pub data CarriedOut (x : TimedInstr) (m : Machine) (next : Machine × ℕ) : (before after : ℕ) → Type 0 where
     byManual : (n : ℕ) → isNative (emitInstr (x .instr .thumb) region 0 x .0) ≡ true → execute (x .instr) m ≡ some next → CarriedOut x m next n n
     byInterpreter : (n : ℕ) → isNative (emitInstr (x .instr .thumb) region 0 x .0) ≡ false → step n (x .instr .addr) m ≡ next → CarriedOut x m next n (suc n)
 
-  -- from a machine to another and a key, by records one after the other from the first on, with the number of calls before them and behind them
+  -- from a machine to another and a key, by records one after the other from the first on, with the number of calls made when they begin and when they are done
   pub data Sequence : (before after : ℕ) → List TimedInstr → Machine → Machine × ℕ → Type 0 where
     -- it ends with a record
     last : (i j : ℕ) (x : TimedInstr) (xs : List TimedInstr) (m : Machine) (next : Machine × ℕ) → Alone x xs → CarriedOut x m next i j → Ends region x xs m next

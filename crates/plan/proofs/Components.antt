@@ -13,7 +13,7 @@ use lib.ListN.{length, getD}
 use lib.Dec.{eqb}
 use Rattle.block_file.specs.Parse.{Block, blockKey}
 use Rattle.forest.specs.Forest.{range, root}
-use Rattle.plan.specs.Plan.{parents, members, sortByKey, parts, groupsFrom, groups}
+use Rattle.plan.specs.Plan.{parents, withRoot, members, sortByKey, parts, groupsFrom, groups}
 use Rattle.plan.proofs.Cutting.{NoFall, sort-count, sort-member, sort-sorted, parts-all}
 use Rattle.plan.proofs.Edges.{root-block}
 use Rattle.plan.proofs.Listing.{count, count-append, count-here, count-other, none-counted, flatten-append, InOrder, order-weaker}
@@ -34,48 +34,48 @@ module _ (p : List ℕ) (r : ℕ) where
     high : i < k + n
     rooted : root p i ≡ r
 
-  members-are : (n k i : ℕ) → List·Memᴰ i (members p r n k) → Member n k i
-  unfolding members
+  members-are : (n k i : ℕ) → List·Memᴰ i (withRoot (root p) r n k) → Member n k i
+  unfolding withRoot
   members-are zero k i m = absurd (List·Memᴰ·not-nil m)
   members-are (suc n) k i m = go (eqb (root p k) r) refl (members-are n (suc k) i) m
     where
       later : Member n (suc k) i → Member (suc n) k i
       later a = record { low = omega (arith, a .low); high = omega (arith, a .high); rooted = a .rooted }
 
-      first : root p k ≡ r → (List·Memᴰ i (members p r n (suc k)) → Member n (suc k) i) → (i ≡ k) ⊎ List·Memᴰ i (members p r n (suc k)) → Member (suc n) k i
+      first : root p k ≡ r → (List·Memᴰ i (withRoot (root p) r n (suc k)) → Member n (suc k) i) → (i ≡ k) ⊎ List·Memᴰ i (withRoot (root p) r n (suc k)) → Member (suc n) k i
       first h ih (inl e) = record { low = omega arith; high = omega arith; rooted = ap (root p) e ∙ h }
       first h ih (inr l) = later (ih l)
 
-      go : (b : Bool) → eqb (root p k) r ≡ b → (List·Memᴰ i (members p r n (suc k)) → Member n (suc k) i)
-          → List·Memᴰ i (cond b (k ∷ members p r n (suc k)) (members p r n (suc k))) → Member (suc n) k i
+      go : (b : Bool) → eqb (root p k) r ≡ b → (List·Memᴰ i (withRoot (root p) r n (suc k)) → Member n (suc k) i)
+          → List·Memᴰ i (cond b (k ∷ withRoot (root p) r n (suc k)) (withRoot (root p) r n (suc k))) → Member (suc n) k i
       go true h ih l = first (eqb-true _ _ h) ih (List·Memᴰ·cases-cons l)
       go false h ih l = later (ih l)
 
-  members-rise : (n k : ℕ) → InOrder (λ i j. i < j) (members p r n k)
-  unfolding members
+  members-rise : (n k : ℕ) → InOrder (λ i j. i < j) (withRoot (root p) r n k)
+  unfolding withRoot
   members-rise zero k = tt
   members-rise (suc n) k = go (eqb (root p k) r) (members-rise n (suc k))
     where
-      go : (b : Bool) → InOrder (λ i j. i < j) (members p r n (suc k)) → InOrder (λ i j. i < j) (cond b (k ∷ members p r n (suc k)) (members p r n (suc k)))
+      go : (b : Bool) → InOrder (λ i j. i < j) (withRoot (root p) r n (suc k)) → InOrder (λ i j. i < j) (cond b (k ∷ withRoot (root p) r n (suc k)) (withRoot (root p) r n (suc k)))
       go true ih = (λ y m. members-are n (suc k) y m .low, ih)
       go false ih = ih
 
   -- an earlier block is no member
-  members-before : (n k i : ℕ) → i < k → count i (members p r n k) ≡ 0
+  members-before : (n k i : ℕ) → i < k → count i (withRoot (root p) r n k) ≡ 0
   members-before n k i h = none-counted (λ m. omega (arith, members-are n k i m .low))
 
-  members-count : (n k i : ℕ) → k ≤ i → i < k + n → count i (members p r n k) ≡ cond (eqb (root p i) r) 1 0
-  unfolding members
+  members-count : (n k i : ℕ) → k ≤ i → i < k + n → count i (withRoot (root p) r n k) ≡ cond (eqb (root p i) r) 1 0
+  unfolding withRoot
   members-count zero k i l h = absurd (omega arith)
   members-count (suc n) k i l h =
       elim (ℕ-discrete i k) [
-        | yes e ↦ rw e (count-front (eqb (root p k) r) k (members p r n (suc k)) (members-before n (suc k) k (le-refl _)))
-        | no ne ↦ count-behind (eqb (root p k) r) i k (members p r n (suc k)) ne ∙ members-count n (suc k) i (omega arith) (omega arith)
+        | yes e ↦ rw e (count-front (eqb (root p k) r) k (withRoot (root p) r n (suc k)) (members-before n (suc k) k (le-refl _)))
+        | no ne ↦ count-behind (eqb (root p k) r) i k (withRoot (root p) r n (suc k)) ne ∙ members-count n (suc k) i (omega arith) (omega arith)
       ]
 
 -- the blocks with root r, in the order of their keys
 abbrev pub component : List Block → ℕ → List ℕ
-component bs r = sortByKey (map blockKey bs) (members (parents bs) r (length bs) 0)
+component bs r = sortByKey (map blockKey bs) (members (parents bs) r (length bs))
 
 -- the numbers of instructions of the blocks
 abbrev pub countsOf : List Block → List ℕ
@@ -84,26 +84,26 @@ countsOf bs = map (λ (b : Block). length (b .instrs)) bs
 module _ (bs : List Block) where
   component-count : (r i : ℕ) → i < length bs → count i (component bs r) ≡ cond (eqb (root (parents bs) i) r) 1 0
   component-count r i h =
-      sort-count (map blockKey bs) i (members (parents bs) r (length bs) 0) ∙ members-count (parents bs) r (length bs) 0 i zero-le (omega arith)
+      sort-count (map blockKey bs) i (members (parents bs) r (length bs)) ∙ members-count (parents bs) r (length bs) 0 i zero-le (omega arith)
 
   -- a block of a component is a block of the list, with the component's root
   pub component-member : (r i : ℕ) → List·Memᴰ i (component bs r) → (i < length bs) × (root (parents bs) i ≡ r)
   component-member r i m =
-      let is = members-are (parents bs) r (length bs) 0 i (sort-member (map blockKey bs) (members (parents bs) r (length bs) 0) m) in
+      let is = members-are (parents bs) r (length bs) 0 i (sort-member (map blockKey bs) (members (parents bs) r (length bs)) m) in
       (omega (arith, is .high), is .rooted)
 
   -- where keys rise with the blocks, a component lists its blocks as they stand in the file
   module _ (rising : (i j : ℕ) → i < j → j < length bs → getD (map blockKey bs) i 0 < getD (map blockKey bs) j 0) (r : ℕ) where
-    members-sorted : InOrder (NoFall (map blockKey bs)) (members (parents bs) r (length bs) 0)
+    members-sorted : InOrder (NoFall (map blockKey bs)) (members (parents bs) r (length bs))
     members-sorted =
-        order-weaker (λ i j. i < j) (NoFall (map blockKey bs)) (members (parents bs) r (length bs) 0)
+        order-weaker (λ i j. i < j) (NoFall (map blockKey bs)) (members (parents bs) r (length bs))
         (λ i j _ m l. le-of-lt (rising i j l (omega (arith, members-are (parents bs) r (length bs) 0 j m .high))))
         (members-rise (parents bs) r (length bs) 0)
 
     -- so its block numbers rise
     pub component-rises : InOrder (λ i j. i < j) (component bs r)
     component-rises =
-        rw (sort-sorted (map blockKey bs) (members (parents bs) r (length bs) 0) members-sorted) (members-rise (parents bs) r (length bs) 0)
+        rw (sort-sorted (map blockKey bs) (members (parents bs) r (length bs)) members-sorted) (members-rise (parents bs) r (length bs) 0)
 
   -- of some components, from component r on, the one with a block's root has the block
 

@@ -15,7 +15,8 @@ use Rattle.records.specs.Trailer.{blockCount}
 use Rattle.plan.specs.declared.order.Part.{Part}
 use Rattle.block_file.specs.Parse.{Accepted}
 use Rattle.plan.specs.Links.{seek, Linked}
-use Rattle.plan.specs.Order.{chain, rest, orderFrom, closes, numbersOf, nextGroup, numbersFrom, HasCounts, Placed}
+use Rattle.plan.specs.Plan.{withRoot, closes}
+use Rattle.plan.specs.Order.{rooted, membersFrom, orderFrom, numbersOf, nextGroup, numbersFrom, HasCounts, Placed}
 
 -- a search stays within its range
 pub seek-low : (roots : List ℕ) (r left k : ℕ) → k ≤ seek roots r left k
@@ -28,13 +29,13 @@ seek-low roots r (suc left) k = go (eqb (getD roots k 0) r) (seek-low roots r le
     go false h = omega arith
 
 -- what is left of a component at the member that a search finds is what the search went over
-pub rest-seek : (roots : List ℕ) (r n left k : ℕ) → k + left ≡ n → rest roots r n (seek roots r left k) ≡ chain roots r left k
-unfolding seek rest chain
-rest-seek roots r n zero k e = rw (le-ltb _ _ (let same : n ≤ k = omega arith in same))
-rest-seek roots r n (suc left) k e = go (eqb (getD roots k 0) r) (rest-seek roots r n left (suc k) (omega arith))
+pub from-seek : (roots : List ℕ) (r n left k : ℕ) → k + left ≡ n → membersFrom roots r n (seek roots r left k) ≡ rooted roots r left k
+unfolding seek membersFrom withRoot
+from-seek roots r n zero k e = rw (le-ltb _ _ (let same : n ≤ k = omega arith in same))
+from-seek roots r n (suc left) k e = go (eqb (getD roots k 0) r) (from-seek roots r n left (suc k) (omega arith))
   where
-    go : (b : Bool) → rest roots r n (seek roots r left (suc k)) ≡ chain roots r left (suc k)
-        → rest roots r n (cond b k (seek roots r left (suc k))) ≡ cond b (k ∷ chain roots r left (suc k)) (chain roots r left (suc k))
+    go : (b : Bool) → membersFrom roots r n (seek roots r left (suc k)) ≡ rooted roots r left (suc k)
+        → membersFrom roots r n (cond b k (seek roots r left (suc k))) ≡ cond b (k ∷ rooted roots r left (suc k)) (rooted roots r left (suc k))
     go true h =
         let inside : k < n = omega arith in
         let left-is : n - suc k ≡ left = omega arith in
@@ -52,13 +53,13 @@ seek-root roots r n (suc left) k e h = go (eqb (getD roots k 0) r) refl (seek-ro
     go true g ih h′ = eqb-true _ _ g
     go false g ih h′ = ih h′
 
-pub rest-member : (roots : List ℕ) (r n h : ℕ) → h < n → rest roots r n h ≡ h ∷ rest roots r n (seek roots r (n - suc h) (suc h))
-unfolding rest
-rest-member roots r n h l = ap (λ (b : Bool). cond b (h ∷ chain roots r (n - suc h) (suc h)) []) (lt-ltb _ _ l) ∙ ap (λ (xs : List ℕ). h ∷ xs) (sym (rest-seek roots r n (n - suc h) (suc h) (omega arith)))
+pub from-member : (roots : List ℕ) (r n h : ℕ) → h < n → membersFrom roots r n h ≡ h ∷ membersFrom roots r n (seek roots r (n - suc h) (suc h))
+unfolding membersFrom
+from-member roots r n h l = ap (λ (b : Bool). cond b (h ∷ rooted roots r (n - suc h) (suc h)) []) (lt-ltb _ _ l) ∙ ap (λ (xs : List ℕ). h ∷ xs) (sym (from-seek roots r n (n - suc h) (suc h) (omega arith)))
 
-pub rest-none : (roots : List ℕ) (r n h : ℕ) → n ≤ h → rest roots r n h ≡ []
-unfolding rest
-rest-none roots r n h l = rw (le-ltb _ _ l)
+pub from-none : (roots : List ℕ) (r n h : ℕ) → n ≤ h → membersFrom roots r n h ≡ []
+unfolding membersFrom
+from-none roots r n h l = rw (le-ltb _ _ l)
 
 right-true : (a b : Bool) → (a && b) ≡ true → b ≡ true
 right-true true b e = e
@@ -88,9 +89,9 @@ length-all : (limit : ℕ) (counts roots : List ℕ) (n g left r : ℕ) → leng
 unfolding numbersFrom orderFrom
 length-all limit counts roots n g zero r = refl
 length-all limit counts roots n g (suc left) r =
-    length-append (numbersOf limit counts g 0 false (chain roots r n 0)) _
-    ∙ ap₂ (λ (a b : ℕ). a + b) (length-numbers limit counts g 0 false (chain roots r n 0)) (length-all limit counts roots n _ left (suc r))
-    ∙ sym (length-append (chain roots r n 0) (orderFrom roots n left (suc r)))
+    length-append (numbersOf limit counts g 0 false (rooted roots r n 0)) _
+    ∙ ap₂ (λ (a b : ℕ). a + b) (length-numbers limit counts g 0 false (rooted roots r n 0)) (length-all limit counts roots n _ left (suc r))
+    ∙ sym (length-append (rooted roots r n 0) (orderFrom roots n left (suc r)))
 
 -- the two stores of a row
 module _ (n place i g : ℕ) (w : List ℕ) (room : 4 * n ≤ length w) (h : place < n) where
@@ -149,12 +150,12 @@ module _ (f w₀ : List ℕ) (n limit : ℕ) where
     pub nexts : (k : ℕ) → k < n → getD w (n + k) 0 ≡ getD w₀ (n + k) 0
     pub firsts : (k : ℕ) → k < n → getD w (3 * n + k) 0 ≡ getD w₀ (3 * n + k) 0
     pub member : h < n → getD (drop (2 * n) w₀) h 0 ≡ pred r
-    pub order : orderFrom (drop (2 * n) w₀) n n 0 ≡ take place w ++ (rest (drop (2 * n) w₀) (pred r) n h ++ orderFrom (drop (2 * n) w₀) n (n - r) r)
+    pub order : orderFrom (drop (2 * n) w₀) n n 0 ≡ take place w ++ (membersFrom (drop (2 * n) w₀) (pred r) n h ++ orderFrom (drop (2 * n) w₀) n (n - r) r)
     pub numbers : Accepted f → n ≡ blockCount f → (counts : List ℕ) → HasCounts f counts
         → numbersFrom limit counts (drop (2 * n) w₀) n 0 n 0
         ≡ take place (drop (2 * n) w)
-        ++ (numbersOf limit counts group total isOpen (rest (drop (2 * n) w₀) (pred r) n h)
-        ++ numbersFrom limit counts (drop (2 * n) w₀) n (nextGroup limit counts group total isOpen (rest (drop (2 * n) w₀) (pred r) n h)) (n - r) r)
+        ++ (numbersOf limit counts group total isOpen (membersFrom (drop (2 * n) w₀) (pred r) n h)
+        ++ numbersFrom limit counts (drop (2 * n) w₀) n (nextGroup limit counts group total isOpen (membersFrom (drop (2 * n) w₀) (pred r) n h)) (n - r) r)
 
   pub placing-none : n ≤ 65536 → 4 * n ≤ length w₀ → Linked (drop (2 * n) w₀) n 0 w₀ → Placing 0 0 0 false 0 n w₀
   unfolding numbersOf nextGroup
@@ -173,8 +174,8 @@ module _ (f w₀ : List ℕ) (n limit : ℕ) where
         nexts = λ k l. refl;
         firsts = λ k l. refl;
         member = λ l. absurd (omega arith);
-        order = rw (rest-none roots 0 n n (le-refl n), sub-zero);
-        numbers = λ a e counts has. rw (rest-none roots 0 n n (le-refl n), sub-zero);
+        order = rw (from-none roots 0 n n (le-refl n), sub-zero);
+        numbers = λ a e counts has. rw (from-none roots 0 n n (le-refl n), sub-zero);
       }
 
   module _ (place g t : ℕ) (o : Bool) (r h : ℕ) (w : List ℕ) (p : Placing place g t o r h w) where
@@ -220,8 +221,8 @@ module _ (f w₀ : List ℕ) (n limit : ℕ) where
           ∙ p .linked .next h zero-le in-component
           ∙ ap (λ (k : ℕ). seek roots k (n - suc h) (suc h)) (p .member in-component)
 
-      rest-is : rest roots (pred r) n h ≡ h ∷ rest roots (pred r) n h′
-      rest-is = rest-member roots (pred r) n h in-component ∙ ap (λ (k : ℕ). h ∷ rest roots (pred r) n k) (sym next-is)
+      from-is : membersFrom roots (pred r) n h ≡ h ∷ membersFrom roots (pred r) n h′
+      from-is = from-member roots (pred r) n h in-component ∙ ap (λ (k : ℕ). h ∷ membersFrom roots (pred r) n k) (sym next-is)
 
       pub placing-member : Placing (place + 1) g′ t′ true r h′ w′
       placing-member =
@@ -241,22 +242,22 @@ module _ (f w₀ : List ℕ) (n limit : ℕ) where
             member = λ l. ap (λ (k : ℕ). getD roots k 0) next-is ∙ seek-root roots (pred r) n (n - suc h) (suc h) (omega arith) (subst (λ (k : ℕ). k < n) next-is l);
             order =
                 p .order
-                ∙ ap (λ (l : List ℕ). take place w ++ (l ++ orderFrom roots n (n - r) r)) rest-is
-                ∙ sym (append-assoc (take place w) (h ∷ []) (rest roots (pred r) n h′ ++ orderFrom roots n (n - r) r))
-                ∙ ap (λ (l : List ℕ). l ++ (rest roots (pred r) n h′ ++ orderFrom roots n (n - r) r)) (sym (row-order n place h g′ w room-now in-order));
+                ∙ ap (λ (l : List ℕ). take place w ++ (l ++ orderFrom roots n (n - r) r)) from-is
+                ∙ sym (append-assoc (take place w) (h ∷ []) (membersFrom roots (pred r) n h′ ++ orderFrom roots n (n - r) r))
+                ∙ ap (λ (l : List ℕ). l ++ (membersFrom roots (pred r) n h′ ++ orderFrom roots n (n - r) r)) (sym (row-order n place h g′ w room-now in-order));
             numbers = λ a e counts has. numbers-more a e counts has;
           }
         where
           numbers-more : Accepted f → n ≡ blockCount f → (counts : List ℕ) → HasCounts f counts
               → numbersFrom limit counts roots n 0 n 0
               ≡ take (place + 1) (drop (2 * n) w′)
-              ++ (numbersOf limit counts g′ t′ true (rest roots (pred r) n h′)
-              ++ numbersFrom limit counts roots n (nextGroup limit counts g′ t′ true (rest roots (pred r) n h′)) (n - r) r)
+              ++ (numbersOf limit counts g′ t′ true (membersFrom roots (pred r) n h′)
+              ++ numbersFrom limit counts roots n (nextGroup limit counts g′ t′ true (membersFrom roots (pred r) n h′)) (n - r) r)
           numbers-more a e counts has =
               let c-is = counted a (subst (λ (k : ℕ). h < k) e in-component) counts has in
               let closes-is : closes limit t o (getD counts h 0) ≡ b = ap (closes limit t o) c-is ∙ closing in
               p .numbers a e counts has
-              ∙ rw (rest-is, numbers-step limit counts g t o h (rest roots (pred r) n h′) b closes-is, next-step limit counts g t o h (rest roots (pred r) n h′) b closes-is, c-is, row-number n place h g′ w room-now in-order)
+              ∙ rw (from-is, numbers-step limit counts g t o h (membersFrom roots (pred r) n h′) b closes-is, next-step limit counts g t o h (membersFrom roots (pred r) n h′) b closes-is, c-is, row-number n place h g′ w room-now in-order)
               (sym (append-assoc (take place (drop (2 * n) w)) (g′ ∷ []) _))
 
     -- the next component begins
@@ -267,30 +268,30 @@ module _ (f w₀ : List ℕ) (n limit : ℕ) where
       first-is : h₁ ≡ seek roots r n 0
       first-is = p .firsts r more ∙ p .linked .first r more ∙ ap (λ (k : ℕ). seek roots r k 0) (sub-zero n)
 
-      chain-is : rest roots r n h₁ ≡ chain roots r n 0
-      chain-is = ap (rest roots r n) first-is ∙ rest-seek roots r n n 0 (zero-add n)
+      rooted-is : membersFrom roots r n h₁ ≡ rooted roots r n 0
+      rooted-is = ap (membersFrom roots r n) first-is ∙ from-seek roots r n n 0 (zero-add n)
 
       one-less : n - r ≡ suc (n - (r + 1))
       one-less = omega arith
 
-      rest-next : rest roots (pred (r + 1)) n h₁ ≡ chain roots r n 0
-      rest-next = ap (λ (k : ℕ). rest roots k n h₁) (pred-more r) ∙ chain-is
+      from-next : membersFrom roots (pred (r + 1)) n h₁ ≡ rooted roots r n 0
+      from-next = ap (λ (k : ℕ). membersFrom roots k n h₁) (pred-more r) ∙ rooted-is
 
-      order-next : rest roots (pred r) n h ++ orderFrom roots n (n - r) r ≡ rest roots (pred (r + 1)) n h₁ ++ orderFrom roots n (n - (r + 1)) (r + 1)
+      order-next : membersFrom roots (pred r) n h ++ orderFrom roots n (n - r) r ≡ membersFrom roots (pred (r + 1)) n h₁ ++ orderFrom roots n (n - (r + 1)) (r + 1)
       unfolding orderFrom
-      order-next = rw (rest-none roots (pred r) n h no-more, rest-next, one-less, add-one r)
+      order-next = rw (from-none roots (pred r) n h no-more, from-next, one-less, add-one r)
 
-      next-closed : (counts : List ℕ) → nextGroup limit counts g t o (rest roots (pred r) n h) ≡ cond o (g + 1) g
+      next-closed : (counts : List ℕ) → nextGroup limit counts g t o (membersFrom roots (pred r) n h) ≡ cond o (g + 1) g
       unfolding nextGroup
-      next-closed counts = rw (rest-none roots (pred r) n h no-more, add-one g)
+      next-closed counts = rw (from-none roots (pred r) n h no-more, add-one g)
 
       numbers-next : (counts : List ℕ)
-          → numbersOf limit counts g t o (rest roots (pred r) n h)
-          ++ numbersFrom limit counts roots n (nextGroup limit counts g t o (rest roots (pred r) n h)) (n - r) r
-          ≡ numbersOf limit counts (cond o (g + 1) g) 0 false (rest roots (pred (r + 1)) n h₁)
-          ++ numbersFrom limit counts roots n (nextGroup limit counts (cond o (g + 1) g) 0 false (rest roots (pred (r + 1)) n h₁)) (n - (r + 1)) (r + 1)
+          → numbersOf limit counts g t o (membersFrom roots (pred r) n h)
+          ++ numbersFrom limit counts roots n (nextGroup limit counts g t o (membersFrom roots (pred r) n h)) (n - r) r
+          ≡ numbersOf limit counts (cond o (g + 1) g) 0 false (membersFrom roots (pred (r + 1)) n h₁)
+          ++ numbersFrom limit counts roots n (nextGroup limit counts (cond o (g + 1) g) 0 false (membersFrom roots (pred (r + 1)) n h₁)) (n - (r + 1)) (r + 1)
       unfolding numbersFrom numbersOf
-      numbers-next counts = rw (next-closed counts, rest-none roots (pred r) n h no-more, rest-next, one-less, add-one r)
+      numbers-next counts = rw (next-closed counts, from-none roots (pred r) n h no-more, from-next, one-less, add-one r)
 
       pub placing-component : Placing place (cond o (g + 1) g) 0 false (r + 1) h₁ w
       placing-component =
@@ -360,7 +361,7 @@ module _ (f w₀ : List ℕ) (n limit : ℕ) where
       unfolding orderFrom
       all-placed long =
           let none-left : n - r ≡ 0 = omega arith in
-          let order-is : orderFrom roots n n 0 ≡ take place w ++ [] = p .order ∙ ap (λ (l : List ℕ). take place w ++ l) (rw (rest-none roots (pred r) n h no-more, none-left)) in
+          let order-is : orderFrom roots n n 0 ≡ take place w ++ [] = p .order ∙ ap (λ (l : List ℕ). take place w ++ l) (rw (from-none roots (pred r) n h no-more, none-left)) in
           omega (arith, ap length (order-is ∙ append-nil (take place w)), long-order)
 
       pub placing-done : Placed f n limit w₀ w

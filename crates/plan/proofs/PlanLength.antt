@@ -10,12 +10,12 @@ use lib.Dec.{leb}
 use lib.ListN.{length, getD, length-append}
 use Rattle.block_file.specs.Parse.{Block, blockKey}
 use Rattle.forest.specs.Forest.{range, root}
-use Rattle.plan.specs.Order.{chain, orderFrom}
+use Rattle.plan.specs.Order.{rooted, orderFrom}
 use Rattle.plan.specs.Plan.{parents, members, insert, sortByKey, groups, groupRows, rowsFrom, plan}
 use Rattle.plan.proofs.Components.{component, groups-flat}
 use Rattle.plan.proofs.Edges.{root-block}
 use Rattle.plan.proofs.Listing.{map-at}
-use Rattle.plan.proofs.Numbering.{members-chain, order-all}
+use Rattle.plan.proofs.Numbering.{members-rooted, order-all}
 use Rattle.forest.proofs.Roots.{length-range, range-own}
 
 group-rows-length : (g : ℕ) (is : List ℕ) → length (groupRows g is) ≡ 2 * length is
@@ -66,10 +66,10 @@ module _ (bs : List Block) where
   components-length (suc left) r =
       length-append (component bs r) (flatten (map (component bs) (range left (suc r))))
       ∙ ap₂ (λ (a b : ℕ). a + b)
-      (sort-length (map blockKey bs) (members (parents bs) r (length bs) 0)
-      ∙ ap length (members-chain (parents bs) roots r (length bs) 0 (λ j l b. roots-at j (rw zero-add at b))))
+      (sort-length (map blockKey bs) (members (parents bs) r (length bs))
+      ∙ ap length (members-rooted (parents bs) roots r (length bs) 0 (λ j l b. roots-at j (rw zero-add at b))))
       (components-length left (suc r))
-      ∙ sym (length-append (chain roots r (length bs) 0) (orderFrom roots (length bs) left (suc r)))
+      ∙ sym (length-append (rooted roots r (length bs) 0) (orderFrom roots (length bs) left (suc r)))
 
   -- all groups together have each block once
   pub groups-length : (limit : ℕ) → length (flatten (groups limit bs)) ≡ length bs

@@ -9,7 +9,7 @@ use Rattle.block_exits.specs.Exits.{exits, instrExits}
 use Rattle.forest.specs.Forest.{follow}
 use Rattle.plan.specs.Calls.{callOnBlocks, callOnFile, planCall}
 use Rattle.search.specs.Target.{target}
-use Rattle.plan.specs.Plan.{joinExits, joinBlocks, parents, members, insert, sortByKey, parts, groupsFrom, groups, rowsFrom, plan}
+use Rattle.plan.specs.Plan.{joinExits, joinBlocks, parents, withRoot, insert, sortByKey, parts, groupsFrom, groups, rowsFrom, plan}
 
 -- a refused file
 plan-refused : planCall (Parsed.refused 4 2) (replicate 12 5) (replicate 6 7) ≡ record { answer = refusal 4 2; work = replicate 12 5; result = replicate 6 7 }
@@ -24,11 +24,11 @@ plan-8 = refl
 -- five numbers are too few for the result, and of thirteen work numbers twelve are cleared
 plan-10 : planCall (Parsed.accepted threeBlocks) (replicate 13 5) (replicate 5 7)
     ≡ record { answer = refusal 10 0; work = 0 ∷ 0 ∷ 0 ∷ 0 ∷ 0 ∷ 0 ∷ 0 ∷ 0 ∷ 0 ∷ 0 ∷ 0 ∷ 0 ∷ 5 ∷ []; result = replicate 5 7 }
-unfolding callOnFile callOnBlocks threeBlocks armBlock plan rowsFrom groups groupsFrom parts sortByKey insert members parents joinBlocks joinExits target follow exits instrExits
+unfolding callOnFile callOnBlocks threeBlocks armBlock plan rowsFrom groups groupsFrom parts sortByKey insert withRoot parents joinBlocks joinExits target follow exits instrExits
 plan-10 = refl
 
 -- the plan in the front of seven numbers: block 1 alone, then blocks 0 and 2
 plan-made : planCall (Parsed.accepted threeBlocks) (replicate 12 5) (replicate 7 7)
     ≡ record { answer = value 3; work = replicate 12 0; result = 0 ∷ 1 ∷ 1 ∷ 0 ∷ 1 ∷ 2 ∷ 7 ∷ [] }
-unfolding callOnFile callOnBlocks threeBlocks armBlock plan rowsFrom groups groupsFrom parts sortByKey insert members parents joinBlocks joinExits target follow exits instrExits
+unfolding callOnFile callOnBlocks threeBlocks armBlock plan rowsFrom groups groupsFrom parts sortByKey insert withRoot parents joinBlocks joinExits target follow exits instrExits
 plan-made = refl

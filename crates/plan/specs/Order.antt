@@ -1,31 +1,27 @@
 -- The emission order as the code makes it: component by component along the links, with the number of the group of each block.
 use Prim.Native.Nat.{ℕ, zero, suc, _+_, _*_, _-_, _<_, _≤_}
 use mathlib.Core.Path.{_≡_}
-use mathlib.Core.Bool.{Bool, true, false, cond, _&&_}
+use mathlib.Core.Bool.{Bool, true, false, cond}
 use mathlib.Core.List.{List, [], _∷_, _++_}
 use lib.ListN.{length, getD, take, drop}
-use lib.Dec.{ltb, eqb}
+use lib.Dec.{ltb}
 use Rattle.records.specs.Trailer.{blockCount, blockStart}
 use Rattle.records.specs.BlockRecord.{countAt}
 use Rattle.block_file.specs.Parse.{Accepted}
+use Rattle.plan.specs.Plan.{withRoot, closes}
 
--- of `left` blocks from block k on those whose root is r
-unfoldable pub chain : List ℕ → ℕ → ℕ → ℕ → List ℕ
-chain roots r zero k = []
-chain roots r (suc left) k = cond (eqb (getD roots k 0) r) (k ∷ chain roots r left (suc k)) (chain roots r left (suc k))
+-- of `left` blocks from block k on those whose root is r, by a list of all roots
+abbrev pub rooted : List ℕ → ℕ → ℕ → ℕ → List ℕ
+rooted roots r left k = withRoot (λ (i : ℕ). getD roots i 0) r left k
 
 -- what is left of component r from member h on, where there are n blocks
-unfoldable pub rest : List ℕ → ℕ → ℕ → ℕ → List ℕ
-rest roots r n h = cond (ltb h n) (h ∷ chain roots r (n - suc h) (suc h)) []
+unfoldable pub membersFrom : List ℕ → ℕ → ℕ → ℕ → List ℕ
+membersFrom roots r n h = cond (ltb h n) (h ∷ rooted roots r (n - suc h) (suc h)) []
 
 -- the blocks of the components with the `left` roots from r on, where there are n blocks
 unfoldable pub orderFrom : List ℕ → ℕ → ℕ → ℕ → List ℕ
 orderFrom roots n zero r = []
-orderFrom roots n (suc left) r = chain roots r n 0 ++ orderFrom roots n left (suc r)
-
--- whether a part closes before a block
-abbrev pub closes : ℕ → ℕ → Bool → ℕ → Bool
-closes limit total isOpen count = ltb limit (total + count) && isOpen
+orderFrom roots n (suc left) r = rooted roots r n 0 ++ orderFrom roots n left (suc r)
 
 -- the group numbers of some members of a component, where group g is reached and has a total of instructions
 unfoldable pub numbersOf : ℕ → List ℕ → ℕ → ℕ → Bool → List ℕ → List ℕ
@@ -45,8 +41,8 @@ nextGroup limit counts g total isOpen (i ∷ is) =
 unfoldable pub numbersFrom : ℕ → List ℕ → List ℕ → ℕ → ℕ → ℕ → ℕ → List ℕ
 numbersFrom limit counts roots n g zero r = []
 numbersFrom limit counts roots n g (suc left) r =
-    numbersOf limit counts g 0 false (chain roots r n 0)
-    ++ numbersFrom limit counts roots n (nextGroup limit counts g 0 false (chain roots r n 0)) left (suc r)
+    numbersOf limit counts g 0 false (rooted roots r n 0)
+    ++ numbersFrom limit counts roots n (nextGroup limit counts g 0 false (rooted roots r n 0)) left (suc r)
 
 -- the instruction counts of the blocks of a file
 abbrev pub HasCounts : List ℕ → List ℕ → Type 0

@@ -29,10 +29,14 @@ joinBlocks all p i (b ∷ bs) = joinBlocks all (cond (joinable b) (joinExits all
 unfoldable pub parents : List Block → List ℕ
 parents bs = joinBlocks bs (range (length bs) 0) 0 bs
 
--- a component (document 01): of n blocks from block i on those whose root is r
-unfoldable pub members : List ℕ → ℕ → ℕ → ℕ → List ℕ
-members p r zero i = []
-members p r (suc n) i = cond (eqb (root p i) r) (i ∷ members p r n (suc i)) (members p r n (suc i))
+-- of n blocks from block i on those whose root is r
+unfoldable pub withRoot : (ℕ → ℕ) → ℕ → ℕ → ℕ → List ℕ
+withRoot rootOf r zero i = []
+withRoot rootOf r (suc n) i = cond (eqb (rootOf i) r) (i ∷ withRoot rootOf r n (suc i)) (withRoot rootOf r n (suc i))
+
+-- a component (document 01) of n blocks, by their parents: those whose root is r
+abbrev pub members : List ℕ → ℕ → ℕ → List ℕ
+members p r n = withRoot (root p) r n 0
 
 -- a number before the first one whose key is not below its own
 unfoldable pub insert : List ℕ → ℕ → List ℕ → List ℕ
@@ -54,18 +58,22 @@ abbrev pub isEmpty : List ℕ → Bool
 isEmpty [] = true
 isEmpty (i ∷ is) = false
 
+-- whether a part closes before a block with so many instructions: it is open, so not empty, and the block would push its total over the limit
+abbrev pub closes : ℕ → ℕ → Bool → ℕ → Bool
+closes limit total isOpen count = ltb limit (total + count) && isOpen
+
 -- cuts a component into parts (document 01): one closes before a block that would push it over the limit, unless it is empty
 unfoldable pub parts : ℕ → List ℕ → List ℕ → ℕ → List ℕ → List (List ℕ)
 parts limit counts part total [] = close part
 parts limit counts part total (i ∷ is) =
-    cond (ltb limit (total + getD counts i 0) && not (isEmpty part)) (part ∷ parts limit counts (i ∷ []) (getD counts i 0) is)
+    cond (closes limit total (not (isEmpty part)) (getD counts i 0)) (part ∷ parts limit counts (i ∷ []) (getD counts i 0) is)
     (parts limit counts (part ++ (i ∷ [])) (total + getD counts i 0) is)
 
 -- the groups of the components with the n roots from r on; a number that is no root has no members
 unfoldable pub groupsFrom : ℕ → List Block → List ℕ → ℕ → ℕ → List (List ℕ)
 groupsFrom limit bs p zero r = []
 groupsFrom limit bs p (suc n) r =
-    parts limit (map (λ (b : Block). length (b .instrs)) bs) [] 0 (sortByKey (map blockKey bs) (members p r (length bs) 0))
+    parts limit (map (λ (b : Block). length (b .instrs)) bs) [] 0 (sortByKey (map blockKey bs) (members p r (length bs)))
     ++ groupsFrom limit bs p n (suc r)
 
 -- the groups of some blocks, in emission order (document 01 for both)

@@ -9,7 +9,8 @@ ghost use Rattle.records.specs.Trailer.{blockCount, blockStart};
 ghost use Rattle.records.specs.BlockRecord.{countAt};
 ghost use Rattle.block_file.specs.Parse.{Accepted};
 ghost use Rattle.plan.specs.Links.{Linked};
-ghost use Rattle.plan.specs.Order.{closes, Placed};
+ghost use Rattle.plan.specs.Order.{Placed};
+ghost use Rattle.plan.specs.Plan.{closes};
 
 // The part of a component that is being filled: the number of its group, and its instructions.
 pub(crate) struct Part {

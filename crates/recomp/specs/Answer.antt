@@ -5,7 +5,7 @@ use mathlib.Core.List.{List}
 use lib.ListN.{length, getD}
 use Rattle.block_file.specs.Answer.{Answer, refusal, value, Counts}
 use Rattle.plan.specs.Calls.{Outcome}
-use Rattle.emit_units.specs.Calls.{UnitValues}
+use Rattle.lowering.specs.Units.{UnitAnswer}
 
 -- what the check hands over
 pub record CheckNumbers : Type 0 where
@@ -60,11 +60,11 @@ pub record UnitNumbers : Type 0 where
   pub text : List ℕ
 
 -- the numbers of an answer with a unit, and the lent buffers
-abbrev pub withUnit : Answer UnitValues → List ℕ → List ℕ → UnitNumbers
+abbrev pub withUnit : Answer UnitAnswer → List ℕ → List ℕ → UnitNumbers
 withUnit (refusal n i) work text = record { number = n; at = i; length = 0; done = 0; last = 0; work = work; text = text }
 withUnit (value u) work text =
     record { number = 0; at = 0; length = u .length; done = u .done; last = cond (u .last) 1 0; work = work; text = text }
 
 -- the same of what the call for a unit leaves
-abbrev pub unitNumbers : Outcome UnitValues → UnitNumbers
+abbrev pub unitNumbers : Outcome UnitAnswer → UnitNumbers
 unitNumbers outcome = withUnit (outcome .answer) (outcome .work) (outcome .result)

@@ -5,20 +5,20 @@ use mathlib.Core.Bool.{Bool, _&&_}
 use mathlib.Core.List.{List, _++_}
 use Rattle.block_file.specs.Answer.{Answer, refusal, value}
 use Rattle.plan.specs.Calls.{Outcome}
-use Rattle.emit_units.specs.Calls.{UnitValues}
+use Rattle.lowering.specs.Units.{UnitAnswer}
 use Rattle.recomp.specs.Answer.{withUnit, unitNumbers}
 use Rattle.case_io.specs.Same.{sameNumbers}
 use Rattle.replay_units.specs.UnitCases.{unitAnswerNumbers, withRest, sameUnit}
 
 module _ (answer work text : List ℕ) (w t moreWork moreText : List ℕ) where
   -- the comparison with what a call left is these three, whatever it answered
-  parts : (a : Answer UnitValues)
+  parts : (a : Answer UnitAnswer)
       → (sameNumbers answer (unitAnswerNumbers a) && (sameNumbers work (w ++ moreWork) && sameNumbers text (t ++ moreText))) ≡ sameUnit answer work text (withRest (withUnit a w t) moreWork moreText)
   parts (refusal n i) = refl
   parts (value u) = refl
 
   -- what the three come to, where `got` was made of the answer, and w and t are what the call left
-  pub compared : (a : Answer UnitValues) (got : List ℕ) (o : Outcome UnitValues) {first second third : Bool} → got ≡ unitAnswerNumbers a
+  pub compared : (a : Answer UnitAnswer) (got : List ℕ) (o : Outcome UnitAnswer) {first second third : Bool} → got ≡ unitAnswerNumbers a
       → record { answer = a; work = w; result = t } ≡ o
       → first ≡ sameNumbers answer got
       → second ≡ sameNumbers work (w ++ moreWork)
@@ -28,4 +28,4 @@ module _ (answer work text : List ℕ) (w t moreWork moreText : List ℕ) where
       (λ i. one i && (two i && three i))
       ∙ ap (λ (l : List ℕ). sameNumbers answer l && (sameNumbers work (w ++ moreWork) && sameNumbers text (t ++ moreText))) g
       ∙ parts a
-      ∙ ap (λ (p : Outcome UnitValues). sameUnit answer work text (withRest (unitNumbers p) moreWork moreText)) h
+      ∙ ap (λ (p : Outcome UnitAnswer). sameUnit answer work text (withRest (unitNumbers p) moreWork moreText)) h

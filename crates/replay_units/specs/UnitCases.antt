@@ -5,7 +5,8 @@ use mathlib.Core.List.{List, [], _∷_, _++_}
 use lib.ListN.{take, drop}
 use Rattle.block_file.specs.Answer.{Answer}
 use Rattle.block_file.specs.Parse.{parse}
-use Rattle.emit_units.specs.Calls.{UnitValues, unitCall}
+use Rattle.lowering.specs.Units.{UnitAnswer}
+use Rattle.emit_units.specs.Calls.{unitCall}
 use Rattle.recomp.specs.Answer.{UnitNumbers, withUnit, unitNumbers}
 use Rattle.case_io.specs.Same.{sameNumbers}
 
@@ -14,7 +15,7 @@ abbrev pub unitInOrder : UnitNumbers → List ℕ
 unitInOrder n = n .number ∷ n .at ∷ n .length ∷ n .done ∷ n .last ∷ []
 
 -- the numbers of an answer, with nothing lent
-abbrev pub unitAnswerNumbers : Answer UnitValues → List ℕ
+abbrev pub unitAnswerNumbers : Answer UnitAnswer → List ℕ
 unitAnswerNumbers a = unitInOrder (withUnit a [] [])
 
 -- with more work numbers and more text behind what was lent

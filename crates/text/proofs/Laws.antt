@@ -7,11 +7,11 @@ use mathlib.Core.List.{List, [], _∷_, _++_, append-nil, append-assoc}
 use lib.ListN.{length, take, drop, getD, length-append}
 use lib.Seq.{take-suc, take-all}
 use Rattle.text.specs.Doc.{Doc, nothing, raw, text, dec, hex, hex8, hex16, _▸_, print, flat, each}
-use Rattle.text.specs.Wrote.{top, overlay, Wrote}
+use Rattle.text.specs.Wrote.{maxUsize, overlay, Wrote}
 use Rattle.text.proofs.Overlay.{overlay-none, length-overlay, overlay-append, overlay-front, overlay-stop}
 
 -- nothing was written
-pub none : {o : List ℕ} {at : ℕ} → length o ≤ top → at ≤ top → Wrote o at nothing o at
+pub none : {o : List ℕ} {at : ℕ} → length o ≤ maxUsize → at ≤ maxUsize → Wrote o at nothing o at
 unfolding print
 none {o} {at} h k = record { bytes = sym (overlay-none o at); next = omega arith; small = h }
 
@@ -24,7 +24,7 @@ seq {o} {o₁} {o₂} {at} {r₁} {r₂} {a} {b} v w =
       bytes =
           w .bytes ∙ ap (λ (d : List ℕ). overlay d r₁ (print b)) (v .bytes)
           ∙ ap (λ (k : ℕ). overlay (overlay o at (print a)) k (print b)) (v .next)
-          ∙ overlay-stop (overlay o at (print a)) (at + length (print a)) top (print b)
+          ∙ overlay-stop (overlay o at (print a)) (at + length (print a)) maxUsize (print b)
           (omega (arith, length-overlay o at (print a), v .small))
           ∙ overlay-append o at (print a) (print b);
       next = omega (arith, v .next, w .next, length-append (print a) (print b));
@@ -57,7 +57,7 @@ said {o} {o′} {at} {r} {d} {e} w p =
     let q : print d ≡ print e = same-bytes d e p in
     record {
       bytes = w .bytes ∙ ap (overlay o at) q;
-      next = w .next ∙ ap (λ (s : List ℕ). min (at + length s) top) q;
+      next = w .next ∙ ap (λ (s : List ℕ). min (at + length s) maxUsize) q;
       small = w .small;
     }
 
@@ -80,11 +80,11 @@ each-all f xs i h w = rw (take-all i xs h) at w
 
 -- What a caller of a whole text reads off. The answer is the length of the text, or the largest `usize` where that is less: so it is for an empty
 -- buffer, which is measured.
-pub counted : {o o′ : List ℕ} {r : ℕ} {d : Doc} → Wrote o 0 d o′ r → r ≡ min (length (print d)) top
+pub counted : {o o′ : List ℕ} {r : ℕ} {d : Doc} → Wrote o 0 d o′ r → r ≡ min (length (print d)) maxUsize
 counted w = omega (arith, w .next)
 
 -- an answer below the largest `usize` is the length of the text
-pub exact : {o o′ : List ℕ} {r : ℕ} {d : Doc} → Wrote o 0 d o′ r → r < top → r ≡ length (print d)
+pub exact : {o o′ : List ℕ} {r : ℕ} {d : Doc} → Wrote o 0 d o′ r → r < maxUsize → r ≡ length (print d)
 exact w h = omega (arith, w .next)
 
 -- a text that fits stands at the front of the buffer, and the answer is its length

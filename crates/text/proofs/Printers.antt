@@ -9,7 +9,7 @@ use lib.ListN.{length, take, drop, set, getD, length-drop, drop-of-length-le}
 use lib.Seq.{take-all}
 use Rattle.text.specs.Digits.{numeral, fixed}
 use Rattle.text.specs.Doc.{Doc, raw, print}
-use Rattle.text.specs.Wrote.{top, overlay, Printed, Wrote}
+use Rattle.text.specs.Wrote.{maxUsize, overlay, Printed, Wrote}
 use Rattle.text.proofs.Overlay.{overlay-past, overlay-part, overlay-stop, overlay-more}
 use Rattle.text.proofs.Numerals.{length-fixed, numeral-fixed}
 
@@ -42,8 +42,8 @@ stored b most n {k} {o} {o′} {d} p e q =
     spelt b k n (p ∙ numeral-fixed b most n ∙ ap (λ (j : ℕ). fixed b j n) (sym (e ∙ ap length p))) q
 
 -- the part of o from index at, or an empty one where at is past the end, was lent to a printer and came back
-pub lent : {o part′ : List ℕ} {at from n r : ℕ} {d : Doc} → length o ≤ top → from ≡ min at (length o)
-    → Printed (take (length o - from) (drop from o)) d part′ n → r ≡ min (at + n) top
+pub lent : {o part′ : List ℕ} {at from n r : ℕ} {d : Doc} → length o ≤ maxUsize → from ≡ min at (length o)
+    → Printed (take (length o - from) (drop from o)) d part′ n → r ≡ min (at + n) maxUsize
     → Wrote o at d (take from o ++ (part′ ++ drop (length o - from) (drop from o))) r
 lent {o} {part′} {at} {from} {n} {r} {d} h e w q =
     let l : length (drop from o) ≤ length o - from = omega (arith, length-drop from o) in
@@ -55,6 +55,6 @@ lent {o} {part′} {at} {from} {n} {r} {d} h e w q =
           ∙ sym (overlay-part o from (print d))
           ∙ ap (λ (k : ℕ). overlay o k (print d)) e
           ∙ overlay-stop o at (length o) (print d) (omega arith));
-      next = q ∙ ap (λ (k : ℕ). min (at + k) top) (w .size);
+      next = q ∙ ap (λ (k : ℕ). min (at + k) maxUsize) (w .size);
       small = h;
     }

@@ -6,8 +6,8 @@ use lib.ListN.{length}
 use Rattle.text.specs.Doc.{Doc, print}
 
 -- the largest `usize`
-abbrev pub top : ℕ
-top = 0xffff_ffff_ffff_ffff
+abbrev pub maxUsize : ℕ
+maxUsize = 0xffff_ffff_ffff_ffff
 
 -- out with s laid over it from index at; what would lie past the end of out is dropped, and out keeps its length
 unfoldable pub overlay : List ℕ → ℕ → List ℕ → List ℕ
@@ -25,5 +25,5 @@ pub record Printed (part : List ℕ) (d : Doc) (part′ : List ℕ) (n : ℕ) : 
 -- An out with no bytes is measured: r is then what d takes. The third field says what is true of any slice
 pub record Wrote (out : List ℕ) (at : ℕ) (d : Doc) (out′ : List ℕ) (r : ℕ) : Type 0 where
   pub bytes : out′ ≡ overlay out at (print d)
-  pub next : r ≡ min (at + length (print d)) top
-  pub small : length out ≤ top
+  pub next : r ≡ min (at + length (print d)) maxUsize
+  pub small : length out ≤ maxUsize

@@ -6,13 +6,13 @@ ghost use Prim.Native.Nat.{_+_, _/_, _%_, _≤_, min};
 ghost use lib.ListN.{length, set};
 ghost use Rattle.text.specs.Digits.{glyph, fixed};
 ghost use Rattle.text.specs.Doc.{raw, dec, hex, hex8, hex16, _▸_};
-ghost use Rattle.text.specs.Wrote.{top, overlay, Printed, Wrote};
+ghost use Rattle.text.specs.Wrote.{maxUsize, overlay, Printed, Wrote};
 
 const TOP: usize = 0xffff_ffff_ffff_ffff;
 
 // at + n, or the largest usize where that is less.
 fn after(at: usize, n: usize) -> usize
-    ensures { λ r. ⌜ r ≡ min (at + n) top ⌝ }
+    ensures { λ r. ⌜ r ≡ min (at + n) maxUsize ⌝ }
 {
     if n <= TOP - at { at + n } else { TOP }
 }

@@ -6,15 +6,15 @@ use mathlib.Core.Option.{Option, none, some}
 use lib.Dec.{leb}
 use Rattle.armv4t.specs.Bit0.{clearBit0}
 use Rattle.c_tree.specs.Expr.{word, Expr, lit}
-use Rattle.c_tree.specs.Stmt.{Plain, Owner, common, Simple, gap, begin, plain, label, goto, ret, retIf, interp, retInterp, call, switch, Code, end, _⨾_, when, braces}
-use Rattle.forms.specs.Forms.{Lines, Native, straight, holds, branch, jump, pair, bx, pop, Form, shell, records, Body}
-use Rattle.lowering.specs.Block.{nl, sp, line, lines, chain, transfer, closing, leave, toThumb, toArm, conditional, nativeText, rest, underGuard, blockCode}
+use Rattle.c_tree.specs.Stmt.{Plain, Owner, common, Simple, gap, recordMark, plain, label, goto, ret, retIf, interp, retInterp, call, switch, Code, end, _⨾_, when, braces}
+use Rattle.forms.specs.Forms.{Lines, Native, straight, straightIf, branch, jump, pair, bx, pop, Form, shell, records, Body}
+use Rattle.lowering.specs.Block.{nl, sp, line, lines, gotoCode, transfer, closing, leave, toThumb, toArm, conditional, nativeText, codeFrom, underGuard, blockCode}
 use Rattle.block_file.specs.Address.{among, outsideRomBios}
 
 -- a text without labels
 abbrev pub NoLabel : Simple → Type 0
 NoLabel (gap l n) = Unit {0}
-NoLabel (begin b p n) = Unit {0}
+NoLabel (recordMark b p n) = Unit {0}
 NoLabel (plain o t) = Unit {0}
 NoLabel (label k) = ⊥
 NoLabel (goto o k) = Unit {0}
@@ -44,8 +44,8 @@ bare-cond : (x : Bool) (c d : Code) → Bare c → Bare d → Bare (cond x c d)
 bare-cond true c d h k = h
 bare-cond false c d h k = k
 
-bare-chain : (x : Bool) (o : Owner) (n k : ℕ) (c : Code) → Bare c → Bare (chain x o n k c)
-unfolding chain
+bare-chain : (x : Bool) (o : Owner) (n k : ℕ) (c : Code) → Bare c → Bare (gotoCode x o n k c)
+unfolding gotoCode
 bare-chain true o n k c h = (tt, (tt, (tt, (tt, (tt, (tt, h))))))
 bare-chain false o n k c h = (tt, (tt, (tt, h)))
 
@@ -64,7 +64,7 @@ module _ (ks : List ℕ) (b : Body) where
   bare-native : (o : Owner) (r : Native) (c : Code) → Bare c → Bare (nativeText ks (b .addr) o r c)
   unfolding nativeText
   bare-native o (straight t l) c h = bare-lines o 4 t _ (tt, ((tt, bare-lines o 8 l (sp 4 ⨾ end) (tt, tt)), (tt, h)))
-  bare-native o (holds t e l) c h =
+  bare-native o (straightIf t e l) c h =
       let d : Code = nl ⨾ lines o 8 l (sp 6 ⨾ end) in
       bare-lines o 4 t (conditional o e d c) (bare-conditional o e d c (tt, bare-lines o 8 l (sp 6 ⨾ end) (tt, tt)) h)
   bare-native o (branch t e l k) c h =
@@ -81,8 +81,8 @@ module _ (ks : List ℕ) (b : Body) where
       let close : Bare (sp 6 ⨾ plain o q ⨾ leave o e) = (tt, (tt, (tt, (tt, (tt, tt))))) in
       bare-lines o 4 t _ (tt, ((tt, (tt, (tt, bare-lines o 6 l (sp 6 ⨾ plain o q ⨾ leave o e) close))), (tt, tt)))
 
-  bare-rest : (rs : List Form) (p : ℕ) → Bare (rest ks b p rs)
-  unfolding rest
+  bare-rest : (rs : List Form) (p : ℕ) → Bare (codeFrom ks b p rs)
+  unfolding codeFrom
   bare-rest [] p = bare-closing
   bare-rest (Form.native r ∷ rs) p = (tt, bare-native _ r _ (bare-rest rs (p + records r)))
   bare-rest (shell h t e ∷ []) p = bare-lines _ 4 t _ (tt, (tt, (tt, bare-cond h (closing ks b) end bare-closing tt)))

@@ -10,10 +10,10 @@ use Rattle.armv4t.specs.Bit0.{clearBit0}
 use Rattle.c_tree.specs.Expr.{u32, word, udec, x-t, x-pc, ne, band, Expr, lit, bin}
 use Rattle.c_tree.specs.Stmt.{Plain, declare, Test, guard, gate, other, Owner, common, gap, plain, goto, ret, retIf, retInterp, Code, end, _⨾_, when}
 use Rattle.c_tree.specs.Preamble.{v32}
-use Rattle.forms.specs.Forms.{Lines, Native, straight, holds, branch, jump, pair, bx, pop, Form, shell, records, Body}
+use Rattle.forms.specs.Forms.{Lines, Native, straight, straightIf, branch, jump, pair, bx, pop, Form, shell, records, Body}
 use Rattle.forms.proofs.RecordCount.{recordCounts}
 use Rattle.forms.specs.Operands.{flags}
-use Rattle.lowering.specs.Block.{bodyKey, bodyLength, nl, sp, line, lines, chain, transfer, closing, leave, toThumb, toArm, conditional, nativeText, rest, defer, underGuard, blockCode}
+use Rattle.lowering.specs.Block.{bodyKey, bodyLength, nl, sp, line, lines, gotoCode, transfer, closing, leave, toThumb, toArm, conditional, nativeText, codeFrom, defer, underGuard, blockCode}
 use Rattle.block_file.specs.Address.{among, outsideRomBios}
 use Rattle.ways.specs.Ways.{Event, reach, said, nativeStart, interpreted}
 use Rattle.ways.proofs.Logic.{Logic, Pick, Ok}
@@ -104,8 +104,8 @@ module _ (L : Logic) (b : Body) (ks : List ℕ) (R : Rules L b ks) where
         go true j = f _ j
         go false j = g _ j
 
-    ok-chain : (n k : ℕ) → List·Memᴰ k ks → (y : Bool) → (T (not y) → b .addr < clearBit0 k) → (c : Code) (K : S → Type 0) → Fits p w (chain y o n k c) K
-    unfolding chain
+    ok-chain : (n k : ℕ) → List·Memᴰ k ks → (y : Bool) → (T (not y) → b .addr < clearBit0 k) → (c : Code) (K : S → Type 0) → Fits p w (gotoCode y o n k c) K
+    unfolding gotoCode
     ok-chain n k m true h c K =
         ok-retIf gate (λ x. q-gate) (lit word k) (nl ⨾ sp n ⨾ goto o k ⨾ nl ⨾ c) K
         (λ s i.
@@ -118,7 +118,7 @@ module _ (L : Logic) (b : Body) (ks : List ℕ) (R : Rules L b ks) where
     unfolding transfer
     ok-transfer n k c K = go (among k ks) (among→mem k ks)
       where
-        go : (x : Bool) → (T x → List·Memᴰ k ks) → Fits p w (cond x (chain (leb (clearBit0 k) (b .addr)) o n k c) (sp n ⨾ ret o (lit word k) ⨾ nl ⨾ c)) K
+        go : (x : Bool) → (T x → List·Memᴰ k ks) → Fits p w (cond x (gotoCode (leb (clearBit0 k) (b .addr)) o n k c) (sp n ⨾ ret o (lit word k) ⨾ nl ⨾ c)) K
         go true m = ok-chain n k (m tt) (leb (clearBit0 k) (b .addr)) (nleb→lt (clearBit0 k) (b .addr)) c K
         go false m = λ s i. quiet p w s (reach o) i u .0
 
@@ -141,7 +141,7 @@ module _ (L : Logic) (b : Body) (ks : List ℕ) (R : Rules L b ks) where
     ok-native : (r : Native) (c : Code) (K : S → Type 0) → Fits p w c K → Fits p w (nativeText ks (b .addr) o r c) K
     unfolding nativeText
     ok-native (straight t l) c K f = ok-lines 4 t _ K (ok-lines 8 l (sp 4 ⨾ end) (λ s. Ok L c s K) f)
-    ok-native (holds t e l) c K f =
+    ok-native (straightIf t e l) c K f =
         let d : Code = nl ⨾ lines o 8 l (sp 6 ⨾ end) in
         ok-lines 4 t (conditional o e d c) K (ok-conditional e d c K (ok-lines 8 l (sp 6 ⨾ end) (λ s. Ok L c s K) f) f)
     ok-native (branch t e l k) c K f =
@@ -164,8 +164,8 @@ module _ (L : Logic) (b : Body) (ks : List ℕ) (R : Rules L b ks) where
   unfolding closing
   ok-closing p w K = ok-lines p w common q-none 4 (b .closing) _ K (ok-transfer p w common q-none 4 _ end K)
 
-  ok-rest : (rs : List Form) (p : ℕ) (K : S → Type 0) → Fits p (recordCounts rs) (rest ks b p rs) K
-  unfolding rest
+  ok-rest : (rs : List Form) (p : ℕ) (K : S → Type 0) → Fits p (recordCounts rs) (codeFrom ks b p rs) K
+  unfolding codeFrom
   ok-rest [] p K s i = ok-closing p 0 K s i
   ok-rest (Form.native r ∷ rs) p K s i =
       let d = carry p (records r) (recordCounts rs) s i in
@@ -176,7 +176,7 @@ module _ (L : Logic) (b : Body) (ks : List ℕ) (R : Rules L b ks) where
       (λ s′ j.
       let d = shells p (recordCounts (r ∷ rs)) s′ j in (
         d .0,
-        ok-retIf _ _ common q-none (other (bin ne (v32 x-pc) (lit word e))) (λ x. q-other) (v32 x-pc) (nl ⨾ rest ks b (p + 1) (r ∷ rs)) K
+        ok-retIf _ _ common q-none (other (bin ne (v32 x-pc) (lit word e))) (λ x. q-other) (v32 x-pc) (nl ⨾ codeFrom ks b (p + 1) (r ∷ rs)) K
             (λ s″ j′.
             let a = quiet _ _ s″ (reach common) j′ q-none in
             ok-rest (r ∷ rs) (p + 1) K _ (quiet _ _ _ (said (other (bin ne (v32 x-pc) (lit word e))) false) (a .1) q-other .1))
@@ -192,8 +192,8 @@ module _ (L : Logic) (b : Body) (ks : List ℕ) (R : Rules L b ks) where
       ask h e = (asks s h true i .0, λ x. (asks s h x i .1, pass x))
         where
           pass : (x : Bool)
-              → Pick (not x) (Ok L (defer b (sp 1 ⨾ end)) (step (step s (reach common)) (said (guard (b .addr) (bodyLength b) h) x)) (λ s′. Ok L (rest ks b 0 (b .forms)) s′ K))
-              (Ok L (rest ks b 0 (b .forms)) (step (step s (reach common)) (said (guard (b .addr) (bodyLength b) h) x)) K)
+              → Pick (not x) (Ok L (defer b (sp 1 ⨾ end)) (step (step s (reach common)) (said (guard (b .addr) (bodyLength b) h) x)) (λ s′. Ok L (codeFrom ks b 0 (b .forms)) s′ K))
+              (Ok L (codeFrom ks b 0 (b .forms)) (step (step s (reach common)) (said (guard (b .addr) (bodyLength b) h) x)) K)
           pass true = ok-rest (b .forms) 0 K _ (yes-of s h e i)
           pass false = defers _ (asks s h false i .2)
 
@@ -201,6 +201,6 @@ module _ (L : Logic) (b : Body) (ks : List ℕ) (R : Rules L b ks) where
       under none e = defers s i
       under (some h) e = ask h e
 
-      go : (x : Bool) → (T (not x) → Inv 0 (recordCounts (b .forms)) s) → Ok L (cond x (underGuard ks b (b .hash)) (rest ks b 0 (b .forms))) s K
+      go : (x : Bool) → (T (not x) → Inv 0 (recordCounts (b .forms)) s) → Ok L (cond x (underGuard ks b (b .hash)) (codeFrom ks b 0 (b .forms))) s K
       go true f = under (b .hash) refl
       go false f = ok-rest (b .forms) 0 K s (f tt)

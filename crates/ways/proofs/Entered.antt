@@ -7,9 +7,9 @@ use mathlib.Core.Option.{Option, none, some}
 use native.Mathlib.Omega.{arith}
 use borrow.Author.Tests.{eq-eqb}
 use Rattle.c_tree.specs.Stmt.{Plain, Owner, common, gap, plain, Code, end, _⨾_, when, braces, _⧺_, block, group, Top, function}
-use Rattle.forms.specs.Forms.{Lines, Native, straight, holds, branch, jump, pair, bx, pop, Form, shell, records, Body}
+use Rattle.forms.specs.Forms.{Lines, Native, straight, straightIf, branch, jump, pair, bx, pop, Form, shell, records, Body}
 use Rattle.forms.proofs.RecordCount.{recordCounts}
-use Rattle.lowering.specs.Block.{bodyKey, nl, line, lines, rest, underGuard, blockCode}
+use Rattle.lowering.specs.Block.{bodyKey, nl, line, lines, codeFrom, underGuard, blockCode}
 use Rattle.block_file.specs.Address.{outsideRomBios}
 use Rattle.lowering.specs.Units.{withLocals, emitBlock, labelled, groupCode, forwarders, emitGroup}
 use Rattle.ways.specs.Ways.{LabelAt, here, later, past-when, past-braces, Event, nativeStart, interpreted, negated, taken, Way, stop, w-gap, w-begin, w-plain, w-label, w-goto, w-lost, w-ret, w-leave, w-stay, w-unsaid, w-call, w-interp, w-retInterp, w-entry, w-default, w-past, w-when, w-unanswered, w-braces}
@@ -88,7 +88,7 @@ module _ (ts : List Top) (f : Code) (k : ℕ) where
 module _ (ts : List Top) (f : Code) (ks : List ℕ) (b : Body) where
   counts : (r : Native) → 1 ≤ timesCarried (bodyKey b) 0 (nativeStart (bodyKey b) 0 (records r) ∷ [])
   counts (straight t l) = rw (eq-eqb (bodyKey b) (bodyKey b) refl) (omega arith)
-  counts (holds t e l) = rw (eq-eqb (bodyKey b) (bodyKey b) refl) (omega arith)
+  counts (straightIf t e l) = rw (eq-eqb (bodyKey b) (bodyKey b) refl) (omega arith)
   counts (branch t e s k) = rw (eq-eqb (bodyKey b) (bodyKey b) refl) (omega arith)
   counts (jump t k) = rw (eq-eqb (bodyKey b) (bodyKey b) refl) (omega arith)
   counts (pair t k) = rw (eq-eqb (bodyKey b) (bodyKey b) refl) (omega arith)
@@ -98,8 +98,8 @@ module _ (ts : List Top) (f : Code) (ks : List ℕ) (b : Body) where
   shell-counts : 1 ≤ timesCarried (bodyKey b) 0 (interpreted (bodyKey b) 0 ∷ [])
   shell-counts = rw (eq-eqb (bodyKey b) (bodyKey b) refl) (omega arith)
 
-  from-rest : (rs : List Form) → 1 ≤ recordCounts rs → Carries ts f (bodyKey b) (rest ks b 0 rs)
-  unfolding rest
+  from-rest : (rs : List Form) → 1 ≤ recordCounts rs → Carries ts f (bodyKey b) (codeFrom ks b 0 rs)
+  unfolding codeFrom
   from-rest [] h = absurd (omega arith)
   from-rest (Form.native r ∷ rs) h = ([], _, w-begin stop, counts r)
   from-rest (shell x t e ∷ []) h = over-lines ts f (bodyKey b) common 4 t _ ([], _, w-gap w-retInterp, shell-counts)
@@ -110,14 +110,14 @@ module _ (ts : List Top) (f : Code) (ks : List ℕ) (b : Body) where
   unfolding blockCode underGuard
   from-block h = go (outsideRomBios (b .addr))
     where
-      all : Carries ts f (bodyKey b) (rest ks b 0 (b .forms))
+      all : Carries ts f (bodyKey b) (codeFrom ks b 0 (b .forms))
       all = from-rest (b .forms) h
 
       under : (y : Option ℕ) → Carries ts f (bodyKey b) (underGuard ks b y)
       under none = ([], _, w-gap (w-plain (w-gap w-retInterp)), shell-counts)
       under (some y) = (true ∷ all .0, _, w-gap (w-when (w-gap (all .2))), all .3)
 
-      go : (x : Bool) → Carries ts f (bodyKey b) (cond x (underGuard ks b (b .hash)) (rest ks b 0 (b .forms)))
+      go : (x : Bool) → Carries ts f (bodyKey b) (cond x (underGuard ks b (b .hash)) (codeFrom ks b 0 (b .forms)))
       go true = under (b .hash)
       go false = all
 

@@ -9,7 +9,7 @@ use Rattle.c_tree.specs.Expr.{word, x-cz, reg, lit}
 use Rattle.c_tree.specs.Stmt.{is, set, tick, gate, other, Owner, goto, retIf, Code, end, _⨾_, when, _⧺_, group, Top, function, Test, guard}
 use Rattle.c_tree.specs.Preamble.{v32}
 use Rattle.forms.specs.Forms.{branch, Form, shell, Body, straight}
-use Rattle.lowering.specs.Block.{bodyKey, nl, chain, transfer, nativeText, rest, blockCode, underGuard}
+use Rattle.lowering.specs.Block.{bodyKey, nl, gotoCode, transfer, nativeText, codeFrom, blockCode, underGuard}
 use Rattle.block_file.specs.Address.{outsideRomBios}
 use Rattle.lowering.specs.Units.{withLocals, labelled, groupCode, emitGroup, unitHead, lastUnitEnd, bodiesOf, unitsOf}
 use Rattle.ways.specs.Ways.{LabelAt, here, later, Event, reach, said, nativeStart, interpreted, Way, w-gap, w-begin, w-plain, w-goto, w-lost, w-leave, w-stay, w-unsaid, w-call, w-retInterp, w-entry, w-when, w-unanswered, w-braces, stop}
@@ -72,13 +72,13 @@ round = nativeStart 0x08000100 0 1 ∷ owner ∷ owner ∷ owner ∷ owner ∷ s
 
 -- the gate says yes: the way leaves
 leaves : (ts : List Top) → Way ts (groupCode both) at-loop (true ∷ true ∷ []) (round ++ (said gate true ∷ owner ∷ []))
-unfolding blockCode outsideRomBios rest nativeText transfer chain
+unfolding blockCode outsideRomBios codeFrom nativeText transfer gotoCode
 leaves ts = w-gap (w-begin (w-gap (w-plain (w-gap (w-gap (w-braces (w-gap (w-plain (w-gap (w-plain (w-gap (w-when (w-gap (w-plain (w-gap (w-gap w-leave))))))))))))))))
 
 -- it says no: the way goes round
 goes-on : (ts : List Top) {xs : List Bool} {es : List Event} → Way ts (groupCode both) at-loop xs es
     → Way ts (groupCode both) at-loop (true ∷ false ∷ xs) (round ++ (said gate false ∷ owner ∷ es))
-unfolding blockCode outsideRomBios rest nativeText transfer chain
+unfolding blockCode outsideRomBios codeFrom nativeText transfer gotoCode
 goes-on ts w =
     w-gap
     (w-begin
@@ -116,7 +116,7 @@ abbrev shelling : List Event
 shelling = reach Owner.common ∷ reach Owner.common ∷ reach Owner.common ∷ reach Owner.common ∷ interpreted 0x08000104 0 ∷ []
 
 pub lone : (ts : List Top) → Way ts (withLocals (blockCode [] swi)) (withLocals (blockCode [] swi)) [] shelling
-unfolding withLocals blockCode outsideRomBios rest
+unfolding withLocals blockCode outsideRomBios codeFrom
 lone ts = w-gap (w-plain (w-gap (w-plain (w-gap (w-plain (w-gap (w-gap (w-plain (w-gap (w-gap w-retInterp))))))))))
 
 pub one : carried shelling ≡ 1
@@ -145,11 +145,11 @@ asked = guard 0x02000000 4 7
 pub guard-yes : (ts : List Top)
     → Way ts (withLocals (blockCode [] ram)) (withLocals (blockCode [] ram)) (true ∷ [])
     (asking ++ (said asked true ∷ nativeStart 0x02000000 0 1 ∷ reach (Owner.native 0x02000000) ∷ []))
-unfolding withLocals blockCode outsideRomBios underGuard rest nativeText
+unfolding withLocals blockCode outsideRomBios underGuard codeFrom nativeText
 guard-yes ts = w-gap (w-plain (w-gap (w-plain (w-gap (w-plain (w-gap (w-gap (w-when (w-gap (w-begin (w-gap (w-braces (w-gap (w-gap (w-plain stop)))))))))))))))
 
 -- its no to the interpreter, which carries out the block's first instruction
 pub guard-no : (ts : List Top)
     → Way ts (withLocals (blockCode [] ram)) (withLocals (blockCode [] ram)) (false ∷ []) (asking ++ (said asked false ∷ reach Owner.common ∷ interpreted 0x02000000 0 ∷ []))
-unfolding withLocals blockCode outsideRomBios underGuard rest
+unfolding withLocals blockCode outsideRomBios underGuard codeFrom
 guard-no ts = w-gap (w-plain (w-gap (w-plain (w-gap (w-plain (w-gap (w-gap (w-when (w-gap (w-plain (w-gap w-retInterp)))))))))))

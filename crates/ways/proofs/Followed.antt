@@ -3,7 +3,7 @@ use Prim.Native.Nat.{ℕ}
 use mathlib.Core.Path.{refl}
 use mathlib.Core.Bool.{Bool}
 use mathlib.Core.List.{List, [], _∷_, map, List·Memᴰ, List·Memᴰ·head, List·Memᴰ·tail}
-use Rattle.c_tree.specs.Stmt.{common, Simple, gap, begin, plain, label, goto, ret, retIf, interp, retInterp, call, switch, Code, end, _⨾_, when, braces, _⧺_, Top}
+use Rattle.c_tree.specs.Stmt.{common, Simple, gap, recordMark, plain, label, goto, ret, retIf, interp, retInterp, call, switch, Code, end, _⨾_, when, braces, _⧺_, Top}
 use Rattle.forms.specs.Forms.{Body}
 use Rattle.lowering.specs.Block.{bodyKey, nl, sp, blockCode}
 use Rattle.lowering.specs.Units.{withLocals, labelled, groupCode}
@@ -17,7 +17,7 @@ module _ (L : Logic) where
 
   at-plain : (x : Simple) → NoLabel x → (c : Code) (K : S → Type 0) → At L x c K
   at-plain (gap l n) h c K = tt
-  at-plain (begin b p n) h c K = tt
+  at-plain (recordMark b p n) h c K = tt
   at-plain (plain o t) h c K = tt
   at-plain (label k) h c K = absurd h
   at-plain (goto o k) h c K = tt

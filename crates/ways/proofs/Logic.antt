@@ -3,7 +3,7 @@
 use Prim.Native.Nat.{ℕ}
 use mathlib.Core.Bool.{Bool, true, false}
 use mathlib.Core.List.{List, [], _∷_, List·Memᴰ}
-use Rattle.c_tree.specs.Stmt.{common, Simple, gap, begin, plain, label, goto, ret, retIf, interp, retInterp, call, switch, Code, end, _⨾_, when, braces, _⧺_, Top}
+use Rattle.c_tree.specs.Stmt.{common, Simple, gap, recordMark, plain, label, goto, ret, retIf, interp, retInterp, call, switch, Code, end, _⨾_, when, braces, _⧺_, Top}
 use Rattle.ways.specs.Ways.{LabelAt, here, later, in-when, past-when, in-braces, past-braces, Event, reach, said, nativeStart, interpreted, negated, taken, Way, stop, w-gap, w-begin, w-plain, w-label, w-goto, w-lost, w-ret, w-leave, w-stay, w-unsaid, w-call, w-interp, w-retInterp, w-entry, w-default, w-past, w-when, w-unanswered, w-braces}
 
 -- the states, how events move them, which events are allowed in a state, and what a state owes at a goto to a key
@@ -27,7 +27,7 @@ module _ (L : Logic) where
   -- the statement may be reached in the state s, and the text after it, where it goes on, is checked by K
   abbrev pub Ok1 : Simple → S → (S → Type 0) → Type 0
   Ok1 (gap l n) s K = K s
-  Ok1 (begin b p n) s K = allow s (nativeStart b p n) × K (step s (nativeStart b p n))
+  Ok1 (recordMark b p n) s K = allow s (nativeStart b p n) × K (step s (nativeStart b p n))
   Ok1 (plain o t) s K = allow s (reach o) × K (step s (reach o))
   Ok1 (label k) s K = K s
   Ok1 (goto o k) s K = allow s (reach o) × owed k (step s (reach o))
@@ -52,7 +52,7 @@ module _ (L : Logic) where
 
   abbrev pub At : Simple → Code → (S → Type 0) → Type 0
   At (gap l n) c K = Unit {0}
-  At (begin b p n) c K = Unit {0}
+  At (recordMark b p n) c K = Unit {0}
   At (plain o t) c K = Unit {0}
   At (label k) c K = (s : S) → owed k s → Ok c s K
   At (goto o k) c K = Unit {0}
@@ -76,7 +76,7 @@ module _ (L : Logic) where
 
   mono1 : (x : Simple) (s : S) (K K′ : S → Type 0) → ((s : S) → K s → K′ s) → Ok1 x s K → Ok1 x s K′
   mono1 (gap l n) s K K′ f h = f s h
-  mono1 (begin b p n) s K K′ f h = (h .0, f _ (h .1))
+  mono1 (recordMark b p n) s K K′ f h = (h .0, f _ (h .1))
   mono1 (plain o t) s K K′ f h = (h .0, f _ (h .1))
   mono1 (label k) s K K′ f h = f s h
   mono1 (goto o k) s K K′ f h = h

@@ -3,7 +3,7 @@ use Prim.Native.Nat.{ℕ}
 use mathlib.Core.Bool.{Bool, true, false, not}
 use mathlib.Core.List.{List, [], _∷_, List·Memᴰ}
 use Rattle.c_tree.specs.Expr.{Expr}
-use Rattle.c_tree.specs.Stmt.{Plain, Test, Owner, common, Simple, gap, begin, plain, label, goto, ret, retIf, interp, retInterp, call, switch, Code, _⨾_, when, braces, _⧺_, group, Top, function}
+use Rattle.c_tree.specs.Stmt.{Plain, Test, Owner, common, Simple, gap, recordMark, plain, label, goto, ret, retIf, interp, retInterp, call, switch, Code, _⨾_, when, braces, _⧺_, group, Top, function}
 
 -- LabelAt k c d: in c there is a place with the label k, and d is the code from there on
 pub data LabelAt (k : ℕ) : Code → Code → Type 0 where
@@ -36,7 +36,7 @@ pub data Way (ts : List Top) : Code → Code → List Bool → List Event → Ty
   -- each beginning of a way is one
   stop : {f c : Code} {xs : List Bool} → Way ts f c xs []
   w-gap : {f c : Code} {xs : List Bool} {es : List Event} {l : Bool} {n : ℕ} → Way ts f c xs es → Way ts f (gap l n ⨾ c) xs es
-  w-begin : {f c : Code} {xs : List Bool} {es : List Event} {k i n : ℕ} → Way ts f c xs es → Way ts f (begin k i n ⨾ c) xs (nativeStart k i n ∷ es)
+  w-begin : {f c : Code} {xs : List Bool} {es : List Event} {k i n : ℕ} → Way ts f c xs es → Way ts f (recordMark k i n ⨾ c) xs (nativeStart k i n ∷ es)
   w-plain : {f c : Code} {xs : List Bool} {es : List Event} {o : Owner} {p : Plain} → Way ts f c xs es → Way ts f (plain o p ⨾ c) xs (reach o ∷ es)
   w-label : {f c : Code} {xs : List Bool} {es : List Event} {k : ℕ} → Way ts f c xs es → Way ts f (label k ⨾ c) xs es
   -- a goto leads to any place in its function with that label; without one it ends the way (with one, ending there is a beginning of a way)

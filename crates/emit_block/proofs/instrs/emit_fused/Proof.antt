@@ -5,9 +5,9 @@ use mathlib.Core.Path.{sym, ap, _∙_, subst}
 use denote.Ref.{now}
 use Rattle.c_tree.specs.Stmt.{Owner, end}
 use Rattle.forms.specs.Block.{emitPair}
-use Rattle.lowering.specs.Block.{bodyKey, nativeText, rest}
+use Rattle.lowering.specs.Block.{bodyKey, nativeText, codeFrom}
 use Rattle.block_file.specs.Address.{among}
-use Rattle.emit_flow.proofs.Blocks.{rest-native}
+use Rattle.emit_flow.proofs.Blocks.{code-native}
 use Rattle.emit_instr.specs.Onward.{Onward}
 use Rattle.emit_instr.proofs.Onward.{same-from, start}
 use borrow.Author.Needs.{needs}
@@ -17,9 +17,9 @@ use Rattle.emit_block.proofs.instrs.emit_fused.Tie as tie
 returns : tie.Need-returns
 returns c = let v = c .before .before .before .before .before .before .before .before .before .args in
     λ ks b j fs s e.
-    same-from _ (rest-native ks b j (emitPair (v .cycles) (v .target) (v .ret)) fs)
-    (subst (λ (a : ℕ). Onward (now (v .out)) (v .at) (nativeText ks a (Owner.native (bodyKey b)) (emitPair (v .cycles) (v .target) (v .ret)) (rest ks b (j + 2) fs)) end (c .before .before .emit-pair .last .0) (c .before .before .emit-pair .result)) (sym e)
-    (start (c .before .before .emit-pair .ensures ks (Owner.native (bodyKey b)) (rest ks b (j + 2) fs) (ap (λ (k : ℕ). among k ks) (sym (c .before .before .before .before .before .set-bit0 .ensures)) ∙ c .before .before .before .before .is-inside .ensures ks s))))
+    same-from _ (code-native ks b j (emitPair (v .cycles) (v .target) (v .ret)) fs)
+    (subst (λ (a : ℕ). Onward (now (v .out)) (v .at) (nativeText ks a (Owner.native (bodyKey b)) (emitPair (v .cycles) (v .target) (v .ret)) (codeFrom ks b (j + 2) fs)) end (c .before .before .emit-pair .last .0) (c .before .before .emit-pair .result)) (sym e)
+    (start (c .before .before .emit-pair .ensures ks (Owner.native (bodyKey b)) (codeFrom ks b (j + 2) fs) (ap (λ (k : ℕ). among k ks) (sym (c .before .before .before .before .before .set-bit0 .ensures)) ∙ c .before .before .before .before .is-inside .ensures ks s))))
 
 pub emit-fused-spec : {M : Type 1} → statement M
 emit-fused-spec = tie.close (tie.spec (search needs) (search needs) (search needs) (search needs) returns)

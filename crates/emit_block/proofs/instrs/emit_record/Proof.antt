@@ -8,7 +8,7 @@ use denote.Ref.{now}
 use Rattle.c_tree.specs.Stmt.{end}
 use Rattle.forms.specs.Forms.{Form}
 use Rattle.forms.specs.Block.{emitPair}
-use Rattle.lowering.specs.Block.{rest}
+use Rattle.lowering.specs.Block.{codeFrom}
 use Rattle.block_exits.proofs.Closing.{not-missing}
 use Rattle.emit_instr.specs.Onward.{Onward}
 use Rattle.emit_block.proofs.Reading.{here-read}
@@ -35,7 +35,7 @@ returns-3 c = let v = c .before .before .before .before .before .before .before 
     pair-recorded (now (v .file)) (v .block) (v .first) ks b (v .j) (v .cycles) _ (now (v .out)) (v .at) (c .before .before .emit-fused .last .0) _
     (here-read (here .is) (v .j) (c .before .before .before .before .before .before .before .before .before .before .before .before .before .before .before .before .before .pre .4) _ _ (c .before .before .before .before .before .before .before .before .before .before .before .before .before .instr-of .ensures) (c .before .before .before .before .before .before .before .before .before .before .before .x .given .1))
     _ _ _ (sym (c .before .before .before .before .before .before .before .before .next-of .ensures _ (here .is)) ∙ c .before .before .before .before .before .before .target .given .1) refl refl
-    (λ fs. subst (λ (n : ℕ). Onward (now (v .out)) (v .at) (rest ks b (v .j) (Form.native (emitPair n (c .before .before .before .before .before .before .target .given .0 .0) (c .before .before .before .before .before .before .target .given .0 .1 .0)) ∷ fs)) end (c .before .before .emit-fused .last .0) (c .before .before .emit-fused .result))
+    (λ fs. subst (λ (n : ℕ). Onward (now (v .out)) (v .at) (codeFrom ks b (v .j) (Form.native (emitPair n (c .before .before .before .before .before .before .target .given .0 .0) (c .before .before .before .before .before .before .target .given .0 .1 .0)) ∷ fs)) end (c .before .before .emit-fused .last .0) (c .before .before .emit-fused .result))
     (pair-sum (v .cycles) _ _ (v .j) _ (c .before .before .before .before .wrapping-add-u64 .ensures) few (omega (arith, c .before .before .before .before .before .before .before .before .before .before .before .before .before .before .before .before .before .fits .j)) (omega (arith, c .before .before .before .before .before .before .before .before .before .struct-known .given)) (omega (arith, c .before .before .before .before .before .known-told2 .given)))
     (c .before .before .emit-fused .ensures ks b (v .j) fs (here .stands) (here .body .addr)))
 

@@ -7,13 +7,13 @@ use native.Mathlib.Omega.{arith}
 use borrow.Author.Needs.{needs}
 use lib.ListN.{length}
 use Rattle.forms.specs.Forms.{Body}
-use Rattle.emit_block.specs.Walk.{Here, Walked}
+use Rattle.emit_block.specs.Walk.{IsMemberBlock, Walked}
 use Rattle.emit_block.proofs.Walking.{walked-none, walked-more, walked-done, walked-cycles, walked-end}
 use Rattle.emit_block.proofs.walk.emit_records.Statement.{statement}
 use Rattle.emit_block.proofs.walk.emit_records.Tie as tie
 
 abbrev Inv-loop : tie.InvT-loop
-Inv-loop out₀ at file work m block first p₀ cycles₀ j₀ out p cycles j = (j ≤ block .count) × (length out ≡ length out₀) × ((ks : List ℕ) (b : Body) → Here file work m block first ks b → Walked file block first ks b out₀ at j cycles out p)
+Inv-loop out₀ at file work m block first p₀ cycles₀ j₀ out p cycles j = (j ≤ block .count) × (length out ≡ length out₀) × ((ks : List ℕ) (b : Body) → IsMemberBlock file work m block first ks b → Walked file block first ks b out₀ at j cycles out p)
 
 abbrev μ-loop : tie.MeasureT-loop
 μ-loop out₀ at file work m block first p₀ cycles₀ j₀ out p cycles j = block .count - j

@@ -2,10 +2,9 @@
 use borrow.Author.Needs.{needs}
 use Rattle.emit_flow.proofs.Pieces.{lines-behind}
 use mathlib.Core.Path.{sym}
-use mathlib.Core.List.{[], _∷_}
+use mathlib.Core.List.{[]}
 use Rattle.c_tree.specs.Stmt.{common, end}
-use Rattle.forms.specs.InlineBody.{apart}
-use Rattle.forms.specs.Block.{setWord}
+use Rattle.forms.specs.Block.{pcLine}
 use Rattle.lowering.specs.Block.{transfer}
 use Rattle.text.proofs.Laws.{seq, said}
 use Rattle.emit_flow.proofs.exits.put_closing.Statement.{statement}
@@ -16,7 +15,7 @@ returns c =
     let c2 = c .before .before in
     let c1 = c2 .before .before .before .before in
     let v = c1 .before .before .before .args in
-    λ ks h. said (seq (c1 .set-pc .ensures) (c2 .transfer .ensures ks common h)) (sym (lines-behind common common 4 (apart (setWord 15 (v .next) ∷ [])) (transfer ks (v .src) common 4 (v .key) end) []))
+    λ ks h. said (seq (c1 .set-pc .ensures) (c2 .transfer .ensures ks common h)) (sym (lines-behind common common 4 (pcLine (v .next)) (transfer ks (v .src) common 4 (v .key) end) []))
 
 pub put-closing-spec : {M : Type 1} → statement M
 put-closing-spec = tie.close (tie.spec (search needs) (search needs) (search needs) returns)

@@ -1,13 +1,13 @@
 -- `emit_flow::flow::put_goto` meets its contract: what its calls write, one after another. Assumes nothing.
 use mathlib.Core.Path.{refl}
 use borrow.Author.Needs.{needs}
-use Rattle.lowering.specs.Block.{chain}
+use Rattle.lowering.specs.Block.{gotoCode}
 use Rattle.text.proofs.Laws.{seq, said, kept}
 use Rattle.emit_flow.proofs.flow.put_goto.Statement.{statement}
 use Rattle.emit_flow.proofs.flow.put_goto.Tie as tie
 
 returns : tie.Need-returns
-unfolding chain
+unfolding gotoCode
 returns c =
     let c3 = c .before .before in
     let c2 = c3 .before .before .before .before .before in

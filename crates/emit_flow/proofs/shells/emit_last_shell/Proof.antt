@@ -3,9 +3,7 @@ use borrow.Author.Needs.{needs}
 use Rattle.emit_flow.proofs.Pieces.{ticked}
 use Rattle.c_tree.specs.Stmt.{common, retInterp, end, _⨾_}
 use Rattle.lowering.specs.Block.{nl, sp}
-use mathlib.Core.List.{[], _∷_}
-use Rattle.forms.specs.InlineBody.{apart}
-use Rattle.forms.specs.Block.{setWord}
+use Rattle.forms.specs.Block.{pcLine}
 use Rattle.text.proofs.Laws.{seq, said}
 use Rattle.emit_flow.proofs.shells.emit_last_shell.Statement.{statement}
 use Rattle.emit_flow.proofs.shells.emit_last_shell.Tie as tie
@@ -16,7 +14,7 @@ returns c =
     let c2 = c3 .before .before .before .before .before in
     let c1 = c2 .before .before .before .before in
     let v = c1 .before .before .before .args in
-    λ k i. said (seq (c1 .flush-ticks .ensures) (seq (c2 .set-pc .ensures) (c3 .put .ensures))) (ticked common (v .cycles) (apart (setWord 15 (v .addr) ∷ [])) (sp 4 ⨾ retInterp k i ⨾ nl ⨾ end))
+    λ k i. said (seq (c1 .flush-ticks .ensures) (seq (c2 .set-pc .ensures) (c3 .put .ensures))) (ticked common (v .cycles) (pcLine (v .addr)) (sp 4 ⨾ retInterp k i ⨾ nl ⨾ end))
 
 pub emit-last-shell-spec : {M : Type 1} → statement M
 emit-last-shell-spec =

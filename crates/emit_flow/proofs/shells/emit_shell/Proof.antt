@@ -3,9 +3,7 @@ use borrow.Author.Needs.{needs}
 use Rattle.emit_flow.proofs.Pieces.{ticked}
 use Rattle.c_tree.specs.Stmt.{common, end}
 use Rattle.lowering.specs.Block.{shellCode}
-use mathlib.Core.List.{[], _∷_}
-use Rattle.forms.specs.InlineBody.{apart}
-use Rattle.forms.specs.Block.{setWord}
+use Rattle.forms.specs.Block.{pcLine}
 use Rattle.text.proofs.Laws.{seq, said}
 use Rattle.emit_flow.proofs.shells.emit_shell.Statement.{statement}
 use Rattle.emit_flow.proofs.shells.emit_shell.Tie as tie
@@ -17,7 +15,7 @@ returns c =
     let c2 = c3 .before .before .before .before .before in
     let c1 = c2 .before .before .before .before in
     let v = c1 .before .before .before .args in
-    λ b i. said (seq (c1 .flush-ticks .ensures) (seq (c2 .set-pc .ensures) (seq (c3 .put-then-hex8 .ensures) (c4 .put .ensures)))) (ticked common (v .cycles) (apart (setWord 15 (v .addr) ∷ [])) (shellCode b i (v .expect) end))
+    λ b i. said (seq (c1 .flush-ticks .ensures) (seq (c2 .set-pc .ensures) (seq (c3 .put-then-hex8 .ensures) (c4 .put .ensures)))) (ticked common (v .cycles) (pcLine (v .addr)) (shellCode b i (v .expect) end))
 
 pub emit-shell-spec : {M : Type 1} → statement M
 emit-shell-spec =

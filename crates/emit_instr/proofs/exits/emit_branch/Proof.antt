@@ -9,7 +9,7 @@ use Rattle.forms.specs.Operands.{condExpr}
 use Rattle.forms.specs.InlineBody.{apart}
 use Rattle.forms.specs.Block.{flushTicks, branchRegs}
 use Rattle.armv4t.specs.Cond.{isAl}
-use Rattle.lowering.specs.Block.{bodyKey, rest}
+use Rattle.lowering.specs.Block.{bodyKey, codeFrom}
 use Rattle.block_file.specs.Address.{among}
 use Rattle.emit_instr.proofs.Texts.{jump-step, branch-step, branch-form}
 use Rattle.emit_instr.proofs.Steps.{same-form}
@@ -33,7 +33,7 @@ returns c =
           jump-step ks b j (isAl (a .i .cond)) (flushTicks (a .cycles) ++ apart regs) (flushTicks (a .cycles)) (condExpr (a .i .cond)) regs
           (key .key-of .result) (a .src) fs
           (sym (c1 .before .is-al .ensures) ∙ c1 .if1 .taken) e
-          (c2 .branch-always .ensures ks (Owner.native (bodyKey b)) (rest ks b (j + 1) fs) (ap (λ (n : ℕ). among n ks) (key .key-of .ensures) ∙ h));
+          (c2 .branch-always .ensures ks (Owner.native (bodyKey b)) (codeFrom ks b (j + 1) fs) (ap (λ (n : ℕ). among n ks) (key .key-of .ensures) ∙ h));
       cycles = refl;
     })
 

@@ -9,7 +9,7 @@ use Rattle.c_tree.specs.Print.{codeText}
 use Rattle.forms.specs.Forms.{bx}
 use Rattle.forms.specs.Operands.{regExpr, regOf}
 use Rattle.forms.specs.Block.{flushTicks}
-use Rattle.lowering.specs.Block.{bodyKey, nativeText, rest}
+use Rattle.lowering.specs.Block.{bodyKey, nativeText, codeFrom}
 use Rattle.emit_instr.proofs.Texts.{exit-step}
 use borrow.Author.Needs.{needs}
 use Rattle.emit_instr.proofs.exits.leave_by_bx.Statement.{statement}
@@ -24,8 +24,8 @@ returns c =
     record {
       onward =
           exit-step ks b j (bx (flushTicks (a .cycles)) (regExpr (a .i) (a .rm))) (b .addr) fs refl
-          (said (c2 .emit-bx .ensures ks (b .addr) (Owner.native (bodyKey b)) (rest ks b (j + 1) fs))
-          (ap (λ (n : ℕ). flat (codeText (nativeText ks (b .addr) (Owner.native (bodyKey b)) (bx (flushTicks (a .cycles)) (regOf n (a .rm))) (rest ks b (j + 1) fs))) []) (c1 .pc-value .ensures)));
+          (said (c2 .emit-bx .ensures ks (b .addr) (Owner.native (bodyKey b)) (codeFrom ks b (j + 1) fs))
+          (ap (λ (n : ℕ). flat (codeText (nativeText ks (b .addr) (Owner.native (bodyKey b)) (bx (flushTicks (a .cycles)) (regOf n (a .rm))) (codeFrom ks b (j + 1) fs))) []) (c1 .pc-value .ensures)));
       cycles = refl;
     }
 

@@ -6,7 +6,7 @@ use Rattle.c_tree.specs.Stmt.{Owner}
 use Rattle.text.proofs.Laws.{seq, said}
 use Rattle.forms.specs.InlineBody.{listed}
 use Rattle.forms.specs.Block.{emitPop}
-use Rattle.lowering.specs.Block.{bodyKey, rest}
+use Rattle.lowering.specs.Block.{bodyKey, codeFrom}
 use Rattle.emit_mem.proofs.PopText.{ticks-then-pop}
 use Rattle.emit_instr.proofs.Texts.{exit-step}
 use borrow.Author.Needs.{needs}
@@ -23,7 +23,7 @@ returns c =
       onward =
           exit-step ks b j (emitPop (a .thumb) (a .cycles) (a .rn) (listed (a .rlist) 15)) (b .addr) fs refl
           (said (seq (c1 .flush-ticks .ensures) (c2 .put-pop .ensures))
-          (sym (ticks-then-pop ks (b .addr) (Owner.native (bodyKey b)) (a .thumb) (a .cycles) (a .rn) (listed (a .rlist) 15) (rest ks b (j + 1) fs) [])));
+          (sym (ticks-then-pop ks (b .addr) (Owner.native (bodyKey b)) (a .thumb) (a .cycles) (a .rn) (listed (a .rlist) 15) (codeFrom ks b (j + 1) fs) [])));
       cycles = refl;
     }
 

@@ -1,15 +1,14 @@
 -- `shells::put_shell` meets its contract: its call writes the text of a shell, the last or not. Assumes nothing.
 use Prim.Native.Nat.{ℕ}
 use mathlib.Core.Path.{ap}
-use mathlib.Core.List.{[], _∷_, _++_}
+use mathlib.Core.List.{[], _++_}
 use Rattle.text.specs.Doc.{flat}
 use Rattle.text.proofs.Laws.{said}
 use Rattle.c_tree.specs.Stmt.{common, end}
 use Rattle.c_tree.specs.Print.{codeText}
 use Rattle.block_exits.specs.Exits.{fallThrough}
 use Rattle.forms.specs.Forms.{Lines}
-use Rattle.forms.specs.InlineBody.{apart}
-use Rattle.forms.specs.Block.{flushTicks, setWord}
+use Rattle.forms.specs.Block.{flushTicks, pcLine}
 use Rattle.lowering.specs.Block.{bodyKey, lines, shellCode}
 use Rattle.emit_instr.proofs.Texts.{shell-step, last-step}
 use borrow.Author.Needs.{needs}
@@ -21,7 +20,7 @@ returns c =
     let c2 = c .before .before in
     let c1 = c2 .before .before in
     let a = c1 .before .before .args in
-    let t : Lines = flushTicks (a .cycles) ++ apart (setWord 15 (a .i .addr) ∷ []) in
+    let t : Lines = flushTicks (a .cycles) ++ pcLine (a .i .addr) in
     λ high ks b j fs h.
     last-step ks b j high (a .last) t (fallThrough (a .thumb) (a .i)) fs h (c1 .if1 .taken) (c2 .emit-last-shell .ensures (bodyKey b) j)
 
@@ -31,7 +30,7 @@ returns-2 c =
     let c2 = c3 .before .before in
     let c1 = c2 .before in
     let a = c1 .before .before .args in
-    let t : Lines = flushTicks (a .cycles) ++ apart (setWord 15 (a .i .addr) ∷ []) in
+    let t : Lines = flushTicks (a .cycles) ++ pcLine (a .i .addr) in
     λ high ks b j fs h.
     shell-step ks b j high (a .last) t (fallThrough (a .thumb) (a .i)) fs h (c1 .if1 .left)
     (said (c3 .emit-shell .ensures b j) (ap (λ (n : ℕ). flat (codeText (lines common 4 t (shellCode b j n end))) []) (c2 .fall-through .ensures)))

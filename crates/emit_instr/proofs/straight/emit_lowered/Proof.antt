@@ -18,7 +18,7 @@ returns c =
     λ body e ks b j fs h.
     record {
       onward =
-          lowered-step ks b j (isAl (a .x .instr .cond)) (cond (a .bus) (flushTicks (a .cycles)) []) (condExpr (a .x .instr .cond)) body fs
+          lowered-step ks b j (isAl (a .x .instr .cond)) (cond (a .touches-bus) (flushTicks (a .cycles)) []) (condExpr (a .x .instr .cond)) body fs
           (seq (c1 .put-ticks .ensures) (c2 .put-lowered .ensures body e));
       cycles = c .pending .ensures h;
     }

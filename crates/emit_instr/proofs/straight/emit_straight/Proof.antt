@@ -16,7 +16,7 @@ returns c =
     let a = c1 .before .before .before .before .args in
     let body = there (inlineBody (a .thumb) (a .x .instr)) (sym (c1 .before .is-inlined .ensures) ∙ c1 .if1 .taken) in
     λ ks b j fs h g.
-    same-form (emitLines (a .thumb) (a .bus) (a .cycles) (a .x) (some (body .0))) _ (ap (emitLines (a .thumb) (a .bus) (a .cycles) (a .x)) (sym (body .1)))
+    same-form (emitLines (a .thumb) (a .touches-bus) (a .cycles) (a .x) (some (body .0))) _ (ap (emitLines (a .thumb) (a .touches-bus) (a .cycles) (a .x)) (sym (body .1)))
     (c2 .emit-lowered .ensures (body .0) (body .1) ks b j fs g)
 
 returns-2 : tie.Need-returns-2
@@ -25,8 +25,8 @@ returns-2 c =
     let c1 = c2 .before .before in
     let a = c1 .before .before .before .before .args in
     λ ks b j fs h g.
-    same-form (emitLines (a .thumb) (a .bus) (a .cycles) (a .x) none) _
-    (ap (emitLines (a .thumb) (a .bus) (a .cycles) (a .x)) (missing (inlineBody (a .thumb) (a .x .instr)) (sym (c1 .before .is-inlined .ensures) ∙ c1 .if1 .left)))
+    same-form (emitLines (a .thumb) (a .touches-bus) (a .cycles) (a .x) none) _
+    (ap (emitLines (a .thumb) (a .touches-bus) (a .cycles) (a .x)) (missing (inlineBody (a .thumb) (a .x .instr)) (sym (c1 .before .is-inlined .ensures) ∙ c1 .if1 .left)))
     (c2 .emit-interpreted .ensures ks b j fs h)
 
 pub emit-straight-spec : {M : Type 1} → statement M

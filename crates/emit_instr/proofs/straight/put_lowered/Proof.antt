@@ -14,7 +14,7 @@ returns-2 : tie.Need-returns-2
 returns-2 c =
     let c2 = c .before .before in
     let c1 = c2 .before .before in
-    λ body e. rw (sym (c1 .before .is-al .ensures) ∙ c1 .if1 .left) (c2 .put-holds .ensures body e)
+    λ body e. rw (sym (c1 .before .is-al .ensures) ∙ c1 .if1 .left) (c2 .put-straight-if .ensures body e)
 
 pub put-lowered-spec : {M : Type 1} → statement M
 put-lowered-spec =

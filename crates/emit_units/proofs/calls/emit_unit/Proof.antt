@@ -11,7 +11,7 @@ use Rattle.fnv.specs.Fnv.{hashMultiplier}
 use Rattle.lowering.specs.Units.{unit}
 use Rattle.plan.proofs.HandOver.{cleared-same, refused-8}
 use Rattle.plan.specs.Calls.{partLimit, handOver}
-use Rattle.emit_units.specs.Calls.{translatedOf, madeUnit}
+use Rattle.emit_units.specs.Calls.{translatedOf}
 use Rattle.emit_units.proofs.Answers.{cleared-call}
 use Rattle.emit_units.proofs.calls.emit_unit.Statement.{statement}
 use Rattle.emit_units.proofs.calls.emit_unit.Tie as tie
@@ -21,7 +21,7 @@ unfolding translatedOf
 returns c =
     let pre = c .before .before .before .before .pre in
     let a = c .before .before .before .before .args in
-    refused-8 (λ (bs : List Block). madeUnit (unit hashMultiplier partLimit (a .max) bs (a .k))) _ (pre .0) _ (pre .1) _ _ (omega arith)
+    refused-8 (λ (bs : List Block). unit hashMultiplier partLimit (a .max) bs (a .k)) _ (pre .0) _ (pre .1) _ _ (omega arith)
 
 prepare-requires : tie.Need-prepare-requires
 prepare-requires c κs =
@@ -39,9 +39,9 @@ returns-2 c =
     let a = start .args in
     let f = a .file .now in
     made .answer-unit .ensures _
-    ∙ ap (λ (w : List ℕ). handOver (madeUnit (unit hashMultiplier partLimit (a .max) (blocksOf f) (a .k))) w (a .out .now))
+    ∙ ap (λ (w : List ℕ). handOver (unit hashMultiplier partLimit (a .max) (blocksOf f) (a .k)) w (a .out .now))
     (c .before .before .clear .ensures ∙ cleared-same _ _ _ (prepared .same) (prepared .after))
-    ∙ cleared-call (λ (bs : List Block). madeUnit (unit hashMultiplier partLimit (a .max) bs (a .k))) f (start .pre .0) (a .n) (start .pre .1) (a .work .now) (a .out .now) (omega arith)
+    ∙ cleared-call (λ (bs : List Block). unit hashMultiplier partLimit (a .max) bs (a .k)) f (start .pre .0) (a .n) (start .pre .1) (a .work .now) (a .out .now) (omega arith)
 
 pub emit-unit-spec : {M : Type 1} → statement M
 emit-unit-spec =

@@ -5,7 +5,7 @@ use lib.ListN.{length}
 use mathlib.Core.Bool.{true≢false}
 use mathlib.Core.Path.{_≡_, sym}
 use native.Mathlib.Omega.{arith}
-use Rattle.emit_tables.proofs.Around.{seen-member-keys}
+use Rattle.emit_tables.proofs.Around.{hashed-member-keys}
 use Rattle.emit_tables.proofs.Rows.{group-size}
 use Rattle.emit_tables.specs.Tables.{groupKeys}
 use Rattle.fnv.specs.Fnv.{hashMultiplier}
@@ -24,7 +24,7 @@ returns c = λ limit g is.
     let f = a .file .now in
     let ms = membersOf limit (blocksOf f) g in
     let one : length (membersOf limit (blocksOf f) g) ≡ 1 = omega (arith, group-size is) in
-    lone-wrote (a .hashing) f ms (groupKeys limit f g) _ one (seen-member-keys (a .hashing) hashMultiplier (blocksOf f) ms)
+    lone-wrote (a .hashing) f ms (groupKeys limit f g) _ one (hashed-member-keys (a .hashing) hashMultiplier (blocksOf f) ms)
     (head .before .row-key .ensures _ limit g 0 (is .ready) (omega (arith, is .first)) (omega arith)) (head .put-block-head .ensures)
     (code .put-code .ensures limit g 0 (is .ready) (omega (arith, is .first)) (omega arith) (λ e. absurd (true≢false (sym e))))
     (close .put-function-end .ensures)

@@ -3,10 +3,10 @@
 use borrow.Author.Needs.{needs}
 use mathlib.Core.List.{map}
 use native.Mathlib.Omega.{arith}
-use Rattle.emit_tables.proofs.Around.{seen-member-keys}
+use Rattle.emit_tables.proofs.Around.{hashed-member-keys}
 use Rattle.emit_tables.specs.Tables.{groupKeys}
 use Rattle.fnv.specs.Fnv.{hashMultiplier}
-use Rattle.lowering.specs.Measured.{seen}
+use Rattle.lowering.specs.Measured.{hashedIf}
 use Rattle.lowering.specs.Units.{bodiesOf}
 use Rattle.members.specs.Members.{membersOf}
 use Rattle.block_file.specs.Parse.{blocksOf}
@@ -26,8 +26,8 @@ returns c = λ limit g is some.
     let a = c1 .before .before .before .before .before .before .args in
     let f = a .file .now in
     let is′ = membersOf limit (blocksOf f) g in
-    let ms = map (seen (a .hashing)) (bodiesOf (fileBodies f) is′) in
-    let keys = seen-member-keys (a .hashing) hashMultiplier (blocksOf f) is′ in
+    let ms = map (hashedIf (a .hashing)) (bodiesOf (fileBodies f) is′) in
+    let keys = hashed-member-keys (a .hashing) hashMultiplier (blocksOf f) is′ in
     several-wrote ms (groupKeys limit f g) _ (omega (arith, members-count (a .hashing) f is′)) keys
     (c1 .before .row-key .ensures _ limit g 0 (is .ready) (omega (arith, is .first)) (omega arith)) (c1 .put-group-head .ensures)
     (c2 .put-cases .ensures limit g is ms keys) (c3 .put-switch-end .ensures) (c4 .put-members .ensures limit g is some) (c5 .put-function-end .ensures)

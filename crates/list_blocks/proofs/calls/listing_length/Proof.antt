@@ -8,13 +8,13 @@ use Rattle.list_blocks.proofs.calls.listing_length.Tie as tie
 use Rattle.plan.specs.Calls.{partLimit}
 use Rattle.block_file.specs.Parse.{blocksOf}
 use Rattle.text.proofs.Laws.{exact, counted}
-use Rattle.text.specs.Wrote.{top}
+use Rattle.text.specs.Wrote.{maxUsize}
 use borrow.Author.Needs.{needs}
 use mathlib.Core.Path.{sym, _∙_, subst}
 use native.Mathlib.Omega.{arith}
 
 returns : tie.Need-returns
-returns c = exact (c .before .put-listing .ensures) (subst (λ (k : ℕ). k < top) (sym (counted (c .before .put-listing .ensures))) (omega (arith, listing-short partLimit (blocksOf (c .before .before .before .before .before .args .file .now)) (subst (λ (k : ℕ). k ≤ 65536) (c .before .before .before .before .before .pre .0 .2 ∙ sym (length-of _ _ (c .before .before .before .before .before .pre .1 .0))) (c .before .before .before .before .before .pre .0 .1)))))
+returns c = exact (c .before .put-listing .ensures) (subst (λ (k : ℕ). k < maxUsize) (sym (counted (c .before .put-listing .ensures))) (omega (arith, listing-short partLimit (blocksOf (c .before .before .before .before .before .args .file .now)) (subst (λ (k : ℕ). k ≤ 65536) (c .before .before .before .before .before .pre .0 .2 ∙ sym (length-of _ _ (c .before .before .before .before .before .pre .1 .0))) (c .before .before .before .before .before .pre .0 .1)))))
 
 pub listing-length-spec : {M : Type 1} → statement M
 listing-length-spec = tie.close (tie.spec (search needs) (λ c κs. search needs) returns)

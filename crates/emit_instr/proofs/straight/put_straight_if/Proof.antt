@@ -1,8 +1,8 @@
--- `straight::put_holds` meets its contract: what its calls write, one after another. Assumes nothing.
+-- `straight::put_straight_if` meets its contract: what its calls write, one after another. Assumes nothing.
 use Rattle.text.proofs.Laws.{seq}
 use borrow.Author.Needs.{needs}
-use Rattle.emit_instr.proofs.straight.put_holds.Statement.{statement}
-use Rattle.emit_instr.proofs.straight.put_holds.Tie as tie
+use Rattle.emit_instr.proofs.straight.put_straight_if.Statement.{statement}
+use Rattle.emit_instr.proofs.straight.put_straight_if.Tie as tie
 
 returns : tie.Need-returns
 returns c =
@@ -13,9 +13,9 @@ returns c =
     let c1 = c2 .before .before .before .before in
     λ body e.
     seq (c1 .open-conditional .ensures)
-    (seq (c2 .put-cond-expr .ensures) (seq (c3 .open-holds .ensures) (seq (c4 .put-body .ensures body e) (c5 .close-holds .ensures))))
+    (seq (c2 .put-cond-expr .ensures) (seq (c3 .open-straight-if .ensures) (seq (c4 .put-body .ensures body e) (c5 .close-straight-if .ensures))))
 
-pub put-holds-spec : {M : Type 1} → statement M
-put-holds-spec =
+pub put-straight-if-spec : {M : Type 1} → statement M
+put-straight-if-spec =
     tie.close
     (tie.spec (search needs) (search needs) (search needs) (search needs) (search needs) (search needs) returns)

@@ -1,10 +1,10 @@
--- `emit_flow::exits::emit_bx` meets its contract: what its calls write, one after another. Assumes nothing.
+-- `emit_instr::exits::emit_bx` meets its contract: what its calls write, one after another. Assumes nothing.
 use borrow.Author.Needs.{needs}
 use Rattle.emit_flow.proofs.Pieces.{bx-text}
 use Rattle.forms.specs.Operands.{regOf}
 use Rattle.text.proofs.Laws.{seq, said}
-use Rattle.emit_flow.proofs.exits.emit_bx.Statement.{statement}
-use Rattle.emit_flow.proofs.exits.emit_bx.Tie as tie
+use Rattle.emit_instr.proofs.exits.emit_bx.Statement.{statement}
+use Rattle.emit_instr.proofs.exits.emit_bx.Tie as tie
 
 returns : tie.Need-returns
 returns c =

@@ -1,11 +1,11 @@
 -- The ranges that document 01 has for the fields of instruction records.
-use Prim.Native.Nat.{ℕ, _%_, _≤_, _<_, _^_}
+use Prim.Native.Nat.{_%_, _≤_, _<_, _^_}
 use mathlib.Core.Path.{_≡_}
 use Rattle.armv4t.specs.declared.Shift.{Shift}
 use Rattle.armv4t.specs.declared.Operand2.{Operand2}
 use Rattle.armv4t.specs.declared.MemOffset.{MemOffset}
 use Rattle.armv4t.specs.declared.Op.{Op}
 use Rattle.armv4t.specs.declared.Op.the-variants.{Alu, Mul, MulLong, Swap, Bx, Branch, ThumbBlHigh, ThumbBlLow, Mem, BlockMem, Mrs, MsrReg, MsrImm, Swi, Undefined}
 
 -- the fields of an operation are in the ranges that document 01 has for instruction records
 abbrev pub ShiftInRange : Shift → Type 0
