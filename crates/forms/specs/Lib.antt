@@ -6,3 +6,4 @@ pub mod Block
 pub mod Agree
 pub mod Means
 pub mod Examples
+pub mod MeaningExamples

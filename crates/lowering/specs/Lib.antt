@@ -6,3 +6,4 @@ pub mod Examples
 pub mod Text
 pub mod Records
 pub mod Differences
+pub mod MeaningExamples
