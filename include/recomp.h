@@ -68,7 +68,7 @@ uint32_t recomp_listing(const uint8_t *file, size_t file_len, uint32_t *work, si
  * it and in all units before it, `*last` is 1 for the last unit and 0 for the others. Every accepted
  * file has a last unit, at every size; refusal 9 is given for every number above that unit's.
  * Each call goes through the file from its start, and its time does not depend on earlier calls.
- * Refusals 1 to 10. Definition: `unitCall` in crates/emit_units/specs/Calls.antt. It is also proved
+ * Refusals 1 to 10. Definition: `unitCall` in crates/unit_call/specs/Calls.antt. It is also proved
  * that along every way through the units, at every size, at most 8,192 instructions are carried out
  * between two calls of the chain gate in a group of several blocks, that a block alone in its group
  * carries out no instruction twice, and that native code of a block outside ROM and BIOS is reached

@@ -22,7 +22,7 @@ use Rattle.forms.specs.Forms.{Body}
 use Rattle.lowering.specs.Units.{TranslationUnit, emitGroup, unitHead, lastUnitEnd, textOf, cut, defaultBody, bodiesOf, unitsOf, unitsFor, fileUnits}
 use Rattle.lowering.proofs.Lengths.{text-append, units-short}
 use Rattle.emit_units.specs.declared.extents.Extent.{Extent}
-use Rattle.emit_units.specs.Groups.{fileBodies}
+use Rattle.emit_group.specs.Groups.{fileBodies}
 use Rattle.emit_units.specs.Units.{after, grown, unitGroups, unitTree, unitsWith, unitsFrom, FirstUnit, IsUnit}
 
 -- a group behind some

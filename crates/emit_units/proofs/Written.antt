@@ -22,7 +22,7 @@ use Rattle.lowering.specs.Measured.{hashedIf}
 use Rattle.lowering.specs.Units.{emitGroup, unitHead, lastUnitEnd, bodiesOf}
 use Rattle.lowering.proofs.Measured.{hashed-written}
 use Rattle.emit_units.specs.declared.extents.Extent.{Extent}
-use Rattle.emit_units.specs.Groups.{fileBodies, groupText}
+use Rattle.emit_group.specs.Groups.{fileBodies, groupText}
 use Rattle.emit_units.specs.Units.{grown, unitGroups, unitTree, Takes}
 
 -- bodies as they are written are themselves

@@ -15,7 +15,7 @@ use Rattle.forms.specs.Forms.{Body}
 use Rattle.lowering.specs.Units.{TranslationUnit, emitGroup, unitHead, lastUnitEnd, textOf, cut, bodiesOf, fileUnits}
 use Rattle.emit_units.specs.declared.extents.Extent.{Extent}
 use Rattle.emit_units.specs.declared.extents.FoundUnit.{FoundUnit}
-use Rattle.emit_units.specs.Groups.{fileBodies}
+use Rattle.emit_group.specs.Groups.{fileBodies}
 
 -- the length of at bytes and the text of a tree, or the largest `usize` where that is less
 abbrev pub after : ℕ → List Top → ℕ

@@ -58,7 +58,7 @@ fn measure_unit(file: &[u8], work: &[u32], n: usize, max: u64, p: usize) -> Exte
 }
 
 // Unit k at a wished size, of an accepted file with n blocks.
-pub(crate) fn find_unit(file: &[u8], work: &[u32], n: usize, max: u64, k: u64) -> FoundUnit
+pub fn find_unit(file: &[u8], work: &[u32], n: usize, max: u64, k: u64) -> FoundUnit
     requires { ⌜ (4 * n ≤ length (now work)) × (n ≤ 65536) × (n ≡ blockCount (now file)) ⌝ }
     requires { ⌜ Accepted (now file) ⌝ }
     ensures { λ r. ⌜ ((limit : ℕ) → Ready (now (file .entry)) n limit (now (work .entry)) → describes (now (file .entry)) limit max k r) ⌝ }

@@ -1,6 +1,6 @@
 // How long the parts of a unit are: they are written to no bytes at all, with 0 in the place of each hash.
-use crate::groups::emit_group;
 use emit_flow::put_preamble;
+use emit_group::emit_group;
 use emit_tables::put_tail;
 ghost use mathlib.Core.Path.{_≡_};
 ghost use Prim.Native.Nat.{ℕ, _*_, _≤_, _<_};
@@ -10,7 +10,7 @@ ghost use Rattle.block_file.specs.Parse.{blocksOf, Accepted};
 ghost use Rattle.lowering.specs.Units.{emitGroup, unitHead, lastUnitEnd, bodiesOf};
 ghost use Rattle.members.specs.Members.{membersOf};
 ghost use Rattle.emit_tables.specs.Tables.{IsGroup};
-ghost use Rattle.emit_units.specs.Groups.{fileBodies};
+ghost use Rattle.emit_group.specs.Groups.{fileBodies};
 ghost use Rattle.emit_units.specs.Units.{after};
 
 // The length of PREAMBLE and the empty line.

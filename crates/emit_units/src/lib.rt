@@ -1,9 +1,9 @@
-// The units of a file: the functions of its groups, and the unit with a number at a wished size, into a lent buffer.
-mod calls;
+// The units of a file at a wished size: the rows of the unit with a number, found by measuring, and its text.
 mod extents;
-mod groups;
 mod lengths;
 mod writing;
 
-pub use calls::Translated;
-pub use calls::unit_of;
+pub use extents::Extent;
+pub use extents::FoundUnit;
+pub use extents::find_unit;
+pub use writing::write_unit;

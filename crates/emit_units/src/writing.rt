@@ -1,7 +1,7 @@
 // A unit, written to a lent buffer.
 use crate::extents::Extent;
-use crate::groups::emit_group;
 use emit_flow::put_preamble;
+use emit_group::emit_group;
 use emit_tables::put_tail;
 use members::group_end;
 ghost use mathlib.Core.Path.{_≡_};
@@ -15,7 +15,7 @@ ghost use Rattle.block_file.specs.Parse.{blocksOf, Accepted};
 ghost use Rattle.plan.specs.Plan.{groups};
 ghost use Rattle.members.specs.Prepared.{Ready};
 ghost use Rattle.c_tree.specs.Print.{unitText};
-ghost use Rattle.emit_units.specs.Groups.{groupText};
+ghost use Rattle.emit_group.specs.Groups.{groupText};
 ghost use Rattle.emit_units.specs.Units.{Takes, IsUnit};
 
 // The groups of a unit.
@@ -34,7 +34,7 @@ fn put_groups(out: &mut [u8], at: usize, file: &[u8], work: &[u32], n: usize, e:
 }
 
 // The unit of an extent, with its hashes, from the front of `out` on.
-pub(crate) fn write_unit(out: &mut [u8], file: &[u8], work: &[u32], n: usize, e: Extent) -> usize
+pub fn write_unit(out: &mut [u8], file: &[u8], work: &[u32], n: usize, e: Extent) -> usize
     requires { ⌜ (4 * n ≤ length (now work)) × (n ≤ 65536) × (n ≡ blockCount (now file)) × (e .end ≤ n) ⌝ }
     requires { ⌜ Accepted (now file) ⌝ }
     ensures { λ r. ⌜ ((limit max k : ℕ) → Ready (now (file .entry)) n limit (now (work .entry)) → (is : IsUnit (now (file .entry)) limit max k e) → Wrote (now (out .entry)) 0 (unitText (is .unit .tree)) (now (out .exit)) r) ⌝ }

@@ -5,7 +5,7 @@ ghost use mathlib.Core.Path.{_≡_};
 ghost use Rattle.fnv.specs.Fnv.{hashMultiplier};
 ghost use Rattle.block_file.specs.Parse.{parse};
 ghost use Rattle.plan.specs.Calls.{partLimit};
-ghost use Rattle.emit_units.specs.Calls.{unitCall};
+ghost use Rattle.unit_call.specs.Calls.{unitCall};
 ghost use Rattle.ways.specs.Demand3.{Demand3Of};
 ghost use Rattle.meaning.specs.Meaning.{MeaningOf};
 ghost use Rattle.recomp.specs.Answer.{unitNumbers};

@@ -1,11 +1,11 @@
 // The public call for a unit, with demand 3 and the text's meaning in its promise.
 use crate::Translated;
-use emit_units::unit_of;
+use unit_call::unit_of;
 ghost use mathlib.Core.Path.{_≡_};
 ghost use Rattle.fnv.specs.Fnv.{hashMultiplier};
 ghost use Rattle.block_file.specs.Parse.{parse};
 ghost use Rattle.plan.specs.Calls.{partLimit};
-ghost use Rattle.emit_units.specs.Calls.{translatedOf, unitCall};
+ghost use Rattle.unit_call.specs.Calls.{translatedOf, unitCall};
 ghost use Rattle.ways.specs.Demand3.{Demand3Of};
 ghost use Rattle.meaning.specs.Meaning.{MeaningOf};
 

@@ -6,7 +6,7 @@ use lib.ListN.{take, drop}
 use Rattle.block_file.specs.Answer.{Answer}
 use Rattle.block_file.specs.Parse.{parse}
 use Rattle.lowering.specs.Units.{UnitAnswer}
-use Rattle.emit_units.specs.Calls.{unitCall}
+use Rattle.unit_call.specs.Calls.{unitCall}
 use Rattle.recomp.specs.Answer.{UnitNumbers, withUnit, unitNumbers}
 use Rattle.case_io.specs.Same.{sameNumbers}
 

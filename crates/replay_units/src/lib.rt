@@ -11,7 +11,7 @@ use recomp::Translated;
 ghost use mathlib.Core.Path.{_≡_};
 ghost use Prim.Native.Nat.{_≤_};
 ghost use lib.ListN.{length};
-ghost use Rattle.emit_units.specs.Calls.{translatedOf};
+ghost use Rattle.unit_call.specs.Calls.{translatedOf};
 ghost use Rattle.case_io.specs.Same.{sameNumbers};
 ghost use Rattle.replay_units.specs.UnitCases.{unitAnswerNumbers, left, sameUnit};
 

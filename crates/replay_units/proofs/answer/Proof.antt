@@ -3,7 +3,7 @@ use mathlib.Core.Path.{_≡_, refl}
 use mathlib.Core.Bool.{Bool, true, false, cond}
 use mir.Val.{boolByte}
 use borrow.Author.Needs.{needs}
-use Rattle.emit_units.specs.Calls.{translatedOf}
+use Rattle.unit_call.specs.Calls.{translatedOf}
 use Rattle.replay_units.proofs.answer.Statement.{statement}
 use Rattle.replay_units.proofs.answer.Tie as tie
 

@@ -5,7 +5,7 @@ use lib.ListN.{take, drop}
 use lib.Seq.{length-take-le, length-front}
 use borrow.Author.Tests.{not-true, not-false}
 use Rattle.block_file.specs.Parse.{parse}
-use Rattle.emit_units.specs.Calls.{translatedOf, unitCall}
+use Rattle.unit_call.specs.Calls.{translatedOf, unitCall}
 use Rattle.replay_units.proofs.Compared.{compared}
 use borrow.Author.Needs.{needs}
 use Rattle.replay_units.proofs.is_right.Statement.{statement}

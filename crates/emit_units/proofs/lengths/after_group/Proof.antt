@@ -8,7 +8,7 @@ use Rattle.lowering.specs.Units.{bodiesOf, textOf}
 use Rattle.members.specs.Members.{membersOf}
 use Rattle.block_file.specs.Parse.{blocksOf}
 use Rattle.text.specs.Wrote.{maxUsize}
-use Rattle.emit_units.specs.Groups.{fileBodies}
+use Rattle.emit_group.specs.Groups.{fileBodies}
 use Rattle.emit_units.proofs.lengths.after_group.Statement.{statement}
 use Rattle.emit_units.proofs.lengths.after_group.Tie as tie
 

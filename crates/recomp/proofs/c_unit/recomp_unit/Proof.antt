@@ -1,6 +1,6 @@
 -- `recomp::c_unit::recomp_unit` meets its contract: each case hands over the numbers of its answer.
 -- Assumes nothing.
-use Rattle.emit_units.specs.Calls.{translatedOf}
+use Rattle.unit_call.specs.Calls.{translatedOf}
 use borrow.Author.Needs.{needs}
 use mathlib.Core.Path.{_≡_, refl}
 use mathlib.Core.Bool.{Bool, true, false, cond}
