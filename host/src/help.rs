@@ -25,8 +25,9 @@ usage: recomp units FILE -o DIR [--unit-size BYTES]
   --unit-size BYTES  close a unit once it has so many bytes (1M unless given; K is 1024, M is 1024K)
 
 Nothing is written for a refused file. Units get their names when all are written; files of DIR
-that are named like further units, left by an older run, are removed, and no others. Each unit
-takes one pass over the file: large units take less time together.
+that are named like further units, left by an older run, are removed, and no others but the .tmp
+files of a run that was interrupted. Each unit takes one pass over the file: large units take less
+time together.
 ";
 
 pub const CHECK: &str = "\

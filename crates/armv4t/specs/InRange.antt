@@ -1,4 +1,4 @@
--- The ranges that document 01 has for the fields of instruction records.
+-- The ranges of an operation's fields, as document 01 has them for instruction records; the rotation of a value, which shows in C alone, may be any.
 use Prim.Native.Nat.{_%_, _≤_, _<_, _^_}
 use mathlib.Core.Path.{_≡_}
 use Rattle.armv4t.specs.declared.Shift.{Shift}
@@ -7,19 +7,22 @@ use Rattle.armv4t.specs.declared.MemOffset.{MemOffset}
 use Rattle.armv4t.specs.declared.Op.{Op}
 use Rattle.armv4t.specs.declared.Op.the-variants.{Alu, Mul, MulLong, Swap, Bx, Branch, ThumbBlHigh, ThumbBlLow, Mem, BlockMem, Mrs, MsrReg, MsrImm, Swi, Undefined}
 
--- the fields of an operation are in the ranges that document 01 has for instruction records
+-- an amount below 32, or a register
 abbrev pub ShiftInRange : Shift → Type 0
 ShiftInRange (Shift.Imm kind amount) = amount < 32
 ShiftInRange (Shift.Reg kind rs) = rs ≤ 15
 
+-- a value of 32 bits, or a register with its shift
 abbrev pub OperandInRange : Operand2 → Type 0
 OperandInRange (Operand2.Imm value rot) = value < 2 ^ 32
 OperandInRange (Operand2.Reg rm s) = (rm ≤ 15) × ShiftInRange s
 
+-- a value of 16 bits, or a register with its shift
 abbrev pub OffsetInRange : MemOffset → Type 0
 OffsetInRange (MemOffset.Imm value) = value < 2 ^ 16
 OffsetInRange (MemOffset.Reg rm s) = (rm ≤ 15) × ShiftInRange s
 
+-- registers are 0 to 15, addresses and lists have their bits, and the target of a branch is even
 abbrev pub InRange : Op → Type 0
 InRange (Alu op s rd rn op2) = (rd ≤ 15) × (rn ≤ 15) × OperandInRange op2
 InRange (Mul acc s rd rn rs rm) = (rd ≤ 15) × (rn ≤ 15) × (rs ≤ 15) × (rm ≤ 15)

@@ -1,5 +1,5 @@
 -- The exit list of a block (document 01), by its last instruction, or by its last two where they fuse.
-use Prim.Native.Nat.{ℕ, _+_, _%_, _^_}
+use Prim.Native.Nat.{ℕ}
 use mathlib.Core.Bool.{Bool, true, false, cond, _&&_}
 use mathlib.Core.List.{List, [], _∷_}
 use lib.Dec.{eqb}
@@ -10,9 +10,9 @@ use Rattle.armv4t.specs.declared.Instr.{Instr}
 use Rattle.armv4t.specs.declared.Fused.{Fused}
 use Rattle.armv4t.specs.declared.Fused.the-variants.{Pair, Nothing}
 use Rattle.armv4t.specs.Bit0.{setBit0}
-use Rattle.armv4t.specs.Instr.{sizeOf}
+use Rattle.armv4t.specs.Instr.{nextAddr}
 use Rattle.armv4t.specs.Cond.{isAl}
-use Rattle.armv4t.specs.RegisterList.{names}
+use Rattle.armv4t.specs.RegisterList.{lists}
 use Rattle.armv4t.specs.Fused.{fuse}
 use Rattle.instr_records.specs.declared.decode.TimedInstr.{TimedInstr}
 use Rattle.block_file.specs.Parse.{Block}
@@ -25,7 +25,7 @@ keyOf addr false = addr
 
 -- the fall-through (document 01): the address after an instruction, with the block's Thumb bit
 abbrev pub fallThrough : Bool → Instr → ℕ
-fallThrough thumb i = keyOf ((i .addr + sizeOf (i .thumb)) % 2 ^ 32) thumb
+fallThrough thumb i = keyOf (nextAddr i) thumb
 
 -- the exits of a branch to a key: a condition other than Al adds the fall-through
 abbrev pub branchExits : Cond → ℕ → ℕ → List ℕ
@@ -43,7 +43,7 @@ opExits (Branch link target) c thumb fall = branchExits c (keyOf target thumb) f
 opExits (ThumbBlHigh lr) c thumb fall = fall ∷ []
 opExits (ThumbBlLow off) c thumb fall = []
 opExits (Mem load width signed rd rn offset pre up writeback) c thumb fall = cond (load && eqb rd 15) [] (fall ∷ [])
-opExits (BlockMem load rn rlist pre up s-bit writeback) c thumb fall = cond (load && names rlist 15) [] (fall ∷ [])
+opExits (BlockMem load rn rlist pre up s-bit writeback) c thumb fall = cond (load && lists rlist 15) [] (fall ∷ [])
 opExits (Mrs spsr rd) c thumb fall = fall ∷ []
 opExits (MsrReg spsr fields rm) c thumb fall = fall ∷ []
 opExits (MsrImm spsr fields value) c thumb fall = fall ∷ []

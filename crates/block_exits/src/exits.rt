@@ -23,7 +23,7 @@ ghost use Rattle.armv4t.specs.Instr.{sizeOf};
 ghost use Rattle.records.specs.Trailer.{blockStart};
 ghost use Rattle.block_file.specs.Parse.{blockAt, blocksOf, Accepted};
 ghost use Rattle.block_file.specs.Read.{foundInstr, IsBlock};
-ghost use Rattle.armv4t.specs.RegisterList.{names};
+ghost use Rattle.armv4t.specs.RegisterList.{lists};
 ghost use Rattle.block_exits.specs.Exits.{keyOf, fallThrough, branchExits, lastExits, closingExits, exits, keysOf};
 ghost use Rattle.block_exits.specs.Found.{foundKeys};
 
@@ -56,7 +56,7 @@ pub fn fall_through(thumb: bool, instr: Instr) -> u32
 
 // Whether a register list names PC.
 fn lists_pc(rlist: u16) -> bool
-    ensures { λ r. ⌜ r ≡ names rlist 15 ⌝ }
+    ensures { λ r. ⌜ r ≡ lists rlist 15 ⌝ }
 {
     rlist / 32768 % 2 == 1
 }

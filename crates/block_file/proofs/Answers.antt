@@ -7,7 +7,7 @@ use mathlib.Core.Option.{Option, none, some}
 use native.Mathlib.Omega.{arith}
 use lib.ListN.{length}
 use Rattle.block_file.specs.declared.refusal.Checked.{Checked}
-use Rattle.block_file.specs.Answer.{Answer, refusal, value, Counts, answerOf}
+use Rattle.block_file.specs.Answer.{Answer, refusal, value, Counts, checkedOf}
 use Rattle.records.specs.Trailer.{blockCount}
 use Rattle.block_file.specs.Refusal.{Row, firstBroken, rows}
 use Rattle.block_file.specs.Parse.{Parsed, parsed, parse, checkAnswer, blocksOf, Accepted}
@@ -31,15 +31,15 @@ by-value f none c e = (refl, ap (λ (a : Answer Counts). blocks-in a) e)
     blocks-in (value d) = d .blocks
 by-value f (some r) c e = absurd (let z : _≡_ {A = ℕ} 0 1 = cc in omega arith)
 
-module _ (f : List ℕ) (r : Checked) (e : answerOf r ≡ checkAnswer (parse f)) where
+module _ (f : List ℕ) (r : Checked) (e : checkedOf r ≡ checkAnswer (parse f)) where
   -- a file that the check refuses
   pub refused-file : (n i : ℕ) → r ≡ Checked.Refused n i → parse f ≡ Parsed.refused n i
-  unfolding answerOf
-  refused-file n i is = by-refusal (parse f) n i (ap answerOf (sym is) ∙ e)
+  unfolding checkedOf
+  refused-file n i is = by-refusal (parse f) n i (ap checkedOf (sym is) ∙ e)
 
   accepted-both : (b k : ℕ) → r ≡ Checked.Accepted b k → Accepted f × (b ≡ length (blocksOf f))
-  unfolding answerOf parse
-  accepted-both b k is = by-value f (firstBroken f (rows f)) (record { blocks = b; instructions = k }) (ap answerOf (sym is) ∙ e)
+  unfolding checkedOf parse
+  accepted-both b k is = by-value f (firstBroken f (rows f)) (record { blocks = b; instructions = k }) (ap checkedOf (sym is) ∙ e)
 
   -- a file that the check accepts
   pub accepted-file : (b k : ℕ) → r ≡ Checked.Accepted b k → Accepted f

@@ -12,7 +12,7 @@ use borrow.Author.Tests.{le-leb, lt-leb, eqb-true, not-false}
 use lib.ListN.{length}
 use Rattle.block_file.specs.declared.refusal.Checked.{Checked}
 use Rattle.block_file.specs.declared.refusal.Found.{Found}
-use Rattle.block_file.specs.Answer.{answerOf}
+use Rattle.block_file.specs.Answer.{checkedOf}
 use Rattle.records.specs.Trailer.{blockCount, instrCount, blockStart, withinLimits, trailerRight}
 use Rattle.records.specs.BlockRecord.{countAt, countSum}
 use Rattle.block_file.specs.Refusal.{Row, broken, pick, firstBroken, blockRows, instrRows, found}
@@ -24,11 +24,11 @@ checked (Parsed.refused n i) = Checked.Refused n i
 checked (Parsed.accepted bs) = Checked.Accepted (length bs) (instrTotal bs)
 
 -- it stands for the answer of the definition
-pub answered : (p : Parsed) (r : Checked) → r ≡ checked p → answerOf r ≡ checkAnswer p
-unfolding answerOf checked checkAnswer
-answered p r e = ap answerOf e ∙ stands p
+pub answered : (p : Parsed) (r : Checked) → r ≡ checked p → checkedOf r ≡ checkAnswer p
+unfolding checkedOf checked checkAnswer
+answered p r e = ap checkedOf e ∙ stands p
   where
-    stands : (p′ : Parsed) → answerOf (checked p′) ≡ checkAnswer p′
+    stands : (p′ : Parsed) → checkedOf (checked p′) ≡ checkAnswer p′
     stands (Parsed.refused n i) = refl
     stands (Parsed.accepted bs) = refl
 
@@ -45,7 +45,7 @@ unfolding checked
 one-more f true r o later other e = refl
 one-more f false r o later other e = e
 
--- what two lists of rows say together
+-- what two names of rows say together
 passes : (f : List ℕ) (xs ys : List Row)
     → orElse (found (firstBroken f xs)) (checked (parsed f (firstBroken f ys))) ≡ checked (parsed f (firstBroken f (xs ++ ys)))
 passes f [] ys = refl

@@ -13,6 +13,6 @@ pub record Counts : Type 0 where
   pub instructions : ℕ
 
 -- what the cases of Checked stand for
-unfoldable pub answerOf : Checked → Answer Counts
-answerOf (Checked.Refused n i) = refusal n i
-answerOf (Checked.Accepted b k) = value (record { blocks = b; instructions = k })
+unfoldable pub checkedOf : Checked → Answer Counts
+checkedOf (Checked.Refused n i) = refusal n i
+checkedOf (Checked.Accepted b k) = value (record { blocks = b; instructions = k })

@@ -14,7 +14,7 @@ ghost use mathlib.Core.List.{_∷_, [], _++_};
 ghost use Rattle.records.specs.Trailer.{blockCount, instrCount, trailerRight};
 ghost use Rattle.instr_records.specs.InstrRecord.{rowsTo};
 ghost use Rattle.block_file.specs.Refusal.{Row, blockRows, instrRows, firstBroken, found};
-ghost use Rattle.block_file.specs.Answer.{answerOf};
+ghost use Rattle.block_file.specs.Answer.{checkedOf};
 ghost use Rattle.block_file.specs.Parse.{parse, checkAnswer};
 
 // The answer of the check.
@@ -98,7 +98,7 @@ fn check_instrs(file: &[u8]) -> Found
 
 // Whether a file is accepted, or which refusal it gets.
 pub fn check(file: &[u8]) -> Checked
-    ensures { λ r. ⌜ answerOf r ≡ checkAnswer (parse (now (file .entry))) ⌝ }
+    ensures { λ r. ⌜ checkedOf r ≡ checkAnswer (parse (now (file .entry))) ⌝ }
 {
     if file.len() < 32 {
         return Checked::Refused { number: 1, at: 0 };

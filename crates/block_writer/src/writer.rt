@@ -6,9 +6,10 @@ ghost use mathlib.Core.Path.{_≡_};
 ghost use mathlib.Core.List.{List, _++_};
 ghost use Prim.Native.Nat.{ℕ};
 ghost use Rattle.text.specs.Wrote.{Wrote};
+ghost use Rattle.c_tree.specs.Stmt.{common};
 ghost use Rattle.c_tree.specs.Print.{codeText};
 ghost use Rattle.forms.specs.Block.{flushTicks, pcLine};
-ghost use Rattle.lowering.specs.Block.{closingCode};
+ghost use Rattle.lowering.specs.Block.{exitCode};
 ghost use Rattle.block_file.specs.Address.{among};
 ghost use Rattle.block_writer.specs.Writer.{flushed};
 
@@ -46,7 +47,7 @@ pub fn flush<'a>(w: Writer<'a>) -> Writer<'a>
 
 // What stands behind the ticks at the end of a block that goes on at address next, whose key is given too.
 pub fn close<'a>(w: Writer<'a>, next: u32, inside: bool, src: u32, key: u32) -> usize
-    ensures { λ r. ⌜ ((ks : List ℕ) → among key ks ≡ inside → Wrote (now (w .entry .text)) (w .entry .at) (codeText (closingCode ks src (pcLine next) key)) (now (w .exit .0)) r) ⌝ }
+    ensures { λ r. ⌜ ((ks : List ℕ) → among key ks ≡ inside → Wrote (now (w .entry .text)) (w .entry .at) (codeText (exitCode ks src common (pcLine next) key)) (now (w .exit .0)) r) ⌝ }
 {
     let at = w.at;
     put_closing(&mut *w.text, at, next, inside, src, key)
@@ -62,7 +63,7 @@ pub fn emit_closing(
     src: u32,
     key: u32,
 ) -> usize
-    ensures { λ r. ⌜ ((ks : List ℕ) → among key ks ≡ inside → Wrote (now (out .entry)) at (codeText (closingCode ks src (flushTicks cycles ++ pcLine next) key)) (now (out .exit)) r) ⌝ }
+    ensures { λ r. ⌜ ((ks : List ℕ) → among key ks ≡ inside → Wrote (now (out .entry)) at (codeText (exitCode ks src common (flushTicks cycles ++ pcLine next) key)) (now (out .exit)) r) ⌝ }
 {
     let w = flush(new(out, at, cycles));
     close(w, next, inside, src, key)

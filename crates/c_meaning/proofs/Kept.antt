@@ -8,7 +8,7 @@ use lib.Dec.{T, leb, eqb, eqb→eq}
 use Rattle.c_tree.specs.Expr.{Ty, s8, s16, s32, u32, s64, u64, Name, x-pc, Var, Place, reg, var, Expr}
 use Rattle.c_tree.specs.Stmt.{Plain, registers, local, declare, adds, set, discard, run, write, tick, Test, guard, gate, other, Simple, gap, recordMark, plain, label, goto, ret, retIf, interp, retInterp, call, switch, Code, end, _⨾_, when, braces, Helper, ror32, op-adds, proc, f-nz, f-c, f-nz64, params}
 use Rattle.c_meaning.specs.Types.{width, signed, sameTy}
-use Rattle.c_meaning.specs.State.{bind, update, index, Cell, Scope, State, setScopes, enter, outer, leave, declareIn, declared, assignIn, assigned, put, interpretedKey, interpreted, find, Declares}
+use Rattle.c_meaning.specs.State.{bind, update, index, Cell, Scope, State, setScopes, enter, outer, leave, declareIn, declared, assignIn, assigned, put, interpAnswer, afterInterp, find, Declares}
 use Rattle.c_meaning.specs.Eval.{ty, eval, evalAs}
 use Rattle.c_meaning.specs.Exec.{Goes, on, to, back, Outcome, next, ended, returned, newValue, procTy, declares, initialise, others, exec, asks, returns, step, runs}
 use Rattle.c_meaning.specs.Helpers.{body, arguments, noRor, noCall, called, rotated}
@@ -199,7 +199,7 @@ module _ (may : Bool) where
   kept-trans z u y p q = (λ h. q .0 h ∙ p .0 h, over-trans (p .1) (q .1))
 
   -- a call of the interpreter
-  interpreted-kept : may ≡ true → (z : State) → Kept z (interpreted z)
+  interpreted-kept : may ≡ true → (z : State) → Kept z (afterInterp z)
   interpreted-kept a z = (λ h. absurd (true≢false (sym a ∙ h)), over-refl (z .scopes))
 
   -- what is kept from a state is kept from one before it
@@ -278,7 +278,7 @@ module _ (may : Bool) where
     step-kept (ret o e) a z = returns-kept e z
     step-kept (retIf o t e) a z = all-bind (asks-kept t z) λ q p. all-cond (q .0) (behindBy z (q .1) p (returns-kept e (q .1))) (defined p)
     step-kept (interp k i) a z =
-        all-bind (put-kept (var (u32, x-pc)) (interpretedKey z) (interpreted z)) λ u p. defined (kept-trans z (interpreted z) u (interpreted-kept a z) p)
+        all-bind (put-kept (var (u32, x-pc)) (interpAnswer z) (afterInterp z)) λ u p. defined (kept-trans z (afterInterp z) u (interpreted-kept a z) p)
     step-kept (retInterp k i) a z = defined (interpreted-kept a z)
     step-kept (call k n) a z = undefined
     step-kept (switch ks) a z = undefined

@@ -6,7 +6,7 @@ use mathlib.Core.Option.{Option, none, some}
 use lib.Dec.{ltb, leb, eqb}
 use Rattle.words.specs.Word.{AND, OR, EOR}
 use Rattle.c_tree.specs.Expr.{Ty, s32, u32, Style, word, caps, uhex, udec, int, Un, compl, lnot, Bin, mul, add, sub, shl, shr, eq, ne, band, bxor, bor, land, lor, Expr, lit, get, par, un, bin, orLine, cast, pick, ror, read}
-use Rattle.c_meaning.specs.Types.{width, signed, promote, common, negative, convert}
+use Rattle.c_meaning.specs.Types.{width, signed, promote, commonType, negative, convert}
 use Rattle.c_meaning.specs.State.{bind, State, value, placeTy, load}
 
 -- a constant (6.4.4.1): with u an unsigned int, without it an int; the text has none that either is too narrow for
@@ -26,45 +26,45 @@ literal int k = cond (ltb k 2147483648) (some k) none
 
 -- the type that each operand is converted to; of a shift the operands are promoted each by itself (6.5.7)
 abbrev pub leftTy : Bin → Ty → Ty → Ty
-leftTy mul x y = common x y
-leftTy add x y = common x y
-leftTy sub x y = common x y
+leftTy mul x y = commonType x y
+leftTy add x y = commonType x y
+leftTy sub x y = commonType x y
 leftTy shl x y = promote x
 leftTy shr x y = promote x
-leftTy eq x y = common x y
-leftTy ne x y = common x y
-leftTy band x y = common x y
-leftTy bxor x y = common x y
-leftTy bor x y = common x y
+leftTy eq x y = commonType x y
+leftTy ne x y = commonType x y
+leftTy band x y = commonType x y
+leftTy bxor x y = commonType x y
+leftTy bor x y = commonType x y
 leftTy land x y = x
 leftTy lor x y = x
 
 abbrev pub rightTy : Bin → Ty → Ty → Ty
-rightTy mul x y = common x y
-rightTy add x y = common x y
-rightTy sub x y = common x y
+rightTy mul x y = commonType x y
+rightTy add x y = commonType x y
+rightTy sub x y = commonType x y
 rightTy shl x y = promote y
 rightTy shr x y = promote y
-rightTy eq x y = common x y
-rightTy ne x y = common x y
-rightTy band x y = common x y
-rightTy bxor x y = common x y
-rightTy bor x y = common x y
+rightTy eq x y = commonType x y
+rightTy ne x y = commonType x y
+rightTy band x y = commonType x y
+rightTy bxor x y = commonType x y
+rightTy bor x y = commonType x y
 rightTy land x y = y
 rightTy lor x y = y
 
 -- the type of the outcome: comparisons and logical operators give an int
 abbrev pub binTy : Bin → Ty → Ty → Ty
-binTy mul x y = common x y
-binTy add x y = common x y
-binTy sub x y = common x y
+binTy mul x y = commonType x y
+binTy add x y = commonType x y
+binTy sub x y = commonType x y
 binTy shl x y = promote x
 binTy shr x y = promote x
 binTy eq x y = s32
 binTy ne x y = s32
-binTy band x y = common x y
-binTy bxor x y = common x y
-binTy bor x y = common x y
+binTy band x y = commonType x y
+binTy bxor x y = commonType x y
+binTy bor x y = commonType x y
 binTy land x y = s32
 binTy lor x y = s32
 
@@ -76,9 +76,9 @@ ty (par e) = ty e
 ty (un compl e) = promote (ty e)
 ty (un lnot e) = s32
 ty (bin o d e) = binTy o (ty d) (ty e)
-ty (orLine d e) = common (ty d) (ty e)
+ty (orLine d e) = commonType (ty d) (ty e)
 ty (cast y e) = y
-ty (pick c d e) = common (ty d) (ty e)
+ty (pick c d e) = commonType (ty d) (ty e)
 ty (ror d e) = u32
 ty (read w e) = u32
 
@@ -172,8 +172,8 @@ module _ (rorAnswer : ℕ → ℕ → Option ℕ) where
   eval (orLine d e) z = operate bor (ty d) (ty e) (eval d z) (eval e z)
   eval (cast y e) z = bind (eval e z) λ k. some (convert (ty e) y k)
   eval (pick c d e) z = bind (eval c z) λ k. cond (eqb k 0)
-      (bind (eval e z) λ l. some (convert (ty e) (common (ty d) (ty e)) l))
-      (bind (eval d z) λ l. some (convert (ty d) (common (ty d) (ty e)) l))
+      (bind (eval e z) λ l. some (convert (ty e) (commonType (ty d) (ty e)) l))
+      (bind (eval d z) λ l. some (convert (ty d) (commonType (ty d) (ty e)) l))
   eval (ror d e) z = bind (eval d z) λ k. bind (eval e z) λ l. rorAnswer (convert (ty d) u32 k) (convert (ty e) u32 l)
   eval (read w e) z = bind (eval e z) λ k. some (load w (z .mem) (convert (ty e) u32 k))
 

@@ -111,13 +111,13 @@ no-value : after 0 (perform (local (u32, x-r) ∷ set (reg 0) is (v32 x-r) ∷ [
 unfolding perform eval evalAs exec execs others
 no-value = refl
 
-dropped : after 0 (perform (local (u32, x-r) ∷ discard (u32, x-r) ∷ []) begin) ≡ some 0
+discarded : after 0 (perform (local (u32, x-r) ∷ discard (u32, x-r) ∷ []) begin) ≡ some 0
 unfolding perform eval evalAs exec execs others
-dropped = refl
+discarded = refl
 
-not-dropped : after 0 (perform (discard (u32, x-r) ∷ []) begin) ≡ none
+not-discarded : after 0 (perform (discard (u32, x-r) ∷ []) begin) ≡ none
 unfolding perform eval evalAs exec execs others
-not-dropped = refl
+not-discarded = refl
 
 twice : after 0 (perform (local (u32, x-r) ∷ local (u32, x-r) ∷ []) begin) ≡ none
 unfolding perform eval evalAs exec execs others

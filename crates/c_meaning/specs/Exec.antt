@@ -6,8 +6,8 @@ use mathlib.Core.Option.{Option, none, some}
 use lib.Dec.{eqb}
 use Rattle.c_tree.specs.Expr.{Ty, u32, u64, Name, x-pc, Var, Place, var, Bin, add, band, bor, Expr}
 use Rattle.c_tree.specs.Stmt.{Set, is, plus, and, or, Proc, f-nz, f-c, f-nz64, Plain, registers, local, declare, adds, set, discard, run, write, tick, Test, guard, gate, other, Simple, gap, recordMark, plain, label, goto, ret, retIf, interp, retInterp, call, switch, Code, end, _⨾_, when, braces, Helper, op-adds, proc}
-use Rattle.c_meaning.specs.Types.{sameTy, common, convert}
-use Rattle.c_meaning.specs.State.{bind, index, State, setMem, setScopes, answered, interpretedKey, interpreted, enter, leave, find, value, declared, put, placeTy, store}
+use Rattle.c_meaning.specs.Types.{sameTy, commonType, convert}
+use Rattle.c_meaning.specs.State.{bind, index, State, setMem, setScopes, answered, interpAnswer, afterInterp, enter, leave, find, value, declared, put, placeTy, store}
 use Rattle.c_meaning.specs.Eval.{ty, binValue, eval, evalAs}
 
 -- where statements lead
@@ -39,7 +39,7 @@ returned (back x) = some x
 
 -- x op= e is x = x op e, with x evaluated once (6.5.16.2); k has the type y
 abbrev pub compound : Bin → Place → Ty → ℕ → State → Option ℕ
-compound o p y k z = bind (value p z) λ l. bind (binValue o (placeTy p) y l k) λ x. some (convert (common (placeTy p) y) (placeTy p) x)
+compound o p y k z = bind (value p z) λ l. bind (binValue o (placeTy p) y l k) λ x. some (convert (commonType (placeTy p) y) (placeTy p) x)
 
 abbrev pub newValue : Set → Place → Ty → ℕ → State → Option ℕ
 newValue is p y k z = some (convert y (placeTy p) k)
@@ -112,8 +112,8 @@ module _ (rorAnswer : ℕ → ℕ → Option ℕ) (helperCall : Helper → List 
   step (goto o k) z = some (z, to k)
   step (ret o e) z = returns e z
   step (retIf o t e) z = bind (asks t z) λ q. cond (q .0) (returns e (q .1)) (some (q .1, on))
-  step (interp k i) z = bind (put (var (u32, x-pc)) (interpretedKey z) (interpreted z)) λ u. some (u, on)
-  step (retInterp k i) z = some (interpreted z, back (interpretedKey z))
+  step (interp k i) z = bind (put (var (u32, x-pc)) (interpAnswer z) (afterInterp z)) λ u. some (u, on)
+  step (retInterp k i) z = some (afterInterp z, back (interpAnswer z))
   step (call k n) z = none
   step (switch ks) z = none
 

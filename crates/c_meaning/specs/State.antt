@@ -84,11 +84,11 @@ abbrev pub answered : State → State
 answered z = record { c = z .c; mem = z .mem; scopes = z .scopes; answers = λ k. z .answers (suc k); interpreter = z .interpreter }
 
 -- the answer of interp_one, and the state behind it
-abbrev pub interpretedKey : State → ℕ
-interpretedKey z = z .interpreter 0 (z .c) (z .mem) .answer
+abbrev pub interpAnswer : State → ℕ
+interpAnswer z = z .interpreter 0 (z .c) (z .mem) .answer
 
-abbrev pub interpreted : State → State
-interpreted z =
+abbrev pub afterInterp : State → State
+afterInterp z =
     let q : Interpreted = z .interpreter 0 (z .c) (z .mem) in
     record { c = q .c; mem = q .mem; scopes = z .scopes; answers = z .answers; interpreter = λ k. z .interpreter (suc k) }
 

@@ -38,8 +38,8 @@ abbrev pub wider : Ty → Ty → Ty
 wider x y = cond (ltb (width x) (width y)) y (cond (ltb (width y) (width x)) x (cond (signed x) y x))
 
 -- the usual arithmetic conversions (6.3.1.8): of the types here a wider signed one has all values of a narrower unsigned one
-abbrev pub common : Ty → Ty → Ty
-common x y = wider (promote x) (promote y)
+abbrev pub commonType : Ty → Ty → Ty
+commonType x y = wider (promote x) (promote y)
 
 -- whether a pattern of k bits is that of a negative number
 abbrev pub negative : ℕ → ℕ → Bool
@@ -56,13 +56,13 @@ abbrev pub sameTy : Ty → Ty → Bool
 sameTy x y = eqb (width x) (width y) && cond (signed x) (signed y) (cond (signed y) false true)
 
 -- int with unsigned int is unsigned int, unsigned int with int64_t is int64_t, and int8_t with int16_t is int
-int-and-unsigned : common s32 u32 ≡ u32
+int-and-unsigned : commonType s32 u32 ≡ u32
 int-and-unsigned = refl
 
-unsigned-and-long : common u32 s64 ≡ s64
+unsigned-and-long : commonType u32 s64 ≡ s64
 unsigned-and-long = refl
 
-small-ones : common s8 s16 ≡ s32
+small-ones : commonType s8 s16 ≡ s32
 small-ones = refl
 
 -- -2 as int8_t is 0xfe, as int 0xfffffffe, as int64_t with more of the sign; an unsigned 0xfffffffe has zeros in front

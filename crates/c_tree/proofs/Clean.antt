@@ -10,7 +10,7 @@ use mathlib.Core.Bool.{Bool, true, false, not, cond, _&&_, _||_, true≢false}
 use mathlib.Core.List.{List, [], _∷_, _++_}
 use borrow.Author.Tests.{lt-ltb, le-ltb}
 use lib.Dec.{eqb, leb}
-use Rattle.text.specs.Digits.{glyph, numeral, fixed}
+use Rattle.text.specs.Digits.{glyph, numeral, lastDigits}
 use Rattle.text.specs.Doc.{Doc, nothing, raw, text, dec, hex, hex8, hex16, _▸_, chars, decimal, hexadecimal, hexadecimal8, hexadecimal16, print, each}
 use Rattle.c_tree.specs.Expr.{Ty, s8, s16, s32, u32, s64, u64, Style, word, caps, uhex, udec, int, Name, x-r, x-base, x-ob, x-addr, x-t, x-s, x-cn, x-cz, x-cc, x-cv, x-pc, x-v, x-n, x-a, x-b, x-cin, x-w, Var, Place, reg, var, Un, compl, lnot, Bin, mul, add, sub, shl, shr, eq, ne, band, bxor, bor, land, lor, operator, Width, w8, w16, w32, Expr, lit, get, par, un, bin, orLine, cast, pick, ror, read}
 use Rattle.c_tree.specs.Stmt.{Set, is, plus, and, or, Proc, f-nz, f-c, f-nz64, Plain, registers, local, declare, adds, set, discard, run, write, tick, Test, guard, gate, other}
@@ -93,21 +93,21 @@ numeral-clean b z h (suc most) n =
           rw (le-ltb n b (omega arith)) (last (numeral b most (n / b)) (n % b) (numeral-clean b z h most (n / b)) (omega arith))
     ]
 
-fixed-clean : (k n : ℕ) → clean (fixed 16 k n) ≡ true
-unfolding fixed
+fixed-clean : (k n : ℕ) → clean (lastDigits 16 k n) ≡ true
+unfolding lastDigits
 fixed-clean zero n = refl
-fixed-clean (suc k) n = last (fixed 16 k (n / 16)) (n % 16) (fixed-clean k (n / 16)) (mod-lt n (omega arith))
+fixed-clean (suc k) n = last (lastDigits 16 k (n / 16)) (n % 16) (fixed-clean k (n / 16)) (mod-lt n (omega arith))
 
 upper-append : (xs ys : List ℕ) → upper (xs ++ ys) ≡ upper xs ++ upper ys
 upper-append [] ys = refl
 upper-append (x ∷ xs) ys = ap (λ (zs : List ℕ). cond (leb 97 x) (x - 32) x ∷ zs) (upper-append xs ys)
 
-upper-clean : (k n : ℕ) → clean (upper (fixed 16 k n)) ≡ true
-unfolding fixed
+upper-clean : (k n : ℕ) → clean (upper (lastDigits 16 k n)) ≡ true
+unfolding lastDigits
 upper-clean zero n = refl
 upper-clean (suc k) n =
-    rw (upper-append (fixed 16 k (n / 16)) (glyph (n % 16) ∷ []))
-    (clean-append (upper (fixed 16 k (n / 16))) (upper (glyph (n % 16) ∷ [])) (upper-clean k (n / 16))
+    rw (upper-append (lastDigits 16 k (n / 16)) (glyph (n % 16) ∷ []))
+    (clean-append (upper (lastDigits 16 k (n / 16))) (upper (glyph (n % 16) ∷ [])) (upper-clean k (n / 16))
     (below (λ d. clean (upper (glyph d ∷ []))) 16 refl (n % 16) (mod-lt n (omega arith))))
 
 pub dec-clean : (n : ℕ) → Clean (dec n)

@@ -4,7 +4,7 @@ use mathlib.Core.Bool.{true, _&&_}
 use Prim.Native.Nat.{ℕ}
 use mathlib.Core.List.{List}
 use lib.ListN.{length}
-use Rattle.text.specs.Digits.{numeral, fixed}
+use Rattle.text.specs.Digits.{numeral, lastDigits}
 use Rattle.text.specs.Doc.{Doc, text, _▸_, decimal, hexadecimal8, print, flat}
 use Rattle.c_tree.specs.Opening.{openingText}
 use Rattle.c_tree.specs.Print.{unitText}
@@ -40,12 +40,12 @@ helpersText =
 
 -- PREAMBLE is printed, in front of any other text, which is what `said` asks
 pub preamble-text : (k : List ℕ) → flat (unitText preamble) k ≡ flat (openingText ▸ helpersText) k
-unfolding decimal numeral hexadecimal8 fixed
+unfolding decimal numeral hexadecimal8 lastDigits
 preamble-text k = refl
 
 -- two long dashes have three bytes each
 pub preamble-length : length (print (unitText preamble)) ≡ 2109
-unfolding print decimal numeral hexadecimal8 fixed
+unfolding print decimal numeral hexadecimal8 lastDigits
 preamble-length = refl
 
 -- C's grammar reads the functions as their trees

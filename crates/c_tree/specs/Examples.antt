@@ -3,7 +3,7 @@ use Prim.Native.Nat.{ℕ}
 use mathlib.Core.Path.{_≡_, refl}
 use mathlib.Core.Bool.{true, false}
 use mathlib.Core.List.{List, [], _∷_}
-use Rattle.text.specs.Digits.{numeral, fixed}
+use Rattle.text.specs.Digits.{numeral, lastDigits}
 use Rattle.text.specs.Doc.{text, dec, _▸_, decimal, hexadecimal8, hexadecimal16, print, flat}
 use Rattle.c_tree.specs.Expr.{u32, word, udec, int, x-r, x-s, x-cn, x-cz, x-cc, x-cv, x-pc, reg, lnot, shl, shr, band, ne, land, Expr, lit, get, par, un, bin}
 use Rattle.c_tree.specs.Stmt.{is, f-nz, f-c, Plain, registers, local, declare, set, discard, run, tick, guard, gate, other, native, common, gap, recordMark, plain, label, goto, ret, retIf, interp, retInterp, call, switch, Code, end, _⨾_, when, braces, block, group, Top, function, blank, extern, table, count}
@@ -105,7 +105,7 @@ lone-text : print (unitText lone)
     ≡ print
     (text
     "uint32_t b_02000000_a(const RtApi* a, void* m) {\n    uint32_t* c = (uint32_t*)m;\n    uint32_t pc; (void)pc;\n    if (!a->guard(m, 0x02000000u, 4u, 0x00000000000012abull)) { c[15] = 0x02000000u; return a->interp_one(m); }\n    c[15] = 0x02000000u;\n    pc = a->interp_one(m); if (pc != 0x02000004u) return pc;\n    a->tick(m, 3u);\n    return 0x02000004u;\n}\n\n")
-unfolding print decimal numeral hexadecimal8 hexadecimal16 fixed
+unfolding print decimal numeral hexadecimal8 hexadecimal16 lastDigits
 lone-text = refl
 
 -- a group of two, the second in Thumb, with a gated goto, and the end of the last unit
@@ -135,5 +135,5 @@ pair-text : print (unitText pair)
     ≡ print
     (text
     "static uint32_t g_08000100(const RtApi* a, void* m, uint32_t entry) {\n    switch (entry) {\n    case 0u: goto L_08000100_a;\n    case 1u: goto L_08000104_t;\n    default: return 0u;\n    }\nL_08000100_a:;\n    if (a->chain_gate(m)) return 0x08000100u;\n    goto L_08000100_a;\n\n}\n\nuint32_t b_08000104_t(const RtApi* a, void* m) { return g_08000100(a, m, 1u); }\n\nextern uint32_t b_08000104_t(const RtApi* a, void* m);\nRCG_EXPORT const RcgBlock rcg_blocks[] = {\n    { 0x08000100u, b_08000100_a },\n    { 0x08000105u, b_08000104_t },\n};\nRCG_EXPORT const uint64_t rcg_block_count = 2;\n")
-unfolding print decimal numeral hexadecimal8 fixed
+unfolding print decimal numeral hexadecimal8 lastDigits
 pair-text = refl

@@ -19,7 +19,7 @@ pub data Plain : Type 0 where
   local : Var → Plain  -- uint32_t pc: emit_block, emit_group
   declare : Var → Expr → List (Name × Expr) → Plain  -- uint32_t cn = e, cz = e: inline_body, emit_block, PREAMBLE. The names behind the first have its type
   adds : Name → Expr → Expr → Expr → Plain  -- uint32_t r = op_adds(c, e, e, e): inline_body
-  set : Place → Set → Expr → Plain  -- c[15] = e: all over
+  set : Place → Set → Expr → Plain  -- c[15] = e: flush_ticks apart, every function that prints statements
   discard : Var → Plain  -- (void)r: inline_body, emit_block, emit_group
   run : Proc → Expr → Plain  -- f_nz(c, e): inline_body
   write : Width → Expr → Expr → Plain  -- a->write32(m, e, e): inline_body
@@ -36,7 +36,7 @@ pub data Owner : Type 0 where
   native : ℕ → Owner
   common : Owner
 
--- a statement that holds no other code, or white space, or a mark that prints nothing
+-- a statement that has no other code of the tree in it, or white space, or a mark that prints nothing
 pub data Simple : Type 0 where
   gap : Bool → ℕ → Simple  -- white space: a line end if true, then so many spaces
   recordMark : ℕ → ℕ → ℕ → Simple  -- a mark: here starts the text of native records of a block: key, index of the first record, how many

@@ -1,5 +1,5 @@
 // The lines that the program prints. `k` is the index of a vector in its section.
-use crate::outcome::Section;
+use crate::verdict::Section;
 use libc::STDOUT_FILENO;
 
 fn text(bytes: &[u8]) {

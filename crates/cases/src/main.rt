@@ -2,8 +2,8 @@
 mod sections;
 
 use case_io::input;
-use case_io::outcome::Section;
 use case_io::report;
+use case_io::verdict::Section;
 
 // After a vector that cannot be read nothing can be. What stands behind the last section is
 // vectors that nothing replays.

@@ -1,13 +1,13 @@
 // The sections of the input: a count of vectors, and the vectors.
 use case_io::input;
 use case_io::input::Read;
-use case_io::outcome::Outcome;
-use case_io::outcome::Section;
 use case_io::report;
+use case_io::verdict::Section;
+use case_io::verdict::Verdict;
 use replay_answers::check_cases;
 use replay_answers::exits_cases;
 
-fn replay_one(section: Section, k: u64) -> Outcome {
+fn replay_one(section: Section, k: u64) -> Verdict {
     match section {
         Section::Check => check_cases::replay_one(k),
         Section::Exits => exits_cases::replay_one(k),
@@ -27,11 +27,11 @@ pub(crate) fn replay(section: Section) -> bool {
     let mut k: u64 = 0;
     while k < count {
         match replay_one(section, k) {
-            Outcome::Right => {}
-            Outcome::Wrong => {
+            Verdict::Right => {}
+            Verdict::Wrong => {
                 mismatches += 1;
             }
-            Outcome::Broken => {
+            Verdict::Broken => {
                 return false;
             }
         }

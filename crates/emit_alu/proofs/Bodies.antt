@@ -15,17 +15,17 @@ use Rattle.c_tree.specs.Expr.{Expr}
 use Rattle.c_tree.specs.Stmt.{Plain, Owner, common, Code}
 use Rattle.c_tree.specs.Print.{codeText}
 use Rattle.forms.specs.Forms.{Lines}
-use Rattle.forms.specs.Operands.{regExpr, op2Exprs, regOf}
+use Rattle.forms.specs.Operands.{regExpr, op2Exprs, regOf, operandOf}
 use Rattle.forms.specs.InlineBody.{apart, alu, aluBody, mulBody, opBody}
 use Rattle.lowering.specs.Block.{lines}
-use Rattle.emit_operands.specs.Operands.{operandOf, isSome}
+use Rattle.emit_operands.specs.Operands.{isSome}
 use Rattle.emit_operands.proofs.Operands.{operand-of}
 use Rattle.emit_operands.proofs.Lines.{lines-owner, lines-behind}
-use Rattle.emit_alu.specs.Rows.{rows}
+use Rattle.emit_alu.specs.Rows.{statementsText}
 
--- rows, and code behind them, are the lines of any owner with that code behind them
+-- statementsText, and code behind them, are the lines of any owner with that code behind them
 pub rows-behind : (o : Owner) (ps : List Plain) (c : Code) (k : List ℕ)
-    → flat (rows ps ▸ codeText c) k ≡ flat (codeText (lines o 8 (apart ps) c)) k
+    → flat (statementsText ps ▸ codeText c) k ≡ flat (codeText (lines o 8 (apart ps) c)) k
 rows-behind o ps c k = sym (lines-behind common 8 (apart ps) c k) ∙ lines-owner common o 8 (apart ps) c k
 
 -- Alu, if it has lines

@@ -2,14 +2,13 @@
 use mathlib.Core.Bool.{Bool, cond}
 use mathlib.Core.List.{List}
 use Rattle.text.specs.Doc.{Doc, text}
-use Rattle.c_tree.specs.Stmt.{Plain, common, end}
-use Rattle.c_tree.specs.Print.{codeText}
+use Rattle.c_tree.specs.Stmt.{Plain}
 use Rattle.forms.specs.InlineBody.{apart}
-use Rattle.lowering.specs.Block.{lines}
+use Rattle.lowering.specs.Block.{linesText}
 
--- statements in lines of their own. No owner shows in the text, so common stands for any
-abbrev pub rows : List Plain → Doc
-rows ps = codeText (lines common 8 (apart ps) end)
+-- statements in lines of their own, as text
+abbrev pub statementsText : List Plain → Doc
+statementsText ps = linesText 8 (apart ps)
 
 -- what stands before the terms of a sum, between two and behind them; whether it sets flags
 abbrev pub before : Bool → Doc

@@ -14,9 +14,9 @@ ghost use Rattle.armv4t.specs.declared.Instr.{Instr};
 ghost use Rattle.armv4t.specs.declared.Op.the-variants.{Alu};
 ghost use Rattle.text.specs.Wrote.{Wrote};
 ghost use Rattle.forms.specs.InlineBody.{alu, opBody};
-ghost use Rattle.emit_operands.specs.Operands.{operandOf, isSome};
-ghost use Rattle.forms.specs.Operands.{regOf};
-ghost use Rattle.emit_alu.specs.Rows.{rows};
+ghost use Rattle.emit_operands.specs.Operands.{isSome};
+ghost use Rattle.forms.specs.Operands.{regOf, operandOf};
+ghost use Rattle.emit_alu.specs.Rows.{statementsText};
 
 // Whether data processing is lowered to lines.
 pub fn alu_is_inlined(rd: Reg, op2: Operand2) -> bool
@@ -36,7 +36,7 @@ pub fn put_alu(
     op2: Operand2,
     pc: u32,
 ) -> usize
-    ensures { λ r. ⌜ Wrote (now (out .entry)) at (rows (alu op s rd (regOf pc rn) (operandOf pc op2 .0) (operandOf pc op2 .1))) (now (out .exit)) r ⌝ }
+    ensures { λ r. ⌜ Wrote (now (out .entry)) at (statementsText (alu op s rd (regOf pc rn) (operandOf pc op2 .0) (operandOf pc op2 .1))) (now (out .exit)) r ⌝ }
 {
     match op {
         AluOp::And => put_two(out, at, AluOp::And, s, rd, rn, op2, pc, b" & "),

@@ -7,21 +7,20 @@ use emit_operands::put_op2_carry;
 use emit_operands::put_op2_value;
 use emit_operands::put_reg;
 ghost use mathlib.Core.Bool.{cond};
-ghost use mathlib.Core.List.{[], _∷_, _++_};
+ghost use mathlib.Core.List.{[], _∷_};
 ghost use Rattle.text.specs.Doc.{raw, text, _▸_};
 ghost use Rattle.text.specs.Wrote.{Wrote};
 ghost use Rattle.c_tree.specs.Expr.{x-r};
 ghost use Rattle.c_tree.specs.Stmt.{f-nz, run};
 ghost use Rattle.c_tree.specs.Preamble.{v32};
 ghost use Rattle.c_tree.specs.Print.{exprText};
-ghost use Rattle.forms.specs.InlineBody.{result, logicalC};
-ghost use Rattle.emit_operands.specs.Operands.{operandOf};
-ghost use Rattle.forms.specs.Operands.{regOf};
-ghost use Rattle.emit_alu.specs.Rows.{rows};
+ghost use Rattle.forms.specs.InlineBody.{result, logicalC, logicalRest};
+ghost use Rattle.forms.specs.Operands.{regOf, operandOf};
+ghost use Rattle.emit_alu.specs.Rows.{statementsText};
 
 // The last line of data processing.
 pub(crate) fn put_result(out: &mut [u8], at: usize, op: AluOp, rd: Reg) -> usize
-    ensures { λ r. ⌜ Wrote (now (out .entry)) at (rows (result op rd ∷ [])) (now (out .exit)) r ⌝ }
+    ensures { λ r. ⌜ Wrote (now (out .entry)) at (statementsText (result op rd ∷ [])) (now (out .exit)) r ⌝ }
 {
     if op.is_compare() {
         return text::put(out, at, b"        (void)r;\n");
@@ -31,7 +30,7 @@ pub(crate) fn put_result(out: &mut [u8], at: usize, op: AluOp, rd: Reg) -> usize
 }
 
 fn put_logical_c(out: &mut [u8], at: usize, op2: Operand2, pc: u32) -> usize
-    ensures { λ r. ⌜ Wrote (now (out .entry)) at (rows (logicalC (operandOf pc op2 .1))) (now (out .exit)) r ⌝ }
+    ensures { λ r. ⌜ Wrote (now (out .entry)) at (statementsText (logicalC (operandOf pc op2 .1))) (now (out .exit)) r ⌝ }
 {
     if op2_has_carry(op2) {
         let p = text::put(out, at, b"        f_c(c, ");
@@ -42,7 +41,7 @@ fn put_logical_c(out: &mut [u8], at: usize, op2: Operand2, pc: u32) -> usize
 }
 
 fn put_flags(out: &mut [u8], at: usize, s: bool, op2: Operand2, pc: u32) -> usize
-    ensures { λ r. ⌜ Wrote (now (out .entry)) at (rows (cond s (run f-nz (v32 x-r) ∷ logicalC (operandOf pc op2 .1)) [])) (now (out .exit)) r ⌝ }
+    ensures { λ r. ⌜ Wrote (now (out .entry)) at (statementsText (cond s (run f-nz (v32 x-r) ∷ logicalC (operandOf pc op2 .1)) [])) (now (out .exit)) r ⌝ }
 {
     if s {
         let p = text::put(out, at, b"        f_nz(c, r);\n");
@@ -61,7 +60,7 @@ fn put_logical_rest(
     op2: Operand2,
     pc: u32,
 ) -> usize
-    ensures { λ r. ⌜ Wrote (now (out .entry)) at (rows (cond s (run f-nz (v32 x-r) ∷ logicalC (operandOf pc op2 .1)) [] ++ (result op rd ∷ []))) (now (out .exit)) r ⌝ }
+    ensures { λ r. ⌜ Wrote (now (out .entry)) at (statementsText (logicalRest op s rd (operandOf pc op2 .1))) (now (out .exit)) r ⌝ }
 {
     let p = put_flags(out, at, s, op2, pc);
     put_result(out, p, op, rd)
@@ -79,7 +78,7 @@ pub(crate) fn put_two(
     pc: u32,
     t: &[u8],
 ) -> usize
-    ensures { λ r. ⌜ Wrote (now (out .entry)) at (text "        uint32_t r = (" ▸ exprText (regOf pc rn) ▸ raw (now (t .entry)) ▸ exprText (operandOf pc op2 .0) ▸ text ");\n" ▸ rows (cond s (run f-nz (v32 x-r) ∷ logicalC (operandOf pc op2 .1)) [] ++ (result op rd ∷ []))) (now (out .exit)) r ⌝ }
+    ensures { λ r. ⌜ Wrote (now (out .entry)) at (text "        uint32_t r = (" ▸ exprText (regOf pc rn) ▸ raw (now (t .entry)) ▸ exprText (operandOf pc op2 .0) ▸ text ");\n" ▸ statementsText (logicalRest op s rd (operandOf pc op2 .1))) (now (out .exit)) r ⌝ }
 {
     let p = text::put(out, at, b"        uint32_t r = (");
     let q = put_reg(out, p, rn, pc);
@@ -101,7 +100,7 @@ pub(crate) fn put_one(
     t: &[u8],
     u: &[u8],
 ) -> usize
-    ensures { λ r. ⌜ Wrote (now (out .entry)) at (raw (now (t .entry)) ▸ exprText (operandOf pc op2 .0) ▸ raw (now (u .entry)) ▸ rows (cond s (run f-nz (v32 x-r) ∷ logicalC (operandOf pc op2 .1)) [] ++ (result op rd ∷ []))) (now (out .exit)) r ⌝ }
+    ensures { λ r. ⌜ Wrote (now (out .entry)) at (raw (now (t .entry)) ▸ exprText (operandOf pc op2 .0) ▸ raw (now (u .entry)) ▸ statementsText (logicalRest op s rd (operandOf pc op2 .1))) (now (out .exit)) r ⌝ }
 {
     let p = text::put(out, at, t);
     let q = put_op2_value(out, p, op2, pc);

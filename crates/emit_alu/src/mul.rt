@@ -13,7 +13,7 @@ ghost use Rattle.c_tree.specs.Preamble.{v32};
 ghost use Rattle.c_tree.specs.Print.{exprText};
 ghost use Rattle.forms.specs.InlineBody.{only, let32, setReg, mulBody, wide, r64, mulLongBody, opBody};
 ghost use Rattle.emit_operands.specs.Operands.{isSome};
-ghost use Rattle.emit_alu.specs.Rows.{rows};
+ghost use Rattle.emit_alu.specs.Rows.{statementsText};
 
 // Whether a multiplication is lowered to lines; a long one always is.
 pub fn mul_is_inlined(rd: Reg) -> bool
@@ -23,7 +23,7 @@ pub fn mul_is_inlined(rd: Reg) -> bool
 }
 
 fn put_product(out: &mut [u8], at: usize, rs: Reg, rm: Reg) -> usize
-    ensures { λ r. ⌜ Wrote (now (out .entry)) at (rows (let32 x-r (bin mul (get (reg rm)) (get (reg rs))) ∷ [])) (now (out .exit)) r ⌝ }
+    ensures { λ r. ⌜ Wrote (now (out .entry)) at (statementsText (let32 x-r (bin mul (get (reg rm)) (get (reg rs))) ∷ [])) (now (out .exit)) r ⌝ }
 {
     let p = text::put_then_dec(out, at, b"        uint32_t r = c[", rm as u64);
     let q = text::put_then_dec(out, p, b"] * c[", rs as u64);
@@ -31,7 +31,7 @@ fn put_product(out: &mut [u8], at: usize, rs: Reg, rm: Reg) -> usize
 }
 
 fn put_more(out: &mut [u8], at: usize, acc: bool, rn: Reg) -> usize
-    ensures { λ r. ⌜ Wrote (now (out .entry)) at (rows (only acc (set (var (u32, x-r)) plus (get (reg rn))))) (now (out .exit)) r ⌝ }
+    ensures { λ r. ⌜ Wrote (now (out .entry)) at (statementsText (only acc (set (var (u32, x-r)) plus (get (reg rn))))) (now (out .exit)) r ⌝ }
 {
     if acc {
         let p = text::put_then_dec(out, at, b"        r += c[", rn as u64);
@@ -41,14 +41,14 @@ fn put_more(out: &mut [u8], at: usize, acc: bool, rn: Reg) -> usize
 }
 
 fn put_low(out: &mut [u8], at: usize, rd: Reg) -> usize
-    ensures { λ r. ⌜ Wrote (now (out .entry)) at (rows (setReg rd (v32 x-r) ∷ [])) (now (out .exit)) r ⌝ }
+    ensures { λ r. ⌜ Wrote (now (out .entry)) at (statementsText (setReg rd (v32 x-r) ∷ [])) (now (out .exit)) r ⌝ }
 {
     let p = text::put_then_dec(out, at, b"        c[", rd as u64);
     text::put(out, p, b"] = r;\n")
 }
 
 fn put_nz(out: &mut [u8], at: usize, s: bool) -> usize
-    ensures { λ r. ⌜ Wrote (now (out .entry)) at (rows (only s (run f-nz (v32 x-r)))) (now (out .exit)) r ⌝ }
+    ensures { λ r. ⌜ Wrote (now (out .entry)) at (statementsText (only s (run f-nz (v32 x-r)))) (now (out .exit)) r ⌝ }
 {
     if s {
         return text::put(out, at, b"        f_nz(c, r);\n");
@@ -67,7 +67,7 @@ pub fn put_mul(
     rs: Reg,
     rm: Reg,
 ) -> usize
-    ensures { λ r. ⌜ Wrote (now (out .entry)) at (rows (mulBody acc s rd rn rs rm)) (now (out .exit)) r ⌝ }
+    ensures { λ r. ⌜ Wrote (now (out .entry)) at (statementsText (mulBody acc s rd rn rs rm)) (now (out .exit)) r ⌝ }
 {
     let p = put_product(out, at, rs, rm);
     let q = put_more(out, p, acc, rn);
@@ -88,7 +88,7 @@ fn put_wide(out: &mut [u8], at: usize, signed: bool, n: Reg) -> usize
 }
 
 fn put_long_product(out: &mut [u8], at: usize, signed: bool, rs: Reg, rm: Reg) -> usize
-    ensures { λ r. ⌜ Wrote (now (out .entry)) at (rows (declare (u64, x-r) (cast u64 (par (bin mul (wide signed (get (reg rm))) (wide signed (get (reg rs)))))) [] ∷ [])) (now (out .exit)) r ⌝ }
+    ensures { λ r. ⌜ Wrote (now (out .entry)) at (statementsText (declare (u64, x-r) (cast u64 (par (bin mul (wide signed (get (reg rm))) (wide signed (get (reg rs)))))) [] ∷ [])) (now (out .exit)) r ⌝ }
 {
     let p = text::put(out, at, b"        uint64_t r = (uint64_t)(");
     let q = put_wide(out, p, signed, rm);
@@ -98,7 +98,7 @@ fn put_long_product(out: &mut [u8], at: usize, signed: bool, rs: Reg, rm: Reg) -
 }
 
 fn put_long_more(out: &mut [u8], at: usize, acc: bool, hi: Reg, lo: Reg) -> usize
-    ensures { λ r. ⌜ Wrote (now (out .entry)) at (rows (only acc (set (var (u64, x-r)) plus (bin bor (par (bin shl (cast u64 (get (reg hi))) (lit int 32))) (cast u64 (get (reg lo))))))) (now (out .exit)) r ⌝ }
+    ensures { λ r. ⌜ Wrote (now (out .entry)) at (statementsText (only acc (set (var (u64, x-r)) plus (bin bor (par (bin shl (cast u64 (get (reg hi))) (lit int 32))) (cast u64 (get (reg lo))))))) (now (out .exit)) r ⌝ }
 {
     if acc {
         let p = text::put_then_dec(out, at, b"        r += ((uint64_t)c[", hi as u64);
@@ -110,7 +110,7 @@ fn put_long_more(out: &mut [u8], at: usize, acc: bool, hi: Reg, lo: Reg) -> usiz
 
 // Both halves of the product.
 fn put_halves(out: &mut [u8], at: usize, hi: Reg, lo: Reg) -> usize
-    ensures { λ r. ⌜ Wrote (now (out .entry)) at (rows (setReg lo (cast u32 r64) ∷ setReg hi (cast u32 (par (bin shr r64 (lit int 32)))) ∷ [])) (now (out .exit)) r ⌝ }
+    ensures { λ r. ⌜ Wrote (now (out .entry)) at (statementsText (setReg lo (cast u32 r64) ∷ setReg hi (cast u32 (par (bin shr r64 (lit int 32)))) ∷ [])) (now (out .exit)) r ⌝ }
 {
     let p = text::put_then_dec(out, at, b"        c[", lo as u64);
     let q = text::put_then_dec(out, p, b"] = (uint32_t)r;\n        c[", hi as u64);
@@ -118,7 +118,7 @@ fn put_halves(out: &mut [u8], at: usize, hi: Reg, lo: Reg) -> usize
 }
 
 fn put_nz64(out: &mut [u8], at: usize, s: bool) -> usize
-    ensures { λ r. ⌜ Wrote (now (out .entry)) at (rows (only s (run f-nz64 r64))) (now (out .exit)) r ⌝ }
+    ensures { λ r. ⌜ Wrote (now (out .entry)) at (statementsText (only s (run f-nz64 r64))) (now (out .exit)) r ⌝ }
 {
     if s {
         return text::put(out, at, b"        f_nz64(c, r);\n");
@@ -138,7 +138,7 @@ pub fn put_mul_long(
     rs: Reg,
     rm: Reg,
 ) -> usize
-    ensures { λ r. ⌜ Wrote (now (out .entry)) at (rows (mulLongBody signed acc s hi lo rs rm)) (now (out .exit)) r ⌝ }
+    ensures { λ r. ⌜ Wrote (now (out .entry)) at (statementsText (mulLongBody signed acc s hi lo rs rm)) (now (out .exit)) r ⌝ }
 {
     let p = put_long_product(out, at, signed, rs, rm);
     let q = put_long_more(out, p, acc, hi, lo);

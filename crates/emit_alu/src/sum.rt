@@ -13,9 +13,8 @@ ghost use Rattle.text.specs.Wrote.{Wrote};
 ghost use Rattle.c_tree.specs.Expr.{compl, Expr, un};
 ghost use Rattle.c_tree.specs.Print.{exprText};
 ghost use Rattle.forms.specs.InlineBody.{result, sum};
-ghost use Rattle.emit_operands.specs.Operands.{operandOf};
-ghost use Rattle.forms.specs.Operands.{regOf};
-ghost use Rattle.emit_alu.specs.Rows.{rows, before, between, behind};
+ghost use Rattle.forms.specs.Operands.{regOf, operandOf};
+ghost use Rattle.emit_alu.specs.Rows.{statementsText, before, between, behind};
 
 fn put_before(out: &mut [u8], at: usize, s: bool) -> usize
     ensures { λ r. ⌜ Wrote (now (out .entry)) at (before s) (now (out .exit)) r ⌝ }
@@ -49,7 +48,7 @@ fn put_behind(out: &mut [u8], at: usize, s: bool) -> usize
 
 // The third term, and the lines behind the first.
 fn put_sum_rest(out: &mut [u8], at: usize, op: AluOp, s: bool, rd: Reg, carry: &[u8]) -> usize
-    ensures { λ r. ⌜ Wrote (now (out .entry)) at (between s ▸ raw (now (carry .entry)) ▸ behind s ▸ rows (result op rd ∷ [])) (now (out .exit)) r ⌝ }
+    ensures { λ r. ⌜ Wrote (now (out .entry)) at (between s ▸ raw (now (carry .entry)) ▸ behind s ▸ statementsText (result op rd ∷ [])) (now (out .exit)) r ⌝ }
 {
     let p = put_between(out, at, s);
     let q = text::put(out, p, carry);
@@ -70,7 +69,7 @@ pub(crate) fn put_sum(
     t: &[u8],
     carry: &[u8],
 ) -> usize
-    ensures { λ r. ⌜ ((y z : Expr) → ((k : List ℕ) → flat (raw (now (t .entry)) ▸ exprText (operandOf pc op2 .0)) k ≡ flat (exprText y) k) → ((k : List ℕ) → flat (raw (now (carry .entry))) k ≡ flat (exprText z) k) → Wrote (now (out .entry)) at (rows (sum op s rd (regOf pc rn) y z)) (now (out .exit)) r) ⌝ }
+    ensures { λ r. ⌜ ((y z : Expr) → ((k : List ℕ) → flat (raw (now (t .entry)) ▸ exprText (operandOf pc op2 .0)) k ≡ flat (exprText y) k) → ((k : List ℕ) → flat (raw (now (carry .entry))) k ≡ flat (exprText z) k) → Wrote (now (out .entry)) at (statementsText (sum op s rd (regOf pc rn) y z)) (now (out .exit)) r) ⌝ }
 {
     let p = put_before(out, at, s);
     let q = put_reg(out, p, rn, pc);
@@ -92,7 +91,7 @@ pub(crate) fn put_reversed(
     pc: u32,
     carry: &[u8],
 ) -> usize
-    ensures { λ r. ⌜ ((z : Expr) → ((k : List ℕ) → flat (raw (now (carry .entry))) k ≡ flat (exprText z) k) → Wrote (now (out .entry)) at (rows (sum op s rd (operandOf pc op2 .0) (un compl (regOf pc rn)) z)) (now (out .exit)) r) ⌝ }
+    ensures { λ r. ⌜ ((z : Expr) → ((k : List ℕ) → flat (raw (now (carry .entry))) k ≡ flat (exprText z) k) → Wrote (now (out .entry)) at (statementsText (sum op s rd (operandOf pc op2 .0) (un compl (regOf pc rn)) z)) (now (out .exit)) r) ⌝ }
 {
     let p = put_before(out, at, s);
     let q = put_op2_value(out, p, op2, pc);

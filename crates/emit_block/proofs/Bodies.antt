@@ -55,7 +55,7 @@ module _ {f : List ℕ} {i : ℕ} {r : BlockRecord} {first : ℕ} (is : IsBlock 
         thumb = refl;
         count = sym (reads .count) ∙ ap (λ (x : BlockRecord). x .count) (block-record is);
         forms = refl;
-        closing = refl;
+        pending = refl;
       }
 
   pub is-body : IsBody f r first bodyHere

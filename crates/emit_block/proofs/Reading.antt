@@ -1,23 +1,17 @@
 -- What the reader of instructions gives of a block, as the walk over its records has it.
 -- Assumes nothing.
-use Prim.Native.Nat.{ℕ, zero, suc, _+_, _*_, _%_, _<_, _^_}
+use Prim.Native.Nat.{ℕ, suc, _+_, _<_}
 use mathlib.Core.Path.{_≡_, sym, ap, _∙_}
-use mathlib.Core.Bool.{Bool}
-use mathlib.Core.List.{List, [], _∷_, _++_}
-use native.Mathlib.Nat.{mul-suc, mul-zero}
+use mathlib.Core.List.{List, [], _∷_}
 use native.Mathlib.Numerals.{add-one}
 use native.Mathlib.Omega.{arith}
 use lib.ListN.{drop}
 use Rattle.armv4t.specs.declared.Instr.{Instr}
-use Rattle.armv4t.specs.Instr.{sizeOf}
 use Rattle.instr_records.specs.declared.decode.TimedInstr.{TimedInstr}
 use Rattle.block_file.specs.declared.read.BlockRecord.{BlockRecord}
 use Rattle.block_file.specs.declared.read.FoundInstr.{FoundInstr}
-use Rattle.instr_records.specs.Decode.{timedAt}
-use Rattle.block_file.specs.Parse.{instrsFrom}
 use Rattle.block_file.specs.Read.{IsBlock}
 use Rattle.block_exits.proofs.Closing.{instrAt, readInstr, read-as}
-use Rattle.forms.specs.Block.{flushTicks, closingLines, pcLine}
 use Rattle.emit_block.specs.declared.instrs.Next.{Next}
 use Rattle.emit_block.specs.Walk.{instrsOf, nextOf}
 use Rattle.emit_block.proofs.FormsFrom.{drop-instr, drop-all}
@@ -45,15 +39,3 @@ module _ {f : List ℕ} {i : ℕ} {r : BlockRecord} {first : ℕ} (is : IsBlock 
       read-as is (suc j) q y below (e ∙ ap (readInstr f r first) (add-one j)) g in
       ap (λ (z : TimedInstr). nextOf x (z ∷ [])) same
       ∙ ap (nextOf x) (sym (drop-instr f (r .thumb) (r .count) first (r .addr) (suc j) below))
-
--- the lines before the closing transfer of consecutive instructions: the address behind the last one
-pub closing-address : (f : List ℕ) (thumb : Bool) (n k addr cycles : ℕ)
-    → closingLines cycles (instrsFrom f (suc n) k addr thumb) ≡ flushTicks cycles ++ pcLine ((addr + sizeOf thumb * suc n) % 2 ^ 32)
-unfolding timedAt
-closing-address f thumb zero k addr cycles =
-    let one : addr + sizeOf thumb ≡ addr + sizeOf thumb * 1 = rw (mul-suc, mul-zero) (omega arith) in
-    ap (λ (a : ℕ). flushTicks cycles ++ pcLine (a % 2 ^ 32)) one
-closing-address f thumb (suc n) k addr cycles =
-    let more : addr + sizeOf thumb + sizeOf thumb * suc n ≡ addr + sizeOf thumb * suc (suc n) = rw mul-suc (omega arith) in
-    closing-address f thumb n (suc k) (addr + sizeOf thumb) cycles
-    ∙ ap (λ (a : ℕ). flushTicks cycles ++ pcLine (a % 2 ^ 32)) more

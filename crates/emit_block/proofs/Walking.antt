@@ -1,7 +1,7 @@
 -- The walk over the records of a block: none, one more, all.
 -- Assumes nothing.
 use Prim.Native.Nat.{ℕ, suc, _+_, _-_, _*_, _%_, _≤_, _^_}
-use mathlib.Core.Path.{_≡_, refl, sym, ap, _∙_, subst}
+use mathlib.Core.Path.{_≡_, refl, sym, ap, ap₂, _∙_, subst}
 use mathlib.Core.Bool.{Bool, true, false, cond}
 use mathlib.Core.List.{List, [], _++_}
 use package.native.Mathlib.Numerals.{add-one}
@@ -10,24 +10,21 @@ use lib.ListN.{length, drop}
 use Rattle.armv4t.specs.Instr.{sizeOf}
 use Rattle.records.specs.BlockRecord.{lengthOf, keyPlus}
 use Rattle.block_file.specs.declared.read.BlockRecord.{BlockRecord}
-use Rattle.block_file.specs.Parse.{instrsFrom}
 use Rattle.block_file.specs.Read.{IsBlock}
 use Rattle.block_exits.specs.Exits.{keyOf}
-use Rattle.block_file.proofs.IsBlock.{some-instr}
 use Rattle.block_exits.proofs.OwnKey.{key-plus}
 use Rattle.text.specs.Wrote.{Wrote, maxUsize}
 use Rattle.c_tree.specs.Stmt.{end}
 use Rattle.c_tree.specs.Print.{codeText}
 use Rattle.forms.specs.Forms.{Form, Body}
-use Rattle.forms.specs.Block.{flushTicks, emitInstrs, closingLines, pcLine}
+use Rattle.forms.specs.Block.{flushTicks, emitInstrs, pcLine}
 use Rattle.block_file.specs.Address.{region}
-use Rattle.lowering.specs.Block.{bodyEnd, codeFrom}
+use Rattle.lowering.specs.Block.{bodyEnd, closingLines, codeFrom}
 use Rattle.emit_instr.specs.declared.step.Step.{Step}
 use Rattle.emit_instr.specs.Onward.{Onward}
 use Rattle.emit_instr.proofs.Onward.{stay, then, finish}
 use Rattle.emit_block.specs.Walk.{instrsOf, formsFrom, IsBody, Recorded, Walked}
 use Rattle.emit_block.proofs.FormsFrom.{drop-all}
-use Rattle.emit_block.proofs.Reading.{closing-address}
 
 module _ {f : List ℕ} {r : BlockRecord} {first : ℕ} {ks : List ℕ} {b : Body} {out : List ℕ} {at : ℕ} where
   -- no record yet
@@ -74,17 +71,16 @@ module _ {f : List ℕ} {r : BlockRecord} {first : ℕ} {ks : List ℕ} {b : Bod
 
 -- where the closing transfer of a block goes
 module _ {f : List ℕ} {i : ℕ} {r : BlockRecord} {first : ℕ} {b : Body} (is : IsBlock f i r first) (body : IsBody f r first b) where
+  end-address : (thumb : Bool) (addr count : ℕ) → (addr + lengthOf count thumb) % 2 ^ 32 ≡ (addr + sizeOf thumb * count) % 2 ^ 32
+  end-address true addr count = omega arith
+  end-address false addr count = omega arith
+
   -- the lines before it set PC to the address behind the block
   pub end-lines : (cycles next : ℕ) → cycles ≡ formsFrom f r first 0 0 .1 → next ≡ (r .addr + sizeOf (r .thumb) * r .count) % 2 ^ 32
-      → b .closing ≡ flushTicks cycles ++ pcLine next
+      → closingLines b ≡ flushTicks cycles ++ pcLine next
   end-lines cycles next pending e =
-      let some : r .count ≡ suc (r .count - 1) = omega (arith, some-instr is) in
-      body .closing
-      ∙ ap (λ (n : ℕ). closingLines n (instrsOf f r first)) (sym pending)
-      ∙ ap (λ (n : ℕ). closingLines cycles (instrsFrom f n first (r .addr) (r .thumb))) some
-      ∙ closing-address f (r .thumb) (r .count - 1) first (r .addr) cycles
-      ∙ ap (λ (n : ℕ). flushTicks cycles ++ pcLine ((r .addr + sizeOf (r .thumb) * n) % 2 ^ 32)) (sym some)
-      ∙ ap (λ (n : ℕ). flushTicks cycles ++ pcLine n) (sym e)
+      rw (body .addr, body .thumb, body .count)
+      (ap₂ (λ (c a : ℕ). flushTicks c ++ pcLine a) (body .pending ∙ sym pending) (end-address (r .thumb) (r .addr) (r .count) ∙ sym e))
 
   end-even : (thumb : Bool) (addr count : ℕ) → keyOf addr thumb ≡ keyPlus addr thumb
       → keyPlus ((addr + lengthOf count thumb) % 2 ^ 32) thumb ≡ keyOf ((addr + sizeOf thumb * count) % 2 ^ 32) thumb

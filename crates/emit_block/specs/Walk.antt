@@ -15,7 +15,7 @@ use Rattle.members.specs.Members.{membersOf, memberKeys}
 use Rattle.members.specs.Prepared.{Ready}
 use Rattle.c_tree.specs.Stmt.{end}
 use Rattle.forms.specs.Forms.{Form, Body}
-use Rattle.forms.specs.Block.{emitInstrs, closingLines}
+use Rattle.forms.specs.Block.{emitInstrs}
 use Rattle.block_file.specs.Address.{region}
 use Rattle.lowering.specs.Block.{codeFrom}
 use Rattle.emit_block.specs.declared.member.Member.{Member}
@@ -37,9 +37,10 @@ pub record IsBody (f : List ℕ) (r : BlockRecord) (first : ℕ) (b : Body) : Ty
   pub thumb : b .thumb ≡ r .thumb
   pub count : b .count ≡ r .count
   pub forms : b .forms ≡ formsFrom f r first 0 0 .0
-  pub closing : b .closing ≡ closingLines (formsFrom f r first 0 0 .1) (instrsOf f r first)
+  pub pending : b .pending ≡ formsFrom f r first 0 0 .1
 
--- where a block stands in the plan that the work numbers have: ks are the keys that a transfer goes to by a goto, those of its group if it has several blocks
+-- where a block stands in the plan that the work numbers have: ks are the keys that a transfer goes to by a goto, those of its group where `several` is true, and
+-- none where it is false; it is true only for a group of two or more
 pub record IsMember (f work : List ℕ) (m : Member) (ks : List ℕ) : Type 0 where
   pub limit : ℕ
   pub ready : Ready f (m .blocks) limit work

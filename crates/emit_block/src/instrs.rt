@@ -29,7 +29,7 @@ ghost use Rattle.block_file.specs.Read.{IsBlock};
 ghost use Rattle.lowering.specs.Block.{codeFrom};
 ghost use Rattle.emit_block.specs.declared.instrs.Next.{Next};
 ghost use Rattle.emit_instr.specs.Onward.{Onward};
-ghost use Rattle.emit_instr.specs.Steps.{Reaches};
+ghost use Rattle.emit_instr.specs.Steps.{BranchInside};
 ghost use Rattle.emit_block.specs.Walk.{instrsOf, IsMember, IsMemberBlock, nextOf, Recorded};
 
 // What an instruction makes with the one behind it.
@@ -84,7 +84,7 @@ fn next_of(file: &[u8], block: BlockRecord, first: usize, j: u32, x: Instr) -> N
 // Whether a branch goes to a block of the same group; the answer for other operations is of no use.
 fn branch_inside(file: &[u8], work: &[u32], m: Member, thumb: bool, op: Op) -> bool
     requires { ⌜ (4 * m .blocks ≤ length (now work)) × (m .blocks ≤ 65536) × (m .blocks ≡ blockCount (now file)) × (m .index < m .blocks) ⌝ }
-    ensures { λ r. ⌜ ((ks : List ℕ) → IsMember (now (file .entry)) (now (work .entry)) m ks → Reaches ks thumb r op) ⌝ }
+    ensures { λ r. ⌜ ((ks : List ℕ) → IsMember (now (file .entry)) (now (work .entry)) m ks → BranchInside ks thumb r op) ⌝ }
 {
     match op {
         Op::Branch { target, .. } => is_inside(file, work, m, key_of(target, thumb)),

@@ -8,47 +8,47 @@ use Rattle.text.specs.Doc.{text, _▸_, flat}
 use Rattle.c_tree.specs.Expr.{Expr}
 use Rattle.c_tree.specs.Stmt.{Plain, guard, Owner, common, plain, retInterp, Code, end, _⨾_, when, braces}
 use Rattle.c_tree.specs.Print.{exprText, plainText, codeText}
-use Rattle.forms.specs.Forms.{Lines, Native, straight, straightIf, branch, pop, Form, shell, records, Body}
+use Rattle.forms.specs.Forms.{Lines, Native, straight, straightIf, branchIf, pop, Form, shell, records, Body}
 use Rattle.forms.specs.Block.{flushTicks, pcLine}
 use Rattle.records.specs.BlockRecord.{keyPlus}
-use Rattle.lowering.specs.Block.{bodyKey, bodyLength, bodyEnd, nl, sp, line, lines, transfer, closing, conditional, leave, nativeText, shellCode, codeFrom, defer, underGuard, closingCode}
+use Rattle.lowering.specs.Block.{bodyKey, bodyLength, bodyEnd, nl, sp, line, lines, transfer, closing, conditional, leave, nativeText, shellCode, codeFrom, defer, underGuard, exitCode, linesText, closingLines}
 use Rattle.emit_flow.specs.Pieces.{straightOpen, straightEnd, beforeCondition, behindCondition, behindConditional, straightIfOpen, straightIfEnd}
 use Rattle.emit_flow.proofs.Pieces.{lines-behind}
 
 -- lines in braces
 pub straight-text : (ks : List ℕ) (a : ℕ) (o : Owner) (t l : Lines) (c : Code) (k : List ℕ)
     → flat (codeText (nativeText ks a o (straight t l) c)) k
-    ≡ flat (codeText (lines common 4 t end) ▸ straightOpen ▸ codeText (lines common 8 l end) ▸ straightEnd ▸ codeText c) k
+    ≡ flat (linesText 4 t ▸ straightOpen ▸ linesText 8 l ▸ straightEnd ▸ codeText c) k
 unfolding nativeText
 straight-text ks a o t l c k =
     lines-behind o common 4 t (sp 4 ⨾ braces (nl ⨾ lines o 8 l (sp 4 ⨾ end)) (nl ⨾ c)) k
-    ∙ ap (flat (codeText (lines common 4 t end) ▸ straightOpen)) (lines-behind o common 8 l (sp 4 ⨾ end) (flat (text "}" ▸ codeText (nl ⨾ c)) k))
+    ∙ ap (flat (linesText 4 t ▸ straightOpen)) (lines-behind o common 8 l (sp 4 ⨾ end) (flat (text "}" ▸ codeText (nl ⨾ c)) k))
 
 -- lines behind a condition
 pub straight-if-text : (ks : List ℕ) (a : ℕ) (o : Owner) (t : Lines) (e : Expr) (l : Lines) (c : Code) (k : List ℕ)
     → flat (codeText (nativeText ks a o (straightIf t e l) c)) k
-    ≡ flat (codeText (lines common 4 t end) ▸ beforeCondition ▸ exprText e ▸ straightIfOpen ▸ codeText (lines common 8 l end) ▸ straightIfEnd ▸ codeText c) k
+    ≡ flat (linesText 4 t ▸ beforeCondition ▸ exprText e ▸ straightIfOpen ▸ linesText 8 l ▸ straightIfEnd ▸ codeText c) k
 unfolding nativeText
 straight-if-text ks a o t e l c k =
     lines-behind o common 4 t (conditional o e (nl ⨾ lines o 8 l (sp 6 ⨾ end)) c) k
-    ∙ ap (flat (codeText (lines common 4 t end) ▸ beforeCondition ▸ exprText e ▸ straightIfOpen))
+    ∙ ap (flat (linesText 4 t ▸ beforeCondition ▸ exprText e ▸ straightIfOpen))
     (lines-behind o common 8 l (sp 6 ⨾ end) (flat (behindConditional ▸ codeText c) k))
 
 -- a branch behind a condition
 pub branch-text : (ks : List ℕ) (a : ℕ) (o : Owner) (t : Lines) (e : Expr) (l : List Plain) (key : ℕ) (c : Code) (k : List ℕ)
-    → flat (codeText (nativeText ks a o (branch t e l key) c)) k
-    ≡ flat (codeText (lines common 4 t end) ▸ beforeCondition ▸ exprText e ▸ (behindCondition ▸ codeText (sp 1 ⨾ line o l (nl ⨾ transfer ks a o 8 key (sp 6 ⨾ end))) ▸ behindConditional) ▸ codeText c) k
+    → flat (codeText (nativeText ks a o (branchIf t e l key) c)) k
+    ≡ flat (linesText 4 t ▸ beforeCondition ▸ exprText e ▸ (behindCondition ▸ codeText (sp 1 ⨾ line o l (nl ⨾ transfer ks a o 8 key (sp 6 ⨾ end))) ▸ behindConditional) ▸ codeText c) k
 unfolding nativeText
 branch-text ks a o t e l key c k = lines-behind o common 4 t (conditional o e (sp 1 ⨾ line o l (nl ⨾ transfer ks a o 8 key (sp 6 ⨾ end))) c) k
 
 -- a pop of PC
 pub pop-text : (ks : List ℕ) (a : ℕ) (o : Owner) (t : Lines) (p : Plain) (l : Lines) (q : Plain) (e : Expr) (c : Code) (k : List ℕ)
     → flat (codeText (nativeText ks a o (pop t p l q e) c)) k
-    ≡ flat (codeText (lines common 4 t end) ▸ text "    { " ▸ plainText p ▸ text ";\n" ▸ codeText (lines common 6 l end) ▸ text "      " ▸ plainText q ▸ text "; return " ▸ exprText e ▸ text "; }\n") k
+    ≡ flat (linesText 4 t ▸ text "    { " ▸ plainText p ▸ text ";\n" ▸ codeText (lines common 6 l end) ▸ text "      " ▸ plainText q ▸ text "; return " ▸ exprText e ▸ text "; }\n") k
 unfolding nativeText
 pop-text ks a o t p l q e c k =
     lines-behind o common 4 t (sp 4 ⨾ braces (sp 1 ⨾ plain o p ⨾ nl ⨾ lines o 6 l (sp 6 ⨾ plain o q ⨾ leave o e)) (nl ⨾ end)) k
-    ∙ ap (flat (codeText (lines common 4 t end) ▸ text "    { " ▸ plainText p ▸ text ";\n")) (lines-behind o common 6 l (sp 6 ⨾ plain o q ⨾ leave o e) (flat (text "}\n") k))
+    ∙ ap (flat (linesText 4 t ▸ text "    { " ▸ plainText p ▸ text ";\n")) (lines-behind o common 6 l (sp 6 ⨾ plain o q ⨾ leave o e) (flat (text "}\n") k))
 
 -- a shell, and the code behind it
 pub shell-behind : (b : Body) (i key : ℕ) (t : Lines) (c : Code) (k : List ℕ)
@@ -87,10 +87,10 @@ code-last ks b i h t key k =
     ∙ sym (lines-behind common common 4 t (sp 4 ⨾ retInterp (bodyKey b) i ⨾ nl ⨾ end) (flat (codeText (cond h (closing ks b) end)) k))
 
 -- the end of a block, by the cycles pending there and where it goes on
-pub closing-text : (ks : List ℕ) (b : Body) (cycles next key : ℕ) (k : List ℕ) → b .closing ≡ flushTicks cycles ++ pcLine next
+pub closing-text : (ks : List ℕ) (b : Body) (cycles next key : ℕ) (k : List ℕ) → closingLines b ≡ flushTicks cycles ++ pcLine next
     → keyPlus (bodyEnd b) (b .thumb) ≡ key
-    → flat (codeText (closing ks b)) k ≡ flat (codeText (closingCode ks (b .addr) (flushTicks cycles ++ pcLine next) key)) k
+    → flat (codeText (closing ks b)) k ≡ flat (codeText (exitCode ks (b .addr) common (flushTicks cycles ++ pcLine next) key)) k
 unfolding closing
 closing-text ks b cycles next key k e f =
-    ap (λ (l : Lines). flat (codeText (closingCode ks (b .addr) l (keyPlus (bodyEnd b) (b .thumb)))) k) e
-    ∙ ap (λ (n : ℕ). flat (codeText (closingCode ks (b .addr) (flushTicks cycles ++ pcLine next) n)) k) f
+    ap (λ (l : Lines). flat (codeText (exitCode ks (b .addr) common l (keyPlus (bodyEnd b) (b .thumb)))) k) e
+    ∙ ap (λ (n : ℕ). flat (codeText (exitCode ks (b .addr) common (flushTicks cycles ++ pcLine next) n)) k) f

@@ -18,7 +18,7 @@ use Rattle.c_tree.proofs.Preamble.{helpersText, preamble-text}
 use Rattle.forms.specs.Forms.{Lines, jump, bx, Body}
 use Rattle.forms.specs.InlineBody.{only, apart}
 use Rattle.forms.specs.Block.{flushTicks, setWord, emitPair, branchRegs, pcLine}
-use Rattle.lowering.specs.Block.{nl, sp, line, lines, gotoCode, transfer, conditional, nativeText, defer, underGuard}
+use Rattle.lowering.specs.Block.{nl, sp, line, lines, gotoCode, transfer, conditional, nativeText, defer, underGuard, linesText}
 use Rattle.block_file.specs.Address.{among}
 use Rattle.lowering.specs.Units.{unitHead}
 use Rattle.emit_flow.specs.Pieces.{beforeCondition, behindCondition, behindConditional}
@@ -47,7 +47,7 @@ lines-append o n (l ∷ ls) ms c = ap (λ (d : Code). sp n ⨾ line o l (nl ⨾ 
 
 -- cycles, and the lines behind them
 pub ticked : (o : Owner) (cycles : ℕ) (ms : Lines) (c : Code)
-    → flat (codeText (lines common 4 (flushTicks cycles) end) ▸ codeText (lines o 4 ms c)) []
+    → flat (linesText 4 (flushTicks cycles) ▸ codeText (lines o 4 ms c)) []
     ≡ flat (codeText (lines o 4 (flushTicks cycles ++ ms) c)) []
 ticked o cycles ms c =
     sym (ap (λ (d : Code). flat (codeText d) []) (lines-append o 4 (flushTicks cycles) ms c) ∙ lines-behind o common 4 (flushTicks cycles) (lines o 4 ms c) [])
@@ -85,33 +85,33 @@ unfolding transfer gotoCode
 ungated ks a o n key e f = rw (e, f) refl
 
 -- cycles that are not 0 are ticked
-pub ticks : (n : ℕ) → (n ≡ 0 → ⊥) → flat (text "    a->tick(m, " ▸ dec n ▸ text "u);\n") [] ≡ flat (codeText (lines common 4 (flushTicks n) end)) []
+pub ticks : (n : ℕ) → (n ≡ 0 → ⊥) → flat (text "    a->tick(m, " ▸ dec n ▸ text "u);\n") [] ≡ flat (linesText 4 (flushTicks n)) []
 ticks zero h = absurd (h refl)
 ticks (suc n) h = refl
 
 -- the lines that set r14 and r15
-pub lr-set : (n : ℕ) → flat (text "    c[14] = 0x" ▸ hex8 n ▸ text "u;\n") [] ≡ flat (codeText (lines common 4 (apart (setWord 14 n ∷ [])) end)) []
+pub lr-set : (n : ℕ) → flat (text "    c[14] = 0x" ▸ hex8 n ▸ text "u;\n") [] ≡ flat (linesText 4 (apart (setWord 14 n ∷ []))) []
 unfolding decimal numeral
 lr-set n = refl
 
-pub pc-set : (n : ℕ) → flat (text "    c[15] = 0x" ▸ hex8 n ▸ text "u;\n") [] ≡ flat (codeText (lines common 4 (pcLine n) end)) []
+pub pc-set : (n : ℕ) → flat (text "    c[15] = 0x" ▸ hex8 n ▸ text "u;\n") [] ≡ flat (linesText 4 (pcLine n)) []
 unfolding decimal numeral
 pc-set n = refl
 
 -- the lines of a branch that is always taken, and the code behind them
 pub linked : (link : Bool) (back target : ℕ) (o : Owner) (c : Code) (k : List ℕ)
-    → flat (codeText (lines common 4 (apart (only link (setWord 14 back))) end) ▸ codeText (lines common 4 (pcLine target) end) ▸ codeText c) k
+    → flat (linesText 4 (apart (only link (setWord 14 back))) ▸ linesText 4 (pcLine target) ▸ codeText c) k
     ≡ flat (codeText (lines o 4 (apart (branchRegs link back target)) c)) k
 linked true back target o c k = refl
 linked false back target o c k = refl
 
 -- a branch that is always taken
 pub jumped : (ks : List ℕ) (a : ℕ) (o : Owner) (cycles : ℕ) (link : Bool) (back target key : ℕ) (c : Code)
-    → flat (codeText (lines common 4 (flushTicks cycles) end) ▸ codeText (lines common 4 (apart (only link (setWord 14 back))) end) ▸ codeText (lines common 4 (pcLine target) end) ▸ codeText (transfer ks a o 4 key end)) []
+    → flat (linesText 4 (flushTicks cycles) ▸ linesText 4 (apart (only link (setWord 14 back))) ▸ linesText 4 (pcLine target) ▸ codeText (transfer ks a o 4 key end)) []
     ≡ flat (codeText (nativeText ks a o (jump (flushTicks cycles ++ apart (branchRegs link back target)) key) c)) []
 unfolding nativeText
 jumped ks a o cycles link back target key c =
-    ap (flat (codeText (lines common 4 (flushTicks cycles) end))) (linked link back target o (transfer ks a o 4 key end) [])
+    ap (flat (linesText 4 (flushTicks cycles))) (linked link back target o (transfer ks a o 4 key end) [])
     ∙ ticked o cycles (apart (branchRegs link back target)) (transfer ks a o 4 key end)
 
 -- what is conditional, between what stands before and behind it
@@ -133,7 +133,7 @@ taken ks a o l key =
 
 -- a fused pair
 pub paired : (ks : List ℕ) (a : ℕ) (o : Owner) (cycles target back : ℕ) (c : Code) (to key : ℕ) → to ≡ clearBit0 target → key ≡ setBit0 target
-    → flat (codeText (lines common 4 (flushTicks cycles) end) ▸ codeText (lines common 4 (apart (setWord 14 back ∷ [])) end) ▸ codeText (lines common 4 (pcLine to) end) ▸ codeText (transfer ks a o 4 key end)) []
+    → flat (linesText 4 (flushTicks cycles) ▸ linesText 4 (apart (setWord 14 back ∷ [])) ▸ linesText 4 (pcLine to) ▸ codeText (transfer ks a o 4 key end)) []
     ≡ flat (codeText (nativeText ks a o (emitPair cycles target back) c)) []
 unfolding nativeText
 paired ks a o cycles target back c to key e f =
@@ -141,7 +141,7 @@ paired ks a o cycles target back c to key e f =
 
 -- a Bx
 pub bx-text : (ks : List ℕ) (a : ℕ) (o : Owner) (cycles : ℕ) (e : Expr) (c : Code)
-    → flat (codeText (lines common 4 (flushTicks cycles) end) ▸ text "    { uint32_t t = " ▸ exprText e ▸ text ";\n      if (t & 1u) { c[16] |= 0x20u; c[15] = t & ~1u; return (t & ~1u) | 1u; }\n      c[16] &= ~0x20u; c[15] = t & ~3u; return t & ~3u; }\n") []
+    → flat (linesText 4 (flushTicks cycles) ▸ text "    { uint32_t t = " ▸ exprText e ▸ text ";\n      if (t & 1u) { c[16] |= 0x20u; c[15] = t & ~1u; return (t & ~1u) | 1u; }\n      c[16] &= ~0x20u; c[15] = t & ~3u; return t & ~3u; }\n") []
     ≡ flat (codeText (nativeText ks a o (bx (flushTicks cycles) e) c)) []
 unfolding nativeText decimal hexadecimal numeral
 bx-text ks a o cycles e c = sym (lines-behind o common 4 (flushTicks cycles) _ [])

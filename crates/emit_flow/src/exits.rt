@@ -16,7 +16,7 @@ ghost use Rattle.c_tree.specs.Print.{codeText};
 ghost use Rattle.forms.specs.Forms.{jump};
 ghost use Rattle.forms.specs.InlineBody.{only, apart};
 ghost use Rattle.forms.specs.Block.{flushTicks, setWord, pcLine, emitPair, branchRegs};
-ghost use Rattle.lowering.specs.Block.{nl, sp, line, lines, transfer as Block·transfer, closingCode, nativeText};
+ghost use Rattle.lowering.specs.Block.{nl, sp, line, transfer as Block·transfer, exitCode, nativeText, linesText};
 ghost use Rattle.block_file.specs.Address.{among};
 ghost use Rattle.emit_flow.specs.Pieces.{behindCondition, behindConditional};
 
@@ -54,7 +54,7 @@ pub fn branch_taken(
 
 // r14 set where a branch links.
 fn set_link(out: &mut [u8], at: usize, link: bool, ret: u32) -> usize
-    ensures { λ r. ⌜ Wrote (now (out .entry)) at (codeText (lines common 4 (apart (only link (setWord 14 ret))) end)) (now (out .exit)) r ⌝ }
+    ensures { λ r. ⌜ Wrote (now (out .entry)) at (linesText 4 (apart (only link (setWord 14 ret)))) (now (out .exit)) r ⌝ }
 {
     if link { set_lr(out, at, ret) } else { at }
 }
@@ -99,7 +99,7 @@ pub fn emit_pair(
 
 // The end of a block that goes on at address next, whose key is given too, behind its ticks.
 pub fn put_closing(out: &mut [u8], at: usize, next: u32, inside: bool, src: u32, key: u32) -> usize
-    ensures { λ r. ⌜ ((ks : List ℕ) → among key ks ≡ inside → Wrote (now (out .entry)) at (codeText (closingCode ks src (pcLine next) key)) (now (out .exit)) r) ⌝ }
+    ensures { λ r. ⌜ ((ks : List ℕ) → among key ks ≡ inside → Wrote (now (out .entry)) at (codeText (exitCode ks src common (pcLine next) key)) (now (out .exit)) r) ⌝ }
 {
     let p = set_pc(out, at, next);
     transfer(out, p, inside, src, key, false)

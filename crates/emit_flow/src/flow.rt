@@ -11,13 +11,13 @@ ghost use Rattle.c_tree.specs.Stmt.{gate, Owner, common, ret, retIf, end, _⨾_
 ghost use Rattle.c_tree.specs.Print.{codeText};
 ghost use Rattle.forms.specs.InlineBody.{apart};
 ghost use Rattle.forms.specs.Block.{flushTicks, setWord, pcLine};
-ghost use Rattle.lowering.specs.Block.{nl, sp, lines, gotoCode, transfer};
+ghost use Rattle.lowering.specs.Block.{nl, sp, gotoCode, transfer, linesText};
 ghost use Rattle.block_file.specs.Address.{among};
 ghost use Rattle.emit_flow.specs.Pieces.{indent};
 
 // The cycles pending, if there are any.
 pub fn flush_ticks(out: &mut [u8], at: usize, cycles: u64) -> usize
-    ensures { λ r. ⌜ Wrote (now (out .entry)) at (codeText (lines common 4 (flushTicks cycles) end)) (now (out .exit)) r ⌝ }
+    ensures { λ r. ⌜ Wrote (now (out .entry)) at (linesText 4 (flushTicks cycles)) (now (out .exit)) r ⌝ }
 {
     if cycles == 0 {
         return at;
@@ -28,7 +28,7 @@ pub fn flush_ticks(out: &mut [u8], at: usize, cycles: u64) -> usize
 
 // r14 set to n.
 pub(crate) fn set_lr(out: &mut [u8], at: usize, n: u32) -> usize
-    ensures { λ r. ⌜ Wrote (now (out .entry)) at (codeText (lines common 4 (apart (setWord 14 n ∷ [])) end)) (now (out .exit)) r ⌝ }
+    ensures { λ r. ⌜ Wrote (now (out .entry)) at (linesText 4 (apart (setWord 14 n ∷ []))) (now (out .exit)) r ⌝ }
 {
     let p = text::put_then_hex8(out, at, b"    c[14] = 0x", n);
     text::put(out, p, b"u;\n")
@@ -36,7 +36,7 @@ pub(crate) fn set_lr(out: &mut [u8], at: usize, n: u32) -> usize
 
 // r15 set to n.
 pub(crate) fn set_pc(out: &mut [u8], at: usize, n: u32) -> usize
-    ensures { λ r. ⌜ Wrote (now (out .entry)) at (codeText (lines common 4 (pcLine n) end)) (now (out .exit)) r ⌝ }
+    ensures { λ r. ⌜ Wrote (now (out .entry)) at (linesText 4 (pcLine n)) (now (out .exit)) r ⌝ }
 {
     let p = text::put_then_hex8(out, at, b"    c[15] = 0x", n);
     text::put(out, p, b"u;\n")

@@ -13,19 +13,16 @@ use Rattle.armv4t.specs.Instr.{pcValue}
 use Rattle.text.specs.Doc.{flat}
 use Rattle.text.specs.Wrote.{Wrote}
 use Rattle.text.proofs.Laws.{said}
-use Rattle.c_tree.specs.Stmt.{common, end}
-use Rattle.c_tree.specs.Print.{codeText}
 use Rattle.forms.specs.Forms.{Lines}
 use Rattle.forms.specs.InlineBody.{apart, alu, opBody, inlineBody}
-use Rattle.lowering.specs.Block.{lines}
-use Rattle.emit_operands.specs.Operands.{operandOf}
-use Rattle.forms.specs.Operands.{regOf}
+use Rattle.lowering.specs.Block.{linesText}
+use Rattle.forms.specs.Operands.{regOf, operandOf}
 use Rattle.emit_alu.proofs.Bodies.{alu-lines}
 
 -- equal lines have one text
-pub as-lines : {o o′ : List ℕ} {at r : ℕ} (ls body : Lines) → ls ≡ body → Wrote o at (codeText (lines common 8 ls end)) o′ r
-    → Wrote o at (codeText (lines common 8 body end)) o′ r
-as-lines ls body e w = said w (ap (λ (l : Lines). flat (codeText (lines common 8 l end)) []) e)
+pub as-lines : {o o′ : List ℕ} {at r : ℕ} (ls body : Lines) → ls ≡ body → Wrote o at (linesText 8 ls) o′ r
+    → Wrote o at (linesText 8 body) o′ r
+as-lines ls body e w = said w (ap (λ (l : Lines). flat (linesText 8 l) []) e)
 
 -- the lines of an instruction whose operation is known
 pub known-body : (thumb : Bool) (i : Instr) (op : Op) (body : Lines) → i .op ≡ op → inlineBody thumb i ≡ some body

@@ -11,12 +11,12 @@ use Rattle.c_tree.specs.Stmt.{Plain, Owner, common, retInterp, end, _⨾_}
 use Rattle.c_tree.specs.Print.{exprText, codeText}
 use Rattle.block_exits.specs.Exits.{keyOf}
 use Rattle.armv4t.specs.Cond.{isAl}
-use Rattle.forms.specs.Forms.{Lines, Native, straight, straightIf, branch, jump, Form, shell, records, Body}
+use Rattle.forms.specs.Forms.{Lines, Native, straight, straightIf, branchIf, jump, Form, shell, records, Body}
 use Rattle.forms.specs.Operands.{condExpr}
 use Rattle.forms.specs.InlineBody.{apart}
 use Rattle.forms.specs.Block.{flushTicks, emitBranch, branchRegs, pcLine}
 use Rattle.records.specs.BlockRecord.{keyPlus}
-use Rattle.lowering.specs.Block.{bodyKey, bodyEnd, nl, sp, line, lines, transfer, nativeText, shellCode, codeFrom, closingCode}
+use Rattle.lowering.specs.Block.{bodyKey, bodyEnd, nl, sp, line, lines, transfer, nativeText, shellCode, codeFrom, exitCode, linesText, closingLines}
 use Rattle.emit_flow.specs.Pieces.{beforeCondition, behindCondition, behindConditional}
 use Rattle.emit_flow.proofs.Blocks.{straight-text, straight-if-text, branch-text, code-native, code-shell, code-last, closing-text}
 use Rattle.emit_instr.specs.Onward.{Onward}
@@ -35,7 +35,7 @@ module _ {o o′ : List ℕ} {at r : ℕ} (ks : List ℕ) (b : Body) (j : ℕ) w
 
   -- lines in braces, behind a condition or not
   pub lowered-step : (al : Bool) (t : Lines) (e : Expr) (l : Lines) (fs : List Form)
-      → Wrote o at (codeText (lines common 4 t end) ▸ lowered al e l) o′ r
+      → Wrote o at (linesText 4 t ▸ lowered al e l) o′ r
       → Onward o at (codeFrom ks b j (Form.native (cond al (straight t l) (straightIf t e l)) ∷ fs)) (codeFrom ks b (j + 1) fs) o′ r
   lowered-step true t e l fs w =
       by _ _ w
@@ -47,19 +47,19 @@ module _ {o o′ : List ℕ} {at r : ℕ} (ks : List ℕ) (b : Body) (j : ℕ) w
   -- a branch that is always taken, from the block's address
   pub jump-step : (al : Bool) (t u : Lines) (e : Expr) (l : List Plain) (key src : ℕ) (fs : List Form) → al ≡ true → b .addr ≡ src
       → Wrote o at (codeText (nativeText ks src (Owner.native (bodyKey b)) (jump t key) (codeFrom ks b (j + 1) fs))) o′ r
-      → Onward o at (codeFrom ks b j (Form.native (cond al (jump t key) (branch u e l key)) ∷ fs)) end o′ r
+      → Onward o at (codeFrom ks b j (Form.native (cond al (jump t key) (branchIf u e l key)) ∷ fs)) end o′ r
   jump-step true t u e l key src fs p q w = exit-step (jump t key) src fs q w
   jump-step false t u e l key src fs p q w = absurd (true≢false (sym p))
 
   -- a branch behind a condition
   pub branch-step : (al : Bool) (t u : Lines) (e : Expr) (l : List Plain) (key src : ℕ) (fs : List Form) → al ≡ false → b .addr ≡ src
-      → Wrote o at ((codeText (lines common 4 u end) ▸ beforeCondition ▸ exprText e) ▸ behindCondition ▸ codeText (sp 1 ⨾ line (Owner.native (bodyKey b)) l (nl ⨾ transfer ks src (Owner.native (bodyKey b)) 8 key (sp 6 ⨾ end))) ▸ behindConditional) o′ r
-      → Onward o at (codeFrom ks b j (Form.native (cond al (jump t key) (branch u e l key)) ∷ fs)) (codeFrom ks b (j + 1) fs) o′ r
+      → Wrote o at ((linesText 4 u ▸ beforeCondition ▸ exprText e) ▸ behindCondition ▸ codeText (sp 1 ⨾ line (Owner.native (bodyKey b)) l (nl ⨾ transfer ks src (Owner.native (bodyKey b)) 8 key (sp 6 ⨾ end))) ▸ behindConditional) o′ r
+      → Onward o at (codeFrom ks b j (Form.native (cond al (jump t key) (branchIf u e l key)) ∷ fs)) (codeFrom ks b (j + 1) fs) o′ r
   branch-step true t u e l key src fs p q w = absurd (true≢false p)
   branch-step false t u e l key src fs p q w =
       by _ _ w
-      (λ k. code-native ks b j (branch u e l key) fs k ∙ branch-text ks (b .addr) (Owner.native (bodyKey b)) u e l key (codeFrom ks b (j + 1) fs) k
-      ∙ ap (λ (n : ℕ). flat (((codeText (lines common 4 u end) ▸ beforeCondition ▸ exprText e) ▸ behindCondition ▸ codeText (sp 1 ⨾ line (Owner.native (bodyKey b)) l (nl ⨾ transfer ks n (Owner.native (bodyKey b)) 8 key (sp 6 ⨾ end))) ▸ behindConditional) ▸ codeText (codeFrom ks b (j + 1) fs)) k) q)
+      (λ k. code-native ks b j (branchIf u e l key) fs k ∙ branch-text ks (b .addr) (Owner.native (bodyKey b)) u e l key (codeFrom ks b (j + 1) fs) k
+      ∙ ap (λ (n : ℕ). flat (((linesText 4 u ▸ beforeCondition ▸ exprText e) ▸ behindCondition ▸ codeText (sp 1 ⨾ line (Owner.native (bodyKey b)) l (nl ⨾ transfer ks n (Owner.native (bodyKey b)) 8 key (sp 6 ⨾ end))) ▸ behindConditional) ▸ codeText (codeFrom ks b (j + 1) fs)) k) q)
 
   -- a shell that has others behind it
   pub shell-step : (high last : Bool) (t : Lines) (key : ℕ) (fs : List Form) → last ≡ empty fs → last ≡ false
@@ -81,21 +81,21 @@ module _ {o o′ : List ℕ} {at r : ℕ} (ks : List ℕ) (b : Body) (j : ℕ) w
   last-step false true t key [] p q w = by _ _ w (λ k. code-last ks b j false t key k)
 
   -- the end of a block, by the cycles pending there and where it goes on
-  pub closing-step : (cycles next key src : ℕ) → b .closing ≡ flushTicks cycles ++ pcLine next
+  pub closing-step : (cycles next key src : ℕ) → closingLines b ≡ flushTicks cycles ++ pcLine next
       → keyPlus (bodyEnd b) (b .thumb) ≡ key → b .addr ≡ src
-      → Wrote o at (codeText (closingCode ks src (flushTicks cycles ++ pcLine next) key)) o′ r
+      → Wrote o at (codeText (exitCode ks src common (flushTicks cycles ++ pcLine next) key)) o′ r
       → Onward o at (codeFrom ks b j []) end o′ r
   unfolding codeFrom
   closing-step cycles next key src p q e w =
       by _ end w
       (λ k. closing-text ks b cycles next key k p q
-      ∙ ap (λ (a : ℕ). flat (codeText (closingCode ks a (flushTicks cycles ++ pcLine next) key)) k) e)
+      ∙ ap (λ (a : ℕ). flat (codeText (exitCode ks a common (flushTicks cycles ++ pcLine next) key)) k) e)
 
 -- a branch by its key and the address behind it
 pub branch-form : (thumb : Bool) (cycles : ℕ) (i : Instr) (link : Bool) (target back key : ℕ) → back ≡ (i .addr + 4) % 2 ^ 32
     → key ≡ keyOf target thumb
-    → cond (isAl (i .cond)) (jump (flushTicks cycles ++ apart (branchRegs link back target)) key) (branch (flushTicks cycles) (condExpr (i .cond)) (branchRegs link back target) key)
+    → cond (isAl (i .cond)) (jump (flushTicks cycles ++ apart (branchRegs link back target)) key) (branchIf (flushTicks cycles) (condExpr (i .cond)) (branchRegs link back target) key)
     ≡ emitBranch thumb cycles i link target
 branch-form thumb cycles i link target back key p q =
-    ap (λ (n : ℕ). cond (isAl (i .cond)) (jump (flushTicks cycles ++ apart (branchRegs link n target)) key) (branch (flushTicks cycles) (condExpr (i .cond)) (branchRegs link n target) key)) p
-    ∙ ap (λ (n : ℕ). cond (isAl (i .cond)) (jump (flushTicks cycles ++ apart (branchRegs link ((i .addr + 4) % 2 ^ 32) target)) n) (branch (flushTicks cycles) (condExpr (i .cond)) (branchRegs link ((i .addr + 4) % 2 ^ 32) target) n)) q
+    ap (λ (n : ℕ). cond (isAl (i .cond)) (jump (flushTicks cycles ++ apart (branchRegs link n target)) key) (branchIf (flushTicks cycles) (condExpr (i .cond)) (branchRegs link n target) key)) p
+    ∙ ap (λ (n : ℕ). cond (isAl (i .cond)) (jump (flushTicks cycles ++ apart (branchRegs link ((i .addr + 4) % 2 ^ 32) target)) n) (branchIf (flushTicks cycles) (condExpr (i .cond)) (branchRegs link ((i .addr + 4) % 2 ^ 32) target) n)) q

@@ -7,11 +7,11 @@ use Rattle.armv4t.specs.declared.Op.{Op}
 use Rattle.armv4t.specs.declared.Op.the-variants.{Alu, Mul, MulLong, Swap, Bx, Branch, ThumbBlHigh, ThumbBlLow, Mem, BlockMem, Mrs, MsrReg, MsrImm, Swi, Undefined}
 use Rattle.text.specs.Doc.{Doc, _▸_}
 use Rattle.c_tree.specs.Expr.{Expr}
-use Rattle.c_tree.specs.Stmt.{common, end}
-use Rattle.c_tree.specs.Print.{exprText, codeText}
+use Rattle.c_tree.specs.Stmt.{end}
+use Rattle.c_tree.specs.Print.{exprText}
 use Rattle.block_exits.specs.Exits.{keyOf}
 use Rattle.forms.specs.Forms.{Lines, Form, Body}
-use Rattle.lowering.specs.Block.{lines, codeFrom}
+use Rattle.lowering.specs.Block.{codeFrom, linesText}
 use Rattle.block_file.specs.Address.{among}
 use Rattle.emit_flow.specs.Pieces.{straightOpen, straightEnd, beforeCondition, straightIfOpen, straightIfEnd}
 use Rattle.emit_instr.specs.declared.step.Step.{Step}
@@ -23,29 +23,29 @@ empty [] = true
 empty (f ∷ fs) = false
 
 -- A form was written, behind which others stand, and the cycles pending behind it are as said; done: nothing is left to write, not even the others
-pub record Steps (out : List ℕ) (at : ℕ) (ks : List ℕ) (b : Body) (j : ℕ) (f : Form × ℕ) (fs : List Form) (out′ : List ℕ) (r : Step) : Type 0 where
+pub record FormWritten (out : List ℕ) (at : ℕ) (ks : List ℕ) (b : Body) (j : ℕ) (f : Form × ℕ) (fs : List Form) (out′ : List ℕ) (r : Step) : Type 0 where
   pub onward : Onward out at (codeFrom ks b j (f .0 ∷ fs)) (cond (r .done) end (codeFrom ks b (j + 1) fs)) out′ (r .at)
   pub cycles : r .cycles ≡ f .1
 
 -- the key of a branch's target is among those of the group, or not; nothing is asked of other operations
-abbrev pub Reaches : List ℕ → Bool → Bool → Op → Type 0
-Reaches ks thumb inside (Alu op s rd rn op2) = Unit
-Reaches ks thumb inside (Mul acc s rd rn rs rm) = Unit
-Reaches ks thumb inside (MulLong signed acc s hi lo rs rm) = Unit
-Reaches ks thumb inside (Swap byte rd rm rn) = Unit
-Reaches ks thumb inside (Bx rm) = Unit
-Reaches ks thumb inside (Branch link target) = among (keyOf target thumb) ks ≡ inside
-Reaches ks thumb inside (ThumbBlHigh lr) = Unit
-Reaches ks thumb inside (ThumbBlLow off) = Unit
-Reaches ks thumb inside (Mem load width signed rd rn offset pre up writeback) = Unit
-Reaches ks thumb inside (BlockMem load rn rlist pre up s-bit writeback) = Unit
-Reaches ks thumb inside (Mrs spsr rd) = Unit
-Reaches ks thumb inside (MsrReg spsr fields rm) = Unit
-Reaches ks thumb inside (MsrImm spsr fields value) = Unit
-Reaches ks thumb inside (Swi imm) = Unit
-Reaches ks thumb inside (Undefined raw) = Unit
+abbrev pub BranchInside : List ℕ → Bool → Bool → Op → Type 0
+BranchInside ks thumb inside (Alu op s rd rn op2) = Unit
+BranchInside ks thumb inside (Mul acc s rd rn rs rm) = Unit
+BranchInside ks thumb inside (MulLong signed acc s hi lo rs rm) = Unit
+BranchInside ks thumb inside (Swap byte rd rm rn) = Unit
+BranchInside ks thumb inside (Bx rm) = Unit
+BranchInside ks thumb inside (Branch link target) = among (keyOf target thumb) ks ≡ inside
+BranchInside ks thumb inside (ThumbBlHigh lr) = Unit
+BranchInside ks thumb inside (ThumbBlLow off) = Unit
+BranchInside ks thumb inside (Mem load width signed rd rn offset pre up writeback) = Unit
+BranchInside ks thumb inside (BlockMem load rn rlist pre up s-bit writeback) = Unit
+BranchInside ks thumb inside (Mrs spsr rd) = Unit
+BranchInside ks thumb inside (MsrReg spsr fields rm) = Unit
+BranchInside ks thumb inside (MsrImm spsr fields value) = Unit
+BranchInside ks thumb inside (Swi imm) = Unit
+BranchInside ks thumb inside (Undefined raw) = Unit
 
 -- the text of lines in braces, behind the condition e unless it always holds (true)
 abbrev pub lowered : Bool → Expr → Lines → Doc
-lowered true e l = straightOpen ▸ codeText (lines common 8 l end) ▸ straightEnd
-lowered false e l = beforeCondition ▸ exprText e ▸ straightIfOpen ▸ codeText (lines common 8 l end) ▸ straightIfEnd
+lowered true e l = straightOpen ▸ linesText 8 l ▸ straightEnd
+lowered false e l = beforeCondition ▸ exprText e ▸ straightIfOpen ▸ linesText 8 l ▸ straightIfEnd

@@ -13,11 +13,9 @@ use emit_mem::put_mem;
 ghost use mathlib.Core.Path.{_≡_};
 ghost use mathlib.Core.Option.{some};
 ghost use Rattle.text.specs.Wrote.{Wrote};
-ghost use Rattle.c_tree.specs.Stmt.{common, end};
-ghost use Rattle.c_tree.specs.Print.{codeText};
 ghost use Rattle.forms.specs.Forms.{Lines};
 ghost use Rattle.forms.specs.InlineBody.{inlineBody};
-ghost use Rattle.lowering.specs.Block.{lines};
+ghost use Rattle.lowering.specs.Block.{linesText};
 ghost use Rattle.emit_operands.specs.Operands.{isSome};
 
 // Whether an instruction is lowered to lines, or left to the interpreter.
@@ -43,7 +41,7 @@ pub fn is_inlined(thumb: bool, i: Instr) -> bool
 
 // The lines of an instruction that has such.
 pub fn put_body(out: &mut [u8], at: usize, thumb: bool, i: Instr) -> usize
-    ensures { λ r. ⌜ ((body : Lines) → inlineBody thumb i ≡ some body → Wrote (now (out .entry)) at (codeText (lines common 8 body end)) (now (out .exit)) r) ⌝ }
+    ensures { λ r. ⌜ ((body : Lines) → inlineBody thumb i ≡ some body → Wrote (now (out .entry)) at (linesText 8 body) (now (out .exit)) r) ⌝ }
 {
     let op = i.op;
     match op {

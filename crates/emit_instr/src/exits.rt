@@ -16,21 +16,21 @@ ghost use mathlib.Core.List.{List};
 ghost use Prim.Native.Nat.{ℕ};
 ghost use Rattle.text.specs.Doc.{_▸_};
 ghost use Rattle.text.specs.Wrote.{Wrote};
-ghost use Rattle.c_tree.specs.Stmt.{Owner, common, Code, end};
+ghost use Rattle.c_tree.specs.Stmt.{Owner, Code};
 ghost use Rattle.c_tree.specs.Print.{exprText, codeText};
 ghost use Rattle.block_exits.specs.Exits.{keyOf};
 ghost use Rattle.forms.specs.Forms.{bx, Form, native, Body};
 ghost use Rattle.forms.specs.Operands.{condExpr, regOf, regExpr};
 ghost use Rattle.forms.specs.InlineBody.{listed};
 ghost use Rattle.forms.specs.Block.{flushTicks, emitBranch, nativeExit, emitPop};
-ghost use Rattle.lowering.specs.Block.{lines, nativeText};
+ghost use Rattle.lowering.specs.Block.{nativeText, linesText};
 ghost use Rattle.block_file.specs.Address.{among};
 ghost use Rattle.emit_flow.specs.Pieces.{beforeCondition};
-ghost use Rattle.emit_instr.specs.Steps.{Steps};
+ghost use Rattle.emit_instr.specs.Steps.{FormWritten};
 
 // What stands before the registers of a conditional branch.
 fn put_condition(out: &mut [u8], at: usize, cycles: u64, cond: Cond) -> usize
-    ensures { λ r. ⌜ Wrote (now (out .entry)) at (codeText (lines common 4 (flushTicks cycles) end) ▸ beforeCondition ▸ exprText (condExpr cond)) (now (out .exit)) r ⌝ }
+    ensures { λ r. ⌜ Wrote (now (out .entry)) at (linesText 4 (flushTicks cycles) ▸ beforeCondition ▸ exprText (condExpr cond)) (now (out .exit)) r ⌝ }
 {
     let p = flush_ticks(out, at, cycles);
     let q = open_conditional(out, p);
@@ -49,7 +49,7 @@ pub(crate) fn emit_branch(
     inside: bool,
     src: u32,
 ) -> Step
-    ensures { λ r. ⌜ ((ks : List ℕ) (b : Body) (j : ℕ) (fs : List Form) → among (keyOf target thumb) ks ≡ inside → b .addr ≡ src → Steps (now (out .entry)) at ks b j (native (emitBranch thumb cycles i link target), 0) fs (now (out .exit)) r) ⌝ }
+    ensures { λ r. ⌜ ((ks : List ℕ) (b : Body) (j : ℕ) (fs : List Form) → among (keyOf target thumb) ks ≡ inside → b .addr ≡ src → FormWritten (now (out .entry)) at ks b j (native (emitBranch thumb cycles i link target), 0) fs (now (out .exit)) r) ⌝ }
 {
     let ret = std::num::wrapping_add_u32(i.addr, 4);
     let key = key_of(target, thumb);
@@ -98,7 +98,7 @@ fn emit_bx(out: &mut [u8], at: usize, cycles: u64, r: u8, pc: u32) -> usize
 
 // A Bx; the cycles are those pending with its own.
 pub(crate) fn leave_by_bx(out: &mut [u8], at: usize, cycles: u64, i: Instr, rm: u8) -> Step
-    ensures { λ r. ⌜ ((ks : List ℕ) (b : Body) (j : ℕ) (fs : List Form) → Steps (now (out .entry)) at ks b j (native (bx (flushTicks cycles) (regExpr i rm)), 0) fs (now (out .exit)) r) ⌝ }
+    ensures { λ r. ⌜ ((ks : List ℕ) (b : Body) (j : ℕ) (fs : List Form) → FormWritten (now (out .entry)) at ks b j (native (bx (flushTicks cycles) (regExpr i rm)), 0) fs (now (out .exit)) r) ⌝ }
 {
     let pc = i.pc_value();
     let p = emit_bx(out, at, cycles, rm, pc);
@@ -118,7 +118,7 @@ pub(crate) fn leave_by_pop(
     rn: u8,
     rlist: u16,
 ) -> Step
-    ensures { λ r. ⌜ ((ks : List ℕ) (b : Body) (j : ℕ) (fs : List Form) → Steps (now (out .entry)) at ks b j (native (emitPop thumb cycles rn (listed rlist 15)), 0) fs (now (out .exit)) r) ⌝ }
+    ensures { λ r. ⌜ ((ks : List ℕ) (b : Body) (j : ℕ) (fs : List Form) → FormWritten (now (out .entry)) at ks b j (native (emitPop thumb cycles rn (listed rlist 15)), 0) fs (now (out .exit)) r) ⌝ }
 {
     let p = flush_ticks(out, at, cycles);
     let q = put_pop(out, p, thumb, rn, rlist);

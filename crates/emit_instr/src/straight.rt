@@ -20,19 +20,17 @@ ghost use mathlib.Core.List.{List, []};
 ghost use mathlib.Core.Option.{some};
 ghost use Prim.Native.Nat.{ℕ, _+_, _^_, _<_};
 ghost use Rattle.text.specs.Wrote.{Wrote};
-ghost use Rattle.c_tree.specs.Stmt.{common, end};
-ghost use Rattle.c_tree.specs.Print.{codeText};
 ghost use Rattle.armv4t.specs.Cond.{isAl};
 ghost use Rattle.forms.specs.Forms.{Lines, Form, Body};
 ghost use Rattle.forms.specs.Operands.{condExpr};
 ghost use Rattle.forms.specs.InlineBody.{inlineBody};
 ghost use Rattle.forms.specs.Block.{flushTicks, emitLines, emitStraight};
-ghost use Rattle.lowering.specs.Block.{lines};
-ghost use Rattle.emit_instr.specs.Steps.{empty, Steps, lowered};
+ghost use Rattle.lowering.specs.Block.{linesText};
+ghost use Rattle.emit_instr.specs.Steps.{empty, FormWritten, lowered};
 
 // The cycles pending before an instruction that touches memory; they stay pending before another.
 fn put_ticks(out: &mut [u8], at: usize, touches_bus: bool, cycles: u64) -> usize
-    ensures { λ r. ⌜ Wrote (now (out .entry)) at (codeText (lines common 4 (cond «touches_bus» (flushTicks cycles) []) end)) (now (out .exit)) r ⌝ }
+    ensures { λ r. ⌜ Wrote (now (out .entry)) at (linesText 4 (cond «touches_bus» (flushTicks cycles) [])) (now (out .exit)) r ⌝ }
 {
     if touches_bus {
         flush_ticks(out, at, cycles)
@@ -83,7 +81,7 @@ fn emit_lowered(
     cycles: u64,
     x: TimedInstr,
 ) -> Step
-    ensures { λ r. ⌜ ((body : Lines) → inlineBody thumb (x .instr) ≡ some body → (ks : List ℕ) (b : Body) (j : ℕ) (fs : List Form) → cycles + x .cost < 2 ^ 64 → Steps (now (out .entry)) at ks b j (emitLines thumb «touches_bus» cycles x (some body)) fs (now (out .exit)) r) ⌝ }
+    ensures { λ r. ⌜ ((body : Lines) → inlineBody thumb (x .instr) ≡ some body → (ks : List ℕ) (b : Body) (j : ℕ) (fs : List Form) → cycles + x .cost < 2 ^ 64 → FormWritten (now (out .entry)) at ks b j (emitLines thumb «touches_bus» cycles x (some body)) fs (now (out .exit)) r) ⌝ }
 {
     let p = put_ticks(out, at, touches_bus, cycles);
     let i = x.instr;
@@ -105,7 +103,7 @@ pub(crate) fn emit_straight(
     x: TimedInstr,
     last: bool,
 ) -> Step
-    ensures { λ r. ⌜ ((ks : List ℕ) (b : Body) (j : ℕ) (fs : List Form) → last ≡ empty fs → cycles + x .cost < 2 ^ 64 → Steps (now (out .entry)) at ks b j (emitStraight thumb «touches_bus» cycles x) fs (now (out .exit)) r) ⌝ }
+    ensures { λ r. ⌜ ((ks : List ℕ) (b : Body) (j : ℕ) (fs : List Form) → last ≡ empty fs → cycles + x .cost < 2 ^ 64 → FormWritten (now (out .entry)) at ks b j (emitStraight thumb «touches_bus» cycles x) fs (now (out .exit)) r) ⌝ }
 {
     let i = x.instr;
     if is_inlined(thumb, i) {

@@ -10,7 +10,7 @@ use Rattle.emit_operands.proofs.Lines.{lines-behind}
 use Rattle.forms.specs.Forms.{Lines}
 use Rattle.emit_mem.proofs.Listed.{listed-suc}
 use Rattle.forms.specs.InlineBody.{only, apart, setReg, aligned, listed, advance, loads, stores}
-use Rattle.armv4t.specs.RegisterList.{names}
+use Rattle.armv4t.specs.RegisterList.{lists}
 use Rattle.lowering.specs.Block.{nl, sp, line, lines}
 
 -- lines behind lines
@@ -35,7 +35,7 @@ apart-both n ps qs =
     lines-both n (apart ps) (apart qs) end []
     ∙ ap (λ (ls : Lines). flat (codeText (lines common n ls end)) []) (sym (apart-append ps qs))
 
--- the loads and the stores of two lists of registers, one after the other
+-- the loads and the stores of two names of registers, one after the other
 pub loads-append : (xs ys : List ℕ) → loads (xs ++ ys) ≡ loads xs ++ loads ys
 loads-append [] ys = refl
 loads-append (x ∷ xs) ys = ap (_∷_ (setReg x (read w32 (aligned 3)) ∷ advance ∷ [])) (loads-append xs ys)
@@ -46,17 +46,17 @@ stores-append value (x ∷ xs) ys = ap (_∷_ (write w32 (aligned 3) (value x) �
 
 -- the lines of one register more
 pub loads-more : (n rlist r : ℕ)
-    → flat (codeText (lines common n (loads (listed rlist r)) end) ▸ codeText (lines common n (loads (only (names rlist r) r)) end)) []
+    → flat (codeText (lines common n (loads (listed rlist r)) end) ▸ codeText (lines common n (loads (only (lists rlist r) r)) end)) []
     ≡ flat (codeText (lines common n (loads (listed rlist (r + 1))) end)) []
 loads-more n rlist r =
-    lines-both n (loads (listed rlist r)) (loads (only (names rlist r) r)) end []
+    lines-both n (loads (listed rlist r)) (loads (only (lists rlist r) r)) end []
     ∙ ap (λ (ls : Lines). flat (codeText (lines common n ls end)) [])
-    (sym (loads-append (listed rlist r) (only (names rlist r) r)) ∙ ap loads (sym (listed-suc rlist r)))
+    (sym (loads-append (listed rlist r) (only (lists rlist r) r)) ∙ ap loads (sym (listed-suc rlist r)))
 
 pub stores-more : (n : ℕ) (value : ℕ → Expr) (rlist r : ℕ)
-    → flat (codeText (lines common n (stores value (listed rlist r)) end) ▸ codeText (lines common n (stores value (only (names rlist r) r)) end)) []
+    → flat (codeText (lines common n (stores value (listed rlist r)) end) ▸ codeText (lines common n (stores value (only (lists rlist r) r)) end)) []
     ≡ flat (codeText (lines common n (stores value (listed rlist (r + 1))) end)) []
 stores-more n value rlist r =
-    lines-both n (stores value (listed rlist r)) (stores value (only (names rlist r) r)) end []
+    lines-both n (stores value (listed rlist r)) (stores value (only (lists rlist r) r)) end []
     ∙ ap (λ (ls : Lines). flat (codeText (lines common n ls end)) [])
-    (sym (stores-append value (listed rlist r) (only (names rlist r) r)) ∙ ap (stores value) (sym (listed-suc rlist r)))
+    (sym (stores-append value (listed rlist r) (only (lists rlist r) r)) ∙ ap (stores value) (sym (listed-suc rlist r)))

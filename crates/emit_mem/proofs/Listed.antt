@@ -9,19 +9,19 @@ use lib.ListN.{length, getD, length-append}
 use lib.Arith.{digits-div}
 use lib.Pow.{pow-mono}
 use Rattle.forms.specs.InlineBody.{only, listed}
-use Rattle.armv4t.specs.RegisterList.{names}
+use Rattle.armv4t.specs.RegisterList.{lists}
 
 -- one register more
-pub listed-suc : (rlist n : ℕ) → listed rlist (n + 1) ≡ listed rlist n ++ only (names rlist n) n
+pub listed-suc : (rlist n : ℕ) → listed rlist (n + 1) ≡ listed rlist n ++ only (lists rlist n) n
 unfolding listed
 listed-suc rlist n = rw (add-one) refl
 
 -- a register that is not listed
-pub listed-not : (rlist n : ℕ) → names rlist n ≡ false → listed rlist n ≡ [] → listed rlist (n + 1) ≡ []
+pub listed-not : (rlist n : ℕ) → lists rlist n ≡ false → listed rlist n ≡ [] → listed rlist (n + 1) ≡ []
 listed-not rlist n out none = rw (listed-suc rlist n, none, out) refl
 
 -- the first register listed stays the lowest
-pub lowest-first : (rlist r : ℕ) → names rlist r ≡ true → listed rlist r ≡ [] → (m k : ℕ) → k ≡ r + 1 + m
+pub lowest-first : (rlist r : ℕ) → lists rlist r ≡ true → listed rlist r ≡ [] → (m k : ℕ) → k ≡ r + 1 + m
     → (rest : List ℕ) × (listed rlist k ≡ r ∷ rest)
 lowest-first rlist r named none zero k e =
     let next : k ≡ r + 1 = omega (arith, e) in
@@ -30,12 +30,12 @@ lowest-first rlist r named none (suc m) k e =
     let before : ℕ = r + 1 + m in
     let IH = lowest-first rlist r named none m before refl in
     let next : k ≡ before + 1 = omega (arith, e) in (
-      IH .0 ++ only (names rlist before) before,
-      ap (listed rlist) next ∙ listed-suc rlist before ∙ ap (λ (xs : List ℕ). xs ++ only (names rlist before) before) (IH .1),
+      IH .0 ++ only (lists rlist before) before,
+      ap (listed rlist) next ∙ listed-suc rlist before ∙ ap (λ (xs : List ℕ). xs ++ only (lists rlist before) before) (IH .1),
     )
 
 -- a list of 16 bits names no register from 16 on
-pub names-past : (rlist r : ℕ) → rlist < 2 ^ 16 → 16 ≤ r → false ≡ names rlist r
+pub names-past : (rlist r : ℕ) → rlist < 2 ^ 16 → 16 ≤ r → false ≡ lists rlist r
 names-past rlist r small past =
     let least : rlist < 2 ^ r = omega (arith, small, pow-mono past) in
     let same : rlist ≡ 0 * 2 ^ r + rlist = omega arith in
@@ -43,14 +43,14 @@ names-past rlist r small past =
     rw (gone) refl
 
 -- the bytes of one register more
-pub bytes-more : (rlist r n : ℕ) → names rlist r ≡ true → n ≡ length (listed rlist r) * 4 → n + 4 ≡ length (listed rlist (r + 1)) * 4
+pub bytes-more : (rlist r n : ℕ) → lists rlist r ≡ true → n ≡ length (listed rlist r) * 4 → n + 4 ≡ length (listed rlist (r + 1)) * 4
 bytes-more rlist r n named so = rw (listed-suc rlist r, named) (omega (arith, so, length-append (listed rlist r) (r ∷ [])))
 
-pub bytes-same : (rlist r n : ℕ) → names rlist r ≡ false → n ≡ length (listed rlist r) * 4 → n ≡ length (listed rlist (r + 1)) * 4
+pub bytes-same : (rlist r n : ℕ) → lists rlist r ≡ false → n ≡ length (listed rlist r) * 4 → n ≡ length (listed rlist (r + 1)) * 4
 bytes-same rlist r n out so = rw (listed-suc rlist r, out) (omega (arith, so, length-append (listed rlist r) []))
 
 -- the lowest register, and 16 where none is listed
-pub lowest-is : (rlist r : ℕ) → r < 16 → names rlist r ≡ true → listed rlist r ≡ [] → r ≡ getD (listed rlist 16) 0 16
+pub lowest-is : (rlist r : ℕ) → r < 16 → lists rlist r ≡ true → listed rlist r ≡ [] → r ≡ getD (listed rlist 16) 0 16
 lowest-is rlist r below named none =
     let all = lowest-first rlist r named none (15 - r) 16 (omega arith) in
     sym (ap (λ (xs : List ℕ). getD xs 0 16) (all .1))

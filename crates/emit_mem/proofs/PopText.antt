@@ -12,7 +12,7 @@ use Rattle.c_tree.specs.Print.{codeText}
 use Rattle.forms.specs.Forms.{Lines}
 use Rattle.forms.specs.InlineBody.{apart, let32, setReg, aligned, loads}
 use Rattle.forms.specs.Block.{flushTicks, emitPop}
-use Rattle.lowering.specs.Block.{nl, sp, lines, leave, nativeText}
+use Rattle.lowering.specs.Block.{nl, sp, lines, leave, nativeText, linesText}
 use Rattle.emit_operands.proofs.Lines.{lines-owner, lines-behind}
 use Rattle.emit_mem.proofs.Lines.{lines-both}
 
@@ -67,9 +67,9 @@ code-owner o thumb rn regs k =
 -- the ticks stand before a pop, and neither its owner nor what would stand behind it shows
 pub ticks-then-pop : (ks : List ℕ) (a : ℕ) (o : Owner) (thumb : Bool) (cycles rn : ℕ) (regs : List ℕ) (c : Code) (k : List ℕ)
     → flat (codeText (nativeText ks a o (emitPop thumb cycles rn regs) c)) k
-    ≡ flat (codeText (lines common 4 (flushTicks cycles) end) ▸ codeText (nativeText [] 0 common (emitPop thumb 0 rn regs) end)) k
+    ≡ flat (linesText 4 (flushTicks cycles) ▸ codeText (nativeText [] 0 common (emitPop thumb 0 rn regs) end)) k
 unfolding nativeText
 ticks-then-pop ks a o thumb cycles rn regs c k =
     lines-owner o common 4 (flushTicks cycles) (popCode o thumb rn regs) k
     ∙ lines-behind common 4 (flushTicks cycles) (popCode o thumb rn regs) k
-    ∙ ap (flat (codeText (lines common 4 (flushTicks cycles) end))) (code-owner o thumb rn regs k)
+    ∙ ap (flat (linesText 4 (flushTicks cycles))) (code-owner o thumb rn regs k)

@@ -1,10 +1,10 @@
 // BlockMem: LDM and STM.
-use crate::registers::bytes_listed;
-use crate::registers::is_listed;
-use crate::registers::lowest_listed;
 use crate::transfers::put_loads;
 use crate::transfers::put_moved;
 use crate::transfers::put_stores;
+use crate::registers::bytes_listed;
+use crate::registers::is_listed;
+use crate::registers::lowest_listed;
 use armv4t::Instr;
 use armv4t::PC;
 use text::put;
@@ -14,12 +14,11 @@ ghost use mathlib.Core.Bool.{true, false, not, _&&_, _||_};
 ghost use mathlib.Core.List.{[], _∷_};
 ghost use lib.Dec.{eqb};
 ghost use Rattle.text.specs.Wrote.{Wrote};
-ghost use Rattle.c_tree.specs.Stmt.{common, end};
 ghost use Rattle.c_tree.specs.Expr.{x-base, x-addr, get, reg};
-ghost use Rattle.c_tree.specs.Print.{exprText, codeText};
-ghost use Rattle.forms.specs.InlineBody.{only, apart, let32, setReg, listed, movedBase, start, transfers, blockMemBody};
-ghost use Rattle.armv4t.specs.RegisterList.{names};
-ghost use Rattle.lowering.specs.Block.{lines};
+ghost use Rattle.c_tree.specs.Print.{exprText};
+ghost use Rattle.forms.specs.InlineBody.{only, apart, let32, setReg, listed, movedBase, start, loadsOrStores, blockMemBody};
+ghost use Rattle.armv4t.specs.RegisterList.{lists};
+ghost use Rattle.lowering.specs.Block.{linesText};
 
 // The lowest address, where the registers take total bytes downwards.
 fn put_down(out: &mut [u8], at: usize, pre: bool, total: u32) -> usize
@@ -48,7 +47,7 @@ fn put_start(out: &mut [u8], at: usize, up: bool, pre: bool, total: u32) -> usiz
 
 // The line that writes the base back.
 fn put_write_back(out: &mut [u8], at: usize, rn: u8, up: bool, total: u32) -> usize
-    ensures { λ n. ⌜ Wrote (now (out .entry)) at (codeText (lines common 8 (apart (setReg rn (movedBase up total) ∷ [])) end)) (now (out .exit)) n ⌝ }
+    ensures { λ n. ⌜ Wrote (now (out .entry)) at (linesText 8 (apart (setReg rn (movedBase up total) ∷ []))) (now (out .exit)) n ⌝ }
 {
     let p = put_then_dec(out, at, b"        c[", rn as u64);
     let q = put(out, p, b"] = ");
@@ -66,7 +65,7 @@ fn put_load_back(
     up: bool,
     total: u32,
 ) -> usize
-    ensures { λ n. ⌜ Wrote (now (out .entry)) at (codeText (lines common 8 (apart (only (writeback && not in_list) (setReg rn (movedBase up total)))) end)) (now (out .exit)) n ⌝ }
+    ensures { λ n. ⌜ Wrote (now (out .entry)) at (linesText 8 (apart (only (writeback && not in_list) (setReg rn (movedBase up total))))) (now (out .exit)) n ⌝ }
 {
     if writeback {
         if in_list {
@@ -79,7 +78,7 @@ fn put_load_back(
 
 // The write-back of a store.
 fn put_store_back(out: &mut [u8], at: usize, rn: u8, writeback: bool, up: bool, total: u32) -> usize
-    ensures { λ n. ⌜ Wrote (now (out .entry)) at (codeText (lines common 8 (apart (only writeback (setReg rn (movedBase up total)))) end)) (now (out .exit)) n ⌝ }
+    ensures { λ n. ⌜ Wrote (now (out .entry)) at (linesText 8 (apart (only writeback (setReg rn (movedBase up total))))) (now (out .exit)) n ⌝ }
 {
     if writeback {
         return put_write_back(out, at, rn, up, total);
@@ -98,7 +97,7 @@ fn put_block_loads(
     writeback: bool,
     total: u32,
 ) -> usize
-    ensures { λ n. ⌜ Wrote (now (out .entry)) at (codeText (lines common 8 (transfers true i rn writeback (names rlist rn) (movedBase up total) (listed rlist 16)) end)) (now (out .exit)) n ⌝ }
+    ensures { λ n. ⌜ Wrote (now (out .entry)) at (linesText 8 (loadsOrStores true i rn writeback (lists rlist rn) (movedBase up total) (listed rlist 16))) (now (out .exit)) n ⌝ }
 {
     let in_list = is_listed(rlist, rn);
     let p = put_load_back(out, at, rn, writeback, in_list, up, total);
@@ -116,7 +115,7 @@ fn put_block_stores(
     writeback: bool,
     total: u32,
 ) -> usize
-    ensures { λ n. ⌜ Wrote (now (out .entry)) at (codeText (lines common 8 (transfers false i rn writeback (names rlist rn) (movedBase up total) (listed rlist 16)) end)) (now (out .exit)) n ⌝ }
+    ensures { λ n. ⌜ Wrote (now (out .entry)) at (linesText 8 (loadsOrStores false i rn writeback (lists rlist rn) (movedBase up total) (listed rlist 16))) (now (out .exit)) n ⌝ }
 {
     let lowest = lowest_listed(rlist);
     let p = put_stores(out, at, i, rn, rlist, lowest, up, total);
@@ -125,7 +124,7 @@ fn put_block_stores(
 
 // The base, and the lowest address.
 fn put_block_base(out: &mut [u8], at: usize, rn: u8, pre: bool, up: bool, total: u32) -> usize
-    ensures { λ n. ⌜ Wrote (now (out .entry)) at (codeText (lines common 8 (apart (let32 x-base (get (reg rn)) ∷ let32 x-addr (start up pre total) ∷ [])) end)) (now (out .exit)) n ⌝ }
+    ensures { λ n. ⌜ Wrote (now (out .entry)) at (linesText 8 (apart (let32 x-base (get (reg rn)) ∷ let32 x-addr (start up pre total) ∷ []))) (now (out .exit)) n ⌝ }
 {
     let p = put_then_dec(out, at, b"        uint32_t base = c[", rn as u64);
     let q = put(out, p, b"];\n        uint32_t addr = ");
@@ -145,7 +144,7 @@ fn put_transfers(
     writeback: bool,
     total: u32,
 ) -> usize
-    ensures { λ n. ⌜ Wrote (now (out .entry)) at (codeText (lines common 8 (transfers load i rn writeback (names rlist rn) (movedBase up total) (listed rlist 16)) end)) (now (out .exit)) n ⌝ }
+    ensures { λ n. ⌜ Wrote (now (out .entry)) at (linesText 8 (loadsOrStores load i rn writeback (lists rlist rn) (movedBase up total) (listed rlist 16))) (now (out .exit)) n ⌝ }
 {
     if load {
         put_block_loads(out, at, i, rn, rlist, up, writeback, total)
@@ -166,16 +165,16 @@ pub fn put_block_mem(
     up: bool,
     writeback: bool,
 ) -> usize
-    ensures { λ n. ⌜ Wrote (now (out .entry)) at (codeText (lines common 8 (blockMemBody i load rn (names rlist rn) pre up writeback (listed rlist 16)) end)) (now (out .exit)) n ⌝ }
+    ensures { λ n. ⌜ Wrote (now (out .entry)) at (linesText 8 (blockMemBody i load rn (lists rlist rn) pre up writeback (listed rlist 16))) (now (out .exit)) n ⌝ }
 {
     let total = bytes_listed(rlist, 16);
     let p = put_block_base(out, at, rn, pre, up, total);
     put_transfers(out, p, i, load, rn, rlist, up, writeback, total)
 }
 
-// Whether a BlockMem is inlined: not if it touches the user's registers or SPSR, lists none, is based on PC or loads it.
+// Whether a BlockMem is inlined: not if it touches the user's registers or SPSR, names none, is based on PC or loads it.
 pub fn block_mem_is_inlined(load: bool, rn: u8, rlist: u16, s_bit: bool) -> bool
-    ensures { λ b. ⌜ b ≡ not («s_bit» || eqb rlist 0 || eqb rn 15 || (load && names rlist 15)) ⌝ }
+    ensures { λ b. ⌜ b ≡ not («s_bit» || eqb rlist 0 || eqb rn 15 || (load && lists rlist 15)) ⌝ }
 {
     if s_bit {
         return false;

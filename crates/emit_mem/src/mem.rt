@@ -20,13 +20,12 @@ ghost use Rattle.text.specs.Doc.{text, _▸_};
 ghost use Rattle.text.specs.Wrote.{Wrote};
 ghost use Rattle.armv4t.specs.Instr.{pcValue};
 ghost use Rattle.c_tree.specs.Expr.{word, uhex, x-base, x-ob, x-addr, operator, lit, par, bin};
-ghost use Rattle.c_tree.specs.Stmt.{common, end};
 ghost use Rattle.c_tree.specs.Preamble.{v32};
-ghost use Rattle.c_tree.specs.Print.{exprText, codeText};
+ghost use Rattle.c_tree.specs.Print.{exprText};
 ghost use Rattle.forms.specs.Forms.{Lines};
-ghost use Rattle.forms.specs.InlineBody.{apart, let32, baseExpr, offsetExpr, step, access, memBody};
-ghost use Rattle.lowering.specs.Block.{lines};
-ghost use Rattle.emit_mem.specs.Mem.{offsetOf, memLines};
+ghost use Rattle.forms.specs.InlineBody.{apart, let32, baseExpr, offsetExpr, addOrSub, access, memBody, memLines};
+ghost use Rattle.lowering.specs.Block.{linesText};
+ghost use Rattle.emit_mem.specs.Mem.{offsetOf};
 
 // PC as a base in a Thumb block.
 fn put_aligned(out: &mut [u8], at: usize, pc: u32) -> usize
@@ -71,7 +70,7 @@ fn put_offset(out: &mut [u8], at: usize, offset: MemOffset, pc: u32) -> usize
 
 // The line of the base.
 fn put_base_line(out: &mut [u8], at: usize, thumb: bool, i: Instr, rn: u8) -> usize
-    ensures { λ n. ⌜ Wrote (now (out .entry)) at (codeText (lines common 8 (apart (let32 x-base (baseExpr thumb i rn) ∷ [])) end)) (now (out .exit)) n ⌝ }
+    ensures { λ n. ⌜ Wrote (now (out .entry)) at (linesText 8 (apart (let32 x-base (baseExpr thumb i rn) ∷ []))) (now (out .exit)) n ⌝ }
 {
     let p = put(out, at, b"        uint32_t base = ");
     let q = put_base(out, p, thumb, i, rn);
@@ -80,7 +79,7 @@ fn put_base_line(out: &mut [u8], at: usize, thumb: bool, i: Instr, rn: u8) -> us
 
 // The line of the base with its offset, up to the offset.
 fn put_step(out: &mut [u8], at: usize, up: bool) -> usize
-    ensures { λ n. ⌜ Wrote (now (out .entry)) at (text "        uint32_t ob = base" ▸ text (operator (step up) .0)) (now (out .exit)) n ⌝ }
+    ensures { λ n. ⌜ Wrote (now (out .entry)) at (text "        uint32_t ob = base" ▸ text (operator (addOrSub up) .0)) (now (out .exit)) n ⌝ }
 {
     if up {
         put(out, at, b"        uint32_t ob = base + ")
@@ -91,7 +90,7 @@ fn put_step(out: &mut [u8], at: usize, up: bool) -> usize
 
 // The line of the base with its offset.
 fn put_ob_line(out: &mut [u8], at: usize, up: bool, offset: MemOffset, pc: u32) -> usize
-    ensures { λ n. ⌜ Wrote (now (out .entry)) at (codeText (lines common 8 (apart (let32 x-ob (bin (step up) (v32 x-base) (offsetOf pc offset)) ∷ [])) end)) (now (out .exit)) n ⌝ }
+    ensures { λ n. ⌜ Wrote (now (out .entry)) at (linesText 8 (apart (let32 x-ob (bin (addOrSub up) (v32 x-base) (offsetOf pc offset)) ∷ []))) (now (out .exit)) n ⌝ }
 {
     let p = put_step(out, at, up);
     let q = put_offset(out, p, offset, pc);
@@ -100,7 +99,7 @@ fn put_ob_line(out: &mut [u8], at: usize, up: bool, offset: MemOffset, pc: u32) 
 
 // The line of the address.
 fn put_addr_line(out: &mut [u8], at: usize, pre: bool) -> usize
-    ensures { λ n. ⌜ Wrote (now (out .entry)) at (codeText (lines common 8 (apart (let32 x-addr (v32 (cond pre x-ob x-base)) ∷ [])) end)) (now (out .exit)) n ⌝ }
+    ensures { λ n. ⌜ Wrote (now (out .entry)) at (linesText 8 (apart (let32 x-addr (v32 (cond pre x-ob x-base)) ∷ []))) (now (out .exit)) n ⌝ }
 {
     if pre {
         put(out, at, b"        uint32_t addr = ob;\n")
@@ -120,7 +119,7 @@ fn put_address(
     pre: bool,
     up: bool,
 ) -> usize
-    ensures { λ n. ⌜ Wrote (now (out .entry)) at (codeText (lines common 8 (memLines (baseExpr thumb i rn) up pre [] (offsetOf (pcValue i) offset)) end)) (now (out .exit)) n ⌝ }
+    ensures { λ n. ⌜ Wrote (now (out .entry)) at (linesText 8 (memLines (baseExpr thumb i rn) up pre [] (offsetOf (pcValue i) offset))) (now (out .exit)) n ⌝ }
 {
     let pc = i.pc_value();
     let p = put_base_line(out, at, thumb, i, rn);
@@ -154,7 +153,7 @@ fn put_mem_lines(
     up: bool,
     writeback: bool,
 ) -> usize
-    ensures { λ n. ⌜ Wrote (now (out .entry)) at (codeText (lines common 8 (memLines (baseExpr thumb i rn) up pre (access load width signed rd rn (not pre || writeback)) (offsetOf (pcValue i) offset)) end)) (now (out .exit)) n ⌝ }
+    ensures { λ n. ⌜ Wrote (now (out .entry)) at (linesText 8 (memLines (baseExpr thumb i rn) up pre (access load width signed rd rn (not pre || writeback)) (offsetOf (pcValue i) offset))) (now (out .exit)) n ⌝ }
 {
     let wb = writes_back(pre, writeback);
     let p = put_address(out, at, thumb, i, rn, offset, pre, up);
@@ -177,7 +176,7 @@ pub fn put_mem(
     up: bool,
     writeback: bool,
 ) -> usize
-    ensures { λ n. ⌜ ((ls : Lines) → memBody (baseExpr thumb i rn) up pre (access load width signed rd rn (not pre || writeback)) (offsetExpr i offset) ≡ some ls → Wrote (now (out .entry)) at (codeText (lines common 8 ls end)) (now (out .exit)) n) ⌝ }
+    ensures { λ n. ⌜ ((ls : Lines) → memBody (baseExpr thumb i rn) up pre (access load width signed rd rn (not pre || writeback)) (offsetExpr i offset) ≡ some ls → Wrote (now (out .entry)) at (linesText 8 ls) (now (out .exit)) n) ⌝ }
 {
     put_mem_lines(
         out,

@@ -3,11 +3,11 @@ ghost use mathlib.Core.Path.{_≡_};
 ghost use Prim.Native.Nat.{_*_, _≤_};
 ghost use lib.ListN.{length, getD};
 ghost use Rattle.forms.specs.InlineBody.{listed};
-ghost use Rattle.armv4t.specs.RegisterList.{names};
+ghost use Rattle.armv4t.specs.RegisterList.{lists};
 
 // Whether a register list names a register.
 pub(crate) fn is_listed(rlist: u16, r: u8) -> bool
-    ensures { λ b. ⌜ b ≡ names rlist r ⌝ }
+    ensures { λ b. ⌜ b ≡ lists rlist r ⌝ }
 {
     if r < 16 { (rlist >> r) % 2 == 1 } else { false }
 }

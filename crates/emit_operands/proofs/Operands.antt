@@ -16,8 +16,8 @@ use Rattle.text.specs.Digits.{numeral}
 use Rattle.text.specs.Doc.{text, dec, _▸_, decimal, flat}
 use Rattle.c_tree.specs.Expr.{udec, int, Expr, lit}
 use Rattle.c_tree.specs.Print.{exprText}
-use Rattle.forms.specs.Operands.{bitOf, carryIn, shiftExprs, op2Exprs}
-use Rattle.emit_operands.specs.Operands.{operandOf, carryText, isSome}
+use Rattle.forms.specs.Operands.{bitOf, carryIn, shiftExprs, op2Exprs, operandOf}
+use Rattle.emit_operands.specs.Operands.{carryText, isSome}
 
 -- constants
 pub one-text : (k : List ℕ) → flat (text "1") k ≡ flat (exprText (lit int 1)) k

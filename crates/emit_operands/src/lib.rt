@@ -15,8 +15,8 @@ ghost use Rattle.text.specs.Doc.{raw, _▸_};
 ghost use Rattle.text.specs.Wrote.{Wrote};
 ghost use Rattle.c_tree.specs.Expr.{word, reg, Expr, lit, get};
 ghost use Rattle.c_tree.specs.Print.{exprText};
-ghost use Rattle.forms.specs.Operands.{condExpr, carryIn, shiftExprs, op2Exprs, regOf};
-ghost use Rattle.emit_operands.specs.Operands.{operandOf, carryText, isSome};
+ghost use Rattle.forms.specs.Operands.{condExpr, carryIn, shiftExprs, op2Exprs, regOf, operandOf};
+ghost use Rattle.emit_operands.specs.Operands.{carryText, isSome};
 
 // A condition, without parentheses around it.
 pub fn put_cond_expr(out: &mut [u8], at: usize, cond: Cond) -> usize

@@ -1,4 +1,4 @@
-// The ways into a group's function: the cases of its switch, and the functions of its members.
+// The entries of a group's function: the cases of its switch, and the functions of its members.
 use crate::keys::row_key;
 use emit_flow::put_case;
 use emit_flow::put_forwarder;

@@ -7,7 +7,7 @@ use native.Mathlib.Nat.{zero-add}
 use native.Mathlib.Numerals.{add-one}
 use native.Mathlib.Omega.{arith}
 use lib.ListN.{length, length-set}
-use Rattle.forest.specs.Forest.{range, parent, follow, root, hang, Forest, Flatter, Found, SameRoots}
+use Rattle.forest.specs.Forest.{range, parent, follow, root, hang, Forest, Flatter, RootFound, SameRoots}
 use Rattle.forest.proofs.Ways.{Leads, longer, end-inside, end-own, follow-own, follow-of, way, forest, moved, hung}
 
 -- the root is the end of a way that is short enough
@@ -75,7 +75,7 @@ flatter-trans first second =
       depth = λ d f. second .depth d (first .depth d f);
     }
 
-module _ {p : List ℕ} (full : Forest (2 * length p) p) {i r : ℕ} {p′ : List ℕ} (inside : i < length p) (found : Found p i r p′) where
+module _ {p : List ℕ} (full : Forest (2 * length p) p) {i r : ℕ} {p′ : List ℕ} (inside : i < length p) (found : RootFound p i r p′) where
   -- the root that was found is the root now
   pub found-root : r ≡ root p′ i
   found-root = found .is ∙ sym (found .kept .roots i inside)

@@ -40,7 +40,7 @@ pub record Flatter (p q : List ℕ) : Type 0 where
   pub depth : (d : ℕ) → Forest d p → Forest d q
 
 -- what finding the root r of i makes of the parents p
-pub record Found (p : List ℕ) (i r : ℕ) (p′ : List ℕ) : Type 0 where
+pub record RootFound (p : List ℕ) (i r : ℕ) (p′ : List ℕ) : Type 0 where
   pub is : r ≡ root p i
   pub inside : r < length p′
   pub kept : Flatter p p′

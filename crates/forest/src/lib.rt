@@ -2,7 +2,7 @@
 ghost use Prim.Native.Nat.{_*_, _≤_, _<_, _^_};
 ghost use mathlib.Core.Path.{_≡_};
 ghost use lib.ListN.{length, set};
-ghost use Rattle.forest.specs.Forest.{Forest, Found, Hung, range};
+ghost use Rattle.forest.specs.Forest.{Forest, RootFound, Hung, range};
 
 // Makes every number its own root.
 pub fn own_roots(p: &mut [u32])
@@ -18,7 +18,7 @@ pub fn own_roots(p: &mut [u32])
 pub fn find(p: &mut [u32], i: usize) -> usize
     requires { ⌜ Forest (2 * length (now p)) (now p) ⌝ }
     requires { ⌜ i < length (now p) ⌝ }
-    ensures { λ r. ⌜ Found (now (p .entry)) i r (now (p .exit)) ⌝ }
+    ensures { λ r. ⌜ RootFound (now (p .entry)) i r (now (p .exit)) ⌝ }
 {
     let mut at = i;
     loop {

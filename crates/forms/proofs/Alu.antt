@@ -22,7 +22,7 @@ use Rattle.forms.specs.InlineBody.{let32, setReg, logicalC, alu}
 use Rattle.manual.specs.Machine.{Machine, pack, setFlags, Sound}
 use Rattle.manual.specs.Machine as M
 use Rattle.manual.specs.Operators.{NOT, CarryFrom, minus, BorrowFrom, OverflowFromAdd}
-use Rattle.manual.specs.DataProcessing.{plus, less, settle}
+use Rattle.manual.specs.DataProcessing.{addWithCarry, subWithBorrow, settle}
 use Rattle.manual.specs.DataProcessing as D
 use Rattle.forms.specs.Agree.{Agrees, Makes}
 use Rattle.forms.proofs.Gives.{Reads, to, r-udec, r-par, r-not, r-and, r-or, r-xor, r-add, r-var}
@@ -81,7 +81,7 @@ module _ {z : State} {m : Machine} (s : Sound m) (a : Agrees z m) (rd : ℕ) (h 
   -- uint32_t r = op_adds(c, d, e, f); and the last
   sum-ok : (w : Bool) (d e f : Expr) (x y i : ℕ) → Always d m x → Always e m y → Always f m i → i < 2
       → Makes (cond w (adds x-r d e f) (let32 x-r (bin add (bin add d e) f)) ∷ tail ∷ [])
-      (enter z) (let q = plus x y i in let m1 = cond w (setFlags (bit (q .0) 31) (eqb (q .0) 0) (q .1) (q .2) m) m in cond b m1 (M.setReg rd (q .0) m1))
+      (enter z) (let q = addWithCarry x y i in let m1 = cond w (setFlags (bit (q .0) 31) (eqb (q .0) 0) (q .1) (q .2) m) m in cond b m1 (M.setReg rd (q .0) m1))
   unfolding tail
   sum-ok false d e f x y i p q t l =
       let u : State = within (opened x-r empty) (z .scopes) z in
@@ -135,7 +135,7 @@ module _ (x y i : ℕ) (hx : x < 4294967296) (hy : y < 4294967296) (hi : i < 2) 
       two p = omega arith
 
   -- x - y - i is x + ~y + (1 - i)
-  sub-plus : plus x (NOT y) (1 - i) ≡ less x y i
+  sub-plus : addWithCarry x (NOT y) (1 - i) ≡ subWithBorrow x y i
   sub-plus = λ j. (sub-value j, sub-carry j, (ap (λ s. OverflowFromAdd x (NOT y) s) sub-value ∙ ap (λ b. Bool·beq (bit x 31) b && not (Bool·beq (bit x 31) (bit (minus x y i) 31))) (not-bit y hy) ∙ over-sub (bit x 31) (bit y 31) (bit (minus x y i) 31)) j)
 
 one-lt : (b : Bool) → oneIf b < 2
@@ -150,7 +150,7 @@ module _ {z : State} {m : Machine} (s : Sound m) (a : Agrees z m) (rd : ℕ) (h 
   -- x - y - i, with the carry's expression for 1 - i
   less-ok : (b w : Bool) (d e f : Expr) (x y i : ℕ) → Always d m x → Always e m y → Always f m (1 - i) → i < 2
       → Makes (cond w (adds x-r d (un compl e) f) (let32 x-r (bin add (bin add d (un compl e)) f)) ∷ cond b (discard (u32, x-r)) (setReg rd (v32 x-r)) ∷ [])
-      (enter z) (let q = less x y i in let m1 = cond w (setFlags (bit (q .0) 31) (eqb (q .0) 0) (q .1) (q .2) m) m in cond b m1 (M.setReg rd (q .0) m1))
+      (enter z) (let q = subWithBorrow x y i in let m1 = cond w (setFlags (bit (q .0) 31) (eqb (q .0) 0) (q .1) (q .2) m) m in cond b m1 (M.setReg rd (q .0) m1))
   unfolding tail
   less-ok b w d e f x y i p q t l =
       subst (λ (q : ℕ × Bool × Bool). Makes (cond w (adds x-r d (un compl e) f) (let32 x-r (bin add (bin add d (un compl e)) f)) ∷ cond b (discard (u32, x-r)) (setReg rd (v32 x-r)) ∷ []) (enter z) (let m1 = cond w (setFlags (bit (q .0) 31) (eqb (q .0) 0) (q .1) (q .2) m) m in cond b m1 (M.setReg rd (q .0) m1)))

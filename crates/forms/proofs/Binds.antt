@@ -30,12 +30,11 @@ use Rattle.c_tree.specs.Stmt.{Plain}
 use Rattle.c_tree.specs.Preamble.{v32}
 use Rattle.c_tree.proofs.Clean.{left, right}
 use Rattle.c_tree.specs.Binds.{level, binds, declaratorsBind, plainBinds}
-use Rattle.forms.specs.Forms.{Lines, Native, straight, straightIf, branch, jump, pair, bx, pop, Form, native, shell}
+use Rattle.forms.specs.Forms.{Lines, Native, straight, straightIf, branchIf, jump, pair, bx, pop, Form, native, shell}
 use Rattle.forms.specs.Operands.{condExpr, regExpr, carryIn, shiftExprs, op2Exprs}
-use Rattle.forms.specs.InlineBody.{only, apart, let32, setReg, result, logicalC, logical, sum, alu, aluBody, mulBody, mulLongBody, baseExpr, shiftedOffset, offsetExpr, step, loaded, stored, access, memBody, listed, loads, movedBase, start, storedReg, stores, transfers, blockMemBody, opBody, inlineBody}
-use Rattle.armv4t.specs.RegisterList.{names}
-use Rattle.forms.specs.Block.{flushTicks, setWord, emitShell, emitPair, emitPop, emitBranch, emitLines, emitStraight, emitInstrs, closingLines, bodyOf}
-use Rattle.block_file.specs.Address.{region}
+use Rattle.forms.specs.InlineBody.{only, apart, let32, setReg, result, logicalC, logical, sum, alu, aluBody, mulBody, mulLongBody, baseExpr, shiftedOffset, offsetExpr, addOrSub, loaded, stored, access, memBody, listed, loads, movedBase, start, storedReg, stores, loadsOrStores, blockMemBody, opBody, inlineBody}
+use Rattle.armv4t.specs.RegisterList.{lists}
+use Rattle.forms.specs.Block.{flushTicks, setWord, emitShell, emitPair, emitPop, emitBranch, emitLines, emitStraight, bodyOf, pcLine}
 use Rattle.forms.proofs.Every.{either, Each, every-form}
 
 -- statements of one line
@@ -52,7 +51,7 @@ linesBind (l ∷ ls) = plainsBind l && linesBind ls
 abbrev pub nativeBinds : Native → Bool
 nativeBinds (straight t l) = linesBind t && linesBind l
 nativeBinds (straightIf t e l) = linesBind t && binds false e && linesBind l
-nativeBinds (branch t e s k) = linesBind t && binds false e && plainsBind s
+nativeBinds (branchIf t e s k) = linesBind t && binds false e && plainsBind s
 nativeBinds (jump t k) = linesBind t
 nativeBinds (pair t k) = linesBind t
 nativeBinds (bx t e) = linesBind t && binds false e
@@ -145,7 +144,7 @@ op2-operands i (Operand2.Imm value rot) = (record { primary = refl; whole = refl
 op2-operands i (Operand2.Reg rm (Shift.Imm k n)) = shift-operands k n (reg-operand i rm)
 op2-operands i (Operand2.Reg rm (Shift.Reg k rs)) = tt
 
--- lists of statements and lines
+-- names of statements and lines
 
 plains-append : {ps qs : List Plain} → Plains ps → Plains qs → Plains (ps ++ qs)
 plains-append {ps} {qs} h k = record { plains = go ps (h .plains) }
@@ -298,7 +297,7 @@ access-plains true w signed rd rn wb =
     plains-append (only-plains (wb && not (eqb rn rd) && not (eqb rn 15)) (setReg rn (v32 x-ob)) refl) (one {p = setReg rd (loaded w signed)} (loaded-binds w signed))
 access-plains false w signed rd rn wb = stored-binds w rd ◂ only-plains (wb && not (eqb rn 15)) (setReg rn (v32 x-ob)) refl
 
-ob-binds : (up : Bool) {off : Expr} → Operand off → binds false (bin (step up) (v32 x-base) off) ≡ true
+ob-binds : (up : Bool) {off : Expr} → Operand off → binds false (bin (addOrSub up) (v32 x-base) off) ≡ true
 unfolding level binds
 ob-binds true h = rw (h .primary, h .whole)
 ob-binds false h = rw (h .primary, h .whole)
@@ -307,7 +306,7 @@ mem-bound : (base : Expr) (up pre : Bool) {rest : List Plain} (off : Option Expr
 mem-bound base up pre none h k o = tt
 mem-bound base up pre (some off) h k o =
     apart-bound
-    (let-binds x-base base h ◂ let-binds x-ob (bin (step up) (v32 x-base) off) (ob-binds up o) ◂ let-binds x-addr (v32 (cond pre x-ob x-base)) (get-binds _) ◂ k)
+    (let-binds x-base base h ◂ let-binds x-ob (bin (addOrSub up) (v32 x-base) off) (ob-binds up o) ◂ let-binds x-addr (v32 (cond pre x-ob x-base)) (get-binds _) ◂ k)
 
 -- BlockMem
 
@@ -341,7 +340,7 @@ unfolding binds
 storedReg-binds i rn lowest moved h r =
     either Whole (eqb r 15) refl (either Whole (eqb r rn) (either Whole (eqb r lowest) refl h) refl)
 
-transfers-bound : (load : Bool) (i : Instr) (rn : ℕ) (writeback inList : Bool) (moved : Expr) (regs : List ℕ) → Whole moved → Bound (transfers load i rn writeback inList moved regs)
+transfers-bound : (load : Bool) (i : Instr) (rn : ℕ) (writeback inList : Bool) (moved : Expr) (regs : List ℕ) → Whole moved → Bound (loadsOrStores load i rn writeback inList moved regs)
 unfolding plainBinds
 transfers-bound true i rn writeback inList moved regs h =
     lines-append (apart-bound (only-plains (writeback && not inList) (setReg rn moved) h)) (loads-bound regs)
@@ -370,8 +369,8 @@ op-bound thumb i (Mem load width signed rd rn offset pre up writeback) =
     either MaybeBound (eqb rd 15) tt
     (mem-bound (baseExpr thumb i rn) up pre (offsetExpr i offset) (base-binds thumb i rn) (access-plains load width signed rd rn (not pre || writeback)) (offset-operand i offset))
 op-bound thumb i (BlockMem load rn rlist pre up s-bit writeback) =
-    either MaybeBound (s-bit || eqb rlist 0 || eqb rn 15 || (load && names rlist 15)) tt
-    (blockMem-bound i load rn (names rlist rn) pre up writeback (listed rlist 16))
+    either MaybeBound (s-bit || eqb rlist 0 || eqb rn 15 || (load && lists rlist 15)) tt
+    (blockMem-bound i load rn (lists rlist rn) pre up writeback (listed rlist 16))
 op-bound thumb i (Mrs spsr rd) = tt
 op-bound thumb i (MsrReg spsr fields rm) = tt
 op-bound thumb i (MsrImm spsr fields value) = tt
@@ -421,10 +420,9 @@ pair-fits : (cycles target ret : ℕ) → nativeBinds (emitPair cycles target re
 pair-fits cycles target ret =
     lines-append (ticks-bound cycles) (apart-bound (word-binds 14 ret ◂ one (word-binds 15 (clearBit0 target)))) .lines
 
-closing-bound : (cycles : ℕ) (xs : List TimedInstr) → Bound (closingLines cycles xs)
-closing-bound cycles [] = record { lines = refl }
-closing-bound cycles (x ∷ []) = lines-append (ticks-bound cycles) (apart-bound (one (word-binds 15 _)))
-closing-bound cycles (x ∷ y ∷ rest) = closing-bound cycles (y ∷ rest)
+-- the lines before a closing transfer bind
+pub closing-lines-bind : (cycles a : ℕ) → linesBind (flushTicks cycles ++ pcLine a) ≡ true
+closing-lines-bind cycles a = lines-append (ticks-bound cycles) (apart-bound (one (word-binds 15 a))) .lines
 
 -- all forms of a block bind
 pub forms-bind : (multiplier : ℕ) (b : Block) → Each (λ r. formBinds r ≡ true) (bodyOf multiplier b .forms)
@@ -433,8 +431,3 @@ forms-bind =
     (λ cycles i rm. both _ _ (ticks-bound cycles .lines) (reg-operand i rm .whole))
     (λ thumb cycles rn rlist. pop-fits thumb cycles rn (listed rlist 15))
     pair-fits
-
--- and so do the lines before its closing transfer
-pub closing-lines-bind : (multiplier : ℕ) (b : Block) → linesBind (bodyOf multiplier b .closing) ≡ true
-unfolding bodyOf
-closing-lines-bind multiplier b = closing-bound (emitInstrs (b .thumb) (region (b .addr)) 0 (b .instrs) .1) (b .instrs) .lines

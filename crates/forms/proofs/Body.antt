@@ -23,7 +23,7 @@ use Rattle.c_tree.specs.Preamble.{v32}
 use Rattle.c_meaning.specs.State.{State, enter}
 use Rattle.forms.specs.Forms.{Lines}
 use Rattle.forms.specs.Operands.{regExpr, op2Exprs}
-use Rattle.forms.specs.InlineBody.{apart, let32, aluBody, mulBody, baseExpr, shiftedOffset, offsetExpr, step as direction, access, memBody}
+use Rattle.forms.specs.InlineBody.{apart, let32, aluBody, mulBody, baseExpr, shiftedOffset, offsetExpr, addOrSub, access, memBody}
 use Rattle.manual.specs.Machine.{Machine, R, Sound}
 use Rattle.armv4t.specs.InRange.{OperandInRange, OffsetInRange, InRange}
 use Rattle.manual.specs.Shifter.{shift, shifter}
@@ -193,7 +193,7 @@ module _ (i : Instr) {m : Machine} (s : Sound m) where
 -- where a Mem is lowered, its offset is too
 mem-offset : (b : Expr) (up pre : Bool) (rest : List Plain) (off : Option Expr) (ls : Lines) → memBody b up pre rest off ≡ some ls
     → (e : Expr) × (off ≡ some e)
-    × (apart (let32 x-base b ∷ let32 x-ob (bin (direction up) (v32 x-base) e) ∷ let32 x-addr (v32 (cond pre x-ob x-base)) ∷ rest) ≡ ls)
+    × (apart (let32 x-base b ∷ let32 x-ob (bin (addOrSub up) (v32 x-base) e) ∷ let32 x-addr (v32 (cond pre x-ob x-base)) ∷ rest) ≡ ls)
 mem-offset b up pre rest none ls q = absurd (not-none q)
 mem-offset b up pre rest (some e) ls q = (e, refl, some-same q)
 
@@ -221,7 +221,7 @@ module _ (i : Instr) (ld : Bool) (width : MemWidth) (sig : Bool) (rd rn : ℕ) (
       wb = not pre || writeback
 
       go : (l : Bool) (e : Expr) → Always e m off
-          → Makes (let32 x-base (baseExpr (i .thumb) i rn) ∷ let32 x-ob (bin (direction up) (v32 x-base) e) ∷ let32 x-addr (v32 (cond pre x-ob x-base)) ∷ access l width sig rd rn wb) (enter z)
+          → Makes (let32 x-base (baseExpr (i .thumb) i rn) ∷ let32 x-ob (bin (addOrSub up) (v32 x-base) e) ∷ let32 x-addr (v32 (cond pre x-ob x-base)) ∷ access l width sig rd rn wb) (enter z)
           (cond l (load width sig rd rn x off pre up writeback m) (store width rd rn x off pre up writeback m))
       go true e o =
           place s a (baseExpr (i .thumb) i rn) x (base-always i s rn (r .1)) pre up e off o

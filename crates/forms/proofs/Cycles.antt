@@ -11,16 +11,15 @@ use Rattle.armv4t.specs.declared.Op.{Op}
 use Rattle.armv4t.specs.declared.Op.the-variants.{Alu, Mul, MulLong, Swap, Bx, Branch, ThumbBlHigh, ThumbBlLow, Mem, BlockMem, Mrs, MsrReg, MsrImm, Swi, Undefined}
 use Rattle.armv4t.specs.declared.Instr.{Instr}
 use Rattle.armv4t.specs.Bit0.{clearBit0}
-use Rattle.armv4t.specs.Instr.{sizeOf}
 use Rattle.armv4t.specs.Fused.{fuse}
 use Rattle.instr_records.specs.declared.decode.TimedInstr.{TimedInstr}
 use Rattle.block_file.specs.Parse.{Block}
 use Rattle.armv4t.specs.Cond.{isAl}
 use Rattle.c_tree.specs.Stmt.{Plain, registers, local, declare, adds, set, discard, run, write, tick}
-use Rattle.forms.specs.Forms.{Lines, straight, straightIf, branch, jump, pair, bx, pop, Form, native, shell}
+use Rattle.forms.specs.Forms.{Lines, straight, straightIf, branchIf, jump, pair, bx, pop, Form, native, shell}
 use Rattle.forms.proofs.RecordCount.{recordCount, instr-count}
 use Rattle.forms.specs.InlineBody.{apart, inlineBody}
-use Rattle.forms.specs.Block.{flushTicks, setWord, emitPair, emitBranch, nativeExit, isPop, emitLines, emitStraight, emitOp, emitInstr, emitInstrs, closingLines, bodyOf, pcLine}
+use Rattle.forms.specs.Block.{flushTicks, setWord, emitPair, emitBranch, nativeExit, isPop, emitLines, emitStraight, emitOp, emitInstr, emitInstrs, bodyOf, pcLine}
 use Rattle.block_file.specs.Address.{region}
 use Rattle.forms.proofs.Every.{either, fused-or}
 
@@ -50,7 +49,7 @@ linesTicks (l ∷ ls) = lineTicks l + linesTicks ls
 abbrev pub formTicks : Form → ℕ
 formTicks (native (straight t l)) = linesTicks t
 formTicks (native (straightIf t e l)) = linesTicks t
-formTicks (native (branch t e s k)) = linesTicks t
+formTicks (native (branchIf t e s k)) = linesTicks t
 formTicks (native (jump t k)) = linesTicks t
 formTicks (native (pair t k)) = linesTicks t
 formTicks (native (bx t e)) = linesTicks t
@@ -178,21 +177,14 @@ pub instrs-cycles : (thumb : Bool) (region cycles : ℕ) (xs : List TimedInstr)
     → formsTicks (emitInstrs thumb region cycles xs .0) + emitInstrs thumb region cycles xs .1 ≡ cycles + charged (emitInstrs thumb region cycles xs .0) xs
 instrs-cycles thumb region cycles xs = instrs-kept thumb region cycles xs .kept
 
--- the lines before the closing transfer: what is pending, then the address after the last instruction
-pub closing-last : (cycles : ℕ) (xs : List TimedInstr) (x : TimedInstr)
-    → closingLines cycles (xs ++ (x ∷ [])) ≡ flushTicks cycles ++ pcLine ((x .instr .addr + sizeOf (x .instr .thumb)) % 2 ^ 32)
-closing-last cycles [] x = refl
-closing-last cycles (y ∷ []) x = refl
-closing-last cycles (y ∷ z ∷ xs) x = closing-last cycles (z ∷ xs) x
+-- the lines before a closing transfer have the ticks of what is pending
+closing-ticks : (cycles a : ℕ) → linesTicks (flushTicks cycles ++ pcLine a) ≡ cycles
+closing-ticks cycles a = omega (arith, ticks-all cycles (pcLine a))
 
-closing-ticks : (cycles : ℕ) (x : TimedInstr) (xs : List TimedInstr) → linesTicks (closingLines cycles (x ∷ xs)) ≡ cycles
-closing-ticks cycles x [] = omega (arith, ticks-all cycles (pcLine ((x .instr .addr + sizeOf (x .instr .thumb)) % 2 ^ 32)))
-closing-ticks cycles x (y ∷ ys) = closing-ticks cycles y ys
-
--- a block, which has an instruction: its ticks are the costs of its native records
-pub body-cycles : (multiplier : ℕ) (b : Block) (x : TimedInstr) (xs : List TimedInstr) → b .instrs ≡ x ∷ xs
-    → formsTicks (bodyOf multiplier b .forms) + linesTicks (bodyOf multiplier b .closing) ≡ charged (bodyOf multiplier b .forms) (b .instrs)
+-- a block: its ticks, those before its closing transfer included, are the costs of its native records
+pub body-cycles : (multiplier : ℕ) (b : Block) (a : ℕ)
+    → formsTicks (bodyOf multiplier b .forms) + linesTicks (flushTicks (bodyOf multiplier b .pending) ++ pcLine a) ≡ charged (bodyOf multiplier b .forms) (b .instrs)
 unfolding bodyOf
-body-cycles multiplier b x xs e =
-    let rs : List Form × ℕ = emitInstrs (b .thumb) (region (b .addr)) 0 (x ∷ xs) in
-    rw e (omega (arith, instrs-cycles (b .thumb) (region (b .addr)) 0 (x ∷ xs), closing-ticks (rs .1) x xs))
+body-cycles multiplier b a =
+    let rs : List Form × ℕ = emitInstrs (b .thumb) (region (b .addr)) 0 (b .instrs) in
+    omega (arith, instrs-cycles (b .thumb) (region (b .addr)) 0 (b .instrs), closing-ticks (rs .1) a)

@@ -24,7 +24,6 @@ use Rattle.armv4t.specs.declared.Op.the-variants.{Alu, Mul, MulLong, Swap, Bx, 
 use Rattle.armv4t.specs.declared.Instr.{Instr}
 use Rattle.armv4t.specs.AluOp.{isCompare}
 use Rattle.armv4t.specs.Bit0.{clearBit0}
-use Rattle.armv4t.specs.Instr.{sizeOf}
 use Rattle.instr_records.specs.declared.decode.TimedInstr.{TimedInstr}
 use Rattle.block_file.specs.Parse.{Block}
 use Rattle.armv4t.specs.Cond.{isAl}
@@ -32,12 +31,11 @@ use Rattle.c_tree.specs.Expr.{x-ob, reg, udec, add, Expr, lit, get, bin}
 use Rattle.c_tree.specs.Stmt.{Plain}
 use Rattle.c_tree.specs.Preamble.{v32}
 use Rattle.c_tree.specs.Print.{exprText, plainText}
-use Rattle.forms.specs.Forms.{Lines, Native, straight, straightIf, branch, jump, pair, bx, pop, Form, native, shell}
+use Rattle.forms.specs.Forms.{Lines, Native, straight, straightIf, branchIf, jump, pair, bx, pop, Form, native, shell}
 use Rattle.forms.specs.Operands.{condExpr, regExpr, shiftExprs, op2Exprs}
-use Rattle.forms.specs.InlineBody.{only, apart, setReg, result, logical, sum, alu, aluBody, mulBody, mulLongBody, baseExpr, shiftedOffset, offsetExpr, loaded, stored, access, memBody, listed, loads, movedBase, start, storedReg, stores, transfers, blockMemBody, opBody, inlineBody}
-use Rattle.armv4t.specs.RegisterList.{names}
-use Rattle.forms.specs.Block.{flushTicks, setWord, emitShell, emitPair, emitPop, emitBranch, emitLines, emitStraight, emitInstrs, closingLines, bodyOf, pcLine}
-use Rattle.block_file.specs.Address.{region}
+use Rattle.forms.specs.InlineBody.{only, apart, setReg, result, logical, sum, alu, aluBody, mulBody, mulLongBody, baseExpr, shiftedOffset, offsetExpr, loaded, stored, access, memBody, listed, loads, movedBase, start, storedReg, stores, loadsOrStores, blockMemBody, opBody, inlineBody}
+use Rattle.armv4t.specs.RegisterList.{lists}
+use Rattle.forms.specs.Block.{flushTicks, setWord, emitShell, emitPair, emitPop, emitBranch, emitLines, emitStraight, bodyOf, pcLine}
 use Rattle.forms.proofs.Every.{either, Each, every-form}
 
 -- the statements of a line, with a `;` and a space each
@@ -54,7 +52,7 @@ linesMost (l ∷ ls) = 9 + plainsMost l + linesMost ls
 abbrev pub nativeMost : Native → ℕ
 nativeMost (straight t l) = linesMost t + linesMost l
 nativeMost (straightIf t e l) = linesMost t + most (exprText e) + linesMost l
-nativeMost (branch t e s k) = linesMost t + most (exprText e) + plainsMost s
+nativeMost (branchIf t e s k) = linesMost t + most (exprText e) + plainsMost s
 nativeMost (jump t k) = linesMost t
 nativeMost (pair t k) = linesMost t
 nativeMost (bx t e) = linesMost t + most (exprText e)
@@ -230,7 +228,7 @@ mem-within base false false rest (some off) h k o = record { within = omega (ari
 listed-length : (rlist n : ℕ) → length (listed rlist n) ≤ n
 unfolding listed
 listed-length rlist zero = omega arith
-listed-length rlist (suc n) = omega (arith, length-append (listed rlist n) (only (names rlist n) n), one (names rlist n), listed-length rlist n)
+listed-length rlist (suc n) = omega (arith, length-append (listed rlist n) (only (lists rlist n) n), one (lists rlist n), listed-length rlist n)
   where
     one : (b : Bool) → length (only b n) ≤ 1
     one true = omega arith
@@ -259,7 +257,7 @@ storedReg-short i rn lowest moved h r =
     either (Short 28) (eqb r 15) (record { short = omega arith })
     (either (Short 28) (eqb r rn) (either (Short 28) (eqb r lowest) (record { short = omega arith }) h) (record { short = omega arith }))
 
-transfers-within : (load : Bool) (i : Instr) (rn : ℕ) (writeback inList : Bool) (moved : Expr) (regs : List ℕ) → Short 28 moved → length regs ≤ 16 → linesMost (transfers load i rn writeback inList moved regs) ≤ 1930
+transfers-within : (load : Bool) (i : Instr) (rn : ℕ) (writeback inList : Bool) (moved : Expr) (regs : List ℕ) → Short 28 moved → length regs ≤ 16 → linesMost (loadsOrStores load i rn writeback inList moved regs) ≤ 1930
 transfers-within true i rn writeback inList moved regs h l =
     omega (
       arith,
@@ -306,8 +304,8 @@ op-within thumb i (Mem load width signed rd rn offset pre up writeback) =
     (mem-within (baseExpr thumb i rn) up pre (access load width signed rd rn (not pre || writeback)) (offsetExpr i offset) (base-short thumb i rn)
     (access-within load width signed rd rn (not pre || writeback)) (offset-short i offset))
 op-within thumb i (BlockMem load rn rlist pre up s-bit writeback) =
-    either (MaybeWithin 2100) (s-bit || eqb rlist 0 || eqb rn 15 || (load && names rlist 15)) tt
-    (blockMem-within i load rn (names rlist rn) pre up writeback (listed rlist 16) (listed-length rlist 16))
+    either (MaybeWithin 2100) (s-bit || eqb rlist 0 || eqb rn 15 || (load && lists rlist 15)) tt
+    (blockMem-within i load rn (lists rlist rn) pre up writeback (listed rlist 16) (listed-length rlist 16))
 op-within thumb i (Mrs spsr rd) = tt
 op-within thumb i (MsrReg spsr fields rm) = tt
 op-within thumb i (MsrImm spsr fields value) = tt
@@ -363,10 +361,9 @@ pair-fits : (cycles target ret : ℕ) → nativeMost (emitPair cycles target ret
 pair-fits cycles target ret =
     omega (arith, lines-append (flushTicks cycles) (apart (setWord 14 ret ∷ setWord 15 (clearBit0 target) ∷ [])), ticks-within cycles)
 
-closing-within : (cycles : ℕ) (xs : List TimedInstr) → linesMost (closingLines cycles xs) ≤ 100
-closing-within cycles [] = omega arith
-closing-within cycles (x ∷ []) = omega (arith, lines-append (flushTicks cycles) (pcLine ((x .instr .addr + sizeOf (x .instr .thumb)) % 2 ^ 32)), ticks-within cycles)
-closing-within cycles (x ∷ y ∷ rest) = closing-within cycles (y ∷ rest)
+-- the lines before a closing transfer hold at most 100
+pub closing-within : (cycles a : ℕ) → linesMost (flushTicks cycles ++ pcLine a) ≤ 100
+closing-within cycles a = omega (arith, lines-append (flushTicks cycles) (pcLine a), ticks-within cycles)
 
 -- each form of a block holds at most 2,200 bytes
 pub forms-within : (multiplier : ℕ) (b : Block) → Each (λ r. formMost r ≤ 2200) (bodyOf multiplier b .forms)
@@ -374,8 +371,3 @@ forms-within =
     every-form (λ r. formMost r ≤ 2200) shell-fits straight-fits branch-fits bx-fits
     (λ thumb cycles rn rlist. pop-fits thumb cycles rn (listed rlist 15) (listed-length rlist 15))
     pair-fits
-
--- and the lines before its closing transfer at most 100
-pub closing-short : (multiplier : ℕ) (b : Block) → linesMost (bodyOf multiplier b .closing) ≤ 100
-unfolding bodyOf
-closing-short multiplier b = closing-within (emitInstrs (b .thumb) (region (b .addr)) 0 (b .instrs) .1) (b .instrs)

@@ -14,7 +14,7 @@ use Rattle.c_tree.specs.Expr.{u32, word, Name, x-base, x-addr, var, reg, w32, E
 use Rattle.c_tree.specs.Preamble.{v32}
 use Rattle.c_meaning.specs.State.{State, Scope, empty, index, value, update, setC, setMem, load, store, enter}
 use Rattle.forms.specs.Forms.{Lines}
-use Rattle.forms.specs.InlineBody.{only, apart, let32, setReg, loads, movedBase, start, storedReg, stores, transfers, blockMemBody}
+use Rattle.forms.specs.InlineBody.{only, apart, let32, setReg, loads, movedBase, start, storedReg, stores, loadsOrStores, blockMemBody}
 use Rattle.manual.specs.Machine.{Machine, R, setRegs, Sound}
 use Rattle.manual.specs.Machine as M
 use Rattle.manual.specs.Transfer.{Memory4, setMemory4, moved}
@@ -85,7 +85,7 @@ module _ {z : State} {m : Machine} (s : Sound m) (a : Agrees z m) (i : Instr) (r
       → Makes (statements (blockMemBody i true rn inList pre up wb regs)) (enter z)
       (let m1 : Machine = cond wb (M.setReg rn (moved up (m .r rn) (length regs * 4)) m) m in
       setRegs (loadAll regs (MM.start up pre (m .r rn) (length regs)) (m .mem) (m1 .r)) m)
-  load-multiple-ok h up pre wb inList hm = place up pre (transfers true i rn wb inList (movedBase up (length regs * 4)) regs) (go wb inList hm)
+  load-multiple-ok h up pre wb inList hm = place up pre (loadsOrStores true i rn wb inList (movedBase up (length regs * 4)) regs) (go wb inList hm)
     where
       k : ℕ
       k = MM.start up pre (m .r rn) (length regs)
@@ -102,7 +102,7 @@ module _ {z : State} {m : Machine} (s : Sound m) (a : Agrees z m) (i : Instr) (r
       off : (j : ℕ) → eqb j rn ≡ false → m .r j ≡ cond (eqb j rn) x (m .r j)
       off j e = rw e
 
-      go : (w il : Bool) → (il ≡ true → member rn regs ≡ true) → Makes (statements (transfers true i rn w il (movedBase up (length regs * 4)) regs)) u
+      go : (w il : Bool) → (il ≡ true → member rn regs ≡ true) → Makes (statements (loadsOrStores true i rn w il (movedBase up (length regs * 4)) regs)) u
           (let m1 : Machine = cond w (M.setReg rn x m) m in setRegs (loadAll regs k (m .mem) (m1 .r)) m)
       go false il hm = plain
       go true false hm =
@@ -181,7 +181,7 @@ module _ {z : State} {m : Machine} (s : Sound m) (a : Agrees z m) (i : Instr) (r
       (let m1 : Machine = M.setMem (storeAll (storedValue up wb) regs (MM.start up pre (m .r rn) (length regs)) (m .mem)) m in
       cond wb (M.setReg rn (moved up (m .r rn) (length regs * 4)) m1) m1)
   store-multiple-ok up pre wb inList h =
-      place up pre (transfers false i rn wb inList (movedBase up (length regs * 4)) regs)
+      place up pre (loadsOrStores false i rn wb inList (movedBase up (length regs * 4)) regs)
       (stores-ok _ (storedValue up wb) (apart (only wb (setReg rn (movedBase up (length regs * 4))))) regs (placedScope up pre) (z .scopes) z (m .mem)
       (MM.start up pre (m .r rn) (length regs)) (all-map (Stored wb) _ (stored-reads up wb) regs h)
       (record { regs = a .regs; flags = a .flags; memory = a .memory }) refl refl (start-lt up pre) (go wb))

@@ -17,7 +17,7 @@ use Rattle.c_tree.specs.Preamble.{v32}
 use Rattle.c_meaning.specs.State.{State, empty, value, setC, setMem, load, store, enter}
 use Rattle.c_meaning.specs.Eval.{evalAs}
 use Rattle.c_meaning.specs.Exec.{exec}
-use Rattle.forms.specs.InlineBody.{only, let32, setReg, step as direction, loaded, stored, access}
+use Rattle.forms.specs.InlineBody.{only, let32, setReg, addOrSub, loaded, stored, access}
 use Rattle.manual.specs.Machine.{Machine, Sound}
 use Rattle.manual.specs.Machine as M
 use Rattle.manual.specs.Operators.{Rotate-Right, SignExtend8, SignExtend16}
@@ -32,7 +32,7 @@ use Rattle.forms.proofs.Alu.{Always}
 use Rattle.forms.proofs.Steps.{exec1, step, stop, opened, given, within, do-declare, do-reg, with-scopes, with-reg, with-pc, with-over}
 
 -- base + off, base - off
-pub direction-reads : {z : State} {d e : Expr} {x y : ℕ} (up : Bool) → Reads d z x → Reads e z y → Reads (bin (direction up) d e) z (moved up x y)
+pub direction-reads : {z : State} {d e : Expr} {x y : ℕ} (up : Bool) → Reads d z x → Reads e z y → Reads (bin (addOrSub up) d e) z (moved up x y)
 direction-reads true p q = r-add p q
 direction-reads false p q = r-sub p q
 
@@ -97,7 +97,7 @@ module _ {z : State} {m : Machine} (s : Sound m) (a : Agrees z m) (b : Expr) (x 
   addr-reads false u p q = r-var (u32, x-base) refl p small
 
   pub place : {ps : List Plain} {m1 : Machine} → Makes ps placed m1
-      → Makes (let32 x-base b ∷ let32 x-ob (bin (direction up) (v32 x-base) off) ∷ let32 x-addr (v32 (cond pre x-ob x-base)) ∷ ps) (enter z) m1
+      → Makes (let32 x-base b ∷ let32 x-ob (bin (addOrSub up) (v32 x-base) off) ∷ let32 x-addr (v32 (cond pre x-ob x-base)) ∷ ps) (enter z) m1
   unfolding placed
   place k =
       step (do-declare x-base empty (z .scopes) z refl (p _ (with-scopes a _)))

@@ -11,7 +11,6 @@ use Rattle.armv4t.specs.declared.Instr.{Instr}
 use Rattle.armv4t.specs.declared.Fused.{Fused}
 use Rattle.armv4t.specs.declared.Fused.the-variants.{Pair, Nothing}
 use Rattle.armv4t.specs.Bit0.{clearBit0, setBit0}
-use Rattle.armv4t.specs.Instr.{sizeOf}
 use Rattle.armv4t.specs.Fused.{fuse}
 use Rattle.instr_records.specs.declared.decode.TimedInstr.{TimedInstr}
 use Rattle.block_file.specs.Parse.{Block}
@@ -20,10 +19,10 @@ use Rattle.block_exits.specs.Exits.{keyOf, fallThrough}
 use Rattle.armv4t.specs.Cond.{isAl}
 use Rattle.c_tree.specs.Expr.{word, udec, x-addr, reg, compl, add, band, bor, w32, lit, get, un, bin, read}
 use Rattle.c_tree.specs.Stmt.{Plain, tick}
-use Rattle.forms.specs.Forms.{Lines, Native, straight, straightIf, branch, jump, pair, bx, pop, Form, native, shell, Body}
+use Rattle.forms.specs.Forms.{Lines, Native, straight, straightIf, branchIf, jump, pair, bx, pop, Form, native, shell, Body}
 use Rattle.forms.specs.Operands.{condExpr, regExpr}
 use Rattle.forms.specs.InlineBody.{only, apart, let32, setReg, aligned, listed, loads, inlineBody}
-use Rattle.armv4t.specs.RegisterList.{names}
+use Rattle.armv4t.specs.RegisterList.{lists}
 use Rattle.fnv.specs.Fnv.{fnv64}
 
 -- flush_ticks: a line for the cycles pending, if there are any
@@ -35,9 +34,9 @@ flushTicks (suc n) = (tick (suc n) ∷ []) ∷ []
 abbrev pub setWord : ℕ → ℕ → Plain
 setWord r n = setReg r (lit word n)
 
--- c[15] = next; in a line of its own
+-- c[15] = 0x{:08x}u; in a line of its own
 abbrev pub pcLine : ℕ → Lines
-pcLine next = apart (setWord 15 next ∷ [])
+pcLine a = apart (setWord 15 a ∷ [])
 
 -- emit_shell: high if it is for an unfused ThumbBlHigh
 abbrev pub emitShell : Bool → Bool → ℕ → Instr → Form
@@ -56,7 +55,7 @@ abbrev pub emitBranch : Bool → ℕ → Instr → Bool → ℕ → Native
 emitBranch thumb cycles i link target =
     let regs : List Plain = branchRegs link ((i .addr + 4) % 2 ^ 32) target in
     cond (isAl (i .cond)) (jump (flushTicks cycles ++ apart regs) (keyOf target thumb))
-    (branch (flushTicks cycles) (condExpr (i .cond)) regs (keyOf target thumb))
+    (branchIf (flushTicks cycles) (condExpr (i .cond)) regs (keyOf target thumb))
 
 -- whether an indirect exit, Bx or pop of PC, is native: condition Al, outside region 0
 abbrev pub nativeExit : ℕ → Instr → Bool
@@ -65,7 +64,7 @@ nativeExit region i = isAl (i .cond) && not (eqb region 0)
 -- whether a BlockMem is a native pop of PC
 abbrev pub isPop : ℕ → Instr → Bool → ℕ → ℕ → Bool → Bool → Bool → Bool → Bool
 isPop region i load rn rlist pre up s-bit writeback =
-    load && not pre && up && not s-bit && writeback && names rlist 15 && not (eqb rn 15) && nativeExit region i
+    load && not pre && up && not s-bit && writeback && lists rlist 15 && not (eqb rn 15) && nativeExit region i
 
 -- a pop of PC
 abbrev pub emitPop : Bool → ℕ → ℕ → List ℕ → Native
@@ -75,7 +74,7 @@ emitPop thumb cycles rn regs =
     (setReg 15 (bin band (read w32 (aligned 3)) (un compl (lit udec (cond thumb 1 3)))))
     (bin bor (get (reg 15)) (lit udec (cond thumb 1 0)))
 
--- an instruction with the lines that it is lowered to, or none, and the cycles pending behind it; bus: it touches memory, so what is pending is flushed
+-- an instruction with the lines that it is lowered to, or none, and the cycles pending behind it; touchesBus: it touches memory, so what is pending is flushed
 -- before its own cost is added
 abbrev pub emitLines : Bool → Bool → ℕ → TimedInstr → Option Lines → Form × ℕ
 emitLines thumb touchesBus cycles x none = (emitShell thumb false cycles (x .instr), 0)
@@ -113,10 +112,10 @@ emitOp thumb region cycles x (Undefined raw) = emitStraight thumb false cycles x
 unfoldable pub emitInstr : Bool → ℕ → ℕ → TimedInstr → Form × ℕ
 emitInstr thumb region cycles x = emitOp thumb region cycles x (x .instr .op)
 
--- the first value where nothing fused, else f of target and return address
+-- `unfused` where nothing fused, else f of target and return address
 abbrev pub fusedOr : {A : Type 0} → Fused → A → (ℕ → ℕ → A) → A
-fusedOr Nothing two f = two
-fusedOr (Pair target ret) two f = f target ret
+fusedOr Nothing unfused f = unfused
+fusedOr (Pair target ret) unfused f = f target ret
 
 -- a form before those of the instructions behind, and the cycles pending behind them
 abbrev pub consForm : Form → List Form × ℕ → List Form × ℕ
@@ -132,12 +131,6 @@ emitInstrs thumb region cycles (x ∷ y ∷ rest) =
     fusedOr (fuse (x .instr) (y .instr)) two
     (λ target ret. consForm (native (emitPair (cycles + (x .cost + y .cost)) target ret)) (emitInstrs thumb region 0 rest))
 
--- the lines before the closing transfer, by the last instruction
-abbrev pub closingLines : ℕ → List TimedInstr → Lines
-closingLines cycles [] = []
-closingLines cycles (x ∷ []) = flushTicks cycles ++ pcLine ((x .instr .addr + sizeOf (x .instr .thumb)) % 2 ^ 32)
-closingLines cycles (x ∷ y ∷ rest) = closingLines cycles (y ∷ rest)
-
 -- the hash of a block's code bytes, or their absence
 abbrev pub hashOf : ℕ → Block → Option ℕ
 hashOf multiplier b = Option·map (fnv64 multiplier) (b .code)
@@ -152,5 +145,5 @@ bodyOf multiplier b =
       count = length (b .instrs);
       hash = hashOf multiplier b;
       forms = forms .0;
-      closing = closingLines (forms .1) (b .instrs);
+      pending = forms .1;
     }

@@ -4,7 +4,7 @@ use mathlib.Core.Path.{_≡_, refl}
 use mathlib.Core.Bool.{Bool, true, false}
 use mathlib.Core.List.{List, [], _∷_}
 use mathlib.Core.Option.{Option, none, some}
-use Rattle.text.specs.Digits.{numeral, fixed}
+use Rattle.text.specs.Digits.{numeral, lastDigits}
 use Rattle.text.specs.Doc.{Doc, nothing, text, _▸_, decimal, hexadecimal, hexadecimal8, print, each}
 use Rattle.armv4t.specs.declared.Cond.the-variants.{Eq, Al}
 use Rattle.armv4t.specs.declared.AluOp.the-variants.{And, Rsb, Sbc, Tst, Mov}
@@ -22,9 +22,9 @@ use Rattle.c_tree.specs.Expr.{udec, x-cz, x-addr, reg, compl, add, band, bor, w
 use Rattle.c_tree.specs.Stmt.{Plain, tick}
 use Rattle.c_tree.specs.Preamble.{v32}
 use Rattle.c_tree.specs.Print.{plainText, spaces}
-use Rattle.forms.specs.Forms.{Lines, straight, branch, pair, bx, pop, native, shell}
+use Rattle.forms.specs.Forms.{Lines, straight, branchIf, pair, bx, pop, native, shell}
 use Rattle.forms.specs.InlineBody.{apart, let32, setReg, mulBody, aligned, listed, advance, blockMemBody, inlineBody}
-use Rattle.forms.specs.Block.{setWord, emitInstr, emitInstrs, closingLines}
+use Rattle.forms.specs.Block.{setWord, emitInstr, emitInstrs}
 
 -- the statements of a line
 abbrev lineText : List Plain → Doc
@@ -52,7 +52,7 @@ ands = refl
 -- sbcs r0, pc, #255
 sbcs : print (bodyText (inlineBody false (always false (Alu Sbc true 0 15 (Operand2.Imm 255 0)))))
     ≡ print (text "        uint32_t r = op_adds(c, 0x08000008u, ~0x000000ffu, ((c[16] >> 29) & 1u));\n        c[0] = r;\n")
-unfolding inlineBody print decimal numeral hexadecimal8 fixed
+unfolding inlineBody print decimal numeral hexadecimal8 lastDigits
 sbcs = refl
 
 -- rsb r3, r1, r2, rrx
@@ -64,7 +64,7 @@ rsb = refl
 -- tst r1, #0x80000000
 tst : print (bodyText (inlineBody false (always false (Alu Tst true 0 1 (Operand2.Imm 0x8000_0000 2)))))
     ≡ print (text "        uint32_t r = (c[1] & 0x80000000u);\n        f_nz(c, r);\n        f_c(c, 1u);\n        (void)r;\n")
-unfolding inlineBody print decimal numeral hexadecimal8 fixed
+unfolding inlineBody print decimal numeral hexadecimal8 lastDigits
 tst = refl
 
 -- mlas r0, r1, r2, r3
@@ -97,7 +97,7 @@ ldr : print (bodyText (inlineBody true ldrPc))
     ≡ print
     (text
     "        uint32_t base = (0x08000704u);\n        uint32_t ob = base + 0x10u;\n        uint32_t addr = ob;\n        c[0] = ror32(a->read32(m, addr & ~3u), (addr & 3u) * 8u);\n")
-unfolding inlineBody print decimal numeral hexadecimal hexadecimal8 fixed
+unfolding inlineBody print decimal numeral hexadecimal hexadecimal8 lastDigits
 ldr = refl
 
 -- strb r0, [r1, -r2, asr #4]!
@@ -121,7 +121,7 @@ stmdb : print (bodyText (inlineBody false (always false (BlockMem false 4 0x8011
     ≡ print
     (text
     "        uint32_t base = c[4];\n        uint32_t addr = base - 12u;\n        a->write32(m, addr & ~3u, c[0]); addr += 4u;\n        a->write32(m, addr & ~3u, base - 12u); addr += 4u;\n        a->write32(m, addr & ~3u, 0x0800000cu); addr += 4u;\n        c[4] = base - 12u;\n")
-unfolding inlineBody listed print decimal numeral hexadecimal8 fixed
+unfolding inlineBody listed print decimal numeral hexadecimal8 lastDigits
 stmdb = refl
 
 -- left to the interpreter: PC as the result, a shift by a register, RRX of an offset, PC loaded, user registers, no register
@@ -142,7 +142,7 @@ timed cost i = record { instr = i; cost = cost }
 
 -- bleq 0x08001000, with 5 cycles pending and 3 of its own
 bleq : emitInstr false 8 5 (timed 3 (record { addr = 0x0800_0b00; cond = Eq; op = Branch true 0x0800_1000; thumb = false }))
-    ≡ (native (branch ((tick 8 ∷ []) ∷ []) (v32 x-cz) (setWord 14 0x0800_0b04 ∷ setWord 15 0x0800_1000 ∷ []) 0x0800_1000), 0)
+    ≡ (native (branchIf ((tick 8 ∷ []) ∷ []) (v32 x-cz) (setWord 14 0x0800_0b04 ∷ setWord 15 0x0800_1000 ∷ []) 0x0800_1000), 0)
 unfolding emitInstr
 bleq = refl
 
@@ -200,6 +200,3 @@ costs : emitInstrs false 8 0 (mul 1 ∷ timed 2 (always false stmia) ∷ timed 3
     )
 unfolding emitInstrs emitInstr inlineBody fuse listed
 costs = refl
-
-costs-end : closingLines 4 (mul 1 ∷ mul 4 ∷ []) ≡ (tick 4 ∷ []) ∷ (setWord 15 0x0800_0004 ∷ []) ∷ []
-costs-end = refl

@@ -15,7 +15,7 @@ Lines = List (List Plain)
 pub data Native : Type 0 where
   straight : Lines → Lines → Native  -- { lines at 8 }
   straightIf : Lines → Expr → Lines → Native  -- { flags; if (e) { lines at 8 } }
-  branch : Lines → Expr → List Plain → ℕ → Native  -- { flags; if (e) { one line; transfer to a key at 8 } }
+  branchIf : Lines → Expr → List Plain → ℕ → Native  -- { flags; if (e) { one line; transfer to a key at 8 } }
   jump : Lines → ℕ → Native  -- transfer to a key at 4
   pair : Lines → ℕ → Native  -- the same, for a fused pair
   bx : Lines → Expr → Native  -- { uint32_t t = e; if (t & 1u) { ..; return ..; } ..; return ..; }
@@ -30,18 +30,18 @@ pub data Form : Type 0 where
 abbrev pub records : Native → ℕ
 records (straight t l) = 1
 records (straightIf t e l) = 1
-records (branch t e s k) = 1
+records (branchIf t e s k) = 1
 records (jump t k) = 1
 records (pair t k) = 2
 records (bx t e) = 1
 records (pop t s l u e) = 1
 
 -- a block as it is printed: its address, whether it is Thumb, how many instructions it has, the hash of its code bytes or their absence, the forms of its
--- instructions in their order, and the lines before the closing transfer
+-- instructions in their order, and the cycles pending behind the last one
 pub record Body : Type 0 where
   pub addr : ℕ
   pub thumb : Bool
   pub count : ℕ
   pub hash : Option ℕ
   pub forms : List Form
-  pub closing : Lines
+  pub pending : ℕ

@@ -18,7 +18,7 @@ use Rattle.armv4t.specs.declared.Op.the-variants.{Alu, Mul, MulLong, Swap, Bx, 
 use Rattle.armv4t.specs.declared.Instr.{Instr}
 use Rattle.armv4t.specs.AluOp.{isCompare}
 use Rattle.armv4t.specs.Instr.{pcValue}
-use Rattle.armv4t.specs.RegisterList.{names}
+use Rattle.armv4t.specs.RegisterList.{lists}
 use Rattle.c_tree.specs.Expr.{Ty, s8, s16, s32, u32, s64, u64, word, uhex, udec, int, Name, x-r, x-base, x-ob, x-addr, reg, var, compl, Bin, mul, add, sub, shl, shr, band, bxor, bor, Width, w8, w16, w32, Expr, lit, get, par, un, bin, cast, pick, ror, read}
 use Rattle.c_tree.specs.Stmt.{is, plus, f-nz, f-c, f-nz64, Plain, declare, adds, set, discard, run, write}
 use Rattle.c_tree.specs.Preamble.{v32}
@@ -52,9 +52,13 @@ abbrev pub logicalC : Option Expr → List Plain
 logicalC none = []
 logicalC (some e) = run f-c e ∷ []
 
+-- the statements of an Alu behind its outcome, where it takes the carry from its second operand
+abbrev pub logicalRest : AluOp → Bool → ℕ → Option Expr → List Plain
+logicalRest op s rd carry = cond s (run f-nz (v32 x-r) ∷ logicalC carry) [] ++ (result op rd ∷ [])
+
 -- an Alu that takes the carry from its second operand
 abbrev pub logical : AluOp → Bool → ℕ → Option Expr → Expr → List Plain
-logical op s rd carry e = let32 x-r e ∷ cond s (run f-nz (v32 x-r) ∷ logicalC carry) [] ++ (result op rd ∷ [])
+logical op s rd carry e = let32 x-r e ∷ logicalRest op s rd carry
 
 -- an Alu that adds
 abbrev pub sum : AluOp → Bool → ℕ → Expr → Expr → Expr → List Plain
@@ -126,17 +130,17 @@ offsetExpr i (MemOffset.Reg rm (Shift.Imm kind amount)) = shiftedOffset (regExpr
 offsetExpr i (MemOffset.Reg rm (Shift.Reg kind rs)) = none
 
 -- upwards or downwards
-abbrev pub step : Bool → Bin
-step true = add
-step false = sub
+abbrev pub addOrSub : Bool → Bin
+addOrSub true = add
+addOrSub false = sub
 
 -- addr & ~nu
 abbrev pub aligned : ℕ → Expr
 aligned n = bin band (v32 x-addr) (un compl (lit udec n))
 
 -- (addr & nu) * 8u
-abbrev pub turn : ℕ → Expr
-turn n = bin mul (par (bin band (v32 x-addr) (lit udec n))) (lit udec 8)
+abbrev pub rotation : ℕ → Expr
+rotation n = bin mul (par (bin band (v32 x-addr) (lit udec n))) (lit udec 8)
 
 -- (uint32_t)(int32_t)(int8_t)a->read8(m, addr), or likewise with 16 bits
 abbrev pub signedRead : Ty → Width → Expr
@@ -146,9 +150,9 @@ signedRead y w = cast u32 (cast s32 (cast y (read w (v32 x-addr))))
 abbrev pub loaded : MemWidth → Bool → Expr
 loaded Byte false = read w8 (v32 x-addr)
 loaded Byte true = signedRead s8 w8
-loaded Half false = ror (read w16 (aligned 1)) (turn 1)
+loaded Half false = ror (read w16 (aligned 1)) (rotation 1)
 loaded Half true = par (pick (par (bin band (v32 x-addr) (lit udec 1))) (signedRead s8 w8) (signedRead s16 w16))
-loaded Word signed = ror (read w32 (aligned 3)) (turn 3)
+loaded Word signed = ror (read w32 (aligned 3)) (rotation 3)
 
 -- how a Mem stores
 abbrev pub stored : MemWidth → Expr → Plain
@@ -161,18 +165,20 @@ abbrev pub access : Bool → MemWidth → Bool → ℕ → ℕ → Bool → List
 access true width signed rd rn wb = only (wb && not (eqb rn rd) && not (eqb rn 15)) (setReg rn (v32 x-ob)) ++ (setReg rd (loaded width signed) ∷ [])
 access false width signed rd rn wb = stored width (get (reg rd)) ∷ only (wb && not (eqb rn 15)) (setReg rn (v32 x-ob))
 
--- Mem, if its offset can be printed: the base, the offset, its direction and whether it counts before the access, then the access
+-- the lines of a Mem: the base, the offset, its direction and whether it counts before the access, then the access
+abbrev pub memLines : Expr → Bool → Bool → List Plain → Expr → Lines
+memLines base up pre rest off =
+    apart (let32 x-base base ∷ let32 x-ob (bin (addOrSub up) (v32 x-base) off) ∷ let32 x-addr (v32 (cond pre x-ob x-base)) ∷ rest)
+
+-- Mem, if its offset can be printed
 abbrev pub memBody : Expr → Bool → Bool → List Plain → Option Expr → Option Lines
 memBody base up pre rest none = none
-memBody base up pre rest (some off) =
-    some
-    (apart
-    (let32 x-base base ∷ let32 x-ob (bin (step up) (v32 x-base) off) ∷ let32 x-addr (v32 (cond pre x-ob x-base)) ∷ rest))
+memBody base up pre rest (some off) = some (memLines base up pre rest off)
 
 -- the registers below n that a register list names, in rising order
 unfoldable pub listed : ℕ → ℕ → List ℕ
 listed rlist zero = []
-listed rlist (suc n) = listed rlist n ++ only (names rlist n) n
+listed rlist (suc n) = listed rlist n ++ only (lists rlist n) n
 
 -- addr += 4u;
 abbrev pub advance : Plain
@@ -185,7 +191,7 @@ loads (r ∷ rs) = (setReg r (read w32 (aligned 3)) ∷ advance ∷ []) ∷ load
 
 -- the base after a BlockMem of so many bytes
 abbrev pub movedBase : Bool → ℕ → Expr
-movedBase up total = bin (step up) (v32 x-base) (lit udec total)
+movedBase up total = bin (addOrSub up) (v32 x-base) (lit udec total)
 
 -- the lowest address of a BlockMem: up, pre
 abbrev pub start : Bool → Bool → ℕ → Expr
@@ -205,9 +211,9 @@ stores value [] = []
 stores value (r ∷ rs) = (write w32 (aligned 3) (value r) ∷ advance ∷ []) ∷ stores value rs
 
 -- the lines of a BlockMem behind its start: load or store, the base register, whether it is written back and is listed, the base after, the registers
-abbrev pub transfers : Bool → Instr → ℕ → Bool → Bool → Expr → List ℕ → Lines
-transfers true i rn writeback inList moved regs = apart (only (writeback && not inList) (setReg rn moved)) ++ loads regs
-transfers false i rn writeback inList moved regs =
+abbrev pub loadsOrStores : Bool → Instr → ℕ → Bool → Bool → Expr → List ℕ → Lines
+loadsOrStores true i rn writeback inList moved regs = apart (only (writeback && not inList) (setReg rn moved)) ++ loads regs
+loadsOrStores false i rn writeback inList moved regs =
     stores (storedReg i rn (getD regs 0 16) moved) regs ++ apart (only writeback (setReg rn moved))
 
 -- BlockMem: inList if its base register is listed
@@ -215,7 +221,7 @@ abbrev pub blockMemBody : Instr → Bool → ℕ → Bool → Bool → Bool → 
 blockMemBody i load rn inList pre up writeback regs =
     let total : ℕ = length regs * 4 in
     apart (let32 x-base (get (reg rn)) ∷ let32 x-addr (start up pre total) ∷ [])
-    ++ transfers load i rn writeback inList (movedBase up total) regs
+    ++ loadsOrStores load i rn writeback inList (movedBase up total) regs
 
 -- inline_body by the operation, in a block that is Thumb or not; none where the interpreter is to carry it out
 abbrev pub opBody : Bool → Instr → Op → Option Lines
@@ -231,8 +237,8 @@ opBody thumb i (Mem load width signed rd rn offset pre up writeback) =
     cond (eqb rd 15) none
     (memBody (baseExpr thumb i rn) up pre (access load width signed rd rn (not pre || writeback)) (offsetExpr i offset))
 opBody thumb i (BlockMem load rn rlist pre up s-bit writeback) =
-    cond (s-bit || eqb rlist 0 || eqb rn 15 || (load && names rlist 15)) none
-    (some (blockMemBody i load rn (names rlist rn) pre up writeback (listed rlist 16)))
+    cond (s-bit || eqb rlist 0 || eqb rn 15 || (load && lists rlist 15)) none
+    (some (blockMemBody i load rn (lists rlist rn) pre up writeback (listed rlist 16)))
 opBody thumb i (Mrs spsr rd) = none
 opBody thumb i (MsrReg spsr fields rm) = none
 opBody thumb i (MsrImm spsr fields value) = none

@@ -77,8 +77,14 @@ shiftExprs e Asr (suc n) = (shiftSigned e (suc n), some (bitOf e n))
 shiftExprs e Ror zero = (par (bin bor (par (bin shl carryIn (lit int 31))) (par (bin shr e (lit udec 1)))), some (par (bin band e (lit udec 1))))
 shiftExprs e Ror (suc n) = (ror e (lit udec (suc n)), some (bitOf e n))
 
+-- an operand by the value of PC, and the carry out of it; one that is shifted by a register counts as not shifted
+abbrev pub operandOf : ℕ → Operand2 → Expr × Option Expr
+operandOf pc (Operand2.Imm value rot) = (lit word value, cond (eqb rot 0) none (some (lit udec (value / 2 ^ 31 % 2))))
+operandOf pc (Operand2.Reg rm (Shift.Imm kind amount)) = shiftExprs (regOf pc rm) kind amount
+operandOf pc (Operand2.Reg rm (Shift.Reg kind rs)) = (regOf pc rm, none)
+
 -- op2_exprs: the second operand and the carry out of it; none where the interpreter is to shift by a register
 abbrev pub op2Exprs : Instr → Operand2 → Option (Expr × Option Expr)
-op2Exprs i (Operand2.Imm value rot) = some (lit word value, cond (eqb rot 0) none (some (lit udec (value / 2 ^ 31 % 2))))
-op2Exprs i (Operand2.Reg rm (Shift.Imm kind amount)) = some (shiftExprs (regExpr i rm) kind amount)
+op2Exprs i (Operand2.Imm value rot) = some (operandOf (pcValue i) (Operand2.Imm value rot))
+op2Exprs i (Operand2.Reg rm (Shift.Imm kind amount)) = some (operandOf (pcValue i) (Operand2.Reg rm (Shift.Imm kind amount)))
 op2Exprs i (Operand2.Reg rm (Shift.Reg kind rs)) = none

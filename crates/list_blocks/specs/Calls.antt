@@ -6,7 +6,7 @@ use lib.ListN.{length}
 use Rattle.block_file.specs.Answer.{Answer, refusal, value}
 use Rattle.block_file.specs.Parse.{Block, Parsed}
 use Rattle.text.specs.Doc.{print}
-use Rattle.plan.specs.Calls.{partLimit, Made, Outcome, callOnFile}
+use Rattle.plan.specs.Calls.{partLimit, Made, CallOutcome, callOnFile}
 use Rattle.list_blocks.specs.declared.calls.Listed.{Listed}
 use Rattle.list_blocks.specs.Listing.{listing}
 
@@ -20,5 +20,5 @@ abbrev pub madeListing : ℕ → List Block → Option (Made ℕ)
 madeListing limit bs = some (record { values = length (print (listing limit bs)); content = print (listing limit bs) })
 
 -- the call for the listing of a file
-abbrev pub listingCall : Parsed → List ℕ → List ℕ → Outcome ℕ
+abbrev pub listingCall : Parsed → List ℕ → List ℕ → CallOutcome ℕ
 listingCall = callOnFile (madeListing partLimit)

@@ -5,7 +5,7 @@ use lib.ListN.{replicate}
 use Rattle.block_file.specs.Answer.{refusal, value}
 use Rattle.block_file.specs.Parse.{Parsed}
 use Rattle.plan.specs.Calls.{partLimit, callOnBlocks, callOnFile}
-use Rattle.text.specs.Digits.{numeral, fixed}
+use Rattle.text.specs.Digits.{numeral, lastDigits}
 use Rattle.text.specs.Doc.{text, decimal, hexadecimal8, print}
 use Rattle.block_exits.specs.Examples.{armBlock, threeBlocks}
 use Rattle.block_exits.specs.Exits.{exits, instrExits}
@@ -17,7 +17,7 @@ use Rattle.list_blocks.specs.Listing.{blockLine, linesFrom, listing}
 use Rattle.members.specs.Numbers.{groupOf}
 
 three-blocks : print (listing partLimit threeBlocks) ≡ print (text "key group exits\n08000000 1 08000008\n08000004 0 -\n08000008 1 -\n")
-unfolding print decimal hexadecimal8 numeral fixed listing linesFrom blockLine groupOf threeBlocks armBlock plan rowsFrom groups groupsFrom parts sortByKey insert withRoot parents joinBlocks joinExits target follow exits instrExits
+unfolding print decimal hexadecimal8 numeral lastDigits listing linesFrom blockLine groupOf threeBlocks armBlock plan rowsFrom groups groupsFrom parts sortByKey insert withRoot parents joinBlocks joinExits target follow exits instrExits
 three-blocks = refl
 
 -- eleven work numbers are too few
@@ -28,11 +28,11 @@ listing-8 = refl
 -- the text has 62 bytes: 61 are too few, and of thirteen work numbers twelve are cleared
 listing-10 : listingCall (Parsed.accepted threeBlocks) (replicate 13 5) (replicate 61 7)
     ≡ record { answer = refusal 10 0; work = replicate 12 0 ++ (5 ∷ []); result = replicate 61 7 }
-unfolding callOnFile callOnBlocks print decimal hexadecimal8 numeral fixed listing linesFrom blockLine groupOf threeBlocks armBlock plan rowsFrom groups groupsFrom parts sortByKey insert withRoot parents joinBlocks joinExits target follow exits instrExits
+unfolding callOnFile callOnBlocks print decimal hexadecimal8 numeral lastDigits listing linesFrom blockLine groupOf threeBlocks armBlock plan rowsFrom groups groupsFrom parts sortByKey insert withRoot parents joinBlocks joinExits target follow exits instrExits
 listing-10 = refl
 
 -- in 63 bytes the last one is left
 listing-made : listingCall (Parsed.accepted threeBlocks) (replicate 12 5) (replicate 63 7)
     ≡ record { answer = value 62; work = replicate 12 0; result = print (text "key group exits\n08000000 1 08000008\n08000004 0 -\n08000008 1 -\n") ++ (7 ∷ []) }
-unfolding callOnFile callOnBlocks print decimal hexadecimal8 numeral fixed listing linesFrom blockLine groupOf threeBlocks armBlock plan rowsFrom groups groupsFrom parts sortByKey insert withRoot parents joinBlocks joinExits target follow exits instrExits
+unfolding callOnFile callOnBlocks print decimal hexadecimal8 numeral lastDigits listing linesFrom blockLine groupOf threeBlocks armBlock plan rowsFrom groups groupsFrom parts sortByKey insert withRoot parents joinBlocks joinExits target follow exits instrExits
 listing-made = refl

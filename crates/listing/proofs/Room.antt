@@ -14,7 +14,7 @@ use Rattle.text.specs.Doc.{Doc, text, print}
 use Rattle.text.specs.Wrote.{Wrote}
 use Rattle.text.proofs.Laws.{whole}
 use Rattle.text.proofs.Lengths.{length-most}
-use Rattle.plan.specs.Calls.{partLimit, cleared, Outcome, callOnBlocks, callOnFile}
+use Rattle.plan.specs.Calls.{partLimit, cleared, CallOutcome, callOnBlocks, callOnFile}
 use Rattle.list_blocks.specs.Calls.{listingCall}
 use Rattle.list_blocks.specs.Listing.{listing}
 use Rattle.list_blocks.proofs.Lengths.{listing-most}
@@ -22,7 +22,7 @@ use Rattle.listing.specs.Output.{longest, refusalLine, answerText, outpu
 use Rattle.listing.specs.Room.{room}
 
 -- what the call leaves where the buffers suffice
-abbrev listed : Parsed → List ℕ → List ℕ → Outcome ℕ
+abbrev listed : Parsed → List ℕ → List ℕ → CallOutcome ℕ
 listed (Parsed.refused n i) work out = record { answer = refusal n i; work = work; result = out }
 listed (Parsed.accepted bs) work out =
     record {
@@ -59,13 +59,13 @@ module _ (f : List ℕ) (short : length f ≤ longest) (work out : List ℕ) (nu
       → (n ≤ length out′) × (take n out′ ≡ print (answerText p))
   unfolding answerText
   listing-shown (Parsed.refused m j) is n work′ out′ e =
-      let same : value n ≡ refusal m j = ap (λ (l : Outcome ℕ). l .answer) (e ∙ call-is (Parsed.refused m j) is) in
+      let same : value n ≡ refusal m j = ap (λ (l : CallOutcome ℕ). l .answer) (e ∙ call-is (Parsed.refused m j) is) in
       absurd (let z : _≡_ {A = ℕ} 0 1 = cc in omega arith)
   listing-shown (Parsed.accepted bs) is n work′ out′ e =
       let left = e ∙ call-is (Parsed.accepted bs) is in
-      let same : value n ≡ value (length (print (listing partLimit bs))) = ap (λ (l : Outcome ℕ). l .answer) left in
+      let same : value n ≡ value (length (print (listing partLimit bs))) = ap (λ (l : CallOutcome ℕ). l .answer) left in
       let size : n ≡ length (print (listing partLimit bs)) = cc in
-      front (print (listing partLimit bs)) (drop (length (print (listing partLimit bs))) out) n out′ size (ap (λ (l : Outcome ℕ). l .result) left)
+      front (print (listing partLimit bs)) (drop (length (print (listing partLimit bs))) out) n out′ size (ap (λ (l : CallOutcome ℕ). l .result) left)
 
   line-fits : (n i : ℕ) → length (print (refusalLine n i)) ≤ 53
   line-fits n i = length-most (refusalLine n i)
@@ -76,14 +76,14 @@ module _ (f : List ℕ) (short : length f ≤ longest) (work out : List ℕ) (nu
   unfolding answerText
   refusal-shown (Parsed.refused m j) is n i work′ out₁ out₂ r e w =
       let left = e ∙ call-is (Parsed.refused m j) is in
-      let same : refusal n i ≡ refusal m j = ap (λ (l : Outcome ℕ). l .answer) left in
+      let same : refusal n i ≡ refusal m j = ap (λ (l : CallOutcome ℕ). l .answer) left in
       let number : n ≡ m = cc in
       let place : i ≡ j = cc in
-      let long : length out₁ ≡ length out = ap (λ (l : Outcome ℕ). length (l .result)) left in
+      let long : length out₁ ≡ length out = ap (λ (l : CallOutcome ℕ). length (l .result)) left in
       let there = line-shown w (omega (arith, line-fits n i, long)) in
       (there .0, there .1 ∙ ap₂ (λ (a b : ℕ). print (refusalLine a b)) number place)
   refusal-shown (Parsed.accepted bs) is n i work′ out₁ out₂ r e w =
-      let same : refusal n i ≡ value (length (print (listing partLimit bs))) = ap (λ (l : Outcome ℕ). l .answer) (e ∙ call-is (Parsed.accepted bs) is) in
+      let same : refusal n i ≡ value (length (print (listing partLimit bs))) = ap (λ (l : CallOutcome ℕ). l .answer) (e ∙ call-is (Parsed.accepted bs) is) in
       absurd (let z : _≡_ {A = ℕ} 0 1 = cc in omega arith)
 
 -- what is printed for a file that is too long

@@ -13,11 +13,11 @@ use Rattle.c_tree.specs.Expr.{Expr}
 use Rattle.c_tree.specs.Stmt.{Plain, Owner, common, Code, end, _⨾_, plain, Top, extern, table, count}
 use Rattle.c_tree.specs.Binds.{level, binds, declaratorsBind, plainBinds, testBinds, simpleBinds, codeBinds, topBinds, treeBinds}
 use Rattle.c_tree.proofs.Laws.{binds-append}
-use Rattle.forms.specs.Forms.{Lines, Native, straight, straightIf, branch, jump, pair, bx, pop, Form, shell, records, Body}
+use Rattle.forms.specs.Forms.{Lines, Native, straight, straightIf, branchIf, jump, pair, bx, pop, Form, shell, records, Body}
 use Rattle.forms.specs.Block.{bodyOf}
 use Rattle.forms.proofs.Binds.{plainsBind, linesBind, nativeBinds, formBinds, forms-bind, closing-lines-bind}
 use Rattle.forms.proofs.Every.{Each}
-use Rattle.lowering.specs.Block.{bodyKey, nl, sp, leave, line, lines, gotoCode, transfer, closing, conditional, nativeText, codeFrom, underGuard, blockCode}
+use Rattle.lowering.specs.Block.{bodyKey, nl, sp, leave, line, lines, gotoCode, transfer, closing, conditional, nativeText, codeFrom, underGuard, blockCode, bodyEnd, closingLines}
 use Rattle.block_file.specs.Address.{among, outsideRomBios}
 use Rattle.lowering.specs.Units.{withLocals, emitBlock, labelled, groupCode, forwarders, emitGroup, unitHead, lastUnitEnd, TranslationUnit, textOf, cut, defaultBody, bodiesOf, unitsOf}
 
@@ -71,7 +71,7 @@ native-binds ks a o (straightIf t e l) c h k =
     let te = left (linesBind t && binds false e) (linesBind l) h in
     lines-bind o 4 t _ (left (linesBind t) (binds false e) te)
     (conditional-binds o e (nl ⨾ lines o 8 l (sp 6 ⨾ end)) c (right-true (linesBind t) (binds false e) te) (lines-bind o 8 l (sp 6 ⨾ end) (right-true (linesBind t && binds false e) (linesBind l) h) refl) k)
-native-binds ks a o (branch t e s j) c h k =
+native-binds ks a o (branchIf t e s j) c h k =
     let te = left (linesBind t && binds false e) (plainsBind s) h in
     lines-bind o 4 t _ (left (linesBind t) (binds false e) te)
     (conditional-binds o e (sp 1 ⨾ line o s (nl ⨾ transfer ks a o 8 j (sp 6 ⨾ end))) c (right-true (linesBind t) (binds false e) te)
@@ -91,11 +91,11 @@ native-binds ks a o (pop t s l u e) c h k =
 abbrev pub AllBind : List Form → Type 0
 AllBind rs = Each (λ (r : Form). formBinds r ≡ true) rs
 
--- a block whose forms and closing lines bind
-module _ (ks : List ℕ) (b : Body) (bound : linesBind (b .closing) ≡ true) where
+-- a block whose forms bind
+module _ (ks : List ℕ) (b : Body) where
   closing-binds : codeBinds false (closing ks b) ≡ true
   unfolding codeBinds closing
-  closing-binds = lines-bind common 4 (b .closing) _ bound (transfer-binds ks (b .addr) common 4 _ end refl)
+  closing-binds = lines-bind common 4 (closingLines b) _ (closing-lines-bind (b .pending) (bodyEnd b)) (transfer-binds ks (b .addr) common 4 _ end refl)
 
   code-from-binds : (i : ℕ) (rs : List Form) → AllBind rs → codeBinds false (codeFrom ks b i rs) ≡ true
   unfolding codeBinds simpleBinds testBinds binds level codeFrom
@@ -116,7 +116,7 @@ module _ (ks : List ℕ) (b : Body) (bound : linesBind (b .closing) ≡ true) wh
 
 -- blocks that bind
 abbrev pub Binding : Body → Type 0
-Binding b = AllBind (b .forms) × (linesBind (b .closing) ≡ true)
+Binding b = AllBind (b .forms)
 
 abbrev pub AllBinding : List Body → Type 0
 AllBinding bs = Each Binding bs
@@ -125,7 +125,7 @@ labelled-binds : (ks : List ℕ) (bs : List Body) → AllBinding bs → codeBind
 unfolding codeBinds simpleBinds labelled
 labelled-binds ks [] h = refl
 labelled-binds ks (b ∷ bs) h =
-    binds-append false (blockCode ks b) _ ∙ both (codeBinds false (blockCode ks b)) _ (block-binds ks b (h .0 .1) (h .0 .0)) (labelled-binds ks bs (h .1))
+    binds-append false (blockCode ks b) _ ∙ both (codeBinds false (blockCode ks b)) _ (block-binds ks b (h .0)) (labelled-binds ks bs (h .1))
 
 forwarders-bind : (k n : ℕ) (bs : List Body) (t : Top) → List·Memᴰ t (forwarders k n bs) → topBinds t ≡ true
 unfolding codeBinds simpleBinds forwarders
@@ -136,7 +136,7 @@ forwarders-bind k n (b ∷ bs) t (List·Memᴰ·tail m) = forwarders-bind k (suc
 -- all code of a group
 pub group-binds : (bs : List Body) → AllBinding bs → (t : Top) → List·Memᴰ t (emitGroup bs) → topBinds t ≡ true
 unfolding codeBinds simpleBinds plainBinds emitGroup emitBlock withLocals groupCode
-group-binds (b ∷ []) h t (List·Memᴰ·head e) = rw e (block-binds [] b (h .0 .1) (h .0 .0))
+group-binds (b ∷ []) h t (List·Memᴰ·head e) = rw e (block-binds [] b (h .0))
 group-binds (b ∷ []) h t (List·Memᴰ·tail (List·Memᴰ·head e)) = rw e
 group-binds (b ∷ c ∷ bs) h t (List·Memᴰ·head e) = rw e (labelled-binds (map bodyKey (b ∷ c ∷ bs)) (b ∷ c ∷ bs) h)
 group-binds (b ∷ c ∷ bs) h t (List·Memᴰ·tail (List·Memᴰ·head e)) = rw e
@@ -200,10 +200,10 @@ cut-binds max closed ts n (c ∷ gs) h k g u m =
 
 bodies-bind : (multiplier : ℕ) (bs : List Block) → AllBinding (map (bodyOf multiplier) bs)
 bodies-bind multiplier [] = tt
-bodies-bind multiplier (b ∷ bs) = ((forms-bind multiplier b, closing-lines-bind multiplier b), bodies-bind multiplier bs)
+bodies-bind multiplier (b ∷ bs) = (forms-bind multiplier b, bodies-bind multiplier bs)
 
 body-binds : (bs : List Body) → AllBinding bs → (i : ℕ) → Binding (getD bs i defaultBody)
-body-binds [] h i = (tt, refl)
+body-binds [] h i = tt
 body-binds (b ∷ bs) h zero = h .0
 body-binds (b ∷ bs) h (suc i) = body-binds bs (h .1) i
 

@@ -75,7 +75,7 @@ module _ (i : Instr) (link : Bool) (target : ℕ) (r : InRange (Branch link targ
 
   -- the form, under Al or not
   form : Bool → Native
-  form b = cond b (jump (flushTicks n ++ apart (branchRegs link ret target)) k) (F.branch (flushTicks n) (condExpr (i .cond)) (branchRegs link ret target) k)
+  form b = cond b (jump (flushTicks n ++ apart (branchRegs link ret target)) k) (F.branchIf (flushTicks n) (condExpr (i .cond)) (branchRegs link ret target) k)
 
   -- no Thumb instruction but the pair links
   taken : (i .thumb && link) ≡ false → passed (i .cond) m ≡ true → Leaves (nativeText ks a o (emitBranch (i .thumb) n i link target)) z (branch i link target m)

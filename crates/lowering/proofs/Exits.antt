@@ -13,7 +13,7 @@ use Rattle.c_meaning.specs.State.{bind, State, setC, answered, enter, leave}
 use Rattle.c_meaning.specs.Eval.{eval, evalAs}
 use Rattle.c_meaning.specs.Exec.{Goes, on, to, back, Outcome, next, asks, exec, execs, step, runs}
 use Rattle.c_meaning.specs.Helpers.{rotated, perform, run}
-use Rattle.forms.specs.Forms.{Lines, jump, branch}
+use Rattle.forms.specs.Forms.{Lines, jump, branchIf}
 use Rattle.forms.specs.Operands.{condExpr, flags}
 use Rattle.forms.specs.InlineBody.{only, apart}
 use Rattle.forms.specs.Block.{flushTicks, setWord}
@@ -123,7 +123,7 @@ module _ (ks : List ℕ) (a : ℕ) (o : Owner) (n : ℕ) (link : Bool) (ret targ
     (addr : target ≡ clearBit0 k) {z : State} {m : Machine} (s : Sound m) (g : Agrees z m) (c : Cond) (nv : isNv c ≡ false) where
   -- { flags; if (e) { ..; transfer } } where the condition passes
   pub branch-leaves : passed c m ≡ true
-      → Leaves (nativeText ks a o (branch (flushTicks n) (condExpr c) (only link (setWord 14 ret) ++ (setWord 15 target ∷ [])) k)) z (cond link (setReg 14 ret m) m, k)
+      → Leaves (nativeText ks a o (branchIf (flushTicks n) (condExpr c) (only link (setWord 14 ret) ++ (setWord 15 target ∷ [])) k)) z (cond link (setReg 14 ret m) m, k)
   unfolding nativeText run runs step
   branch-leaves pass =
       let u : State = flagged s g c nv in
@@ -154,7 +154,7 @@ module _ (ks : List ℕ) (a : ℕ) (o : Owner) (n : ℕ) (link : Bool) (ret targ
 
   -- and where it fails
   pub branch-continues : passed c m ≡ false
-      → Continues (nativeText ks a o (branch (flushTicks n) (condExpr c) (only link (setWord 14 ret) ++ (setWord 15 target ∷ [])) k)) z m
+      → Continues (nativeText ks a o (branchIf (flushTicks n) (condExpr c) (only link (setWord 14 ret) ++ (setWord 15 target ∷ [])) k)) z m
   unfolding nativeText
   branch-continues fail =
       record {

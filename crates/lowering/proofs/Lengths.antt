@@ -18,7 +18,7 @@ use Rattle.plan.proofs.GroupLaws.{groups-once, groups-only, group-inside}
 use Rattle.plan.proofs.Listing.{count, counted, member-at, map-at}
 use Rattle.forest.proofs.Roots.{length-range, range-own}
 use Rattle.text.specs.Wrote.{maxUsize}
-use Rattle.text.specs.Digits.{fixed}
+use Rattle.text.specs.Digits.{lastDigits}
 use Rattle.text.specs.Doc.{hex8, text, _▸_, hexadecimal8, print, each}
 use Rattle.text.proofs.Lengths.{most, length-most}
 use Rattle.c_tree.specs.Expr.{u32, x-t, Expr, lit, udec, band, bin}
@@ -27,12 +27,12 @@ use Rattle.c_tree.specs.Preamble.{v32}
 use Rattle.c_tree.specs.Print.{exprText, keyText, spaces, casesText, codeText, rowText, unitText}
 use Rattle.c_tree.proofs.Laws.{length-unit}
 use Rattle.c_tree.proofs.Lengths.{most-append}
-use Rattle.forms.specs.Forms.{Lines, Native, straight, straightIf, branch, jump, pair, bx, pop, Form, shell, records, Body}
+use Rattle.forms.specs.Forms.{Lines, Native, straight, straightIf, branchIf, jump, pair, bx, pop, Form, shell, records, Body}
 use Rattle.forms.proofs.RecordCount.{recordCounts, body-count}
 use Rattle.forms.specs.Block.{bodyOf}
 use Rattle.forms.proofs.Every.{either, Each}
-use Rattle.forms.proofs.Lengths.{plainsMost, linesMost, nativeMost, formMost, forms-within, closing-short}
-use Rattle.lowering.specs.Block.{bodyKey, bodyEnd, nl, sp, line, lines, gotoCode, transfer, closing, conditional, leave, toThumb, toArm, nativeText, shellCode, codeFrom, underGuard, blockCode}
+use Rattle.forms.proofs.Lengths.{plainsMost, linesMost, nativeMost, formMost, forms-within, closing-within}
+use Rattle.lowering.specs.Block.{bodyKey, bodyEnd, nl, sp, line, lines, gotoCode, transfer, closing, conditional, leave, toThumb, toArm, nativeText, shellCode, codeFrom, underGuard, blockCode, closingLines}
 use Rattle.records.specs.BlockRecord.{keyPlus}
 use Rattle.block_file.specs.Address.{among, outsideRomBios}
 use Rattle.lowering.specs.Units.{withLocals, emitBlock, labelled, groupCode, forwarders, emitGroup, unitHead, lastUnitEnd, TranslationUnit, textOf, cut, defaultBody, bodiesOf, unitsOf}
@@ -87,7 +87,7 @@ native-most ks a o (straightIf t e l) c =
       conditional-most o e body c,
       lines-most o 8 l (sp 6 ⨾ end) (omega arith),
     )
-native-most ks a o (branch t e s j) c =
+native-most ks a o (branchIf t e s j) c =
     let way : Code = transfer ks a o 8 j (sp 6 ⨾ end) in
     let body : Code = sp 1 ⨾ line o s (nl ⨾ way) in
     omega (
@@ -119,16 +119,15 @@ native-most ks a o (pop t p l q e) c =
 records-some : (r : Native) → 1 ≤ records r
 records-some (straight t l) = omega arith
 records-some (straightIf t e l) = omega arith
-records-some (branch t e s k) = omega arith
+records-some (branchIf t e s k) = omega arith
 records-some (jump t k) = omega arith
 records-some (pair t k) = omega arith
 records-some (bx t e) = omega arith
 records-some (pop t s l u e) = omega arith
 
--- a block whose forms and closing lines are as short as those of every instruction, and which has no more records than it counts
+-- a block whose forms are as short as those of every instruction, and which has no more records than it counts
 pub record Short (b : Body) : Type 0 where
   pub forms : Each (λ (r : Form). formMost r ≤ 2200) (b .forms)
-  pub closing : linesMost (b .closing) ≤ 100
   pub count : recordCounts (b .forms) ≤ b .count
 
 module _ (ks : List ℕ) (b : Body) (short : Short b) where
@@ -137,8 +136,8 @@ module _ (ks : List ℕ) (b : Body) (short : Short b) where
   closing-most =
       omega (
         arith,
-        short .closing,
-        lines-most common 4 (b .closing) (transfer ks (b .addr) common 4 (keyPlus (bodyEnd b) (b .thumb)) end) (omega arith),
+        closing-within (b .pending) (bodyEnd b),
+        lines-most common 4 (closingLines b) (transfer ks (b .addr) common 4 (keyPlus (bodyEnd b) (b .thumb)) end) (omega arith),
         transfer-most ks (b .addr) common 4 (keyPlus (bodyEnd b) (b .thumb)) end (omega arith),
       )
 
@@ -183,7 +182,7 @@ module _ (ks : List ℕ) (b : Body) (short : Short b) where
 pub body-short : (multiplier : ℕ) (b : Block) → Short (bodyOf multiplier b)
 unfolding bodyOf
 body-short multiplier b =
-    record { forms = forms-within multiplier b; closing = closing-short multiplier b; count = omega (arith, body-count multiplier b) }
+    record { forms = forms-within multiplier b; count = omega (arith, body-count multiplier b) }
 
 -- the text of a block, by its instructions
 pub block-short : (ks : List ℕ) (multiplier : ℕ) (b : Block) → length (print (codeText (blockCode ks (bodyOf multiplier b)))) ≤ 400 + length (b .instrs) * 2600
@@ -230,7 +229,7 @@ unfolding textOf
 group-most bs h = omega (arith, length-most (unitText (emitGroup bs)), tree-most bs h)
 
 head-most : length (textOf unitHead) ≤ 4000
-unfolding textOf hexadecimal8 fixed
+unfolding textOf hexadecimal8 lastDigits
 head-most = omega (arith, length-most (unitText unitHead))
 
 -- externs, table and count
@@ -294,7 +293,7 @@ bodies-short multiplier [] = tt
 bodies-short multiplier (b ∷ bs) = (body-short multiplier b, bodies-short multiplier bs)
 
 member-short : (bs : List Body) → Each Short bs → (i : ℕ) → Short (getD bs i defaultBody)
-member-short [] h i = record { forms = tt; closing = omega arith; count = omega arith }
+member-short [] h i = record { forms = tt; count = omega arith }
 member-short (b ∷ bs) h zero = h .0
 member-short (b ∷ bs) h (suc i) = member-short bs (h .1) i
 

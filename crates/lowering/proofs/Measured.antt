@@ -47,7 +47,7 @@ size-append (braces b c) d = omega (arith, size-append c d)
 
 -- a body as it is written is itself
 pub hashed-written : (b : Body) → hashedIf true b ≡ b
-hashed-written b = ap (λ (h : Option ℕ). record { addr = b .addr; thumb = b .thumb; count = b .count; hash = h; forms = b .forms; closing = b .closing }) (go (b .hash))
+hashed-written b = ap (λ (h : Option ℕ). record { addr = b .addr; thumb = b .thumb; count = b .count; hash = h; forms = b .forms; pending = b .pending }) (go (b .hash))
   where
     go : (h : Option ℕ) → hashIf true h ≡ h
     go none = refl
@@ -103,11 +103,11 @@ module _ (written : Bool) where
       )
 
   -- the functions that enter a group stay: they show keys alone
-  pub forwarders-seen : (k n : ℕ) (bs : List Body) → forwarders k n (map (hashedIf written) bs) ≡ forwarders k n bs
+  pub forwarders-hashed : (k n : ℕ) (bs : List Body) → forwarders k n (map (hashedIf written) bs) ≡ forwarders k n bs
   unfolding forwarders
-  forwarders-seen k n [] = refl
-  forwarders-seen k n (b ∷ bs) =
-      ap (λ (ts : List Top). function (block (bodyKey b)) (sp 1 ⨾ call k n ⨾ sp 1 ⨾ end) ∷ ts) (forwarders-seen k (suc n) bs)
+  forwarders-hashed k n [] = refl
+  forwarders-hashed k n (b ∷ bs) =
+      ap (λ (ts : List Top). function (block (bodyKey b)) (sp 1 ⨾ call k n ⨾ sp 1 ⨾ end) ∷ ts) (forwarders-hashed k (suc n) bs)
 
   group-size : (bs : List Body) → size (unitText (emitGroup (map (hashedIf written) bs))) ≡ size (unitText (emitGroup bs))
   unfolding emitGroup emitBlock groupCode withLocals
@@ -120,7 +120,7 @@ module _ (written : Bool) where
         ap (λ (ks : List ℕ). size (casesText 2 ks)) (hashed-keys bs),
         ap (λ (ks : List ℕ). size (codeText (labelled ks (map (hashedIf written) all)))) (hashed-keys all),
         labelled-size (map bodyKey all) all,
-        ap (λ (ts : List Top). size (unitText ts)) (forwarders-seen (bodyKey b) 0 all),
+        ap (λ (ts : List Top). size (unitText ts)) (forwarders-hashed (bodyKey b) 0 all),
       )
 
   -- a group's text is as long

@@ -6,7 +6,7 @@ use mathlib.Core.Path.{_≡_, refl}
 use mathlib.Core.Bool.{Bool, true, false}
 use mathlib.Core.List.{List, [], _∷_, _++_, map, List·Memᴰ, List·Memᴰ·head, List·Memᴰ·tail}
 use mathlib.Core.Option.{none}
-use lib.ListN.{length, replicate}
+use lib.ListN.{replicate}
 use Rattle.armv4t.specs.declared.Cond.{Cond}
 use Rattle.armv4t.specs.declared.Cond.the-variants.{Eq, Al}
 use Rattle.armv4t.specs.declared.Op.{Op}
@@ -17,7 +17,7 @@ use Rattle.block_file.specs.Parse.{Block}
 use Rattle.plan.specs.Calls.{partLimit}
 use Rattle.block_exits.specs.Exits.{instrExits, exits}
 use Rattle.forest.specs.Forest.{follow}
-use Rattle.text.specs.Digits.{numeral, fixed}
+use Rattle.text.specs.Digits.{numeral, lastDigits}
 use Rattle.text.specs.Doc.{text, decimal, hexadecimal, hexadecimal8, hexadecimal16, print}
 use Rattle.c_tree.specs.Print.{codeText}
 use Rattle.fnv.specs.Fnv.{hashMultiplier}
@@ -25,7 +25,7 @@ use Rattle.forms.specs.Block.{emitInstr, emitInstrs, bodyOf}
 use Rattle.forms.specs.InlineBody.{inlineBody}
 use Rattle.lowering.specs.Block.{gotoCode, transfer, closing, nativeText, codeFrom, underGuard, blockCode}
 use Rattle.block_file.specs.Address.{outsideRomBios}
-use Rattle.lowering.specs.Units.{withLocals, emitBlock, emitGroup, lastUnitEnd, textOf, cut, bodiesOf, unitsOf}
+use Rattle.lowering.specs.Units.{withLocals, emitBlock, emitGroup, lastUnitEnd, textOf, cut, bodiesOf, unitsOf, unitsFor, unitCount}
 use Rattle.search.specs.Target.{target}
 use Rattle.plan.specs.Plan.{joinExits, joinBlocks, parents, withRoot, insert, sortByKey, parts, groupsFrom, groups, rowsFrom, plan}
 
@@ -105,7 +105,7 @@ pub defined : Case → List ℕ
 defined (exit b keys) = exits b
 defined (part n rows) = plan partLimit (two n)
 defined (goto b s) = print (codeText (blockCode (0x0800_0100 ∷ 0x0800_0104 ∷ []) (bodyOf hashMultiplier b)))
-defined (units bs n) = length (unitsOf 0 (map (bodyOf hashMultiplier) bs) (groups partLimit bs)) ∷ []
+defined (units bs n) = unitCount hashMultiplier partLimit 0 bs ∷ []
 
 -- what document 01 says of a case
 pub stated : Case → List ℕ
@@ -121,5 +121,5 @@ each g h (List·Memᴰ·tail m) e = each g h m (cc)
 
 -- each starred case holds
 pub starred : (c : Case) → List·Memᴰ c cases → defined c ≡ stated c
-unfolding exits instrExits fuse cases one pair long short two timed swi from lone defined stated bodyOf emitInstrs emitInstr inlineBody blockCode outsideRomBios underGuard codeFrom nativeText transfer gotoCode closing unitsOf cut bodiesOf lastUnitEnd textOf emitGroup emitBlock withLocals print decimal numeral hexadecimal hexadecimal8 hexadecimal16 fixed plan rowsFrom groups groupsFrom parts sortByKey insert withRoot parents joinBlocks joinExits target follow
+unfolding exits instrExits fuse cases one pair long short two timed swi from lone defined stated bodyOf emitInstrs emitInstr inlineBody blockCode outsideRomBios underGuard codeFrom nativeText transfer gotoCode closing unitsFor unitsOf cut bodiesOf lastUnitEnd textOf emitGroup emitBlock withLocals print decimal numeral hexadecimal hexadecimal8 hexadecimal16 lastDigits plan rowsFrom groups groupsFrom parts sortByKey insert withRoot parents joinBlocks joinExits target follow
 starred c m = each defined stated m refl

@@ -1,17 +1,20 @@
 -- The tree of a block's text: transfer, emit_shell and emit_block. Code is made with what stands behind it as its last argument.
 use Prim.Native.Nat.{ℕ, _+_, _%_, _^_}
 use mathlib.Core.Bool.{Bool, true, false, cond}
-use mathlib.Core.List.{List, [], _∷_}
+use mathlib.Core.List.{List, [], _∷_, _++_}
 use mathlib.Core.Option.{Option, none, some}
 use lib.Dec.{leb}
 use Rattle.armv4t.specs.Bit0.{clearBit0}
 use Rattle.c_tree.specs.Expr.{u32, word, uhex, udec, x-t, x-pc, reg, compl, ne, band, bor, Expr, lit, par, un, bin}
 use Rattle.c_tree.specs.Stmt.{is, and, or, Plain, declare, set, guard, gate, other, Owner, common, Simple, gap, recordMark, plain, goto, ret, retIf, interp, retInterp, Code, end, _⨾_, when, braces}
 use Rattle.c_tree.specs.Preamble.{v32}
+use Rattle.c_tree.specs.Print.{codeText}
+use Rattle.text.specs.Doc.{Doc}
 use Rattle.records.specs.BlockRecord.{lengthOf, keyPlus}
 use Rattle.block_file.specs.Address.{outsideRomBios, among}
 use Rattle.forms.specs.Operands.{flags}
-use Rattle.forms.specs.Forms.{Lines, Native, straight, straightIf, branch, jump, pair, bx, pop, Form, shell, records, Body}
+use Rattle.forms.specs.Block.{flushTicks, pcLine}
+use Rattle.forms.specs.Forms.{Lines, Native, straight, straightIf, branchIf, jump, pair, bx, pop, Form, shell, records, Body}
 
 -- the key of a block: its address plus the Thumb bit
 abbrev pub bodyKey : Body → ℕ
@@ -43,6 +46,10 @@ abbrev pub lines : Owner → ℕ → Lines → Code → Code
 lines o n [] c = c
 lines o n (l ∷ ls) c = sp n ⨾ line o l (nl ⨾ lines o n ls c)
 
+-- their text. No owner shows in it, so common stands for any
+abbrev pub linesText : ℕ → Lines → Doc
+linesText n ls = codeText (lines common n ls end)
+
 -- a goto: gated (document 01), with the chain gate before it, or plain
 unfoldable pub gotoCode : Bool → Owner → ℕ → ℕ → Code → Code
 gotoCode true o n k c = sp n ⨾ retIf o gate (lit word k) ⨾ nl ⨾ sp n ⨾ goto o k ⨾ nl ⨾ c
@@ -53,13 +60,17 @@ gotoCode false o n k c = sp n ⨾ goto o k ⨾ nl ⨾ c
 unfoldable pub transfer : List ℕ → ℕ → Owner → ℕ → ℕ → Code → Code
 transfer ks a o n k c = cond (among k ks) (gotoCode (leb (clearBit0 k) a) o n k c) (sp n ⨾ ret o (lit word k) ⨾ nl ⨾ c)
 
--- the end of the block at address a: lines, and the transfer to a key
-abbrev pub closingCode : List ℕ → ℕ → Lines → ℕ → Code
-closingCode ks a ls k = lines common 4 ls (transfer ks a common 4 k end)
+-- an exit from the block at address a that nothing stands behind: lines, and the transfer to a key
+abbrev pub exitCode : List ℕ → ℕ → Owner → Lines → ℕ → Code
+exitCode ks a o ls k = lines o 4 ls (transfer ks a o 4 k end)
+
+-- the lines before the closing transfer: what is pending, and PC at the address behind the block
+abbrev pub closingLines : Body → Lines
+closingLines b = flushTicks (b .pending) ++ pcLine (bodyEnd b)
 
 -- the closing transfer (document 01), to the key behind the block, with the lines before it
 unfoldable pub closing : List ℕ → Body → Code
-closing ks b = closingCode ks (b .addr) (b .closing) (keyPlus (bodyEnd b) (b .thumb))
+closing ks b = exitCode ks (b .addr) common (closingLines b) (keyPlus (bodyEnd b) (b .thumb))
 
 -- t & ~1u, and t & ~3u
 abbrev pub masked : ℕ → Expr
@@ -86,9 +97,9 @@ conditional o e b c = sp 4 ⨾ braces (sp 1 ⨾ line o flags (gap true 6 ⨾ whe
 unfoldable pub nativeText : List ℕ → ℕ → Owner → Native → Code → Code
 nativeText ks a o (straight t l) c = lines o 4 t (sp 4 ⨾ braces (nl ⨾ lines o 8 l (sp 4 ⨾ end)) (nl ⨾ c))
 nativeText ks a o (straightIf t e l) c = lines o 4 t (conditional o e (nl ⨾ lines o 8 l (sp 6 ⨾ end)) c)
-nativeText ks a o (branch t e l k) c = lines o 4 t (conditional o e (sp 1 ⨾ line o l (nl ⨾ transfer ks a o 8 k (sp 6 ⨾ end))) c)
-nativeText ks a o (jump t k) c = lines o 4 t (transfer ks a o 4 k end)
-nativeText ks a o (pair t k) c = lines o 4 t (transfer ks a o 4 k end)
+nativeText ks a o (branchIf t e l k) c = lines o 4 t (conditional o e (sp 1 ⨾ line o l (nl ⨾ transfer ks a o 8 k (sp 6 ⨾ end))) c)
+nativeText ks a o (jump t k) c = exitCode ks a o t k
+nativeText ks a o (pair t k) c = exitCode ks a o t k
 nativeText ks a o (bx t e) c =
     lines o 4 t
     (sp 4
@@ -102,7 +113,8 @@ nativeText ks a o (pop t p l q e) c =
 abbrev pub shellCode : Body → ℕ → ℕ → Code → Code
 shellCode b i k c = sp 4 ⨾ interp (bodyKey b) i ⨾ sp 1 ⨾ retIf common (other (bin ne (v32 x-pc) (lit word k))) (v32 x-pc) ⨾ nl ⨾ c
 
--- the text of a block from the record with index i on. The last shell returns; behind an unfused half that is last stands the closing transfer
+-- the text of a block from the record with index i on. A shell that is the block's last record returns; behind an unfused half that is last stands the closing
+-- transfer
 unfoldable pub codeFrom : List ℕ → Body → ℕ → List Form → Code
 codeFrom ks b i [] = closing ks b
 codeFrom ks b i (Form.native r ∷ rs) = recordMark (bodyKey b) i (records r) ⨾ nativeText ks (b .addr) (Owner.native (bodyKey b)) r (codeFrom ks b (i + records r) rs)

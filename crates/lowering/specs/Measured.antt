@@ -12,7 +12,7 @@ hashIf written (some h) = some (cond written h 0)
 -- a body as it is written (true) or measured (false)
 abbrev pub hashedIf : Bool → Body → Body
 hashedIf written b =
-    record { addr = b .addr; thumb = b .thumb; count = b .count; hash = hashIf written (b .hash); forms = b .forms; closing = b .closing }
+    record { addr = b .addr; thumb = b .thumb; count = b .count; hash = hashIf written (b .hash); forms = b .forms; pending = b .pending }
 
 -- a body with 0 in the place of its hash, if it has one: what is measured instead of it
 abbrev pub measured : Body → Body

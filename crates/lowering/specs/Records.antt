@@ -25,7 +25,7 @@ use Rattle.forms.specs.Means.{differsIn}
 use Rattle.lowering.specs.Block.{nativeText, closing}
 use Rattle.lowering.specs.Text.{Leaves, Acts}
 
--- whether an operation is a transfer: a branch, BX, or a load of registers with R15 in the list
+-- of the operations that are native by themselves, whether one is a transfer: a branch, BX, or a load of registers with R15 in the list
 abbrev pub isTransfer : Op → Bool
 isTransfer (Alu op s rd rn op2) = false
 isTransfer (Mul acc s rd rn rs rm) = false

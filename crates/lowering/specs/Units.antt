@@ -47,7 +47,7 @@ unfoldable pub forwarders : ℕ → ℕ → List Body → List Top
 forwarders k n [] = blank ∷ []
 forwarders k n (b ∷ bs) = function (block (bodyKey b)) (sp 1 ⨾ call k n ⨾ sp 1 ⨾ end) ∷ forwarders k (suc n) bs
 
--- emit_group, or emit_block where the group has one member
+-- emit_group, or emit_block where the group has one member; each with an empty line behind it
 unfoldable pub emitGroup : List Body → List Top
 emitGroup [] = []
 emitGroup (b ∷ []) = emitBlock b
@@ -73,17 +73,17 @@ unfoldable pub textOf : List Top → List ℕ
 textOf ts = print (unitText ts)
 
 -- the units of the groups to come, where the tree of the one reached is ts and n blocks are done: it is handed on once its length reaches max after a
--- group; the last is always made, and ends with the tree of `closed`
+-- group; the last is always made, and ends with the tree lastEnd
 unfoldable pub cut : ℕ → List Top → List Top → ℕ → List (List Body) → List TranslationUnit
-cut max closed ts n [] = record { tree = ts ++ closed; done = n; last = true } ∷ []
-cut max closed ts n (g ∷ gs) =
+cut max lastEnd ts n [] = record { tree = ts ++ lastEnd; done = n; last = true } ∷ []
+cut max lastEnd ts n (g ∷ gs) =
     cond (leb max (length (textOf (ts ++ emitGroup g))))
-    (record { tree = ts ++ emitGroup g; done = n + length g; last = false } ∷ cut max closed unitHead (n + length g) gs)
-    (cut max closed (ts ++ emitGroup g) (n + length g) gs)
+    (record { tree = ts ++ emitGroup g; done = n + length g; last = false } ∷ cut max lastEnd unitHead (n + length g) gs)
+    (cut max lastEnd (ts ++ emitGroup g) (n + length g) gs)
 
 -- what a number past the last block would name; no group has one
 abbrev pub defaultBody : Body
-defaultBody = record { addr = 0; thumb = false; count = 0; hash = none; forms = []; closing = [] }
+defaultBody = record { addr = 0; thumb = false; count = 0; hash = none; forms = []; pending = 0 }
 
 -- the bodies of a group's members, by their numbers
 unfoldable pub bodiesOf : List Body → List ℕ → List Body
@@ -93,9 +93,9 @@ bodiesOf bs is = map (λ (i : ℕ). getD bs i defaultBody) is
 unfoldable pub unitsOf : ℕ → List Body → List (List ℕ) → List TranslationUnit
 unitsOf max bs gs = cut max (lastUnitEnd bs) unitHead 0 (map (bodiesOf bs) gs)
 
--- the units of some blocks, where bodyOf says how one is printed: grouped by a limit, cut at a wished size
+-- the units of some blocks, where toBody says how one is printed: grouped by a limit, cut at a wished size
 unfoldable pub unitsFor : (Block → Body) → ℕ → ℕ → List Block → List TranslationUnit
-unitsFor bodyOf limit max bs = unitsOf max (map bodyOf bs) (groups limit bs)
+unitsFor toBody limit max bs = unitsOf max (map toBody bs) (groups limit bs)
 
 -- the units of a file's blocks, where the guards' hashes are made with a multiplier
 abbrev pub fileUnits : ℕ → ℕ → ℕ → List Block → List TranslationUnit
@@ -111,7 +111,7 @@ pub record UnitAnswer : Type 0 where
 abbrev pub madeUnit : TranslationUnit → Made UnitAnswer
 madeUnit u = record { values = record { length = length (textOf (u .tree)); done = u .done; last = u .last }; content = textOf (u .tree) }
 
--- unit k of a file's blocks, if there is one
+-- what the call for unit k of a file's blocks makes, if there is such a unit
 abbrev pub unit : ℕ → ℕ → ℕ → List Block → ℕ → Option (Made UnitAnswer)
 unit multiplier limit max bs k = getElem? (map madeUnit (fileUnits multiplier limit max bs)) k
 

@@ -22,7 +22,7 @@ use Rattle.words.proofs.Bits.{is-false}
 use Rattle.manual.specs.Machine.{two32, Machine, Sound, R, update, setReg, setRegs, setMem}
 use Rattle.armv4t.specs.InRange.{InRange}
 use Rattle.manual.specs.Operators.{CarryFrom, minus, OverflowFromAdd, SignExtend8}
-use Rattle.manual.specs.DataProcessing.{logical, plus}
+use Rattle.manual.specs.DataProcessing.{logical, addWithCarry}
 use Rattle.manual.specs.Transfer.{Memory4, setMemory4}
 use Rattle.manual.specs.Multiple.{listed, loadAll, behind, storeAll, lowest, storedFor}
 use Rattle.manual.specs.Unsaid.{noInstructionOf, noInstruction, unpredictable, isNv}
@@ -53,7 +53,7 @@ does-1 a lsr-1 immed rm rd p q m = rw (low rd q, low rm p)
 does-1 a asr-1 immed rm rd p q m = rw (low rd q, low rm p)
 
 -- x plus 0 is x, with neither carry nor overflow
-plus-zero : (x : ℕ) → x < two32 → plus x 0 0 ≡ (x, false, false)
+plus-zero : (x : ℕ) → x < two32 → addWithCarry x 0 0 ≡ (x, false, false)
 plus-zero x h =
     ap (λ (y : ℕ). (y % two32, CarryFrom y, OverflowFromAdd x 0 (y % two32))) (add-zero (x + 0) ∙ add-zero x)
     ∙ ap (λ (y : ℕ). (y, CarryFrom x, OverflowFromAdd x 0 y)) (mod-eq-of-lt h)

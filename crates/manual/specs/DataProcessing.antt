@@ -17,27 +17,27 @@ abbrev pub logical : ℕ → Bool → Bool → ℕ × Bool × Bool
 logical s co v = (s, co, v)
 
 -- x + y + i with C and V
-abbrev pub plus : ℕ → ℕ → ℕ → ℕ × Bool × Bool
-plus x y i = ((x + y + i) % two32, CarryFrom (x + y + i), OverflowFromAdd x y ((x + y + i) % two32))
+abbrev pub addWithCarry : ℕ → ℕ → ℕ → ℕ × Bool × Bool
+addWithCarry x y i = ((x + y + i) % two32, CarryFrom (x + y + i), OverflowFromAdd x y ((x + y + i) % two32))
 
 -- x - y - i with C, which is the borrow inverted, and V
-abbrev pub less : ℕ → ℕ → ℕ → ℕ × Bool × Bool
-less x y i = (minus x y i, not (BorrowFrom x y i), OverflowFromSub x y (minus x y i))
+abbrev pub subWithBorrow : ℕ → ℕ → ℕ → ℕ × Bool × Bool
+subWithBorrow x y i = (minus x y i, not (BorrowFrom x y i), OverflowFromSub x y (minus x y i))
 
 -- the outcome and the new C and V: from Rn, shifter_operand, shifter_carry_out, C and V
 abbrev pub alu : AluOp → ℕ → ℕ → Bool → Bool → Bool → ℕ × Bool × Bool
 alu And x y co c v = logical (AND x y) co v
 alu Eor x y co c v = logical (EOR x y) co v
-alu Sub x y co c v = less x y 0
-alu Rsb x y co c v = less y x 0
-alu Add x y co c v = plus x y 0
-alu Adc x y co c v = plus x y (oneIf c)
-alu Sbc x y co c v = less x y (oneIf (not c))
-alu Rsc x y co c v = less y x (oneIf (not c))
+alu Sub x y co c v = subWithBorrow x y 0
+alu Rsb x y co c v = subWithBorrow y x 0
+alu Add x y co c v = addWithCarry x y 0
+alu Adc x y co c v = addWithCarry x y (oneIf c)
+alu Sbc x y co c v = subWithBorrow x y (oneIf (not c))
+alu Rsc x y co c v = subWithBorrow y x (oneIf (not c))
 alu Tst x y co c v = logical (AND x y) co v
 alu Teq x y co c v = logical (EOR x y) co v
-alu Cmp x y co c v = less x y 0
-alu Cmn x y co c v = plus x y 0
+alu Cmp x y co c v = subWithBorrow x y 0
+alu Cmn x y co c v = addWithCarry x y 0
 alu Orr x y co c v = logical (OR x y) co v
 alu Mov x y co c v = logical y co v
 alu Bic x y co c v = logical (AND x (NOT y)) co v

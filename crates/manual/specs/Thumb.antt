@@ -28,7 +28,7 @@ use Rattle.manual.specs.Machine.{two32, Machine, R, update, setReg, setR
 use Rattle.manual.specs.Operators.{Logical-Shift-Left, NOT, minus, SignExtend8}
 use Rattle.manual.specs.Conditions.{passed}
 use Rattle.manual.specs.Shifter.{shift, shiftBy}
-use Rattle.manual.specs.DataProcessing.{logical, plus, less}
+use Rattle.manual.specs.DataProcessing.{logical, addWithCarry, subWithBorrow}
 use Rattle.manual.specs.Transfer.{Memory4, loaded, stored}
 use Rattle.manual.specs.Multiple.{listed, loadAll, behind, storeAll, lowest}
 use Rattle.manual.specs.Unsaid.{isNv}
@@ -172,34 +172,34 @@ decoded5 mov-3 rm rd = Alu Mov false rd 0 (Operand2.Reg rm noShift)
 decoded5 bx rm rd = Bx rm
 
 -- a load or store without write-back, its offset added first
-abbrev pub transfer : Bool → MemWidth → Bool → ℕ → ℕ → MemOffset → Op
-transfer ld width signed rd rn offset = Mem ld width signed rd rn offset true true false
+abbrev pub memOp : Bool → MemWidth → Bool → ℕ → ℕ → MemOffset → Op
+memOp ld width signed rd rn offset = Mem ld width signed rd rn offset true true false
 
 abbrev pub decoded7 : Opcode7 → ℕ → ℕ → ℕ → Op
-decoded7 str-2 rm rn rd = transfer false Word false rd rn (MemOffset.Reg rm noShift)
-decoded7 strb-2 rm rn rd = transfer false Byte false rd rn (MemOffset.Reg rm noShift)
-decoded7 ldr-2 rm rn rd = transfer true Word false rd rn (MemOffset.Reg rm noShift)
-decoded7 ldrb-2 rm rn rd = transfer true Byte false rd rn (MemOffset.Reg rm noShift)
+decoded7 str-2 rm rn rd = memOp false Word false rd rn (MemOffset.Reg rm noShift)
+decoded7 strb-2 rm rn rd = memOp false Byte false rd rn (MemOffset.Reg rm noShift)
+decoded7 ldr-2 rm rn rd = memOp true Word false rd rn (MemOffset.Reg rm noShift)
+decoded7 ldrb-2 rm rn rd = memOp true Byte false rd rn (MemOffset.Reg rm noShift)
 
 abbrev pub decoded8 : Opcode8 → ℕ → ℕ → ℕ → Op
-decoded8 strh-2 rm rn rd = transfer false Half false rd rn (MemOffset.Reg rm noShift)
-decoded8 ldrsb rm rn rd = transfer true Byte true rd rn (MemOffset.Reg rm noShift)
-decoded8 ldrh-2 rm rn rd = transfer true Half false rd rn (MemOffset.Reg rm noShift)
-decoded8 ldrsh rm rn rd = transfer true Half true rd rn (MemOffset.Reg rm noShift)
+decoded8 strh-2 rm rn rd = memOp false Half false rd rn (MemOffset.Reg rm noShift)
+decoded8 ldrsb rm rn rd = memOp true Byte true rd rn (MemOffset.Reg rm noShift)
+decoded8 ldrh-2 rm rn rd = memOp true Half false rd rn (MemOffset.Reg rm noShift)
+decoded8 ldrsh rm rn rd = memOp true Half true rd rn (MemOffset.Reg rm noShift)
 
 abbrev pub decoded9 : Opcode9 → ℕ → ℕ → ℕ → Op
-decoded9 str-1 immed rn rd = transfer false Word false rd rn (MemOffset.Imm (immed * 4))
-decoded9 ldr-1 immed rn rd = transfer true Word false rd rn (MemOffset.Imm (immed * 4))
-decoded9 strb-1 immed rn rd = transfer false Byte false rd rn (MemOffset.Imm immed)
-decoded9 ldrb-1 immed rn rd = transfer true Byte false rd rn (MemOffset.Imm immed)
+decoded9 str-1 immed rn rd = memOp false Word false rd rn (MemOffset.Imm (immed * 4))
+decoded9 ldr-1 immed rn rd = memOp true Word false rd rn (MemOffset.Imm (immed * 4))
+decoded9 strb-1 immed rn rd = memOp false Byte false rd rn (MemOffset.Imm immed)
+decoded9 ldrb-1 immed rn rd = memOp true Byte false rd rn (MemOffset.Imm immed)
 
 abbrev pub decoded10 : Opcode10 → ℕ → ℕ → ℕ → Op
-decoded10 strh-1 immed rn rd = transfer false Half false rd rn (MemOffset.Imm (immed * 2))
-decoded10 ldrh-1 immed rn rd = transfer true Half false rd rn (MemOffset.Imm (immed * 2))
+decoded10 strh-1 immed rn rd = memOp false Half false rd rn (MemOffset.Imm (immed * 2))
+decoded10 ldrh-1 immed rn rd = memOp true Half false rd rn (MemOffset.Imm (immed * 2))
 
 abbrev pub decoded11 : Opcode11 → ℕ → ℕ → Op
-decoded11 str-3 rd immed = transfer false Word false rd 13 (MemOffset.Imm (immed * 4))
-decoded11 ldr-4 rd immed = transfer true Word false rd 13 (MemOffset.Imm (immed * 4))
+decoded11 str-3 rd immed = memOp false Word false rd 13 (MemOffset.Imm (immed * 4))
+decoded11 ldr-4 rd immed = memOp true Word false rd 13 (MemOffset.Imm (immed * 4))
 
 -- the value of ADD (5), off which thumb.rs takes bit 1 of the address: imm.wrapping_sub(addr & 2)
 abbrev pub folded : ℕ → ℕ → ℕ
@@ -233,7 +233,7 @@ decodedOp a (format-2 op rm rn rd) = (Al, decoded2 op rm rn rd)
 decodedOp a (format-3 op rd immed) = (Al, decoded3 op rd immed)
 decodedOp a (format-4 op rm rd) = (Al, decoded4 op rm rd)
 decodedOp a (format-5 op rm rd) = (Al, decoded5 op rm rd)
-decodedOp a (format-6 rd immed) = (Al, transfer true Word false rd 15 (MemOffset.Imm (immed * 4)))
+decodedOp a (format-6 rd immed) = (Al, memOp true Word false rd 15 (MemOffset.Imm (immed * 4)))
 decodedOp a (format-7 op rm rn rd) = (Al, decoded7 op rm rn rd)
 decodedOp a (format-8 op rm rn rd) = (Al, decoded8 op rm rn rd)
 decodedOp a (format-9 op immed rn rd) = (Al, decoded9 op immed rn rd)
@@ -286,17 +286,17 @@ does1 asr-1 immed rm rd m = shifts rd (shift Asr (m .r rm) immed (m .c)) m
 -- ADD (1), ADD (3), SUB (1), SUB (3). ADD (1) with an immed_3 of 0 is MOV (2), which clears C and V
 abbrev pub does2 : Opcode2 → ℕ → ℕ → ℕ → Machine → Machine
 does2 add-1 zero rn rd m = sets rd (m .r rn, false, false) m
-does2 add-1 (suc immed) rn rd m = sets rd (plus (m .r rn) (suc immed) 0) m
-does2 add-3 rm rn rd m = sets rd (plus (m .r rn) (m .r rm) 0) m
-does2 sub-1 immed rn rd m = sets rd (less (m .r rn) immed 0) m
-does2 sub-3 rm rn rd m = sets rd (less (m .r rn) (m .r rm) 0) m
+does2 add-1 (suc immed) rn rd m = sets rd (addWithCarry (m .r rn) (suc immed) 0) m
+does2 add-3 rm rn rd m = sets rd (addWithCarry (m .r rn) (m .r rm) 0) m
+does2 sub-1 immed rn rd m = sets rd (subWithBorrow (m .r rn) immed 0) m
+does2 sub-3 rm rn rd m = sets rd (subWithBorrow (m .r rn) (m .r rm) 0) m
 
 -- MOV (1), CMP (1), ADD (2), SUB (2)
 abbrev pub does3 : Opcode3 → ℕ → ℕ → Machine → Machine
 does3 mov-1 rd immed m = sets rd (logical immed (m .c) (m .v)) m
-does3 cmp-1 rd immed m = flagged (less (m .r rd) immed 0) m
-does3 add-2 rd immed m = sets rd (plus (m .r rd) immed 0) m
-does3 sub-2 rd immed m = sets rd (less (m .r rd) immed 0) m
+does3 cmp-1 rd immed m = flagged (subWithBorrow (m .r rd) immed 0) m
+does3 add-2 rd immed m = sets rd (addWithCarry (m .r rd) immed 0) m
+does3 sub-2 rd immed m = sets rd (subWithBorrow (m .r rd) immed 0) m
 
 -- AND, EOR, LSL (2), LSR (2), ASR (2), ADC, SBC, ROR, TST, NEG, CMP (2), CMN, ORR, MUL, BIC, MVN. The shifts are by Rs[7:0], with the cases of A5.1.6, A5.1.8,
 -- A5.1.10 and A5.1.12. Open: C after MUL, which here stays, and its outcome where Rd is Rm
@@ -306,13 +306,13 @@ does4 eor rm rd m = sets rd (logical (EOR (m .r rd) (m .r rm)) (m .c) (m .v)) m
 does4 lsl-2 rs rd m = shifts rd (shiftBy Lsl (m .r rd) (m .r rs % 256) (m .c)) m
 does4 lsr-2 rs rd m = shifts rd (shiftBy Lsr (m .r rd) (m .r rs % 256) (m .c)) m
 does4 asr-2 rs rd m = shifts rd (shiftBy Asr (m .r rd) (m .r rs % 256) (m .c)) m
-does4 adc rm rd m = sets rd (plus (m .r rd) (m .r rm) (oneIf (m .c))) m
-does4 sbc rm rd m = sets rd (less (m .r rd) (m .r rm) (oneIf (not (m .c)))) m
+does4 adc rm rd m = sets rd (addWithCarry (m .r rd) (m .r rm) (oneIf (m .c))) m
+does4 sbc rm rd m = sets rd (subWithBorrow (m .r rd) (m .r rm) (oneIf (not (m .c)))) m
 does4 ror rs rd m = shifts rd (shiftBy Ror (m .r rd) (m .r rs % 256) (m .c)) m
 does4 tst rm rd m = flagged (logical (AND (m .r rd) (m .r rm)) (m .c) (m .v)) m
-does4 neg rm rd m = sets rd (less 0 (m .r rm) 0) m
-does4 cmp-2 rm rd m = flagged (less (m .r rd) (m .r rm) 0) m
-does4 cmn rm rd m = flagged (plus (m .r rd) (m .r rm) 0) m
+does4 neg rm rd m = sets rd (subWithBorrow 0 (m .r rm) 0) m
+does4 cmp-2 rm rd m = flagged (subWithBorrow (m .r rd) (m .r rm) 0) m
+does4 cmn rm rd m = flagged (addWithCarry (m .r rd) (m .r rm) 0) m
 does4 orr rm rd m = sets rd (logical (OR (m .r rd) (m .r rm)) (m .c) (m .v)) m
 does4 mul rm rd m = sets rd (logical (m .r rm * m .r rd % two32) (m .c) (m .v)) m
 does4 bic rm rd m = sets rd (logical (AND (m .r rd) (NOT (m .r rm))) (m .c) (m .v)) m
@@ -322,7 +322,7 @@ does4 mvn rm rd m = sets rd (logical (NOT (m .r rm)) (m .c) (m .v)) m
 -- and CMP (3) with R15 as Rn, which are here as otherwise
 abbrev pub does5 : ℕ → Opcode5 → ℕ → ℕ → Machine → Option (Machine × ℕ)
 does5 a add-4 rm rd m = cond (eqb rd 15) none (onto a (setReg rd ((m .r rd + R m (PC a) rm) % two32) m))
-does5 a cmp-3 rm rd m = onto a (flagged (less (R m (PC a) rd) (R m (PC a) rm) 0) m)
+does5 a cmp-3 rm rd m = onto a (flagged (subWithBorrow (R m (PC a) rd) (R m (PC a) rm) 0) m)
 does5 a mov-3 rm rd m = cond (eqb rd 15) none (onto a (setReg rd (R m (PC a) rm) m))
 does5 a bx rm rd m = some (branchExchange (R m (PC a) rm) m)
 
@@ -391,7 +391,7 @@ does14 a push r list m = onto a (pushes r list m)
 does14 a pop false list m = onto a (pops false list m)
 does14 a pop true list m = some (pops true list m, key true (clearBit0 (Memory4 (m .mem) (behind (listed list 8) (m .r 13)))))
 
--- STMIA, LDMIA: Rn plus 4 times the number of registers becomes Rn. Where LDMIA lists Rn, Rn is the value loaded. Where STMIA lists Rn as the lowest register,
+-- STMIA, LDMIA: Rn plus 4 times the number of registers becomes Rn. Where LDMIA names Rn, Rn is the value loaded. Where STMIA names Rn as the lowest register,
 -- the old value is stored. Open: STMIA with Rn listed and not lowest, where the new value is stored here; an empty list, which is here as otherwise
 abbrev pub does15 : Opcode15 → ℕ → ℕ → Machine → Machine
 does15 stmia rn list m =

@@ -16,7 +16,7 @@ use Rattle.block_file.specs.Parse.{Block}
 use Rattle.block_file.specs.Address.{region, outsideRomBios}
 use Rattle.c_tree.specs.Expr.{u32, x-pc}
 use Rattle.c_tree.specs.Stmt.{Code, end, _⨾_}
-use Rattle.c_meaning.specs.State.{State, setC, setScopes, answered, enter, interpretedKey, interpreted}
+use Rattle.c_meaning.specs.State.{State, setC, setScopes, answered, enter, interpAnswer, afterInterp}
 use Rattle.c_meaning.specs.Eval.{eval}
 use Rattle.c_meaning.specs.Exec.{back, exec, asks, step, runs}
 use Rattle.c_meaning.specs.Helpers.{run}
@@ -84,14 +84,14 @@ known multiplier ks b means pairs closing ranges consecutive inside aligned cove
 
 -- c[15] = address; return interp_one
 run-defer : (multiplier : ℕ) (b : Block) (n : ℕ) (c : Code) (z : State) → b .addr < 4294967296
-    → run (sp n ⨾ defer (bodyOf multiplier b) c) z ≡ some (interpreted (setC 15 (b .addr) z), back (interpretedKey (setC 15 (b .addr) z)))
+    → run (sp n ⨾ defer (bodyOf multiplier b) c) z ≡ some (afterInterp (setC 15 (b .addr) z), back (interpAnswer (setC 15 (b .addr) z)))
 unfolding bodyOf run runs step exec eval
 run-defer multiplier b n c z h = rw (lt-true h)
 
 -- behind a guard that says no, and one that says yes
 run-refused : (multiplier : ℕ) (ks : List ℕ) (b : Block) (h : ℕ) (z : State) → b .addr < 4294967296 → eqb (z .answers 0) 0 ≡ true
     → run (underGuard ks (bodyOf multiplier b) (some h)) z
-    ≡ some (setScopes (z .scopes) (interpreted (setC 15 (b .addr) (enter (answered z)))), back (interpretedKey (setC 15 (b .addr) (enter (answered z)))))
+    ≡ some (setScopes (z .scopes) (afterInterp (setC 15 (b .addr) (enter (answered z)))), back (interpAnswer (setC 15 (b .addr) (enter (answered z)))))
 unfolding underGuard bodyOf run runs step exec asks eval
 run-refused multiplier ks b h z l e = rw (e, lt-true l)
 

@@ -19,7 +19,7 @@ use Rattle.block_file.specs.Address.{region}
 use Rattle.block_exits.specs.Exits.{keyOf, fallThrough}
 use Rattle.c_tree.specs.Expr.{u32, x-pc}
 use Rattle.c_tree.specs.Stmt.{Owner, Code, end, _⨾_}
-use Rattle.c_meaning.specs.State.{Scope, Interpreter, State, setC, setScopes, interpretedKey, interpreted, Declares}
+use Rattle.c_meaning.specs.State.{Scope, Interpreter, State, setC, setScopes, interpAnswer, afterInterp, Declares}
 use Rattle.c_meaning.specs.Exec.{Goes, Outcome, back, on, runs}
 use Rattle.c_meaning.specs.Helpers.{run}
 use Rattle.c_meaning.proofs.Kept.{Quiet, run-quiet, run-declares}
@@ -35,7 +35,7 @@ use Rattle.forms.proofs.Steps.{with-scopes}
 use Rattle.lowering.specs.Block.{bodyKey, nl, nativeText, closing, codeFrom}
 use Rattle.lowering.specs.Text.{Continues, Leaves, Acts, continues, leaves}
 use Rattle.lowering.specs.Records.{isTaken, RecordMeans, PairMeans, ClosingMeans}
-use Rattle.meaning.specs.Block.{Steps, Interprets, isNative, isCovered, Alone, leavesBy, final, away, transfers, CarriedOut, byManual, byInterpreter, Sequence, last, pair, more}
+use Rattle.meaning.specs.Block.{ActsAsStep, Interprets, isNative, isCovered, Alone, leavesBy, final, away, transfers, CarriedOut, byManual, byInterpreter, Sequence, last, pair, more}
 use Rattle.lowering.proofs.Exits.{with-pc}
 use Rattle.meaning.proofs.Closing.{behind-even}
 use Rattle.meaning.proofs.Shells.{Emitted, as-native, as-shell, emitted, some-form, Half, halves, behind-address, run-return, GoesOn, goes-on}
@@ -140,16 +140,16 @@ pub record Done (step : ℕ → ℕ → Machine → Machine × ℕ) (before mult
 -- the interpreter at an address, from a state that agrees with a machine
 module _ {step : ℕ → Machine → Machine × ℕ} (a : ℕ) (z : State) (m : Machine) (interprets : Interprets step (z .interpreter 0))
     (sound : Sound m) (agrees : Agrees z m) where
-  pub stepped : Steps step (setC 15 a z) m
+  pub stepped : ActsAsStep step (setC 15 a z) m
   stepped = interprets (setC 15 a z) m refl sound (with-pc agrees a)
 
   -- text that returns its answer
   abbrev pub interpreter-leaves : {text : Code → Code} {y : State} (fs : List Scope)
-      → ((c : Code) → run (text c) y ≡ some (setScopes fs (interpreted (setC 15 a z)), back (interpretedKey (setC 15 a z)))) → Leaves text y (step a m)
+      → ((c : Code) → run (text c) y ≡ some (setScopes fs (afterInterp (setC 15 a z)), back (interpAnswer (setC 15 a z)))) → Leaves text y (step a m)
   interpreter-leaves fs ends =
       record {
-        end = setScopes fs (interpreted (setC 15 a z));
-        exit = back (interpretedKey (setC 15 a z));
+        end = setScopes fs (afterInterp (setC 15 a z));
+        exit = back (interpAnswer (setC 15 a z));
         ends = ends;
         leads = ap some (stepped .answers);
         pc = stepped .pc;
@@ -241,7 +241,7 @@ module _ (multiplier : ℕ) (ks : List ℕ) (b : Block) (step : ℕ → ℕ → 
 
       module _ (high : Bool) (i cycles before : ℕ) (z : State) (m : Machine) (q : Ready step before z m) where
         -- what the interpreter makes of it
-        abbrev by-step : Steps (step before) (setC 15 (x .instr .addr) z) m
+        abbrev by-step : ActsAsStep (step before) (setC 15 (x .instr .addr) z) m
         by-step = stepped (x .instr .addr) z m (left-now (q .left)) (q .sound) (q .agrees)
 
         shell-last : Done step before multiplier ks b (x ∷ []) m i (emitShell (b .thumb) high cycles (x .instr) ∷ []) z
@@ -262,26 +262,26 @@ module _ (multiplier : ℕ) (ks : List ℕ) (b : Block) (step : ℕ → ℕ → 
         shell-done : (xs : List TimedInstr) (r : Form) (rs : List Form) → Alone x xs → Behind x xs (r ∷ rs)
             → Done step before multiplier ks b (x ∷ xs) m i (emitShell (b .thumb) high cycles (x .instr) ∷ r ∷ rs) z
         unfolding codeFrom
-        shell-done xs r rs alone behind = go (eqb (interpretedKey (setC 15 (x .instr .addr) z)) (fallThrough (b .thumb) (x .instr))) refl
+        shell-done xs r rs alone behind = go (eqb (interpAnswer (setC 15 (x .instr .addr) z)) (fallThrough (b .thumb) (x .instr))) refl
           where
             g : GoesOn (setC 15 (x .instr .addr) z)
             g = goes-on (setC 15 (x .instr .addr) z) (q .declares)
 
             after : State
-            after = setScopes (g .scopes) (interpreted (setC 15 (x .instr .addr) z))
+            after = setScopes (g .scopes) (afterInterp (setC 15 (x .instr .addr) z))
 
             -- by whether the interpreter answers the key behind the record
             branches : Bool → Outcome
-            branches t = cond t (run (codeFrom ks (bodyOf multiplier b) (i + 1) (r ∷ rs)) after) (some (after, back (interpretedKey (setC 15 (x .instr .addr) z))))
+            branches t = cond t (run (codeFrom ks (bodyOf multiplier b) (i + 1) (r ∷ rs)) after) (some (after, back (interpAnswer (setC 15 (x .instr .addr) z))))
 
-            starts : (t : Bool) → eqb (interpretedKey (setC 15 (x .instr .addr) z)) (fallThrough (b .thumb) (x .instr)) ≡ t
+            starts : (t : Bool) → eqb (interpAnswer (setC 15 (x .instr .addr) z)) (fallThrough (b .thumb) (x .instr)) ≡ t
                 → run (codeFrom ks (bodyOf multiplier b) i (emitShell (b .thumb) high cycles (x .instr) ∷ r ∷ rs)) z ≡ branches t
             starts t e =
                 behind-address cycles (x .instr .addr) _ z (k .below)
                 ∙ g .goes (bodyOf multiplier b) i (fallThrough (b .thumb) (x .instr)) (codeFrom ks (bodyOf multiplier b) (i + 1) (r ∷ rs)) fall-lt
                 ∙ ap branches e
 
-            go : (t : Bool) → eqb (interpretedKey (setC 15 (x .instr .addr) z)) (fallThrough (b .thumb) (x .instr)) ≡ t
+            go : (t : Bool) → eqb (interpAnswer (setC 15 (x .instr .addr) z)) (fallThrough (b .thumb) (x .instr)) ≡ t
                 → Done step before multiplier ks b (x ∷ xs) m i (emitShell (b .thumb) high cycles (x .instr) ∷ r ∷ rs) z
             go true e =
                 let to-next = sym (by-step .answers) ∙ eqb-true _ _ e ∙ fall in

@@ -1,6 +1,6 @@
 -- The closing transfer of a block leads to the key behind its last instruction.
 use Prim.Native.Nat.{ℕ, suc, _+_, _*_, _%_, _<_}
-use mathlib.Core.Path.{_≡_, refl, sym, ap, _∙_, subst}
+use mathlib.Core.Path.{_≡_, _∙_, subst}
 use mathlib.Core.Bool.{Bool, true, false}
 use mathlib.Core.List.{List, [], _∷_, _++_}
 use native.Mathlib.Nat.{mod-lt}
@@ -14,21 +14,13 @@ use Rattle.block_file.specs.Parse.{Block}
 use Rattle.block_file.specs.Address.{region}
 use Rattle.c_tree.specs.Stmt.{common}
 use Rattle.manual.specs.Execute.{key, following, keyBehind}
-use Rattle.forms.specs.Forms.{Lines}
-use Rattle.forms.specs.Block.{flushTicks, emitInstrs, closingLines, bodyOf, pcLine}
-use Rattle.lowering.specs.Block.{bodyEnd, nativeText, closing, closingCode}
+use Rattle.forms.specs.Block.{flushTicks, emitInstrs, bodyOf, pcLine}
+use Rattle.lowering.specs.Block.{bodyEnd, nativeText, closing, exitCode}
 use Rattle.records.specs.BlockRecord.{keyPlus}
 use Rattle.lowering.specs.Text.{Leaves}
 use Rattle.lowering.specs.Records.{ClosingMeans}
 use Rattle.lowering.proofs.Exits.{jump-leaves}
 use Rattle.meaning.proofs.Ranges.{Consecutive}
-
--- the lines before it are those of the last instruction
-last-lines : (n : ℕ) (us : List TimedInstr) (x : TimedInstr)
-    → closingLines n (us ++ (x ∷ [])) ≡ flushTicks n ++ pcLine (following (x .instr))
-last-lines n [] x = refl
-last-lines n (u ∷ []) x = refl
-last-lines n (u ∷ v ∷ us) x = last-lines n (v ∷ us) x
 
 -- one instruction further
 further : (t : Bool) (a n : ℕ) → a + sizeOf t + n * sizeOf t ≡ a + suc n * sizeOf t
@@ -62,13 +54,18 @@ same-key : (t : Bool) (a n : ℕ) → key t ((a + n * sizeOf t + sizeOf t) % 429
 same-key true a n = omega arith
 same-key false a n = omega arith
 
+-- the address behind n + 1 instructions is that behind the last of them
+same-end : (t : Bool) (a n : ℕ) → (a + n * sizeOf t + sizeOf t) % 4294967296 ≡ (a + (n + 1) * sizeOf t) % 4294967296
+same-end true a n = omega arith
+same-end false a n = omega arith
+
 pub closing-means : (multiplier : ℕ) (ks : List ℕ) (b : Block) → Consecutive (b .addr) (b .thumb) (b .instrs) → b .addr % sizeOf (b .thumb) ≡ 0
     → (us : List TimedInstr) (x : TimedInstr) → b .instrs ≡ us ++ (x ∷ []) → ClosingMeans ks (bodyOf multiplier b) (x .instr)
 unfolding bodyOf closing nativeText
 closing-means multiplier ks b placed aligned us x e z m g =
-    subst (λ (ls : Lines). Leaves (λ c. closingCode ks (b .addr) ls (keyPlus (bodyEnd (bodyOf multiplier b)) (b .thumb))) z (m, keyBehind (x .instr)))
-    (sym (ap (closingLines cycles) e ∙ last-lines cycles us x))
-    (subst (λ (k : ℕ). Leaves (λ c. closingCode ks (b .addr) (flushTicks cycles ++ pcLine (following (x .instr))) k) z (m, keyBehind (x .instr)))
+    subst (λ (a : ℕ). Leaves (λ c. exitCode ks (b .addr) common (flushTicks cycles ++ pcLine a) (keyPlus (bodyEnd (bodyOf multiplier b)) (b .thumb))) z (m, keyBehind (x .instr)))
+    behind
+    (subst (λ (k : ℕ). Leaves (λ c. exitCode ks (b .addr) common (flushTicks cycles ++ pcLine (following (x .instr))) k) z (m, keyBehind (x .instr)))
     same
     (jump-leaves ks (b .addr) common cycles false 0 (following (x .instr)) (keyBehind (x .instr)) (lit< tt) below (word .0) (word .1) g))
   where
@@ -80,6 +77,9 @@ closing-means multiplier ks b placed aligned us x e z m g =
 
     same : keyBehind (x .instr) ≡ keyPlus ((b .addr + length (b .instrs) * sizeOf (b .thumb)) % 4294967296) (b .thumb)
     same = rw (at .0, at .1, e, length-append) (same-key (b .thumb) (b .addr) (length us))
+
+    behind : following (x .instr) ≡ (b .addr + length (b .instrs) * sizeOf (b .thumb)) % 4294967296
+    behind = rw (at .0, at .1, e, length-append) (same-end (b .thumb) (b .addr) (length us))
 
     below : following (x .instr) < 4294967296
     below = mod-lt (x .instr .addr + sizeOf (x .instr .thumb)) (lit< tt)

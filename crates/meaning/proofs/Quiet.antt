@@ -10,8 +10,8 @@ use Rattle.c_tree.specs.Preamble.{v32}
 use Rattle.c_tree.specs.Stmt.{Plain, declare, other, Owner, common, gap, plain, ret, Code, end, _⨾_, when, braces}
 use Rattle.c_meaning.proofs.Kept.{Quiet}
 use Rattle.forms.specs.Operands.{flags}
-use Rattle.forms.specs.Forms.{Lines, Native, straight, straightIf, branch, jump, pair, bx, pop, Body}
-use Rattle.lowering.specs.Block.{nl, sp, line, lines, gotoCode, transfer, closing, leave, toThumb, toArm, conditional, nativeText}
+use Rattle.forms.specs.Forms.{Lines, Native, straight, straightIf, branchIf, jump, pair, bx, pop, Body}
+use Rattle.lowering.specs.Block.{nl, sp, line, lines, gotoCode, transfer, closing, leave, toThumb, toArm, conditional, nativeText, closingLines}
 
 line-quiet : (o : Owner) (ps : List Plain) (c : Code) → Quiet c → Quiet (line o ps c)
 line-quiet o [] c q = q
@@ -37,7 +37,7 @@ transfer-quiet ks a o n k c q = go (among k ks)
 
 pub closing-quiet : (ks : List ℕ) (b : Body) → Quiet (closing ks b)
 unfolding closing
-closing-quiet ks b = lines-quiet common 4 (b .closing) _ (transfer-quiet ks (b .addr) common 4 _ end tt)
+closing-quiet ks b = lines-quiet common 4 (closingLines b) _ (transfer-quiet ks (b .addr) common 4 _ end tt)
 
 -- braces after spaces, and what stands behind them
 braces-quiet : (b c : Code) → Quiet b → Quiet c → Quiet (sp 4 ⨾ braces b (nl ⨾ c))
@@ -63,7 +63,7 @@ native-quiet ks a o (straight t l) c q =
 native-quiet ks a o (straightIf t e l) c q =
     lines-quiet o 4 t (conditional o e (nl ⨾ lines o 8 l (sp 6 ⨾ end)) c)
     (conditional-quiet o e (nl ⨾ lines o 8 l (sp 6 ⨾ end)) c (tt, lines-quiet o 8 l (sp 6 ⨾ end) (tt, tt)) q)
-native-quiet ks a o (branch t e l k) c q =
+native-quiet ks a o (branchIf t e l k) c q =
     let way : Code = transfer ks a o 8 k (sp 6 ⨾ end) in
     lines-quiet o 4 t (conditional o e (sp 1 ⨾ line o l (nl ⨾ way)) c)
     (conditional-quiet o e (sp 1 ⨾ line o l (nl ⨾ way)) c (tt, line-quiet o l (nl ⨾ way) (tt, transfer-quiet ks a o 8 k (sp 6 ⨾ end) (tt, tt))) q)

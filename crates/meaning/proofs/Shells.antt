@@ -15,7 +15,7 @@ use Rattle.armv4t.specs.Fused.{fuse, fuseLow, fuseOps}
 use Rattle.instr_records.specs.declared.decode.TimedInstr.{TimedInstr}
 use Rattle.c_tree.specs.Expr.{u32, x-pc}
 use Rattle.c_tree.specs.Stmt.{common, Code, _⨾_, retInterp}
-use Rattle.c_meaning.specs.State.{bind, update, index, Scope, State, setC, setScopes, interpretedKey, interpreted, Declares}
+use Rattle.c_meaning.specs.State.{bind, update, index, Scope, State, setC, setScopes, interpAnswer, afterInterp, Declares}
 use Rattle.c_meaning.specs.Eval.{eval, evalAs}
 use Rattle.c_meaning.specs.Exec.{back, exec, execs, asks, step, runs}
 use Rattle.c_meaning.specs.Helpers.{perform, run}
@@ -144,7 +144,7 @@ behind-address n a c z h =
     run-lines common 4 (flushTicks n ++ pcLine a) c z ∙ ap (λ (q : Option State). bind q (run c)) (address-set n a z h)
 
 -- return interp_one
-pub run-return : (k i : ℕ) (c : Code) (z : State) → run (sp 4 ⨾ retInterp k i ⨾ c) z ≡ some (interpreted z, back (interpretedKey z))
+pub run-return : (k i : ℕ) (c : Code) (z : State) → run (sp 4 ⨾ retInterp k i ⨾ c) z ≡ some (afterInterp z, back (interpAnswer z))
 unfolding run runs step
 run-return k i c z = refl
 
@@ -154,7 +154,7 @@ pub record GoesOn (z : State) : Type 0 where
   pub declares : Declares scopes (u32, x-pc)
   pub goes : (b : Body) (i k : ℕ) (c : Code) → k < 4294967296
       → run (shellCode b i k c) z
-      ≡ cond (eqb (interpretedKey z) k) (run c (setScopes scopes (interpreted z))) (some (setScopes scopes (interpreted z), back (interpretedKey z)))
+      ≡ cond (eqb (interpAnswer z) k) (run c (setScopes scopes (afterInterp z))) (some (setScopes scopes (afterInterp z), back (interpAnswer z)))
 
 pub goes-on : (z : State) → Declares (z .scopes) (u32, x-pc) → GoesOn z
 unfolding run runs step asks eval evalAs
@@ -162,12 +162,12 @@ goes-on z d = go (z .scopes) refl d
   where
     go : (ss : List Scope) → z .scopes ≡ ss → Declares ss (u32, x-pc) → GoesOn z
     go [] p d = absurd d
-    go (f ∷ fs) p d = record { scopes = known; declares = (some (interpretedKey z), refl); goes = λ b i k c h. by b i k c h (eqb (interpretedKey z) k) refl }
+    go (f ∷ fs) p d = record { scopes = known; declares = (some (interpAnswer z), refl); goes = λ b i k c h. by b i k c h (eqb (interpAnswer z) k) refl }
       where
         known : List Scope
-        known = update (index x-pc) (some (u32, some (interpretedKey z))) f ∷ fs
+        known = update (index x-pc) (some (u32, some (interpAnswer z))) f ∷ fs
 
-        by : (b : Body) (i k : ℕ) (c : Code) → k < 4294967296 → (t : Bool) → eqb (interpretedKey z) k ≡ t
-            → run (shellCode b i k c) z ≡ cond t (run c (setScopes known (interpreted z))) (some (setScopes known (interpreted z), back (interpretedKey z)))
+        by : (b : Body) (i k : ℕ) (c : Code) → k < 4294967296 → (t : Bool) → eqb (interpAnswer z) k ≡ t
+            → run (shellCode b i k c) z ≡ cond t (run c (setScopes known (afterInterp z))) (some (setScopes known (afterInterp z), back (interpAnswer z)))
         by b i k c h true q = rw (p, d .1, lt-true h, q)
         by b i k c h false q = rw (p, d .1, lt-true h, q)

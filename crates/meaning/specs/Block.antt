@@ -14,7 +14,7 @@ use Rattle.instr_records.specs.declared.decode.TimedInstr.{TimedInstr}
 use Rattle.block_file.specs.Parse.{Block}
 use Rattle.block_file.specs.Address.{region, outsideRomBios}
 use Rattle.c_tree.specs.Expr.{u32, x-pc}
-use Rattle.c_meaning.specs.State.{Interpreter, State, interpretedKey, interpreted, Declares}
+use Rattle.c_meaning.specs.State.{Interpreter, State, interpAnswer, afterInterp, Declares}
 use Rattle.manual.specs.Machine.{Machine, Sound}
 use Rattle.manual.specs.Unsaid.{noInstruction, unpredictable, isNv}
 use Rattle.manual.specs.Execute.{execute, keyBehind}
@@ -28,20 +28,24 @@ use Rattle.lowering.specs.Records.{isTaken}
 
 -- the next call of interp_one acts as a step of the machine: step says what becomes of a machine whose next instruction stands at an address, and the key where it
 -- goes on; the interpreter finds the address in c[15], and leaves there that of the key which it answers
-pub record Steps (step : ℕ → Machine → Machine × ℕ) (z : State) (m : Machine) : Type 0 where
+pub record ActsAsStep (step : ℕ → Machine → Machine × ℕ) (z : State) (m : Machine) : Type 0 where
   pub sound : Sound (step (z .c 15) m .0)
-  pub same : Agrees (interpreted z) (step (z .c 15) m .0)
-  pub answers : interpretedKey z ≡ step (z .c 15) m .1
-  pub pc : interpreted z .c 15 ≡ clearBit0 (step (z .c 15) m .1)
+  pub same : Agrees (afterInterp z) (step (z .c 15) m .0)
+  pub answers : interpAnswer z ≡ step (z .c 15) m .1
+  pub pc : afterInterp z .c 15 ≡ clearBit0 (step (z .c 15) m .1)
 
 -- one call of interp_one does so from every state that agrees with a sound machine
 abbrev pub Interprets : (ℕ → Machine → Machine × ℕ) → Interpreter → Type 0
-Interprets step f = (z : State) (m : Machine) → z .interpreter 0 ≡ f → Sound m → Agrees z m → Steps step z m
+Interprets step f = (z : State) (m : Machine) → z .interpreter 0 ≡ f → Sound m → Agrees z m → ActsAsStep step z m
 
 -- whether a form is native
 abbrev pub isNative : Form → Bool
 isNative (native r) = true
 isNative (shell high t k) = false
+
+-- whether a record of a block in a region is native (document 01) where it is not fused
+abbrev pub isNativeRecord : ℕ → TimedInstr → Bool
+isNativeRecord region x = isNative (emitInstr (x .instr .thumb) region 0 x .0)
 
 -- whether an operation is half of a Thumb BL
 abbrev pub isHalf : Op → Bool
@@ -61,14 +65,14 @@ isHalf (MsrImm spsr fields value) = false
 isHalf (Swi imm) = false
 isHalf (Undefined raw) = false
 
--- whether an instruction is one of which the manual says what it does, and no named difference
+-- whether an instruction is one of which the manual says what it does, whatever its condition, and no named difference
 abbrev pub isSaid : Instr → Bool
 isSaid i = not (noInstruction i || unpredictable (i .op) || isNv (i .cond) || differsIn i (i .op))
 
 -- whether a record of a block in a region is covered: the manual says what it does, or the interpreter carries it out; half of a Thumb BL, which may be fused, is
 -- covered by the manual alone
 abbrev pub isCovered : ℕ → TimedInstr → Bool
-isCovered region x = (not (isNative (emitInstr (x .instr .thumb) region 0 x .0)) && not (isHalf (x .instr .op))) || isSaid (x .instr)
+isCovered region x = (not (isNativeRecord region x) && not (isHalf (x .instr .op))) || isSaid (x .instr)
 
 -- a record does not fuse with the one behind it
 abbrev pub Alone : TimedInstr → List TimedInstr → Type 0
@@ -77,7 +81,7 @@ Alone x (y ∷ ys) = fuse (x .instr) (y .instr) ≡ Nothing
 
 -- whether a record of a block in a region leaves the block, whatever its key: a native transfer whose condition passes
 abbrev pub leavesBy : ℕ → TimedInstr → Machine → Bool
-leavesBy region x m = isNative (emitInstr (x .instr .thumb) region 0 x .0) && isTaken (x .instr) m
+leavesBy region x m = isNativeRecord region x && isTaken (x .instr) m
 
 -- a sequence ends with a record that leads from m to next: no record is behind it, or the key is not the one behind it, or it leaves the block
 pub data Ends (region : ℕ) (x : TimedInstr) (xs : List TimedInstr) (m : Machine) (next : Machine × ℕ) : Type 0 where
@@ -90,8 +94,8 @@ module _ (step : ℕ → ℕ → Machine → Machine × ℕ) (region : ℕ) wher
   -- what becomes of a machine by a record that is not fused, with the number of calls made when it begins and when it is done: a native one (document 01) by the
   -- manual, another by the interpreter
   pub data CarriedOut (x : TimedInstr) (m : Machine) (next : Machine × ℕ) : (before after : ℕ) → Type 0 where
-    byManual : (n : ℕ) → isNative (emitInstr (x .instr .thumb) region 0 x .0) ≡ true → execute (x .instr) m ≡ some next → CarriedOut x m next n n
-    byInterpreter : (n : ℕ) → isNative (emitInstr (x .instr .thumb) region 0 x .0) ≡ false → step n (x .instr .addr) m ≡ next → CarriedOut x m next n (suc n)
+    byManual : (n : ℕ) → isNativeRecord region x ≡ true → execute (x .instr) m ≡ some next → CarriedOut x m next n n
+    byInterpreter : (n : ℕ) → isNativeRecord region x ≡ false → step n (x .instr .addr) m ≡ next → CarriedOut x m next n (suc n)
 
   -- from a machine to another and a key, by records one after the other from the first on, with the number of calls made when they begin and when they are done
   pub data Sequence : (before after : ℕ) → List TimedInstr → Machine → Machine × ℕ → Type 0 where

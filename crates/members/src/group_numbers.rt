@@ -5,7 +5,7 @@ ghost use mathlib.Core.List.{List};
 ghost use lib.ListN.{length};
 ghost use Rattle.members.specs.Numbers.{GroupsFrom};
 
-// Part 1 of n numbers becomes 0.
+// Quarter 1 of n numbers becomes 0.
 fn no_groups(work: &mut [u32], n: usize)
     requires { ⌜ (4 * n ≤ length (now work)) × (n ≤ 65536) ⌝ }
     ensures { λ _. ⌜ GroupsFrom n n (now (work .entry)) (now (work .exit)) ⌝ }

@@ -10,7 +10,7 @@ use native.Mathlib.Omega.{arith}
 use borrow.Author.Tests.{leb-true, leb-false, le-leb, ltb-false}
 use lib.ListN.{length, getD}
 use lib.Dec.{leb, ltb}
-use Rattle.plan.specs.Plan.{insert, sortByKey, close, isEmpty, parts}
+use Rattle.plan.specs.Plan.{insert, sortByKey, asParts, isEmpty, parts}
 use Rattle.plan.proofs.Listing.{count, count-here, count-cancel, counted, stands, InOrder, Piece, flatten-piece}
 
 -- the key of one block is at most that of another
@@ -81,7 +81,7 @@ unfoldable pub instructions : List ℕ → List ℕ → ℕ
 instructions counts [] = 0
 instructions counts (i ∷ is) = getD counts i 0 + instructions counts is
 
--- the instructions of two lists of blocks
+-- the instructions of two names of blocks
 pub instructions-append : (counts is js : List ℕ) → instructions counts (is ++ js) ≡ instructions counts is + instructions counts js
 unfolding instructions
 instructions-append counts [] js = sym (zero-add _)
@@ -165,7 +165,7 @@ module _ (limit : ℕ) (counts : List ℕ) where
   fits-part : (part : List ℕ) (total : ℕ) → Filling part total → 1 ≤ length part → Fits part
   fits-part part total f h = record { some = h; small = λ l. rw (f .sum) (f .small l) }
 
-  fits-close : (part : List ℕ) (total : ℕ) → Filling part total → (g : List ℕ) → List·Memᴰ g (close part) → Fits g
+  fits-close : (part : List ℕ) (total : ℕ) → Filling part total → (g : List ℕ) → List·Memᴰ g (asParts part) → Fits g
   fits-close [] total f g m = absurd (List·Memᴰ·not-nil m)
   fits-close (x ∷ xs) total f g m = subst Fits (sym (List·Memᴰ·eq-of-singleton m)) (fits-part (x ∷ xs) total f (omega arith))
 

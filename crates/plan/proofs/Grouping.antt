@@ -19,7 +19,7 @@ use Rattle.block_file.proofs.Accepted.{few-instrs, instrs-inside, length-of, re
 use Rattle.block_file.specs.Read.{recordAt}
 use Rattle.forest.specs.Forest.{Forest, SameRoots, range, root}
 use Rattle.plan.specs.Plan.{joinBlocks, parents, plan}
-use Rattle.plan.specs.Groups.{interleave, quarter1, Joined, HasFirsts, Firsts, joinBlock, AllJoined, AllRooted, Grouped}
+use Rattle.plan.specs.Groups.{interleave, quarter1, Joined, HasFirsts, Firsts, joinRecord, AllJoined, AllRooted, Grouped}
 use Rattle.plan.specs.Links.{HasRoots, Linked, Outside}
 use Rattle.plan.specs.Order.{HasCounts, Placed}
 use Rattle.plan.proofs.Components.{countsOf}
@@ -144,13 +144,13 @@ nowhere = record { addr = 0; thumb = false; code = none; instrs = [] }
 
 -- the edges of one block more
 next-block : (f : List ℕ) → Accepted f → (i : ℕ) → i < blockCount f → (q : List ℕ)
-    → joinBlocks (blocksOf f) q i (drop i (blocksOf f)) ≡ joinBlocks (blocksOf f) (joinBlock f i q) (i + 1) (drop (i + 1) (blocksOf f))
+    → joinBlocks (blocksOf f) q i (drop i (blocksOf f)) ≡ joinBlocks (blocksOf f) (joinRecord f i q) (i + 1) (drop (i + 1) (blocksOf f))
 unfolding joinBlocks
 next-block f a i h q =
     ap (joinBlocks (blocksOf f) q i) (drop-cons (blocksOf f) i nowhere (omega (arith, length-of f (blocksOf f) a)) ∙ ap (λ (b : Block). b ∷ drop (suc i) (blocksOf f)) (nth-block f i nowhere h))
     ∙ rw (add-one i)
 
-pub edges-more : (f : List ℕ) (n i : ℕ) (w w′ w″ : List ℕ) → i < n → n ≡ blockCount f → Edges f n i w w′ → Joined 2 n w′ w″ (joinBlock f i) (Accepted f) → Edges f n (i + 1) w w″
+pub edges-more : (f : List ℕ) (n i : ℕ) (w w′ w″ : List ℕ) → i < n → n ≡ blockCount f → Edges f n i w w′ → Joined 2 n w′ w″ (joinRecord f i) (Accepted f) → Edges f n (i + 1) w w″
 edges-more f n i w w′ w″ h all e j =
     let twice : 2 * i + 2 ≡ 2 * (i + 1) = omega arith in
     record {
@@ -161,8 +161,8 @@ edges-more f n i w w′ w″ h all e j =
       forest = subst (λ (d : ℕ). Forest d (quarter1 n w″)) twice (j .depth (2 * i) (e .forest));
       roots = λ a.
           let t = e .roots a in (
-            joinBlock f i (t .0),
-            subst (λ (d : ℕ). SameRoots d (quarter1 n w″) (joinBlock f i (t .0))) twice (j .roots a (2 * i) (t .0) (omega arith) (t .1)),
+            joinRecord f i (t .0),
+            subst (λ (d : ℕ). SameRoots d (quarter1 n w″) (joinRecord f i (t .0))) twice (j .roots a (2 * i) (t .0) (omega arith) (t .1)),
             t .2 ∙ next-block f a i (subst (λ (k : ℕ). i < k) all h) (t .0),
           );
     }

@@ -21,7 +21,7 @@ use Rattle.block_exits.specs.Exits.{keysOf, exits}
 use Rattle.search.specs.Target.{target, joinable, onPage8}
 use Rattle.plan.specs.Plan.{joinTo, joinExits}
 use Rattle.search.specs.Search.{targetOf, TargetInside}
-use Rattle.plan.specs.Groups.{quarter1, Joined, joinBlock}
+use Rattle.plan.specs.Groups.{quarter1, Joined, joinRecord}
 use Rattle.block_file.proofs.IsBlock.{missing, found-record}
 use Rattle.plan.proofs.Lending.{quarter-length, back-length, back-quarter, back-after, back-before}
 use Rattle.forest.proofs.Roots.{deeper, same-deeper}
@@ -117,7 +117,7 @@ module _ (f : List ℕ) (i n : ℕ) (w : List ℕ) (x : Exits) where
 -- block i as a pass over the records has it
 module _ (f : List ℕ) (i n : ℕ) (w : List ℕ) (found : FoundBlock) (reads : found ≡ foundBlock f i) (inside : i < n) (all : n ≡ blockCount f) where
   -- the reader finds nothing: not in an accepted file
-  pub block-missing : found ≡ FoundBlock.Nothing → Joined 2 n w w (joinBlock f i) (Accepted f)
+  pub block-missing : found ≡ FoundBlock.Nothing → Joined 2 n w w (joinRecord f i) (Accepted f)
   block-missing e =
       record {
         same = refl;
@@ -136,7 +136,7 @@ module _ (f : List ℕ) (i n : ℕ) (w : List ℕ) (found : FoundBlock) (reads :
     page-is = ap (λ (r : BlockRecord). onPage8 (r .addr)) (sym record-is)
 
     -- a block of another page makes no edge
-    pub block-apart : onPage8 (b .addr) ≡ false → Joined 2 n w w (joinBlock f i) (Accepted f)
+    pub block-apart : onPage8 (b .addr) ≡ false → Joined 2 n w w (joinRecord f i) (Accepted f)
     block-apart off =
         record {
           same = refl;
@@ -149,7 +149,7 @@ module _ (f : List ℕ) (i n : ℕ) (w : List ℕ) (found : FoundBlock) (reads :
     -- a block of page 8 makes those of its exits
     pub block-joins : onPage8 (b .addr) ≡ true → (x : Exits) (w₁ : List ℕ)
         → (Accepted f → keysOf x ≡ exits (blockAt f (blockStart f i) (countSum f i)))
-        → Joined 2 n w w₁ (λ q. joinExits (blocksOf f) i q (keysOf x)) (Accepted f) → Joined 2 n w w₁ (joinBlock f i) (Accepted f)
+        → Joined 2 n w w₁ (λ q. joinExits (blocksOf f) i q (keysOf x)) (Accepted f) → Joined 2 n w w₁ (joinRecord f i) (Accepted f)
     block-joins e x w₁ keys j =
         record {
           same = j .same;

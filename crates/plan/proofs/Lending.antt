@@ -9,7 +9,7 @@ use native.Mathlib.Decide.{ℕ-discrete}
 use borrow.Rule.Slice.PartMut.{putMid, postOf, same-len-mid, mid-len, take-put, drop-put}
 use lib.ListN.{length, getD, set, take, drop, length-set}
 use lib.Seq.{take-at, drop-at, length-take-le, getD-take, getD-drop, getD-set-same, getD-set-other, take-set-le, drop-set-add}
-use Rattle.forest.specs.Forest.{Forest, Flatter, Found, root}
+use Rattle.forest.specs.Forest.{Forest, Flatter, RootFound, root}
 use Rattle.plan.specs.Groups.{quarter1, Rooted, AllRooted}
 use Rattle.forest.proofs.Roots.{flatter-trans}
 
@@ -58,7 +58,7 @@ quarter-set n w k v h =
     ∙ take-set-le n (drop n w) (k - n) v (omega arith)
 
 -- what finding a root in the lent quarter makes of the work numbers
-pub rooted : (n i : ℕ) (w p′ : List ℕ) (r : ℕ) → 4 * n ≤ length w → i < n → Found (quarter1 n w) i r p′
+pub rooted : (n i : ℕ) (w p′ : List ℕ) (r : ℕ) → 4 * n ≤ length w → i < n → RootFound (quarter1 n w) i r p′
     → Rooted n i w (set (putMid n (2 * n - n) w p′) (2 * n + i) r)
 rooted n i w p′ r room h e =
     let long : length p′ ≡ n = e .kept .lengths ∙ quarter-length n w room in

@@ -3,13 +3,10 @@ use Prim.Native.Nat.{ℕ, _+_, _*_, _≤_, _<_}
 use mathlib.Core.Path.{_≡_}
 use mathlib.Core.List.{List, [], _∷_}
 use lib.ListN.{length, getD, take, drop}
-use mathlib.Core.Bool.{cond}
 use Rattle.records.specs.Trailer.{blockCount, blockStart}
 use Rattle.records.specs.BlockRecord.{countSum}
 use Rattle.block_file.specs.Parse.{blockAt, blocksOf, Accepted}
-use Rattle.block_exits.specs.Exits.{exits}
-use Rattle.search.specs.Target.{joinable}
-use Rattle.plan.specs.Plan.{joinExits, parents, plan}
+use Rattle.plan.specs.Plan.{joinBlock, parents, plan}
 use Rattle.forest.specs.Forest.{Flatter, Forest, SameRoots, root}
 
 -- two lists as one, number by number in turn, up to the end of the shorter
@@ -58,9 +55,8 @@ pub record Firsts (f : List ℕ) (n : ℕ) (work work′ : List ℕ) : Type 0 wh
   pub firsts : Accepted f → n ≡ blockCount f → HasFirsts f n work′
 
 -- the edges from block i, as its record has it
-abbrev pub joinBlock : List ℕ → ℕ → List ℕ → List ℕ
-joinBlock f i q =
-    cond (joinable (blockAt f (blockStart f i) (countSum f i))) (joinExits (blocksOf f) i q (exits (blockAt f (blockStart f i) (countSum f i)))) q
+abbrev pub joinRecord : List ℕ → ℕ → List ℕ → List ℕ
+joinRecord f i q = joinBlock (blocksOf f) i (blockAt f (blockStart f i) (countSum f i)) q
 
 -- quarter 1 has parents with the roots of the definition
 pub record AllJoined (f : List ℕ) (n : ℕ) (work work′ : List ℕ) : Type 0 where

@@ -44,7 +44,7 @@ numbersFrom limit counts roots n g (suc left) r =
     numbersOf limit counts g 0 false (rooted roots r n 0)
     ++ numbersFrom limit counts roots n (nextGroup limit counts g 0 false (rooted roots r n 0)) left (suc r)
 
--- the instruction counts of the blocks of a file
+-- counts has the instruction count of each block of a file
 abbrev pub HasCounts : List ℕ → List ℕ → Type 0
 HasCounts f counts = (i : ℕ) → i < blockCount f → getD counts i 0 ≡ countAt f (blockStart f i)
 

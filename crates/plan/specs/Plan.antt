@@ -15,15 +15,19 @@ abbrev pub joinTo : ℕ → List ℕ → Option ℕ → List ℕ
 joinTo i p none = p
 joinTo i p (some j) = hang p i j
 
--- the edges from block i, in the order of its exits
+-- the edges from block i to its exits, in their order
 unfoldable pub joinExits : List Block → ℕ → List ℕ → List ℕ → List ℕ
 joinExits all i p [] = p
 joinExits all i p (k ∷ ks) = joinExits all i (joinTo i p (target k all 0)) ks
 
+-- the edges from block i, which is b: none where it is not of page 8
+abbrev pub joinBlock : List Block → ℕ → Block → List ℕ → List ℕ
+joinBlock all i b p = cond (joinable b) (joinExits all i p (exits b)) p
+
 -- the edges from some blocks counted from i, in their order
 unfoldable pub joinBlocks : List Block → List ℕ → ℕ → List Block → List ℕ
 joinBlocks all p i [] = p
-joinBlocks all p i (b ∷ bs) = joinBlocks all (cond (joinable b) (joinExits all i p (exits b)) p) (suc i) bs
+joinBlocks all p i (b ∷ bs) = joinBlocks all (joinBlock all i b p) (suc i) bs
 
 -- the parents after all edges; at first each block is its own
 unfoldable pub parents : List Block → List ℕ
@@ -34,7 +38,7 @@ unfoldable pub withRoot : (ℕ → ℕ) → ℕ → ℕ → ℕ → List ℕ
 withRoot rootOf r zero i = []
 withRoot rootOf r (suc n) i = cond (eqb (rootOf i) r) (i ∷ withRoot rootOf r n (suc i)) (withRoot rootOf r n (suc i))
 
--- a component (document 01) of n blocks, by their parents: those whose root is r
+-- the component (document 01) with root r, among n blocks with these parents
 abbrev pub members : List ℕ → ℕ → ℕ → List ℕ
 members p r n = withRoot (root p) r n 0
 
@@ -49,9 +53,9 @@ sortByKey keys [] = []
 sortByKey keys (i ∷ is) = insert keys i (sortByKey keys is)
 
 -- a part as a list of one, or no part where it is empty
-abbrev pub close : List ℕ → List (List ℕ)
-close [] = []
-close (i ∷ is) = (i ∷ is) ∷ []
+abbrev pub asParts : List ℕ → List (List ℕ)
+asParts [] = []
+asParts (i ∷ is) = (i ∷ is) ∷ []
 
 -- whether a part is empty
 abbrev pub isEmpty : List ℕ → Bool
@@ -64,7 +68,7 @@ closes limit total isOpen count = ltb limit (total + count) && isOpen
 
 -- cuts a component into parts (document 01): one closes before a block that would push it over the limit, unless it is empty
 unfoldable pub parts : ℕ → List ℕ → List ℕ → ℕ → List ℕ → List (List ℕ)
-parts limit counts part total [] = close part
+parts limit counts part total [] = asParts part
 parts limit counts part total (i ∷ is) =
     cond (closes limit total (not (isEmpty part)) (getD counts i 0)) (part ∷ parts limit counts (i ∷ []) (getD counts i 0) is)
     (parts limit counts (part ++ (i ∷ [])) (total + getD counts i 0) is)
@@ -76,7 +80,7 @@ groupsFrom limit bs p (suc n) r =
     parts limit (map (λ (b : Block). length (b .instrs)) bs) [] 0 (sortByKey (map blockKey bs) (members p r (length bs)))
     ++ groupsFrom limit bs p n (suc r)
 
--- the groups of some blocks, in emission order (document 01 for both)
+-- the groups (document 01) of some blocks, in emission order (document 01)
 unfoldable pub groups : ℕ → List Block → List (List ℕ)
 groups limit bs = groupsFrom limit bs (parents bs) (length bs) 0
 

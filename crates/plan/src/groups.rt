@@ -22,7 +22,7 @@ ghost use Rattle.block_exits.specs.Exits.{keysOf};
 ghost use Rattle.forest.specs.Forest.{Forest};
 ghost use Rattle.plan.specs.Plan.{joinTo, joinExits};
 ghost use Rattle.search.specs.Target.{target};
-ghost use Rattle.plan.specs.Groups.{quarter1, Joined, HasFirsts, Firsts, joinBlock, AllJoined, Rooted, AllRooted, Grouped};
+ghost use Rattle.plan.specs.Groups.{quarter1, Joined, HasFirsts, Firsts, joinRecord, AllJoined, Rooted, AllRooted, Grouped};
 
 // The edge from block i to a key, if there is a block of page 8 with that key.
 fn join_key(file: &[u8], work: &mut [u32], n: usize, i: usize, key: u32)
@@ -58,7 +58,7 @@ fn join_block(file: &[u8], work: &mut [u32], n: usize, i: usize)
     requires { ⌜ (4 * n ≤ length (now work)) × (n ≤ 65536) × (i < n) × (n ≡ blockCount (now file)) ⌝ }
     requires { ⌜ Forest (2 * i) (quarter1 n (now work)) ⌝ }
     requires { ⌜ (Accepted (now file) → HasFirsts (now file) n (now work)) ⌝ }
-    ensures { λ _. ⌜ Joined 2 n (now (work .entry)) (now (work .exit)) (joinBlock (now (file .entry)) i) (Accepted (now (file .entry))) ⌝ }
+    ensures { λ _. ⌜ Joined 2 n (now (work .entry)) (now (work .exit)) (joinRecord (now (file .entry)) i) (Accepted (now (file .entry))) ⌝ }
 {
     let FoundBlock::At(block) = block_at(file, i) else {
         return;

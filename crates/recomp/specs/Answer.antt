@@ -4,7 +4,7 @@ use mathlib.Core.Bool.{cond}
 use mathlib.Core.List.{List}
 use lib.ListN.{length, getD}
 use Rattle.block_file.specs.Answer.{Answer, refusal, value, Counts}
-use Rattle.plan.specs.Calls.{Outcome}
+use Rattle.plan.specs.Calls.{CallOutcome}
 use Rattle.lowering.specs.Units.{UnitAnswer}
 
 -- what the check hands over
@@ -46,7 +46,7 @@ withAnswer (refusal n i) work result = record { number = n; at = i; count = 0; w
 withAnswer (value v) work result = record { number = 0; at = 0; count = v; work = work; result = result }
 
 -- the same of what such a call leaves
-abbrev pub outcomeNumbers : Outcome ℕ → OutcomeNumbers
+abbrev pub outcomeNumbers : CallOutcome ℕ → OutcomeNumbers
 outcomeNumbers outcome = withAnswer (outcome .answer) (outcome .work) (outcome .result)
 
 -- what the call for a unit hands over, and the lent buffers; `last` is 1 for the last unit, else 0
@@ -66,5 +66,5 @@ withUnit (value u) work text =
     record { number = 0; at = 0; length = u .length; done = u .done; last = cond (u .last) 1 0; work = work; text = text }
 
 -- the same of what the call for a unit leaves
-abbrev pub unitNumbers : Outcome UnitAnswer → UnitNumbers
+abbrev pub unitNumbers : CallOutcome UnitAnswer → UnitNumbers
 unitNumbers outcome = withUnit (outcome .answer) (outcome .work) (outcome .result)

@@ -6,9 +6,13 @@ use lib.ListN.{length}
 use lib.Dec.{leb, eqb}
 use Rattle.records.specs.Bytes.{wordAt}
 
+-- the rule of refusal 1: the file holds a trailer
+abbrev pub hasTrailer : List ℕ → Bool
+hasTrailer f = leb 32 (length f)
+
 -- word k of the trailer, from 0; in a file under 32 bytes, which has none, 0
 unfoldable pub trailerWord : List ℕ → ℕ → ℕ
-trailerWord f k = cond (leb 32 (length f)) (wordAt f (length f - 32 + 4 * k)) 0
+trailerWord f k = cond (hasTrailer f) (wordAt f (length f - 32 + 4 * k)) 0
 
 abbrev pub edition : List ℕ → ℕ
 edition f = trailerWord f 0
@@ -38,10 +42,6 @@ codeCount f = trailerWord f 6
 
 abbrev pub fileLength : List ℕ → ℕ
 fileLength f = trailerWord f 7
-
--- the rule of refusal 1: the file holds a trailer
-abbrev pub hasTrailer : List ℕ → Bool
-hasTrailer f = leb 32 (length f)
 
 -- the rule of refusal 2: B and I are within their limits
 unfoldable pub withinLimits : List ℕ → Bool

@@ -2,9 +2,10 @@
 use case_io::compare;
 use case_io::input;
 use case_io::input::Filled;
-use case_io::outcome::Outcome;
-use case_io::outcome::Section;
 use case_io::report;
+use case_io::verdict;
+use case_io::verdict::Section;
+use case_io::verdict::Verdict;
 use recomp::Checked;
 ghost use mathlib.Core.Path.{_≡_};
 ghost use Rattle.block_file.specs.Parse.{parse, checkAnswer};
@@ -40,28 +41,21 @@ fn is_right(k: u64, expected: &[u64; 4], file: &[u8]) -> bool
 }
 
 // Reads vector `k` and tries it. The check is lent the file's bytes and not the rest of the buffer.
-pub fn replay_one(k: u64) -> Outcome {
+pub fn replay_one(k: u64) -> Verdict {
     let mut expected = [0u64; 4];
     if !input::numbers(&mut expected) {
-        report::ends_early(k);
-        return Outcome::Broken;
+        return verdict::ended(k);
     }
     let mut buffer = [0u8; LONGEST];
     match input::file(&mut buffer) {
         Filled::To(n) => {
             if is_right(k, &expected, &buffer[..n]) {
-                Outcome::Right
+                Verdict::Right
             } else {
-                Outcome::Wrong
+                Verdict::Wrong
             }
         }
-        Filled::Ended => {
-            report::ends_early(k);
-            Outcome::Broken
-        }
-        Filled::TooLong => {
-            report::too_long(k);
-            Outcome::Broken
-        }
+        Filled::Ended => verdict::ended(k),
+        Filled::TooLong => verdict::too_long(k),
     }
 }

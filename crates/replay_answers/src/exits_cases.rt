@@ -4,9 +4,10 @@ use case_io::compare;
 use case_io::input;
 use case_io::input::Filled;
 use case_io::input::Read;
-use case_io::outcome::Outcome;
-use case_io::outcome::Section;
 use case_io::report;
+use case_io::verdict;
+use case_io::verdict::Section;
+use case_io::verdict::Verdict;
 use recomp::Exiting;
 use recomp::Exits;
 ghost use mathlib.Core.Path.{_≡_};
@@ -55,37 +56,29 @@ fn is_right(k: u64, expected: &[u64; 5], file: &[u8], block: u64) -> bool
 
 // Reads the file of vector `k` and tries it. The call is lent the file's bytes and not the rest of
 // the buffer.
-fn replay_file(k: u64, expected: &[u64; 5], block: u64) -> Outcome {
+fn replay_file(k: u64, expected: &[u64; 5], block: u64) -> Verdict {
     let mut buffer = [0u8; LONGEST];
     match input::file(&mut buffer) {
         Filled::To(n) => {
             if is_right(k, expected, &buffer[..n], block) {
-                Outcome::Right
+                Verdict::Right
             } else {
-                Outcome::Wrong
+                Verdict::Wrong
             }
         }
-        Filled::Ended => {
-            report::ends_early(k);
-            Outcome::Broken
-        }
-        Filled::TooLong => {
-            report::too_long(k);
-            Outcome::Broken
-        }
+        Filled::Ended => verdict::ended(k),
+        Filled::TooLong => verdict::too_long(k),
     }
 }
 
 // Reads vector `k` and tries it.
-pub fn replay_one(k: u64) -> Outcome {
+pub fn replay_one(k: u64) -> Verdict {
     let Read::Number(block) = input::number() else {
-        report::ends_early(k);
-        return Outcome::Broken;
+        return verdict::ended(k);
     };
     let mut expected = [0u64; 5];
     if !input::numbers(&mut expected) {
-        report::ends_early(k);
-        return Outcome::Broken;
+        return verdict::ended(k);
     }
     replay_file(k, &expected, block)
 }

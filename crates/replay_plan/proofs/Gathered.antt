@@ -7,7 +7,7 @@ use lib.ListN.{length, take, drop, set, getD}
 use lib.Seq.{take-length, drop-length, sets-eq, length-sets, paste, length-paste, take-paste}
 use Rattle.block_file.specs.Answer.{Answer, refusal, value}
 use Rattle.recomp.specs.Answer.{withAnswer}
-use Rattle.replay_plan.specs.PlanCases.{outcomeInOrder, answered}
+use Rattle.replay_plan.specs.PlanCases.{outcomeInOrder, planAnswerNumbers}
 
 -- the numbers of a buffer put behind a front, up to the end
 ends : (front g w : List ℕ) (at : ℕ) → take at g ≡ front → length g ≡ at + length w → paste g at w (length w) ≡ front ++ w
@@ -44,6 +44,6 @@ module _ (a b c : ℕ) (g w r : List ℕ) (long : length g ≡ 3 + (length w + l
 
 -- the numbers of an answer, with those lent behind them
 pub with-lent : (a : Answer ℕ) (w r : List ℕ)
-    → getD (answered a) 0 0 ∷ getD (answered a) 1 0 ∷ getD (answered a) 2 0 ∷ (w ++ r) ≡ outcomeInOrder (withAnswer a w r)
+    → getD (planAnswerNumbers a) 0 0 ∷ getD (planAnswerNumbers a) 1 0 ∷ getD (planAnswerNumbers a) 2 0 ∷ (w ++ r) ≡ outcomeInOrder (withAnswer a w r)
 with-lent (refusal n i) w r = refl
 with-lent (value b) w r = refl

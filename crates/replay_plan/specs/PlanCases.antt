@@ -2,7 +2,7 @@
 use Prim.Native.Nat.{ℕ}
 use mathlib.Core.List.{List, [], _∷_, _++_}
 use Rattle.block_file.specs.Answer.{Answer}
-use Rattle.plan.specs.Calls.{Outcome}
+use Rattle.plan.specs.Calls.{CallOutcome}
 use Rattle.recomp.specs.Answer.{OutcomeNumbers, withAnswer, outcomeNumbers}
 
 -- the three numbers of the answer, every work number, every number of the result
@@ -10,9 +10,9 @@ abbrev pub outcomeInOrder : OutcomeNumbers → List ℕ
 outcomeInOrder n = n .number ∷ n .at ∷ n .count ∷ (n .work ++ n .result)
 
 -- the numbers of an answer, with nothing lent
-abbrev pub answered : Answer ℕ → List ℕ
-answered a = outcomeInOrder (withAnswer a [] [])
+abbrev pub planAnswerNumbers : Answer ℕ → List ℕ
+planAnswerNumbers a = outcomeInOrder (withAnswer a [] [])
 
 -- the numbers that a call leaves, in the order in which they are compared
-abbrev pub planAnswer : Outcome ℕ → List ℕ
+abbrev pub planAnswer : CallOutcome ℕ → List ℕ
 planAnswer p = outcomeInOrder (outcomeNumbers p)

@@ -3,10 +3,10 @@
 use case_io::compare;
 use case_io::input;
 use case_io::input::Filled;
-use case_io::outcome;
-use case_io::outcome::Outcome;
-use case_io::outcome::Section;
 use case_io::report;
+use case_io::verdict;
+use case_io::verdict::Section;
+use case_io::verdict::Verdict;
 use recomp::Planned;
 ghost use mathlib.Core.Path.{_≡_};
 ghost use Prim.Native.Nat.{_+_, _≤_};
@@ -15,7 +15,7 @@ ghost use lib.Seq.{paste};
 ghost use Rattle.block_file.specs.Parse.{parse};
 ghost use Rattle.plan.specs.Calls.{plannedOf, planCall};
 ghost use Rattle.case_io.specs.Same.{sameNumbers};
-ghost use Rattle.replay_plan.specs.PlanCases.{answered, planAnswer};
+ghost use Rattle.replay_plan.specs.PlanCases.{planAnswerNumbers, planAnswer};
 
 // The longest file that a vector may hold.
 const LONGEST: usize = 4096;
@@ -29,7 +29,7 @@ const MOST: usize = 771;
 
 // The refusal's number or 0, its i, and the blocks.
 fn numbers(planned: Planned) -> [u64; 3]
-    ensures { λ r. ⌜ r ≡ answered (plannedOf planned) ⌝ }
+    ensures { λ r. ⌜ r ≡ planAnswerNumbers (plannedOf planned) ⌝ }
 {
     match planned {
         Planned::Blocks(n) => [0, 0, n],
@@ -63,7 +63,7 @@ fn answer(got: &mut [u64], file: &[u8], work: &mut [u32], result: &mut [u32])
     put(got, 3 + work.len(), result);
 }
 
-// Whether the call answers and leaves all the expected numbers. Where it does not, both lists are
+// Whether the call answers and leaves all the expected numbers. Where it does not, both names are
 // printed.
 fn is_right(
     k: u64,
@@ -119,24 +119,24 @@ fn replay_plan(
     file: &[u8],
     work: &mut [u32],
     result: &mut [u32],
-) -> Outcome
+) -> Verdict
     requires { ⌜ (length (now expected) ≡ 3 + (length (now work) + length (now result))) × (length (now expected) ≤ 771) ⌝ }
 {
     let n = expected.len();
     let blocks = expected[2] as usize;
     if result.len() / 2 < blocks {
-        return outcome::too_long(k);
+        return verdict::too_long(k);
     }
     let start = 3 + work.len();
     let end = start + 2 * blocks;
     if !input::numbers(&mut expected[start..end]) {
-        return outcome::ended(k);
+        return verdict::ended(k);
     }
     let mut got = [0u64; MOST];
     if is_right(k, expected, &mut got[..n], file, work, result) {
-        Outcome::Right
+        Verdict::Right
     } else {
-        Outcome::Wrong
+        Verdict::Wrong
     }
 }
 
@@ -148,42 +148,42 @@ fn replay_file(
     work: &mut [u32],
     result: &mut [u32],
     cleared: usize,
-) -> Outcome
+) -> Verdict
     requires { ⌜ (length (now expected) ≡ 3 + (length (now work) + length (now result))) × (length (now expected) ≤ 771) × (cleared ≤ length (now work)) ⌝ }
 {
     fill(expected);
     lend(work, expected, 3);
     lend(result, expected, 3 + work.len());
     if !input::numbers(&mut expected[..3]) {
-        return outcome::ended(k);
+        return verdict::ended(k);
     }
     let end = 3 + cleared;
     clear(&mut expected[3..end]);
     let mut buffer = [0u8; LONGEST];
     match input::file(&mut buffer) {
         Filled::To(n) => replay_plan(k, expected, &buffer[..n], work, result),
-        Filled::Ended => outcome::ended(k),
-        Filled::TooLong => outcome::too_long(k),
+        Filled::Ended => verdict::ended(k),
+        Filled::TooLong => verdict::too_long(k),
     }
 }
 
 // Reads vector `k` and tries it.
-pub fn replay_one(k: u64) -> Outcome {
+pub fn replay_one(k: u64) -> Verdict {
     let mut lent = [0u64; 3];
     if !input::numbers(&mut lent) {
-        return outcome::ended(k);
+        return verdict::ended(k);
     }
     let work_length = lent[0] as usize;
     let result_length = lent[1] as usize;
     let cleared = lent[2] as usize;
     if MOST_WORK < work_length {
-        return outcome::too_long(k);
+        return verdict::too_long(k);
     }
     if MOST_RESULT < result_length {
-        return outcome::too_long(k);
+        return verdict::too_long(k);
     }
     if work_length < cleared {
-        return outcome::too_long(k);
+        return verdict::too_long(k);
     }
     let mut expected = [0u64; MOST];
     let mut work = [0u32; MOST_WORK];

@@ -4,7 +4,7 @@ use mathlib.Core.Path.{_≡_, refl, ap, _∙_}
 use mathlib.Core.Bool.{Bool, _&&_}
 use mathlib.Core.List.{List, _++_}
 use Rattle.block_file.specs.Answer.{Answer, refusal, value}
-use Rattle.plan.specs.Calls.{Outcome}
+use Rattle.plan.specs.Calls.{CallOutcome}
 use Rattle.lowering.specs.Units.{UnitAnswer}
 use Rattle.recomp.specs.Answer.{withUnit, unitNumbers}
 use Rattle.case_io.specs.Same.{sameNumbers}
@@ -18,7 +18,7 @@ module _ (answer work text : List ℕ) (w t moreWork moreText : List ℕ) where
   parts (value u) = refl
 
   -- what the three come to, where `got` was made of the answer, and w and t are what the call left
-  pub compared : (a : Answer UnitAnswer) (got : List ℕ) (o : Outcome UnitAnswer) {first second third : Bool} → got ≡ unitAnswerNumbers a
+  pub compared : (a : Answer UnitAnswer) (got : List ℕ) (o : CallOutcome UnitAnswer) {first second third : Bool} → got ≡ unitAnswerNumbers a
       → record { answer = a; work = w; result = t } ≡ o
       → first ≡ sameNumbers answer got
       → second ≡ sameNumbers work (w ++ moreWork)
@@ -28,4 +28,4 @@ module _ (answer work text : List ℕ) (w t moreWork moreText : List ℕ) where
       (λ i. one i && (two i && three i))
       ∙ ap (λ (l : List ℕ). sameNumbers answer l && (sameNumbers work (w ++ moreWork) && sameNumbers text (t ++ moreText))) g
       ∙ parts a
-      ∙ ap (λ (p : Outcome UnitAnswer). sameUnit answer work text (withRest (unitNumbers p) moreWork moreText)) h
+      ∙ ap (λ (p : CallOutcome UnitAnswer). sameUnit answer work text (withRest (unitNumbers p) moreWork moreText)) h

@@ -3,17 +3,17 @@
 use case_io::compare;
 use case_io::input;
 use case_io::input::Filled;
-use case_io::outcome;
-use case_io::outcome::Outcome;
-use case_io::outcome::Section;
 use case_io::report;
+use case_io::verdict;
+use case_io::verdict::Section;
+use case_io::verdict::Verdict;
 use recomp::Translated;
 ghost use mathlib.Core.Path.{_≡_};
 ghost use Prim.Native.Nat.{_≤_};
 ghost use lib.ListN.{length};
 ghost use Rattle.unit_call.specs.Calls.{translatedOf};
 ghost use Rattle.case_io.specs.Same.{sameNumbers};
-ghost use Rattle.replay_units.specs.UnitCases.{unitAnswerNumbers, left, sameUnit};
+ghost use Rattle.replay_units.specs.UnitCases.{unitAnswerNumbers, unitCallLeaves, sameUnit};
 
 // The longest file that a vector may hold.
 const LONGEST: usize = 4096;
@@ -91,7 +91,7 @@ fn is_right(
     mut text: [u8; TEXT],
 ) -> bool
     requires { ⌜ (asked .work ≤ 576) × (asked .text ≤ 65600) ⌝ }
-    ensures { λ r. ⌜ r ≡ sameUnit (now (expected .entry)) «expected_work» «expected_text» (left (asked .size) (asked .unit) (asked .work) (asked .text) (now (file .entry)) work text) ⌝ }
+    ensures { λ r. ⌜ r ≡ sameUnit (now (expected .entry)) «expected_work» «expected_text» (unitCallLeaves (asked .size) (asked .unit) (asked .work) (asked .text) (now (file .entry)) work text) ⌝ }
 {
     let work_length = asked.work;
     let text_length = asked.text;
@@ -135,16 +135,16 @@ fn no_text() -> [u8; TEXT] {
 }
 
 // Reads the expected text of vector `k` and tries the vector.
-fn replay_text(k: u64, asked: Asked, cleared: usize, expected: &[u64; 5], file: &[u8]) -> Outcome
+fn replay_text(k: u64, asked: Asked, cleared: usize, expected: &[u64; 5], file: &[u8]) -> Verdict
     requires { ⌜ (asked .work ≤ 576) × (asked .text ≤ 65600) ⌝ }
 {
     let length = expected[2] as usize;
     if TEXT < length {
-        return outcome::too_long(k);
+        return verdict::too_long(k);
     }
     let mut expected_text = no_text();
     if !input::bytes(&mut expected_text[..length]) {
-        return outcome::ended(k);
+        return verdict::ended(k);
     }
     let expected_work = work_numbers(cleared);
     let work = work_numbers(0);
@@ -159,25 +159,25 @@ fn replay_text(k: u64, asked: Asked, cleared: usize, expected: &[u64; 5], file: 
         work,
         text,
     ) {
-        Outcome::Right
+        Verdict::Right
     } else {
-        Outcome::Wrong
+        Verdict::Wrong
     }
 }
 
 // Reads the answer and the file of vector `k`, and tries it.
-fn replay_file(k: u64, asked: Asked, cleared: usize) -> Outcome
+fn replay_file(k: u64, asked: Asked, cleared: usize) -> Verdict
     requires { ⌜ (asked .work ≤ 576) × (asked .text ≤ 65600) ⌝ }
 {
     let mut expected = [0u64; 5];
     if !input::numbers(&mut expected) {
-        return outcome::ended(k);
+        return verdict::ended(k);
     }
     let mut buffer = [0u8; LONGEST];
     match input::file(&mut buffer) {
         Filled::To(n) => replay_text(k, asked, cleared, &expected, &buffer[..n]),
-        Filled::Ended => outcome::ended(k),
-        Filled::TooLong => outcome::too_long(k),
+        Filled::Ended => verdict::ended(k),
+        Filled::TooLong => verdict::too_long(k),
     }
 }
 
@@ -187,10 +187,10 @@ fn whole(low: u64, high: u64) -> u64 {
 }
 
 // Reads vector `k` and tries it.
-pub fn replay_one(k: u64) -> Outcome {
+pub fn replay_one(k: u64) -> Verdict {
     let mut numbers = [0u64; 7];
     if !input::numbers(&mut numbers) {
-        return outcome::ended(k);
+        return verdict::ended(k);
     }
     let size = whole(numbers[0], numbers[1]);
     let unit = whole(numbers[2], numbers[3]);
@@ -198,10 +198,10 @@ pub fn replay_one(k: u64) -> Outcome {
     let text = numbers[5] as usize;
     let cleared = numbers[6] as usize;
     if WORK <= work {
-        return outcome::too_long(k);
+        return verdict::too_long(k);
     }
     if TEXT <= text {
-        return outcome::too_long(k);
+        return verdict::too_long(k);
     }
     let asked = Asked {
         size,

@@ -8,7 +8,7 @@ use native.Mathlib.Decide.{decLt}
 use mathlib.Core.List.{List, [], _∷_, _++_}
 use borrow.Author.Tests.{lt-ltb, le-ltb}
 use lib.ListN.{length, length-append, set}
-use Rattle.text.specs.Digits.{glyph, numeral, fixed}
+use Rattle.text.specs.Digits.{glyph, numeral, lastDigits}
 use Rattle.text.specs.Wrote.{overlay}
 use Rattle.text.proofs.Overlay.{overlay-none, overlay-last}
 
@@ -39,14 +39,14 @@ numeral-more b most n h = rw (le-ltb n b h)
 length-snoc : (s : List ℕ) (x : ℕ) → length (s ++ (x ∷ [])) ≡ suc (length s)
 length-snoc s x = length-append s (x ∷ []) ∙ add-one (length s)
 
-pub length-fixed : (b k n : ℕ) → length (fixed b k n) ≡ k
-unfolding fixed
+pub length-fixed : (b k n : ℕ) → length (lastDigits b k n) ≡ k
+unfolding lastDigits
 length-fixed b zero n = refl
-length-fixed b (suc k) n = length-snoc (fixed b k (n / b)) (glyph (n % b)) ∙ ap suc (length-fixed b k (n / b))
+length-fixed b (suc k) n = length-snoc (lastDigits b k (n / b)) (glyph (n % b)) ∙ ap suc (length-fixed b k (n / b))
 
 -- a number without zeros in front is as many of its last digits as it has
-pub numeral-fixed : (b most n : ℕ) → numeral b most n ≡ fixed b (length (numeral b most n)) n
-unfolding numeral fixed
+pub numeral-fixed : (b most n : ℕ) → numeral b most n ≡ lastDigits b (length (numeral b most n)) n
+unfolding numeral lastDigits
 numeral-fixed b zero n = refl
 numeral-fixed b (suc most) n =
     elim (decLt n b) [
@@ -82,20 +82,20 @@ count-end b most k n h l = go (most - k) refl
     go (suc m) e = rw (e, numeral-one b m n h)
 
 -- a loop that stores digits from the last: a turn, and the end
-pub store-more : (b at n : ℕ) (d t : List ℕ) → 0 < at → overlay d 0 (fixed b at n) ≡ t
-    → overlay (set d (at - 1) (glyph (n % b))) 0 (fixed b (at - 1) (n / b)) ≡ t
-unfolding fixed
+pub store-more : (b at n : ℕ) (d t : List ℕ) → 0 < at → overlay d 0 (lastDigits b at n) ≡ t
+    → overlay (set d (at - 1) (glyph (n % b))) 0 (lastDigits b (at - 1) (n / b)) ≡ t
+unfolding lastDigits
 store-more b zero n d t h e = absurd (not-suc-le-zero h)
 store-more b (suc j) n d t h e =
     let p : suc j - 1 ≡ j = omega arith in
-    rw p (rw length-fixed at (sym (overlay-last d (fixed b j (n / b)) (glyph (n % b)))) ∙ e)
+    rw p (rw length-fixed at (sym (overlay-last d (lastDigits b j (n / b)) (glyph (n % b)))) ∙ e)
 
-pub store-end : (b at n : ℕ) (d t : List ℕ) → at ≤ 0 → overlay d 0 (fixed b at n) ≡ t → d ≡ t
-unfolding fixed
+pub store-end : (b at n : ℕ) (d t : List ℕ) → at ≤ 0 → overlay d 0 (lastDigits b at n) ≡ t → d ≡ t
+unfolding lastDigits
 store-end b zero n d t h e = sym (overlay-none d 0) ∙ e
 store-end b (suc at) n d t h e = absurd (not-suc-le-zero h)
 
 -- a call that stores the last hexadecimal digit
 pub digit-more : (at n : ℕ) (d : List ℕ) {d′ t : List ℕ} {r : ℕ} → 0 < at → (d′ ≡ set d (at - 1) (glyph (n % 16))) × (r ≡ n / 16)
-    → overlay d 0 (fixed 16 at n) ≡ t → overlay d′ 0 (fixed 16 (at - 1) r) ≡ t
+    → overlay d 0 (lastDigits 16 at n) ≡ t → overlay d′ 0 (lastDigits 16 (at - 1) r) ≡ t
 digit-more at n d {d′} {t} {r} h p e = rw (p .0, p .1) (store-more 16 at n d t h e)

@@ -7,7 +7,7 @@ use native.Mathlib.Numerals.{add-one}
 use mathlib.Core.List.{List, _++_, append-nil}
 use lib.ListN.{length, take, drop, set, getD, length-drop, drop-of-length-le}
 use lib.Seq.{take-all}
-use Rattle.text.specs.Digits.{numeral, fixed}
+use Rattle.text.specs.Digits.{numeral, lastDigits}
 use Rattle.text.specs.Doc.{Doc, raw, print}
 use Rattle.text.specs.Wrote.{maxUsize, overlay, Printed, Wrote}
 use Rattle.text.proofs.Overlay.{overlay-past, overlay-part, overlay-stop, overlay-more}
@@ -31,15 +31,15 @@ pub measured : {o : List ℕ} {d : Doc} {n : ℕ} → length o ≡ 0 → n ≡ l
 measured {o} {d} {n} h e = record { bytes = sym (overlay-past o 0 (print d) (omega arith)); size = e }
 
 -- the last k digits of a number were stored
-pub spelt : (b k n : ℕ) {o o′ : List ℕ} {d : Doc} → print d ≡ fixed b k n → o′ ≡ overlay o 0 (fixed b k n) → Printed o d o′ k
+pub spelt : (b k n : ℕ) {o o′ : List ℕ} {d : Doc} → print d ≡ lastDigits b k n → o′ ≡ overlay o 0 (lastDigits b k n) → Printed o d o′ k
 spelt b k n {o} {o′} {d} p q =
     record { bytes = q ∙ ap (overlay o 0) (sym p); size = sym (length-fixed b k n) ∙ ap length (sym p) }
 
 -- all digits of a number were stored
 pub stored : (b most n : ℕ) {k : ℕ} {o o′ : List ℕ} {d : Doc} → print d ≡ numeral b most n → k ≡ length (print d)
-    → o′ ≡ overlay o 0 (fixed b k n) → Printed o d o′ k
+    → o′ ≡ overlay o 0 (lastDigits b k n) → Printed o d o′ k
 stored b most n {k} {o} {o′} {d} p e q =
-    spelt b k n (p ∙ numeral-fixed b most n ∙ ap (λ (j : ℕ). fixed b j n) (sym (e ∙ ap length p))) q
+    spelt b k n (p ∙ numeral-fixed b most n ∙ ap (λ (j : ℕ). lastDigits b j n) (sym (e ∙ ap length p))) q
 
 -- the part of o from index at, or an empty one where at is past the end, was lent to a printer and came back
 pub lent : {o part′ : List ℕ} {at from n r : ℕ} {d : Doc} → length o ≤ maxUsize → from ≡ min at (length o)

@@ -14,6 +14,6 @@ numeral b zero n = []
 numeral b (suc most) n = cond (ltb n b) (glyph n ∷ []) (numeral b most (n / b) ++ (glyph (n % b) ∷ []))
 
 -- the last k digits of n in base b
-unfoldable pub fixed : ℕ → ℕ → ℕ → List ℕ
-fixed b zero n = []
-fixed b (suc k) n = fixed b k (n / b) ++ (glyph (n % b) ∷ [])
+unfoldable pub lastDigits : ℕ → ℕ → ℕ → List ℕ
+lastDigits b zero n = []
+lastDigits b (suc k) n = lastDigits b k (n / b) ++ (glyph (n % b) ∷ [])

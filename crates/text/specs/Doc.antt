@@ -5,7 +5,7 @@ use Prim.Native.String.{String, [] as ε, _∷_ as _∷ˢ_}
 use mathlib.Core.Bool.{cond}
 use mathlib.Core.List.{List, [], _∷_, _++_}
 use lib.Dec.{ltb}
-use Rattle.text.specs.Digits.{numeral, fixed}
+use Rattle.text.specs.Digits.{numeral, lastDigits}
 
 infixr 60 _▸_
 pub data Doc : Type 0 where
@@ -45,10 +45,10 @@ hexadecimal n = numeral 16 16 n
 
 -- with zeros in front
 unfoldable pub hexadecimal8 : ℕ → List ℕ
-hexadecimal8 n = fixed 16 8 n
+hexadecimal8 n = lastDigits 16 8 n
 
 unfoldable pub hexadecimal16 : ℕ → List ℕ
-hexadecimal16 n = fixed 16 16 n
+hexadecimal16 n = lastDigits 16 16 n
 
 -- the bytes of a doc
 unfoldable pub print : Doc → List ℕ

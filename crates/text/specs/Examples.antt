@@ -1,7 +1,7 @@
 -- Texts that a reader knows, computed.
 use mathlib.Core.Path.{_≡_, refl}
 use mathlib.Core.List.{[], _∷_}
-use Rattle.text.specs.Digits.{numeral, fixed}
+use Rattle.text.specs.Digits.{numeral, lastDigits}
 use Rattle.text.specs.Doc.{text, dec, hex, hex8, hex16, _▸_, decimal, hexadecimal, hexadecimal8, hexadecimal16, print, each}
 
 -- zero is one digit, and the largest u64 has twenty
@@ -15,7 +15,7 @@ largest-has-twenty = refl
 
 -- zeros in front where eight digits are asked, and none where they are not
 key-has-eight : print (hex8 0x08000010) ≡ print (text "08000010")
-unfolding print hexadecimal8 fixed
+unfolding print hexadecimal8 lastDigits
 key-has-eight = refl
 
 no-zeros-in-front : print (hex 0x08000010) ≡ print (text "8000010")
@@ -23,7 +23,7 @@ unfolding print hexadecimal numeral
 no-zeros-in-front = refl
 
 hash-has-sixteen : print (hex16 0x0bf29ce484222325) ≡ print (text "0bf29ce484222325")
-unfolding print hexadecimal16 fixed
+unfolding print hexadecimal16 lastDigits
 hash-has-sixteen = refl
 
 -- a long dash is three bytes, and the rest of the text one each

@@ -21,9 +21,13 @@ pub record Printed (part : List ℕ) (d : Doc) (part′ : List ℕ) (n : ℕ) : 
   pub bytes : part′ ≡ overlay part 0 (print d)
   pub size : n ≡ length (print d)
 
--- d was written to out at index at: out′ is what out became, and r the index after d, or the largest `usize` where that is less.
--- An out with no bytes is measured: r is then what d takes. The third field says what is true of any slice
+-- the index after a text at index at, or the largest `usize` where that is less
+abbrev pub indexAfter : ℕ → Doc → ℕ
+indexAfter at d = min (at + length (print d)) maxUsize
+
+-- d was written to out at index at: out′ is what out became, and r the index after d. In an out with no bytes nothing is written, and r says how far d would
+-- reach. The third field says what is true of any slice
 pub record Wrote (out : List ℕ) (at : ℕ) (d : Doc) (out′ : List ℕ) (r : ℕ) : Type 0 where
   pub bytes : out′ ≡ overlay out at (print d)
-  pub next : r ≡ min (at + length (print d)) maxUsize
+  pub next : r ≡ indexAfter at d
   pub small : length out ≤ maxUsize

@@ -4,17 +4,21 @@ mod digits;
 ghost use mathlib.Core.Path.{_≡_};
 ghost use Prim.Native.Nat.{_+_, _/_, _%_, _≤_, min};
 ghost use lib.ListN.{length, set};
-ghost use Rattle.text.specs.Digits.{glyph, fixed};
+ghost use Rattle.text.specs.Digits.{glyph, lastDigits};
 ghost use Rattle.text.specs.Doc.{raw, dec, hex, hex8, hex16, _▸_};
 ghost use Rattle.text.specs.Wrote.{maxUsize, overlay, Printed, Wrote};
 
-const TOP: usize = 0xffff_ffff_ffff_ffff;
+const MAX_USIZE: usize = 0xffff_ffff_ffff_ffff;
 
 // at + n, or the largest usize where that is less.
 fn after(at: usize, n: usize) -> usize
     ensures { λ r. ⌜ r ≡ min (at + n) maxUsize ⌝ }
 {
-    if n <= TOP - at { at + n } else { TOP }
+    if n <= MAX_USIZE - at {
+        at + n
+    } else {
+        MAX_USIZE
+    }
 }
 
 fn least(a: usize, b: usize) -> usize
@@ -65,7 +69,7 @@ fn digit(part: &mut [u8], at: usize, n: u64) -> u64
 
 // Stores the last k hexadecimal digits of n at the front of part.
 fn last_digits(part: &mut [u8], n: u64, k: usize)
-    ensures { λ _. ⌜ now (part .exit) ≡ overlay (now (part .entry)) 0 (fixed 16 k n) ⌝ }
+    ensures { λ _. ⌜ now (part .exit) ≡ overlay (now (part .entry)) 0 (lastDigits 16 k n) ⌝ }
 {
     let mut rest = n;
     let mut at = k;

@@ -12,7 +12,7 @@ use Rattle.block_file.specs.Answer.{refusal, value}
 use Rattle.block_file.specs.Parse.{Block, Parsed, blocksOf, Accepted}
 use Rattle.records.specs.Trailer.{blockCount}
 use Rattle.block_file.proofs.Accepted.{length-of}
-use Rattle.plan.specs.Calls.{cleared, Made, Outcome, handOver, callOnBlocks, callOnFile}
+use Rattle.plan.specs.Calls.{cleared, Made, CallOutcome, handOver, callOnBlocks, callOnFile}
 use Rattle.lowering.specs.Units.{UnitAnswer, madeUnit, unit, textOf, fileUnits}
 use Rattle.emit_units.specs.declared.extents.Extent.{Extent}
 use Rattle.emit_units.specs.Units.{IsUnit}
@@ -32,7 +32,7 @@ abbrev valuesOf : ℕ → ℕ → Bool → UnitAnswer
 valuesOf n d l = record { length = n; done = d; last = l }
 
 module _ (f : List ℕ) (limit max k : ℕ) (work result : List ℕ) where
-  abbrev over : Option (Made UnitAnswer) → Outcome UnitAnswer
+  abbrev over : Option (Made UnitAnswer) → CallOutcome UnitAnswer
   over o = handOver o work result
 
   -- there is no such unit

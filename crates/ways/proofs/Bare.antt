@@ -7,8 +7,8 @@ use lib.Dec.{leb}
 use Rattle.armv4t.specs.Bit0.{clearBit0}
 use Rattle.c_tree.specs.Expr.{word, Expr, lit}
 use Rattle.c_tree.specs.Stmt.{Plain, Owner, common, Simple, gap, recordMark, plain, label, goto, ret, retIf, interp, retInterp, call, switch, Code, end, _⨾_, when, braces}
-use Rattle.forms.specs.Forms.{Lines, Native, straight, straightIf, branch, jump, pair, bx, pop, Form, shell, records, Body}
-use Rattle.lowering.specs.Block.{nl, sp, line, lines, gotoCode, transfer, closing, leave, toThumb, toArm, conditional, nativeText, codeFrom, underGuard, blockCode}
+use Rattle.forms.specs.Forms.{Lines, Native, straight, straightIf, branchIf, jump, pair, bx, pop, Form, shell, records, Body}
+use Rattle.lowering.specs.Block.{nl, sp, line, lines, gotoCode, transfer, closing, leave, toThumb, toArm, conditional, nativeText, codeFrom, underGuard, blockCode, closingLines}
 use Rattle.block_file.specs.Address.{among, outsideRomBios}
 
 -- a text without labels
@@ -44,19 +44,19 @@ bare-cond : (x : Bool) (c d : Code) → Bare c → Bare d → Bare (cond x c d)
 bare-cond true c d h k = h
 bare-cond false c d h k = k
 
-bare-chain : (x : Bool) (o : Owner) (n k : ℕ) (c : Code) → Bare c → Bare (gotoCode x o n k c)
+bare-goto : (x : Bool) (o : Owner) (n k : ℕ) (c : Code) → Bare c → Bare (gotoCode x o n k c)
 unfolding gotoCode
-bare-chain true o n k c h = (tt, (tt, (tt, (tt, (tt, (tt, h))))))
-bare-chain false o n k c h = (tt, (tt, (tt, h)))
+bare-goto true o n k c h = (tt, (tt, (tt, (tt, (tt, (tt, h))))))
+bare-goto false o n k c h = (tt, (tt, (tt, h)))
 
 module _ (ks : List ℕ) (b : Body) where
   bare-transfer : (o : Owner) (n k : ℕ) (c : Code) → Bare c → Bare (transfer ks (b .addr) o n k c)
   unfolding transfer
-  bare-transfer o n k c h = bare-cond (among k ks) _ (sp n ⨾ ret o (lit word k) ⨾ nl ⨾ c) (bare-chain (leb (clearBit0 k) (b .addr)) o n k c h) (tt, (tt, (tt, h)))
+  bare-transfer o n k c h = bare-cond (among k ks) _ (sp n ⨾ ret o (lit word k) ⨾ nl ⨾ c) (bare-goto (leb (clearBit0 k) (b .addr)) o n k c h) (tt, (tt, (tt, h)))
 
   bare-closing : Bare (closing ks b)
   unfolding closing
-  bare-closing = bare-lines common 4 (b .closing) _ (bare-transfer common 4 _ end tt)
+  bare-closing = bare-lines common 4 (closingLines b) _ (bare-transfer common 4 _ end tt)
 
   bare-conditional : (o : Owner) (e : Expr) (d c : Code) → Bare d → Bare c → Bare (conditional o e d c)
   bare-conditional o e d c g h = (tt, ((tt, (tt, (tt, (tt, (tt, (g, (tt, tt))))))), (tt, h)))
@@ -67,7 +67,7 @@ module _ (ks : List ℕ) (b : Body) where
   bare-native o (straightIf t e l) c h =
       let d : Code = nl ⨾ lines o 8 l (sp 6 ⨾ end) in
       bare-lines o 4 t (conditional o e d c) (bare-conditional o e d c (tt, bare-lines o 8 l (sp 6 ⨾ end) (tt, tt)) h)
-  bare-native o (branch t e l k) c h =
+  bare-native o (branchIf t e l k) c h =
       let d : Code = nl ⨾ transfer ks (b .addr) o 8 k (sp 6 ⨾ end) in
       bare-lines o 4 t (conditional o e (sp 1 ⨾ line o l d) c)
       (bare-conditional o e (sp 1 ⨾ line o l d) c (tt, bare-line o l d (tt, bare-transfer o 8 k (sp 6 ⨾ end) (tt, tt))) h)
@@ -81,18 +81,18 @@ module _ (ks : List ℕ) (b : Body) where
       let close : Bare (sp 6 ⨾ plain o q ⨾ leave o e) = (tt, (tt, (tt, (tt, (tt, tt))))) in
       bare-lines o 4 t _ (tt, ((tt, (tt, (tt, bare-lines o 6 l (sp 6 ⨾ plain o q ⨾ leave o e) close))), (tt, tt)))
 
-  bare-rest : (rs : List Form) (p : ℕ) → Bare (codeFrom ks b p rs)
+  bare-code : (rs : List Form) (p : ℕ) → Bare (codeFrom ks b p rs)
   unfolding codeFrom
-  bare-rest [] p = bare-closing
-  bare-rest (Form.native r ∷ rs) p = (tt, bare-native _ r _ (bare-rest rs (p + records r)))
-  bare-rest (shell h t e ∷ []) p = bare-lines _ 4 t _ (tt, (tt, (tt, bare-cond h (closing ks b) end bare-closing tt)))
-  bare-rest (shell h t e ∷ r ∷ rs) p = bare-lines _ 4 t _ (tt, (tt, (tt, (tt, (tt, bare-rest (r ∷ rs) (p + 1))))))
+  bare-code [] p = bare-closing
+  bare-code (Form.native r ∷ rs) p = (tt, bare-native _ r _ (bare-code rs (p + records r)))
+  bare-code (shell h t e ∷ []) p = bare-lines _ 4 t _ (tt, (tt, (tt, bare-cond h (closing ks b) end bare-closing tt)))
+  bare-code (shell h t e ∷ r ∷ rs) p = bare-lines _ 4 t _ (tt, (tt, (tt, (tt, (tt, bare-code (r ∷ rs) (p + 1))))))
 
   bare-guard : (y : Option ℕ) → Bare (underGuard ks b y)
   unfolding underGuard
   bare-guard none = (tt, (tt, (tt, (tt, (tt, tt)))))
-  bare-guard (some h) = (tt, ((tt, (tt, (tt, (tt, (tt, tt))))), (tt, bare-rest (b .forms) 0)))
+  bare-guard (some h) = (tt, ((tt, (tt, (tt, (tt, (tt, tt))))), (tt, bare-code (b .forms) 0)))
 
   pub bare-block : Bare (blockCode ks b)
   unfolding blockCode
-  bare-block = bare-cond (outsideRomBios (b .addr)) _ _ (bare-guard (b .hash)) (bare-rest (b .forms) 0)
+  bare-block = bare-cond (outsideRomBios (b .addr)) _ _ (bare-guard (b .hash)) (bare-code (b .forms) 0)

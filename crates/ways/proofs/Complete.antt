@@ -17,7 +17,7 @@ use Rattle.lowering.specs.Block.{bodyKey}
 use Rattle.lowering.specs.Units.{emitGroup, unitHead, lastUnitEnd, defaultBody, bodiesOf, unitsOf, unitsFor}
 use Rattle.ways.proofs.Faithful.{Faithful}
 use Rattle.ways.specs.Claim.{timesCarried, allUnits}
-use Rattle.ways.specs.Complete.{functions, Found, Complete}
+use Rattle.ways.specs.Complete.{functionCount, BlockHasWay, Complete}
 use Rattle.ways.proofs.Places.{found-at}
 use Rattle.ways.proofs.Members.{nowhere, File, bodies, key-of, is-member, same-place}
 use Rattle.ways.proofs.Entered.{entered}
@@ -70,10 +70,10 @@ module _ (F : File) (i : ℕ) (h : i < length (F .bs)) where
       omega (arith, one, more, count-append i g (flatten gs))
 
   module _ (max : ℕ) where
-    one-function : functions (key i) (allUnits bodyOf limit max bs) ≡ 1
+    one-function : functionCount (key i) (allUnits bodyOf limit max bs) ≡ 1
     unfolding allUnits unitsFor unitsOf
     one-function =
-        let none : functions (key i) unitHead ≡ 0 = refl in
+        let none : functionCount (key i) unitHead ≡ 0 = refl in
         functions-cut (key i) max (lastUnitEnd (bodies F)) (no-end (key i) (bodies F)) (map (bodiesOf (bodies F)) (groups limit bs)) unitHead 0
         ∙ omega (arith, none, in-groups (groups limit bs) (group-inside limit bs), groups-once limit bs i h)
 
@@ -93,14 +93,14 @@ module _ (F : File) (i : ℕ) (h : i < length (F .bs)) where
     filled : 1 ≤ recordCounts (bodyOf (getD bs i nowhere) .forms)
     filled = let m = is-member F i h in omega (arith, m .filled, m .whole)
 
-    pub found : (b : Block) → getD bs i nowhere ≡ b → Found bodyOf limit max bs i b
+    pub found : (b : Block) → getD bs i nowhere ≡ b → BlockHasWay bodyOf limit max bs i b
     unfolding allUnits
     found b e =
         let w = entered (allUnits bodyOf limit max bs) (bodyOf (getD bs i nowhere)) filled (bodiesOf (bodies F) mine) here
         (λ t m. in-part t (emitGroup (bodiesOf (bodies F) mine)) (unitsFor bodyOf limit max bs) part m) in
         let k : key i ≡ blockKey b = key-of F (getD bs i nowhere) ∙ ap blockKey e in
         record {
-          single = subst (λ n. functions n (allUnits bodyOf limit max bs) ≡ 1) k one-function;
+          single = subst (λ n. functionCount n (allUnits bodyOf limit max bs) ≡ 1) k one-function;
           members = mine;
           grouped = group-of limit bs i h .1;
           among = group-of limit bs i h .2;

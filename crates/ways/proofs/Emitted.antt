@@ -10,10 +10,10 @@ use Rattle.armv4t.specs.Bit0.{clearBit0}
 use Rattle.c_tree.specs.Expr.{u32, word, udec, x-t, x-pc, ne, band, Expr, lit, bin}
 use Rattle.c_tree.specs.Stmt.{Plain, declare, Test, guard, gate, other, Owner, common, gap, plain, goto, ret, retIf, retInterp, Code, end, _⨾_, when}
 use Rattle.c_tree.specs.Preamble.{v32}
-use Rattle.forms.specs.Forms.{Lines, Native, straight, straightIf, branch, jump, pair, bx, pop, Form, shell, records, Body}
+use Rattle.forms.specs.Forms.{Lines, Native, straight, straightIf, branchIf, jump, pair, bx, pop, Form, shell, records, Body}
 use Rattle.forms.proofs.RecordCount.{recordCounts}
 use Rattle.forms.specs.Operands.{flags}
-use Rattle.lowering.specs.Block.{bodyKey, bodyLength, nl, sp, line, lines, gotoCode, transfer, closing, leave, toThumb, toArm, conditional, nativeText, codeFrom, defer, underGuard, blockCode}
+use Rattle.lowering.specs.Block.{bodyKey, bodyLength, nl, sp, line, lines, gotoCode, transfer, closing, leave, toThumb, toArm, conditional, nativeText, codeFrom, defer, underGuard, blockCode, closingLines}
 use Rattle.block_file.specs.Address.{among, outsideRomBios}
 use Rattle.ways.specs.Ways.{Event, reach, said, nativeStart, interpreted}
 use Rattle.ways.proofs.Logic.{Logic, Pick, Ok}
@@ -104,22 +104,22 @@ module _ (L : Logic) (b : Body) (ks : List ℕ) (R : Rules L b ks) where
         go true j = f _ j
         go false j = g _ j
 
-    ok-chain : (n k : ℕ) → List·Memᴰ k ks → (y : Bool) → (T (not y) → b .addr < clearBit0 k) → (c : Code) (K : S → Type 0) → Fits p w (gotoCode y o n k c) K
+    ok-goto : (n k : ℕ) → List·Memᴰ k ks → (y : Bool) → (T (not y) → b .addr < clearBit0 k) → (c : Code) (K : S → Type 0) → Fits p w (gotoCode y o n k c) K
     unfolding gotoCode
-    ok-chain n k m true h c K =
+    ok-goto n k m true h c K =
         ok-retIf gate (λ x. q-gate) (lit word k) (nl ⨾ sp n ⨾ goto o k ⨾ nl ⨾ c) K
         (λ s i.
         let a = quiet p w s (reach o) i u in
         let d = quiet p w _ (said gate false) (a .1) q-gate in
         (quiet p w _ (reach o) (d .1) u .0, back p w _ k o false (a .1) m))
-    ok-chain n k m false h c K = λ s i. let a = quiet p w s (reach o) i u in (a .0, up p w (step s (reach o)) k (a .1) m (h tt))
+    ok-goto n k m false h c K = λ s i. let a = quiet p w s (reach o) i u in (a .0, up p w (step s (reach o)) k (a .1) m (h tt))
 
     ok-transfer : (n k : ℕ) (c : Code) (K : S → Type 0) → Fits p w (transfer ks (b .addr) o n k c) K
     unfolding transfer
     ok-transfer n k c K = go (among k ks) (among→mem k ks)
       where
         go : (x : Bool) → (T x → List·Memᴰ k ks) → Fits p w (cond x (gotoCode (leb (clearBit0 k) (b .addr)) o n k c) (sp n ⨾ ret o (lit word k) ⨾ nl ⨾ c)) K
-        go true m = ok-chain n k (m tt) (leb (clearBit0 k) (b .addr)) (nleb→lt (clearBit0 k) (b .addr)) c K
+        go true m = ok-goto n k (m tt) (leb (clearBit0 k) (b .addr)) (nleb→lt (clearBit0 k) (b .addr)) c K
         go false m = λ s i. quiet p w s (reach o) i u .0
 
     -- { flags; if (e) { d } }, and c behind it
@@ -144,7 +144,7 @@ module _ (L : Logic) (b : Body) (ks : List ℕ) (R : Rules L b ks) where
     ok-native (straightIf t e l) c K f =
         let d : Code = nl ⨾ lines o 8 l (sp 6 ⨾ end) in
         ok-lines 4 t (conditional o e d c) K (ok-conditional e d c K (ok-lines 8 l (sp 6 ⨾ end) (λ s. Ok L c s K) f) f)
-    ok-native (branch t e l k) c K f =
+    ok-native (branchIf t e l k) c K f =
         let d : Code = nl ⨾ transfer ks (b .addr) o 8 k (sp 6 ⨾ end) in
         ok-lines 4 t (conditional o e (sp 1 ⨾ line o l d) c) K
         (ok-conditional e (sp 1 ⨾ line o l d) c K (ok-line l d (λ s. Ok L c s K) (ok-transfer 8 k (sp 6 ⨾ end) (λ s. Ok L c s K))) f)
@@ -162,16 +162,16 @@ module _ (L : Logic) (b : Body) (ks : List ℕ) (R : Rules L b ks) where
 
   ok-closing : (p w : ℕ) (K : S → Type 0) → Fits p w (closing ks b) K
   unfolding closing
-  ok-closing p w K = ok-lines p w common q-none 4 (b .closing) _ K (ok-transfer p w common q-none 4 _ end K)
+  ok-closing p w K = ok-lines p w common q-none 4 (closingLines b) _ K (ok-transfer p w common q-none 4 _ end K)
 
-  ok-rest : (rs : List Form) (p : ℕ) (K : S → Type 0) → Fits p (recordCounts rs) (codeFrom ks b p rs) K
+  ok-code : (rs : List Form) (p : ℕ) (K : S → Type 0) → Fits p (recordCounts rs) (codeFrom ks b p rs) K
   unfolding codeFrom
-  ok-rest [] p K s i = ok-closing p 0 K s i
-  ok-rest (Form.native r ∷ rs) p K s i =
+  ok-code [] p K s i = ok-closing p 0 K s i
+  ok-code (Form.native r ∷ rs) p K s i =
       let d = carry p (records r) (recordCounts rs) s i in
-      (d .0, ok-native (p + records r) (recordCounts rs) (Owner.native (bodyKey b)) q-native r _ K (ok-rest rs (p + records r) K) _ (d .1))
-  ok-rest (shell h t e ∷ []) p K s i = ok-lines _ _ _ q-none 4 t (sp 4 ⨾ retInterp (bodyKey b) p ⨾ nl ⨾ cond h (closing ks b) end) K (λ s′ j. shells p 0 s′ j .0) s i
-  ok-rest (shell h t e ∷ r ∷ rs) p K s i =
+      (d .0, ok-native (p + records r) (recordCounts rs) (Owner.native (bodyKey b)) q-native r _ K (ok-code rs (p + records r) K) _ (d .1))
+  ok-code (shell h t e ∷ []) p K s i = ok-lines _ _ _ q-none 4 t (sp 4 ⨾ retInterp (bodyKey b) p ⨾ nl ⨾ cond h (closing ks b) end) K (λ s′ j. shells p 0 s′ j .0) s i
+  ok-code (shell h t e ∷ r ∷ rs) p K s i =
       ok-lines _ _ _ q-none 4 t _ K
       (λ s′ j.
       let d = shells p (recordCounts (r ∷ rs)) s′ j in (
@@ -179,7 +179,7 @@ module _ (L : Logic) (b : Body) (ks : List ℕ) (R : Rules L b ks) where
         ok-retIf _ _ common q-none (other (bin ne (v32 x-pc) (lit word e))) (λ x. q-other) (v32 x-pc) (nl ⨾ codeFrom ks b (p + 1) (r ∷ rs)) K
             (λ s″ j′.
             let a = quiet _ _ s″ (reach common) j′ q-none in
-            ok-rest (r ∷ rs) (p + 1) K _ (quiet _ _ _ (said (other (bin ne (v32 x-pc) (lit word e))) false) (a .1) q-other .1))
+            ok-code (r ∷ rs) (p + 1) K _ (quiet _ _ _ (said (other (bin ne (v32 x-pc) (lit word e))) false) (a .1) q-other .1))
             _ (d .1),
       ))
       s i
@@ -194,7 +194,7 @@ module _ (L : Logic) (b : Body) (ks : List ℕ) (R : Rules L b ks) where
           pass : (x : Bool)
               → Pick (not x) (Ok L (defer b (sp 1 ⨾ end)) (step (step s (reach common)) (said (guard (b .addr) (bodyLength b) h) x)) (λ s′. Ok L (codeFrom ks b 0 (b .forms)) s′ K))
               (Ok L (codeFrom ks b 0 (b .forms)) (step (step s (reach common)) (said (guard (b .addr) (bodyLength b) h) x)) K)
-          pass true = ok-rest (b .forms) 0 K _ (yes-of s h e i)
+          pass true = ok-code (b .forms) 0 K _ (yes-of s h e i)
           pass false = defers _ (asks s h false i .2)
 
       under : (y : Option ℕ) → b .hash ≡ y → Ok L (underGuard ks b y) s K
@@ -203,4 +203,4 @@ module _ (L : Logic) (b : Body) (ks : List ℕ) (R : Rules L b ks) where
 
       go : (x : Bool) → (T (not x) → Inv 0 (recordCounts (b .forms)) s) → Ok L (cond x (underGuard ks b (b .hash)) (codeFrom ks b 0 (b .forms))) s K
       go true f = under (b .hash) refl
-      go false f = ok-rest (b .forms) 0 K s (f tt)
+      go false f = ok-code (b .forms) 0 K s (f tt)

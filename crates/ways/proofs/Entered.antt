@@ -7,12 +7,12 @@ use mathlib.Core.Option.{Option, none, some}
 use native.Mathlib.Omega.{arith}
 use borrow.Author.Tests.{eq-eqb}
 use Rattle.c_tree.specs.Stmt.{Plain, Owner, common, gap, plain, Code, end, _⨾_, when, braces, _⧺_, block, group, Top, function}
-use Rattle.forms.specs.Forms.{Lines, Native, straight, straightIf, branch, jump, pair, bx, pop, Form, shell, records, Body}
+use Rattle.forms.specs.Forms.{Lines, Native, straight, straightIf, branchIf, jump, pair, bx, pop, Form, shell, records, Body}
 use Rattle.forms.proofs.RecordCount.{recordCounts}
 use Rattle.lowering.specs.Block.{bodyKey, nl, line, lines, codeFrom, underGuard, blockCode}
 use Rattle.block_file.specs.Address.{outsideRomBios}
 use Rattle.lowering.specs.Units.{withLocals, emitBlock, labelled, groupCode, forwarders, emitGroup}
-use Rattle.ways.specs.Ways.{LabelAt, here, later, past-when, past-braces, Event, nativeStart, interpreted, negated, taken, Way, stop, w-gap, w-begin, w-plain, w-label, w-goto, w-lost, w-ret, w-leave, w-stay, w-unsaid, w-call, w-interp, w-retInterp, w-entry, w-default, w-past, w-when, w-unanswered, w-braces}
+use Rattle.ways.specs.Ways.{LabelAt, here, later, past-when, past-braces, Event, nativeStart, interpreted, negated, taken, Way, stop, w-gap, w-record, w-plain, w-label, w-goto, w-lost, w-ret, w-leave, w-stay, w-unsaid, w-call, w-interp, w-retInterp, w-entry, w-default, w-past, w-when, w-unanswered, w-braces}
 use Rattle.ways.specs.Claim.{timesCarried}
 use Rattle.ways.proofs.Functions.{forwarder}
 
@@ -30,7 +30,7 @@ taken-append false b c d = refl
 extend : {ts : List Top} {f c : Code} {xs : List Bool} {es : List Event} (d : Code) → Way ts f c xs es → Way ts f (c ⧺ d) xs es
 extend d stop = stop
 extend d (w-gap w) = w-gap (extend d w)
-extend d (w-begin w) = w-begin (extend d w)
+extend d (w-record w) = w-record (extend d w)
 extend d (w-plain w) = w-plain (extend d w)
 extend d (w-label w) = w-label (extend d w)
 extend d (w-goto p w) = w-goto p w
@@ -89,7 +89,7 @@ module _ (ts : List Top) (f : Code) (ks : List ℕ) (b : Body) where
   counts : (r : Native) → 1 ≤ timesCarried (bodyKey b) 0 (nativeStart (bodyKey b) 0 (records r) ∷ [])
   counts (straight t l) = rw (eq-eqb (bodyKey b) (bodyKey b) refl) (omega arith)
   counts (straightIf t e l) = rw (eq-eqb (bodyKey b) (bodyKey b) refl) (omega arith)
-  counts (branch t e s k) = rw (eq-eqb (bodyKey b) (bodyKey b) refl) (omega arith)
+  counts (branchIf t e s k) = rw (eq-eqb (bodyKey b) (bodyKey b) refl) (omega arith)
   counts (jump t k) = rw (eq-eqb (bodyKey b) (bodyKey b) refl) (omega arith)
   counts (pair t k) = rw (eq-eqb (bodyKey b) (bodyKey b) refl) (omega arith)
   counts (bx t e) = rw (eq-eqb (bodyKey b) (bodyKey b) refl) (omega arith)
@@ -98,12 +98,12 @@ module _ (ts : List Top) (f : Code) (ks : List ℕ) (b : Body) where
   shell-counts : 1 ≤ timesCarried (bodyKey b) 0 (interpreted (bodyKey b) 0 ∷ [])
   shell-counts = rw (eq-eqb (bodyKey b) (bodyKey b) refl) (omega arith)
 
-  from-rest : (rs : List Form) → 1 ≤ recordCounts rs → Carries ts f (bodyKey b) (codeFrom ks b 0 rs)
+  from-code : (rs : List Form) → 1 ≤ recordCounts rs → Carries ts f (bodyKey b) (codeFrom ks b 0 rs)
   unfolding codeFrom
-  from-rest [] h = absurd (omega arith)
-  from-rest (Form.native r ∷ rs) h = ([], _, w-begin stop, counts r)
-  from-rest (shell x t e ∷ []) h = over-lines ts f (bodyKey b) common 4 t _ ([], _, w-gap w-retInterp, shell-counts)
-  from-rest (shell x t e ∷ r ∷ rs) h = over-lines ts f (bodyKey b) common 4 t _ ([], _, w-gap (w-interp stop), shell-counts)
+  from-code [] h = absurd (omega arith)
+  from-code (Form.native r ∷ rs) h = ([], _, w-record stop, counts r)
+  from-code (shell x t e ∷ []) h = over-lines ts f (bodyKey b) common 4 t _ ([], _, w-gap w-retInterp, shell-counts)
+  from-code (shell x t e ∷ r ∷ rs) h = over-lines ts f (bodyKey b) common 4 t _ ([], _, w-gap (w-interp stop), shell-counts)
 
   -- the guard says yes where there is one
   from-block : 1 ≤ recordCounts (b .forms) → Carries ts f (bodyKey b) (blockCode ks b)
@@ -111,7 +111,7 @@ module _ (ts : List Top) (f : Code) (ks : List ℕ) (b : Body) where
   from-block h = go (outsideRomBios (b .addr))
     where
       all : Carries ts f (bodyKey b) (codeFrom ks b 0 (b .forms))
-      all = from-rest (b .forms) h
+      all = from-code (b .forms) h
 
       under : (y : Option ℕ) → Carries ts f (bodyKey b) (underGuard ks b y)
       under none = ([], _, w-gap (w-plain (w-gap w-retInterp)), shell-counts)

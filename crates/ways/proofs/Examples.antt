@@ -8,11 +8,11 @@ use mathlib.Core.Option.{none, some}
 use Rattle.c_tree.specs.Expr.{word, x-cz, reg, lit}
 use Rattle.c_tree.specs.Stmt.{is, set, tick, gate, other, Owner, goto, retIf, Code, end, _⨾_, when, _⧺_, group, Top, function, Test, guard}
 use Rattle.c_tree.specs.Preamble.{v32}
-use Rattle.forms.specs.Forms.{branch, Form, shell, Body, straight}
+use Rattle.forms.specs.Forms.{branchIf, Form, shell, Body, straight}
 use Rattle.lowering.specs.Block.{bodyKey, nl, gotoCode, transfer, nativeText, codeFrom, blockCode, underGuard}
 use Rattle.block_file.specs.Address.{outsideRomBios}
 use Rattle.lowering.specs.Units.{withLocals, labelled, groupCode, emitGroup, unitHead, lastUnitEnd, bodiesOf, unitsOf}
-use Rattle.ways.specs.Ways.{LabelAt, here, later, Event, reach, said, nativeStart, interpreted, Way, w-gap, w-begin, w-plain, w-goto, w-lost, w-leave, w-stay, w-unsaid, w-call, w-retInterp, w-entry, w-when, w-unanswered, w-braces, stop}
+use Rattle.ways.specs.Ways.{LabelAt, here, later, Event, reach, said, nativeStart, interpreted, Way, w-gap, w-record, w-plain, w-goto, w-lost, w-leave, w-stay, w-unsaid, w-call, w-retInterp, w-entry, w-when, w-unanswered, w-braces, stop}
 use Rattle.ways.specs.Claim.{carried, timesCarried}
 use Rattle.ways.proofs.Functions.{trees, forwarder}
 use Rattle.ways.proofs.Pieces.{group-part, in-part}
@@ -25,8 +25,8 @@ loop =
       thumb = false;
       count = 1;
       hash = none;
-      forms = Form.native (branch ((tick 3 ∷ []) ∷ []) (v32 x-cz) (set (reg 15) is (lit word 0x08000100) ∷ []) 0x08000100) ∷ [];
-      closing = (set (reg 15) is (lit word 0x08000104) ∷ []) ∷ [];
+      forms = Form.native (branchIf ((tick 3 ∷ []) ∷ []) (v32 x-cz) (set (reg 15) is (lit word 0x08000100) ∷ []) 0x08000100) ∷ [];
+      pending = 0;
     }
 
 -- swi
@@ -38,7 +38,7 @@ swi =
       count = 1;
       hash = none;
       forms = shell false ((set (reg 15) is (lit word 0x08000104) ∷ []) ∷ []) 0x08000108 ∷ [];
-      closing = (set (reg 15) is (lit word 0x08000108) ∷ []) ∷ [];
+      pending = 0;
     }
 
 abbrev both : List Body
@@ -73,7 +73,7 @@ round = nativeStart 0x08000100 0 1 ∷ owner ∷ owner ∷ owner ∷ owner ∷ s
 -- the gate says yes: the way leaves
 leaves : (ts : List Top) → Way ts (groupCode both) at-loop (true ∷ true ∷ []) (round ++ (said gate true ∷ owner ∷ []))
 unfolding blockCode outsideRomBios codeFrom nativeText transfer gotoCode
-leaves ts = w-gap (w-begin (w-gap (w-plain (w-gap (w-gap (w-braces (w-gap (w-plain (w-gap (w-plain (w-gap (w-when (w-gap (w-plain (w-gap (w-gap w-leave))))))))))))))))
+leaves ts = w-gap (w-record (w-gap (w-plain (w-gap (w-gap (w-braces (w-gap (w-plain (w-gap (w-plain (w-gap (w-when (w-gap (w-plain (w-gap (w-gap w-leave))))))))))))))))
 
 -- it says no: the way goes round
 goes-on : (ts : List Top) {xs : List Bool} {es : List Event} → Way ts (groupCode both) at-loop xs es
@@ -81,7 +81,7 @@ goes-on : (ts : List Top) {xs : List Bool} {es : List Event} → Way ts (groupCo
 unfolding blockCode outsideRomBios codeFrom nativeText transfer gotoCode
 goes-on ts w =
     w-gap
-    (w-begin
+    (w-record
     (w-gap (w-plain (w-gap (w-gap (w-braces (w-gap (w-plain (w-gap (w-plain (w-gap (w-when (w-gap (w-plain (w-gap (w-gap (w-stay (w-gap (w-gap (w-goto to-loop w))))))))))))))))))))
 
 -- from the loop's function: round, and round again up to the gate
@@ -131,7 +131,7 @@ ram =
       count = 1;
       hash = some 7;
       forms = Form.native (straight [] ((set (reg 0) is (lit word 0) ∷ []) ∷ [])) ∷ [];
-      closing = (set (reg 15) is (lit word 0x02000004) ∷ []) ∷ [];
+      pending = 0;
     }
 
 -- what happens before the guard answers, and what it is asked about: address, length and hash
@@ -146,7 +146,7 @@ pub guard-yes : (ts : List Top)
     → Way ts (withLocals (blockCode [] ram)) (withLocals (blockCode [] ram)) (true ∷ [])
     (asking ++ (said asked true ∷ nativeStart 0x02000000 0 1 ∷ reach (Owner.native 0x02000000) ∷ []))
 unfolding withLocals blockCode outsideRomBios underGuard codeFrom nativeText
-guard-yes ts = w-gap (w-plain (w-gap (w-plain (w-gap (w-plain (w-gap (w-gap (w-when (w-gap (w-begin (w-gap (w-braces (w-gap (w-gap (w-plain stop)))))))))))))))
+guard-yes ts = w-gap (w-plain (w-gap (w-plain (w-gap (w-plain (w-gap (w-gap (w-when (w-gap (w-record (w-gap (w-braces (w-gap (w-gap (w-plain stop)))))))))))))))
 
 -- its no to the interpreter, which carries out the block's first instruction
 pub guard-no : (ts : List Top)

@@ -4,7 +4,7 @@ use Prim.Native.Nat.{ℕ}
 use mathlib.Core.Bool.{Bool, true, false}
 use mathlib.Core.List.{List, [], _∷_, List·Memᴰ}
 use Rattle.c_tree.specs.Stmt.{common, Simple, gap, recordMark, plain, label, goto, ret, retIf, interp, retInterp, call, switch, Code, end, _⨾_, when, braces, _⧺_, Top}
-use Rattle.ways.specs.Ways.{LabelAt, here, later, in-when, past-when, in-braces, past-braces, Event, reach, said, nativeStart, interpreted, negated, taken, Way, stop, w-gap, w-begin, w-plain, w-label, w-goto, w-lost, w-ret, w-leave, w-stay, w-unsaid, w-call, w-interp, w-retInterp, w-entry, w-default, w-past, w-when, w-unanswered, w-braces}
+use Rattle.ways.specs.Ways.{LabelAt, here, later, in-when, past-when, in-braces, past-braces, Event, reach, said, nativeStart, interpreted, negated, taken, Way, stop, w-gap, w-record, w-plain, w-label, w-goto, w-lost, w-ret, w-leave, w-stay, w-unsaid, w-call, w-interp, w-retInterp, w-entry, w-default, w-past, w-when, w-unanswered, w-braces}
 
 -- the states, how events move them, which events are allowed in a state, and what a state owes at a goto to a key
 pub record Logic : Type 1 where
@@ -119,7 +119,7 @@ module _ (L : Logic) where
   pub sound : {ts : List Top} {f c : Code} {xs : List Bool} {es : List Event} → Labels f Done → Way ts f c xs es → (s : S) → Ok c s Done → Follow es s
   sound l stop s h = tt
   sound l (w-gap w) s h = sound l w s h
-  sound l (w-begin w) s h = (h .0, sound l w _ (h .1))
+  sound l (w-record w) s h = (h .0, sound l w _ (h .1))
   sound l (w-plain w) s h = (h .0, sound l w _ (h .1))
   sound l (w-label w) s h = sound l w s h
   sound l (w-goto p w) s h = (h .0, sound l w _ (placed p Done l _ (h .1)))

@@ -11,7 +11,7 @@ use Rattle.forms.specs.Forms.{Body}
 use Rattle.lowering.specs.Block.{bodyKey}
 use Rattle.lowering.specs.Units.{TranslationUnit, emitBlock, forwarders, emitGroup, unitHead, lastUnitEnd, textOf, cut}
 use Rattle.plan.proofs.Listing.{count as countOf}
-use Rattle.ways.specs.Complete.{functions}
+use Rattle.ways.specs.Complete.{functionCount}
 use Rattle.ways.proofs.Functions.{trees}
 
 -- a tree stands in one piece in some unit
@@ -88,46 +88,46 @@ in-part t x us p m =
     in-trees t (p .unit) us (p .made) (subst (λ l. List·Memᴰ t l) (sym (p .piece)) (Memᴰ·append-right (p .before) (Memᴰ·append-left (p .after) m)))
 
 module _ (k : ℕ) where
-  functions-append : (s t : List Top) → functions k (s ++ t) ≡ functions k s + functions k t
+  functions-append : (s t : List Top) → functionCount k (s ++ t) ≡ functionCount k s + functionCount k t
   functions-append [] t = omega arith
   functions-append (x ∷ s) t = omega (arith, functions-append s t)
 
   -- the functions of some groups
   abbrev pub inGroups : List (List Body) → ℕ
   inGroups [] = 0
-  inGroups (g ∷ gs) = functions k (emitGroup g) + inGroups gs
+  inGroups (g ∷ gs) = functionCount k (emitGroup g) + inGroups gs
 
-  no-extern : (bs : List Body) → functions k (map (λ (b : Body). extern (bodyKey b)) bs) ≡ 0
+  no-extern : (bs : List Body) → functionCount k (map (λ (b : Body). extern (bodyKey b)) bs) ≡ 0
   no-extern [] = refl
   no-extern (b ∷ bs) = omega (arith, no-extern bs)
 
-  pub no-end : (bs : List Body) → functions k (lastUnitEnd bs) ≡ 0
+  pub no-end : (bs : List Body) → functionCount k (lastUnitEnd bs) ≡ 0
   unfolding lastUnitEnd
   no-end bs = functions-append (map (λ (b : Body). extern (bodyKey b)) bs) _ ∙ omega (arith, no-extern bs)
 
   -- the units have those of the groups and no other
-  pub functions-cut : (max : ℕ) (closed : List Top) → functions k closed ≡ 0 → (gs : List (List Body)) (ts : List Top) (n : ℕ)
-      → functions k (trees (cut max closed ts n gs)) ≡ functions k ts + inGroups gs
+  pub functions-cut : (max : ℕ) (closed : List Top) → functionCount k closed ≡ 0 → (gs : List (List Body)) (ts : List Top) (n : ℕ)
+      → functionCount k (trees (cut max closed ts n gs)) ≡ functionCount k ts + inGroups gs
   unfolding cut flatten
   functions-cut max closed z [] ts n = functions-append (ts ++ closed) [] ∙ omega (arith, functions-append ts closed)
   functions-cut max closed z (g ∷ gs) ts n =
       go (leb max (length (textOf (ts ++ emitGroup g)))) (cut max closed unitHead (n + length g) gs) (cut max closed (ts ++ emitGroup g) (n + length g) gs)
       (functions-cut max closed z gs unitHead (n + length g)) (functions-cut max closed z gs (ts ++ emitGroup g) (n + length g))
     where
-      go : (y : Bool) (us vs : List TranslationUnit) → functions k (trees us) ≡ functions k unitHead + inGroups gs
-          → functions k (trees vs) ≡ functions k (ts ++ emitGroup g) + inGroups gs
-          → functions k (trees (cond y (record { tree = ts ++ emitGroup g; done = n + length g; last = false } ∷ us) vs))
-          ≡ functions k ts + (functions k (emitGroup g) + inGroups gs)
+      go : (y : Bool) (us vs : List TranslationUnit) → functionCount k (trees us) ≡ functionCount k unitHead + inGroups gs
+          → functionCount k (trees vs) ≡ functionCount k (ts ++ emitGroup g) + inGroups gs
+          → functionCount k (trees (cond y (record { tree = ts ++ emitGroup g; done = n + length g; last = false } ∷ us) vs))
+          ≡ functionCount k ts + (functionCount k (emitGroup g) + inGroups gs)
       go true us vs p q = functions-append (ts ++ emitGroup g) (trees us) ∙ omega (arith, functions-append ts (emitGroup g), p)
       go false us vs p q = omega (arith, functions-append ts (emitGroup g), q)
 
-  forwarders-count : (a n : ℕ) (bs : List Body) → functions k (forwarders a n bs) ≡ countOf k (map bodyKey bs)
+  forwarders-count : (a n : ℕ) (bs : List Body) → functionCount k (forwarders a n bs) ≡ countOf k (map bodyKey bs)
   unfolding forwarders countOf
   forwarders-count a n [] = refl
   forwarders-count a n (b ∷ bs) = omega (arith, forwarders-count a (suc n) bs)
 
   -- a group has one for each member
-  pub group-count : (g : List Body) → functions k (emitGroup g) ≡ countOf k (map bodyKey g)
+  pub group-count : (g : List Body) → functionCount k (emitGroup g) ≡ countOf k (map bodyKey g)
   unfolding emitGroup emitBlock countOf
   group-count [] = refl
   group-count (b ∷ []) = omega arith

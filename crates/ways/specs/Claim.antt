@@ -61,20 +61,20 @@ Several limit bs i = (g : List ℕ) × List·Memᴰ g (groups limit bs) × List�
 abbrev pub Lone : ℕ → List Block → ℕ → Type 0
 Lone limit bs i = List·Memᴰ (i ∷ []) (groups limit bs)
 
-module _ (bodyOf : Block → Body) where
+module _ (toBody : Block → Body) where
   -- all that stands in the units of some blocks
   unfoldable pub allUnits : ℕ → ℕ → List Block → List Top
-  allUnits limit max bs = flatten (map (λ (u : TranslationUnit). u .tree) (unitsFor bodyOf limit max bs))
+  allUnits limit max bs = flatten (map (λ (u : TranslationUnit). u .tree) (unitsFor toBody limit max bs))
 
-module _ (hashOf : Block → Option ℕ) where
+module _ (toHash : Block → Option ℕ) where
   -- the guard said yes to a block: to its address, length and hash
   abbrev pub Passed : Block → List Event → Type 0
   Passed b es =
-      (h : ℕ) × (hashOf b ≡ some h) × List·Memᴰ (said (guard (b .addr) (lengthOf (length (b .instrs)) (b .thumb)) h) true) es
+      (h : ℕ) × (toHash b ≡ some h) × List·Memᴰ (said (guard (b .addr) (lengthOf (length (b .instrs)) (b .thumb)) h) true) es
 
-  -- What holds of the events of a way from the function of block i, by demand 3: "each part without a consultation of the chain gate carries out at most
-  -- 8,192 instructions in a group of several blocks; a lone block carries out no instruction twice; native statements of a block outside ROM and BIOS are
-  -- reached only after the guard said yes to that block's address, length and hash"
+  -- Demand 3 (docs/ARCHITECTURE.md) of the events of a way from the function of block i: each part without a consultation of the chain gate carries out at most
+  -- so many instructions as the limit says in a group of several blocks; a lone block carries out no instruction twice; native statements of a block outside ROM
+  -- and BIOS are reached only after the guard said yes to that block's address, length and hash
   pub record WayClaim (limit : ℕ) (bs : List Block) (i : ℕ) (es : List Event) : Type 0 where
     -- a part without a consultation of the gate, in a group of several
     pub bounded : Several limit bs i → (us ps vs : List Event) → es ≡ us ++ (ps ++ vs) → Gateless ps → carried ps ≤ limit
@@ -83,13 +83,13 @@ module _ (hashOf : Block → Option ℕ) where
     -- native statements
     pub behind : (us vs : List Event) (e : Event) → es ≡ us ++ (e ∷ vs) → (b : Block) → List·Memᴰ b bs → AtNative (blockKey b) e → T (outsideRomBios (b .addr)) → Passed b us
 
-module _ (hashOf : Block → Option ℕ) (bodyOf : Block → Body) where
+module _ (toHash : Block → Option ℕ) (toBody : Block → Body) where
   -- a file at a limit and a wished size, if it is accepted: every block and its function in the units; every list of answers and every way
   unfoldable pub ClaimOf : ℕ → ℕ → List ℕ → Type 0
   ClaimOf limit max f =
       (bs : List Block) → parse f ≡ Parsed.accepted bs → (i : ℕ) (b : Block) → getElem? bs i ≡ some b
-      → (c : Code) → List·Memᴰ (function (block (blockKey b)) c) (allUnits bodyOf limit max bs)
-      → (xs : List Bool) (es : List Event) → Way (allUnits bodyOf limit max bs) c c xs es → WayClaim hashOf limit bs i es
+      → (c : Code) → List·Memᴰ (function (block (blockKey b)) c) (allUnits toBody limit max bs)
+      → (xs : List Bool) (es : List Event) → Way (allUnits toBody limit max bs) c c xs es → WayClaim toHash limit bs i es
 
   -- every file, limit and wished size
   unfoldable pub Claim : Type 0

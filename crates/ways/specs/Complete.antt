@@ -15,44 +15,44 @@ use Rattle.ways.specs.Ways.{Event, Way}
 use Rattle.ways.specs.Claim.{timesCarried, allUnits}
 
 -- 1 for the function of the block with the key k, else 0
-abbrev pub functionCount : ℕ → Top → ℕ
-functionCount k opening = 0
-functionCount k (function (helper h) c) = 0
-functionCount k (function (block j) c) = cond (eqb k j) 1 0
-functionCount k (function (group j) c) = 0
-functionCount k blank = 0
-functionCount k (extern j) = 0
-functionCount k (table js) = 0
-functionCount k (count n) = 0
+abbrev pub isFunctionOf : ℕ → Top → ℕ
+isFunctionOf k opening = 0
+isFunctionOf k (function (helper h) c) = 0
+isFunctionOf k (function (block j) c) = cond (eqb k j) 1 0
+isFunctionOf k (function (group j) c) = 0
+isFunctionOf k blank = 0
+isFunctionOf k (extern j) = 0
+isFunctionOf k (table js) = 0
+isFunctionOf k (count n) = 0
 
 -- how often a tree has that function
-abbrev pub functions : ℕ → List Top → ℕ
-functions k [] = 0
-functions k (t ∷ ts) = functionCount k t + functions k ts
+abbrev pub functionCount : ℕ → List Top → ℕ
+functionCount k [] = 0
+functionCount k (t ∷ ts) = isFunctionOf k t + functionCount k ts
 
-module _ (bodyOf : Block → Body) where
+module _ (toBody : Block → Body) where
   -- what there is of block i, which is b
-  pub record Found (limit max : ℕ) (bs : List Block) (i : ℕ) (b : Block) : Type 0 where
+  pub record BlockHasWay (limit max : ℕ) (bs : List Block) (i : ℕ) (b : Block) : Type 0 where
     -- over all units it has one function
-    pub single : functions (blockKey b) (allUnits bodyOf limit max bs) ≡ 1
+    pub single : functionCount (blockKey b) (allUnits toBody limit max bs) ≡ 1
     -- its group stands in one piece in a unit, and the function in that piece
     pub members : List ℕ
     pub grouped : List·Memᴰ members (groups limit bs)
     pub among : List·Memᴰ i members
     pub unit : TranslationUnit
-    pub made : List·Memᴰ unit (unitsFor bodyOf limit max bs)
+    pub made : List·Memᴰ unit (unitsFor toBody limit max bs)
     pub before : List Top
     pub after : List Top
-    pub piece : unit .tree ≡ before ++ (emitGroup (bodiesOf (map bodyOf bs) members) ++ after)
+    pub piece : unit .tree ≡ before ++ (emitGroup (bodiesOf (map toBody bs) members) ++ after)
     pub code : Code
-    pub stands : List·Memᴰ (function (block (blockKey b)) code) (emitGroup (bodiesOf (map bodyOf bs) members))
+    pub stands : List·Memᴰ (function (block (blockKey b)) code) (emitGroup (bodiesOf (map toBody bs) members))
     -- a way from it carries out the block's first instruction
     pub answers : List Bool
     pub events : List Event
-    pub way : Way (allUnits bodyOf limit max bs) code code answers events
+    pub way : Way (allUnits toBody limit max bs) code code answers events
     pub first : 1 ≤ timesCarried (blockKey b) 0 events
 
   -- each block of each accepted file, at each limit and wished size
   unfoldable pub Complete : Type 0
   Complete =
-      (f : List ℕ) (bs : List Block) → parse f ≡ Parsed.accepted bs → (limit max i : ℕ) (b : Block) → getElem? bs i ≡ some b → Found limit max bs i b
+      (f : List ℕ) (bs : List Block) → parse f ≡ Parsed.accepted bs → (limit max i : ℕ) (b : Block) → getElem? bs i ≡ some b → BlockHasWay limit max bs i b

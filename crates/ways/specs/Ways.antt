@@ -36,7 +36,7 @@ pub data Way (ts : List Top) : Code → Code → List Bool → List Event → Ty
   -- each beginning of a way is one
   stop : {f c : Code} {xs : List Bool} → Way ts f c xs []
   w-gap : {f c : Code} {xs : List Bool} {es : List Event} {l : Bool} {n : ℕ} → Way ts f c xs es → Way ts f (gap l n ⨾ c) xs es
-  w-begin : {f c : Code} {xs : List Bool} {es : List Event} {k i n : ℕ} → Way ts f c xs es → Way ts f (recordMark k i n ⨾ c) xs (nativeStart k i n ∷ es)
+  w-record : {f c : Code} {xs : List Bool} {es : List Event} {k i n : ℕ} → Way ts f c xs es → Way ts f (recordMark k i n ⨾ c) xs (nativeStart k i n ∷ es)
   w-plain : {f c : Code} {xs : List Bool} {es : List Event} {o : Owner} {p : Plain} → Way ts f c xs es → Way ts f (plain o p ⨾ c) xs (reach o ∷ es)
   w-label : {f c : Code} {xs : List Bool} {es : List Event} {k : ℕ} → Way ts f c xs es → Way ts f (label k ⨾ c) xs es
   -- a goto leads to any place in its function with that label; without one it ends the way (with one, ending there is a beginning of a way)

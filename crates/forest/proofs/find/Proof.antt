@@ -7,7 +7,7 @@ use native.Mathlib.Nat.{le-refl}
 use native.Mathlib.Omega.{arith}
 use lib.ListN.{length, length-set}
 use mir.Facts.{fits-32-64}
-use Rattle.forest.specs.Forest.{parent, root, Forest, Found}
+use Rattle.forest.specs.Forest.{parent, root, Forest, RootFound}
 use Rattle.forest.proofs.Ways.{Leads, start-inside, parent-inside, above, way, forest, ended, halved, halve, steps, nearer}
 use Rattle.forest.proofs.Roots.{root-of}
 use Rattle.forest.proofs.find.Statement.{statement}
@@ -34,7 +34,7 @@ module _ {p₀ : List ℕ} {i : ℕ} {p : List ℕ} {at : ℕ} (here : Reached p
         left = onward;
       }
 
-  ends : Forest (2 * length p₀) p₀ → parent p at ≡ at → Found p₀ i at p
+  ends : Forest (2 * length p₀) p₀ → parent p at ≡ at → RootFound p₀ i at p
   ends full own =
       record {
         is = sym (ended (here .left) own);

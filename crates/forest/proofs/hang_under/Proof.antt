@@ -6,13 +6,13 @@ use mathlib.Core.List.{List}
 use borrow.Author.Needs.{needs}
 use native.Mathlib.Omega.{arith}
 use lib.ListN.{length, set, length-set}
-use Rattle.forest.specs.Forest.{parent, root, Forest, Flatter, Found, Hung}
+use Rattle.forest.specs.Forest.{parent, root, Forest, Flatter, RootFound, Hung}
 use Rattle.forest.proofs.Roots.{root-own, forest-hang, flatter-full, flatter-trans, same-flatter, same-hang}
 use Rattle.forest.proofs.hang_under.Statement.{statement}
 use Rattle.forest.proofs.hang_under.Tie as tie
 
 module _ {p p₁ p₂ : List ℕ} {i j source target : ℕ} (full : Forest (2 * length p) p) (inside-i : i < length p) (inside-j : j < length p)
-    (first : Found p i source p₁) (second : Found p₁ j target p₂) where
+    (first : RootFound p i source p₁) (second : RootFound p₁ j target p₂) where
   both : Flatter p p₂
   both = flatter-trans (first .kept) (second .kept)
 

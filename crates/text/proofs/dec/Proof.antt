@@ -4,7 +4,7 @@ use Prim.Native.Nat.{_%_}
 use native.Mathlib.Omega.{arith}
 use borrow.Author.Needs.{needs}
 use lib.ListN.{length}
-use Rattle.text.specs.Digits.{fixed}
+use Rattle.text.specs.Digits.{lastDigits}
 use Rattle.text.specs.Doc.{decimal, print}
 use Rattle.text.specs.Wrote.{overlay}
 use Rattle.text.proofs.Numerals.{glyph-ten, store-more, store-end}
@@ -14,7 +14,7 @@ use Rattle.text.proofs.dec.Tie as tie
 
 abbrev Inv-loop : tie.InvT-loop
 Inv-loop part₀ n k rest₀ at₀ part rest at =
-    (overlay part 0 (fixed 10 at rest) ≡ overlay part₀ 0 (fixed 10 k n)) × (length part ≡ length part₀)
+    (overlay part 0 (lastDigits 10 at rest) ≡ overlay part₀ 0 (lastDigits 10 k n)) × (length part ≡ length part₀)
 
 abbrev μ-loop : tie.MeasureT-loop
 μ-loop part₀ n k rest₀ at₀ part rest at = at

@@ -3,7 +3,7 @@ use mathlib.Core.Path.{_≡_, refl}
 use native.Mathlib.Omega.{arith}
 use borrow.Author.Needs.{needs}
 use lib.ListN.{length}
-use Rattle.text.specs.Digits.{fixed}
+use Rattle.text.specs.Digits.{lastDigits}
 use Rattle.text.specs.Wrote.{overlay}
 use Rattle.text.proofs.Numerals.{digit-more, store-end}
 use Rattle.text.proofs.last_digits.Statement.{statement}
@@ -11,7 +11,7 @@ use Rattle.text.proofs.last_digits.Tie as tie
 
 abbrev Inv-loop : tie.InvT-loop
 Inv-loop part₀ n k rest₀ at₀ part rest at =
-    (overlay part 0 (fixed 16 at rest) ≡ overlay part₀ 0 (fixed 16 k n)) × (length part ≡ length part₀)
+    (overlay part 0 (lastDigits 16 at rest) ≡ overlay part₀ 0 (lastDigits 16 k n)) × (length part ≡ length part₀)
 
 abbrev μ-loop : tie.MeasureT-loop
 μ-loop part₀ n k rest₀ at₀ part rest at = at

@@ -47,9 +47,10 @@ use Rattle.emit_flow.proofs.put_closing.Symbol as put-closing-def
 use Rattle.emit_flow.proofs.put_closing.Symbol.{name as #put-closing}
 use Rattle.emit_flow.proofs.put_closing.Met as put-closing-thm
 use Rattle.block_writer.specs.declared.writer.Writer.{Writer}
+use Rattle.c_tree.specs.Stmt.{common}
 use Rattle.c_tree.specs.Print.{codeText}
 use Rattle.forms.specs.Block.{pcLine}
-use Rattle.lowering.specs.Block.{closingCode}
+use Rattle.lowering.specs.Block.{exitCode}
 use Rattle.block_writer.proofs.writer.Writer as T
 use Rattle.block_writer.proofs.writer.Writer.Laws as T′
 use Rattle.block_writer.proofs.Held.{writer-gave, writer-gave-goes}
@@ -101,7 +102,7 @@ module _ {M : Type 1} (𝓤 : URA M) (H : Heap 𝓤) (A : Atoms 𝓤) (W : Given
 
   -- what is written, with the list zs and the answer r behind it
   abbrev Closed : List ℕ → ℕ → Type 0
-  Closed zs r = (ks : List ℕ) → among key ks ≡ inside → Wrote ys n (codeText (closingCode ks src (pcLine next) key)) zs r
+  Closed zs r = (ks : List ℕ) → among key ks ≡ inside → Wrote ys n (codeText (exitCode ks src common (pcLine next) key)) zs r
 
   -- what `put_closing`'s triple binds outside: the borrow's own lifetime, share and value
   abbrev passed : RefT (List ℕ) × (ℕ × (ℕ × (Bool × (ℕ × (ℕ × Unit {0})))))

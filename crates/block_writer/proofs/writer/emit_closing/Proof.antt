@@ -46,7 +46,7 @@ use Rattle.block_file.specs.Address.{among}
 use Rattle.c_tree.specs.Stmt.{common, end}
 use Rattle.c_tree.specs.Print.{codeText}
 use Rattle.forms.specs.Block.{flushTicks, pcLine}
-use Rattle.lowering.specs.Block.{transfer, closingCode}
+use Rattle.lowering.specs.Block.{transfer, exitCode}
 use Rattle.emit_flow.proofs.Pieces.{ticked}
 use Rattle.block_writer.specs.declared.writer.Writer.{Writer}
 use Rattle.block_writer.specs.Writer.{ticks, flushed}
@@ -117,10 +117,10 @@ module _ {M : Type 1} (𝓤 : URA M) (H : Heap 𝓤) (A : Atoms 𝓤) (W : Given
   ticked-first = let few : length ys < 2 ^ 64 = room .0 in record { bytes = refl; next = refl; small = omega (arith, few) }
 
   abbrev Closed : List ℕ → ℕ → Type 0
-  Closed zs r = (ks : List ℕ) → among key ks ≡ inside → Wrote (h₁ .text .now) (h₁ .at) (codeText (closingCode ks src (pcLine next) key)) zs r
+  Closed zs r = (ks : List ℕ) → among key ks ≡ inside → Wrote (h₁ .text .now) (h₁ .at) (codeText (exitCode ks src common (pcLine next) key)) zs r
 
   both : (zs : List ℕ) (r : ℕ) → Closed zs r → (ks : List ℕ) → among key ks ≡ inside
-      → Wrote ys n (codeText (closingCode ks src (flushTicks c ++ pcLine next) key)) zs r
+      → Wrote ys n (codeText (exitCode ks src common (flushTicks c ++ pcLine next) key)) zs r
   both zs r e ks p = said (seq ticked-first (e ks p)) (ticked common c (pcLine next) (transfer ks src common 4 key end))
 
   -- the machine value of a writer has the struct's MIR type, whose lifetimes a local's erases

@@ -1,9 +1,8 @@
 -- `emit_alu::alu::put_alu` meets its contract: what its calls write, one after another. Assumes nothing.
 use mathlib.Core.Path.{refl}
 use Rattle.emit_alu.proofs.Texts.{zero-u, one-u}
-use Rattle.emit_operands.specs.Operands.{operandOf}
 use Rattle.emit_operands.proofs.Operands.{carry-in-text}
-use Rattle.forms.specs.Operands.{carryIn}
+use Rattle.forms.specs.Operands.{carryIn, operandOf}
 use Rattle.c_tree.specs.Expr.{udec, compl, lit, un}
 use borrow.Author.Needs.{needs}
 use Rattle.text.proofs.Laws.{said, kept}

@@ -1,12 +1,12 @@
 -- `emit_alu::logical::put_logical_c` meets its contract: what its calls write, one after another. Assumes nothing.
 use mathlib.Core.Path.{sym, _∙_}
 use Rattle.emit_alu.proofs.Texts.{with-carry, without-carry}
-use Rattle.emit_operands.specs.Operands.{operandOf}
 use mathlib.Core.List.{[]}
 use borrow.Author.Needs.{needs}
 use Rattle.text.proofs.Laws.{none, seq, said, kept}
 use Rattle.emit_alu.proofs.logical.put_logical_c.Statement.{statement}
 use Rattle.emit_alu.proofs.logical.put_logical_c.Tie as tie
+use Rattle.forms.specs.Operands.{operandOf}
 
 returns : tie.Need-returns
 returns c =

@@ -1,6 +1,5 @@
 -- `emit_alu::logical::put_logical_rest` meets its contract: what its calls write, one after another. Assumes nothing.
 use Rattle.emit_alu.proofs.Texts.{rows-append}
-use Rattle.emit_operands.specs.Operands.{operandOf}
 use mathlib.Core.Bool.{cond}
 use mathlib.Core.List.{[], _∷_}
 use Rattle.c_tree.specs.Expr.{x-r}
@@ -11,6 +10,7 @@ use borrow.Author.Needs.{needs}
 use Rattle.text.proofs.Laws.{seq, said, kept}
 use Rattle.emit_alu.proofs.logical.put_logical_rest.Statement.{statement}
 use Rattle.emit_alu.proofs.logical.put_logical_rest.Tie as tie
+use Rattle.forms.specs.Operands.{operandOf}
 
 returns : tie.Need-returns
 returns c =

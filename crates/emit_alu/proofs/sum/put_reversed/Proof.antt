@@ -1,8 +1,7 @@
 -- `emit_alu::sum::put_reversed` meets its contract: what its calls write, one after another. Assumes nothing.
 use mathlib.Core.Path.{refl}
 use Rattle.emit_alu.proofs.Texts.{sum-of}
-use Rattle.emit_operands.specs.Operands.{operandOf}
-use Rattle.forms.specs.Operands.{regOf}
+use Rattle.forms.specs.Operands.{regOf, operandOf}
 use Rattle.c_tree.specs.Expr.{compl, un}
 use Rattle.c_tree.specs.Print.{exprText}
 use Rattle.text.specs.Doc.{raw, text, _▸_}

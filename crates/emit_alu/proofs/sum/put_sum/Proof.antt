@@ -1,7 +1,6 @@
 -- `emit_alu::sum::put_sum` meets its contract: what its calls write, one after another. Assumes nothing.
 use Rattle.emit_alu.proofs.Texts.{sum-of}
-use Rattle.emit_operands.specs.Operands.{operandOf}
-use Rattle.forms.specs.Operands.{regOf}
+use Rattle.forms.specs.Operands.{regOf, operandOf}
 use Rattle.c_tree.specs.Print.{exprText}
 use Rattle.text.specs.Doc.{raw, _▸_}
 use mathlib.Core.List.{[]}

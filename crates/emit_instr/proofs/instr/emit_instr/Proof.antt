@@ -3,7 +3,7 @@ use Prim.Native.Nat.{ℕ}
 use mathlib.Core.Path.{sym, ap, subst, _∙_}
 use Rattle.forms.specs.Forms.{Form}
 use Rattle.forms.specs.Block.{emitBranch, emitOp, emitInstr}
-use Rattle.emit_instr.specs.Steps.{Reaches}
+use Rattle.emit_instr.specs.Steps.{BranchInside}
 use Rattle.emit_instr.proofs.Steps.{same-form}
 use Rattle.emit_instr.proofs.Operations.{straight-on}
 use borrow.Author.Needs.{needs}
@@ -31,7 +31,7 @@ returns-2 c =
     same-form _ _
     (ap (λ (n : ℕ). (Form.native (emitBranch (a .thumb) n (a .x .instr) (v .0) (v .1 .0)), 0)) (done .before .with-cost .ensures g)
     ∙ ap (emitOp (a .thumb) (a .region) (a .cycles) (a .x)) (sym (known .op2 .given .1)))
-    (done .emit-branch .ensures ks b j fs (subst (Reaches ks (a .thumb) (a .inside)) (known .op2 .given .1) reach) e)
+    (done .emit-branch .ensures ks b j fs (subst (BranchInside ks (a .thumb) (a .inside)) (known .op2 .given .1) reach) e)
 
 returns-3 : tie.Need-returns-3
 unfolding emitInstr

@@ -4,14 +4,12 @@ use borrow.Author.Needs.{needs}
 use mathlib.Core.Bool.{not, _||_}
 use mathlib.Core.List.{[]}
 use mathlib.Core.Path.{ap}
-use Rattle.c_tree.specs.Print.{codeText}
-use Rattle.c_tree.specs.Stmt.{common, end}
 use Rattle.emit_mem.proofs.Offsets.{mem-lines}
 use Rattle.emit_mem.proofs.mem.put_mem.Statement.{statement}
 use Rattle.emit_mem.proofs.mem.put_mem.Tie as tie
 use Rattle.forms.specs.Forms.{Lines}
 use Rattle.forms.specs.InlineBody.{baseExpr, access}
-use Rattle.lowering.specs.Block.{lines}
+use Rattle.lowering.specs.Block.{linesText}
 use Rattle.text.proofs.Laws.{said, kept}
 use Rattle.text.specs.Doc.{flat}
 
@@ -20,7 +18,7 @@ returns c = λ ls e.
     let c1 = c .before .before in
     let a = c1 .before .before .before .args in
     said (c1 .put-mem-lines .ensures)
-    (ap (λ (ks : Lines). flat (codeText (lines common 8 ks end)) [])
+    (ap (λ (ks : Lines). flat (linesText 8 ks) [])
     (mem-lines (a .i) (baseExpr (a .thumb) (a .i) (a .rn)) (a .up) (a .pre) (access (a .load) (a .width) (a .signed) (a .rd) (a .rn) (not (a .pre) || a .writeback)) (a .offset) ls e))
 
 same-length : tie.Need-same-length

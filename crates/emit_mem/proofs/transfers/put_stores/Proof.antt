@@ -4,18 +4,16 @@ use Prim.Native.Nat.{_-_, _≤_}
 use native.Mathlib.Omega.{arith}
 use borrow.Author.Needs.{needs}
 use mathlib.Core.Path.{_≡_, sym}
-use Rattle.c_tree.specs.Print.{codeText}
-use Rattle.c_tree.specs.Stmt.{common, end}
 use Rattle.emit_mem.proofs.Lines.{stores-more}
 use Rattle.emit_mem.proofs.transfers.put_stores.Statement.{statement}
 use Rattle.emit_mem.proofs.transfers.put_stores.Tie as tie
 use Rattle.forms.specs.InlineBody.{listed, movedBase, storedReg, stores}
-use Rattle.lowering.specs.Block.{lines}
+use Rattle.lowering.specs.Block.{linesText}
 use Rattle.text.proofs.Laws.{none, seq, said, kept}
 use Rattle.text.specs.Wrote.{Wrote}
 
 abbrev Inv-loop : tie.InvT-loop
-Inv-loop out₀ at i rn rlist lowest up total p₀ r₀ out p r = (r ≤ 16) × Wrote out₀ at (codeText (lines common 8 (stores (storedReg i rn lowest (movedBase up total)) (listed rlist r)) end)) out p
+Inv-loop out₀ at i rn rlist lowest up total p₀ r₀ out p r = (r ≤ 16) × Wrote out₀ at (linesText 8 (stores (storedReg i rn lowest (movedBase up total)) (listed rlist r))) out p
 
 abbrev μ-loop : tie.MeasureT-loop
 μ-loop out₀ at i rn rlist lowest up total p₀ r₀ out p r = 16 - r

@@ -1,15 +1,15 @@
 -- `replay_answers::check_cases::answer` meets its contract: the numbers are those of the variant that the check answers.
 use borrow.Author.Needs.{needs}
-use Rattle.block_file.specs.Answer.{answerOf}
+use Rattle.block_file.specs.Answer.{checkedOf}
 use Rattle.replay_answers.proofs.check_cases.answer.Statement.{statement}
 use Rattle.replay_answers.proofs.check_cases.answer.Tie as tie
 
 returns : tie.Need-returns
-unfolding answerOf
+unfolding checkedOf
 returns c = rw (← c .before .before .before .check .ensures, c .before .blocks2 .given .1)
 
 returns-2 : tie.Need-returns-2
-unfolding answerOf
+unfolding checkedOf
 returns-2 c = rw (← c .before .before .before .check .ensures, c .before .number .given .1)
 
 pub answer-spec : {M : Type 1} → statement M

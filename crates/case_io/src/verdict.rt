@@ -9,21 +9,21 @@ pub enum Section {
 }
 
 // What became of a vector.
-pub enum Outcome {
+pub enum Verdict {
     Right,
     Wrong,
     // It could not be read, which has been printed: where the next one starts is not known.
     Broken,
 }
 
-// The outcome of a vector in which the input ends.
-pub fn ended(k: u64) -> Outcome {
+// The verdict of a vector in which the input ends.
+pub fn ended(k: u64) -> Verdict {
     report::ends_early(k);
-    Outcome::Broken
+    Verdict::Broken
 }
 
-// The outcome of a vector that the buffers do not hold.
-pub fn too_long(k: u64) -> Outcome {
+// The verdict of a vector that the buffers do not hold.
+pub fn too_long(k: u64) -> Verdict {
     report::too_long(k);
-    Outcome::Broken
+    Verdict::Broken
 }
