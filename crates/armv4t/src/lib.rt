@@ -12,10 +12,13 @@ ghost use Rattle.armv4t.specs.Shift.{shiftKindOf, noShift};
 // Register index, 0 to 15.
 pub type Reg = u8;
 
+// The stack pointer.
 pub const SP: Reg = 13;
 
+// The link register.
 pub const LR: Reg = 14;
 
+// The program counter.
 pub const PC: Reg = 15;
 
 // Condition codes, in encoding order. Nv (0b1111) is never valid on ARMv4.
@@ -134,6 +137,7 @@ impl AluOp {
     }
 }
 
+// Kinds of shift, in encoding order.
 pub enum ShiftKind {
     Lsl,
     Lsr,
@@ -164,6 +168,7 @@ pub enum Shift {
 }
 
 impl Shift {
+    // The shift of a register operand that is not shifted: left by 0.
     pub const NONE: Shift = Shift::Imm {
         kind: ShiftKind::Lsl,
         amount: 0,
@@ -178,12 +183,14 @@ pub enum Operand2 {
 }
 
 impl Operand2 {
+    // A value as an operand, not rotated.
     pub fn imm(value: u32) -> Operand2
         ensures { λ r. ⌜ r ≡ Operand2.Imm value 0 ⌝ }
     {
         Operand2::Imm { value, ror: 0 }
     }
 
+    // A register as an operand, not shifted.
     pub fn reg(rm: Reg) -> Operand2
         ensures { λ r. ⌜ r ≡ Operand2.Reg rm noShift ⌝ }
     {
@@ -194,6 +201,7 @@ impl Operand2 {
     }
 }
 
+// Width of a single load or store.
 pub enum MemWidth {
     Byte,
     Half,
@@ -317,6 +325,7 @@ pub struct Instr {
 }
 
 impl Instr {
+    // An instruction from its parts.
     pub fn new(addr: u32, cond: Cond, op: Op, thumb: bool) -> Instr
         ensures { λ r. ⌜ r ≡ record { addr = addr; cond = cond; op = op; thumb = thumb } ⌝ }
     {

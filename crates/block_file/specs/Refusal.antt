@@ -64,6 +64,7 @@ instrRows (suc n) i = instr i ∷ instrRows n (suc i)
 abbrev pub rows : List ℕ → List Row
 rows f = short ∷ limits ∷ trailer ∷ blockRows (blockCount f) 0 ++ (sum ∷ instrRows (instrCount f) 0)
 
+-- a row where its rule is broken, or else what the later rows give
 abbrev pub pick : Bool → Row → Option Row → Option Row
 pick true r later = some r
 pick false r later = later

@@ -30,11 +30,13 @@ pub struct BlockRecord {
     pub offset: u32,
 }
 
+// The block record with a number, or that there is none to read.
 pub enum FoundBlock {
     At(BlockRecord),
     Nothing,
 }
 
+// The instruction of the record with a number, or that there is none to read.
 pub enum FoundInstr {
     At(TimedInstr),
     Nothing,
@@ -47,6 +49,7 @@ pub fn block_count(file: &[u8]) -> usize
     trailer_word(file, 2) as usize
 }
 
+// The fields of the block record at an offset.
 fn block_record(file: &[u8], at: usize) -> BlockRecord
     requires { ⌜ at + 16 ≤ length (now file) ⌝ }
     ensures { λ r. ⌜ r ≡ recordAt (now (file .entry)) at ⌝ }

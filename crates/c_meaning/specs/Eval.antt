@@ -9,7 +9,7 @@ use Rattle.c_tree.specs.Expr.{Ty, s32, u32, Style, word, caps, uhex, udec, int,
 use Rattle.c_meaning.specs.Types.{width, signed, promote, commonType, negative, convert}
 use Rattle.c_meaning.specs.State.{bind, State, value, placeTy, load}
 
--- a constant (6.4.4.1): with u an unsigned int, without it an int; the text has none that either is too narrow for
+-- the type of a constant (6.4.4.1): with u an unsigned int, without it an int; the text has none that either is too narrow for
 abbrev pub literalTy : Style → Ty
 literalTy word = u32
 literalTy caps = u32
@@ -17,6 +17,7 @@ literalTy uhex = u32
 literalTy udec = u32
 literalTy int = s32
 
+-- the value of a constant; none where that type is too narrow for it
 abbrev pub literal : Style → ℕ → Option ℕ
 literal word k = cond (ltb k 4294967296) (some k) none
 literal caps k = cond (ltb k 4294967296) (some k) none
@@ -24,7 +25,7 @@ literal uhex k = cond (ltb k 4294967296) (some k) none
 literal udec k = cond (ltb k 4294967296) (some k) none
 literal int k = cond (ltb k 2147483648) (some k) none
 
--- the type that each operand is converted to; of a shift the operands are promoted each by itself (6.5.7)
+-- the type that the left operand is converted to; of a shift the operands are promoted each by itself (6.5.7), and && and || convert neither
 abbrev pub leftTy : Bin → Ty → Ty → Ty
 leftTy mul x y = commonType x y
 leftTy add x y = commonType x y
@@ -39,6 +40,7 @@ leftTy bor x y = commonType x y
 leftTy land x y = x
 leftTy lor x y = x
 
+-- the type that the right operand is converted to, likewise
 abbrev pub rightTy : Bin → Ty → Ty → Ty
 rightTy mul x y = commonType x y
 rightTy add x y = commonType x y
@@ -90,12 +92,13 @@ truth b = cond b 1 0
 abbrev pub unless : Bool → ℕ → Option ℕ
 unless b x = cond b none (some x)
 
--- signed sums and differences of k bits: they do not fit where the sign is not that of the true outcome
+-- a signed sum of k bits: it does not fit where both operands have one sign and the outcome the other
 abbrev pub signedAdd : ℕ → ℕ → ℕ → Option ℕ
 signedAdd k x y =
     let s : ℕ = (x + y) % 2 ^ k in
     unless (Bool·beq (negative k x) (negative k y) && not (Bool·beq (negative k x) (negative k s))) s
 
+-- a signed difference of k bits: it does not fit where the operands' signs differ and the outcome's is not the first's
 abbrev pub signedSub : ℕ → ℕ → ℕ → Option ℕ
 signedSub k x y =
     let s : ℕ = (x + (2 ^ k - y)) % 2 ^ k in

@@ -26,12 +26,13 @@ next on z f = f z
 next (to k) z f = some (z, to k)
 next (back x) z f = some (z, back x)
 
--- what a call without a value gives, and one with a value
+-- what a call of a function without a value gives: the state, where its code runs to the end
 abbrev pub ended : Goes → State → Option State
 ended on z = some z
 ended (to k) z = none
 ended (back x) z = none
 
+-- what a call of a function with a value gives: the value that it returns; none where it does not return
 abbrev pub returned : Goes → Option ℕ
 returned on = none
 returned (to k) = none
@@ -41,6 +42,7 @@ returned (back x) = some x
 abbrev pub compound : Bin → Place → Ty → ℕ → State → Option ℕ
 compound o p y k z = bind (value p z) λ l. bind (binValue o (placeTy p) y l k) λ x. some (convert (commonType (placeTy p) y) (placeTy p) x)
 
+-- what =, +=, &= or |= puts into a place, where the value k of the type y stands on the right
 abbrev pub newValue : Set → Place → Ty → ℕ → State → Option ℕ
 newValue is p y k z = some (convert y (placeTy p) k)
 newValue plus p y k z = compound add p y k z

@@ -23,10 +23,11 @@ arguments [] vs = empty
 arguments (x ∷ xs) [] = empty
 arguments (x ∷ xs) (a ∷ vs) = update (index (x .1)) (some (x .0, some a)) (arguments xs vs)
 
--- no function of PREAMBLE calls another
+-- no function of PREAMBLE calls another, so ror32 has no answer inside one
 abbrev pub noRor : ℕ → ℕ → Option ℕ
 noRor x n = none
 
+-- nor has a call of any other helper an outcome there
 abbrev pub noCall : Helper → List ℕ → State → Outcome
 noCall h vs z = none
 

@@ -70,12 +70,15 @@ pub record State : Type 0 where
   pub answers : ℕ → ℕ
   pub interpreter : ℕ → Interpreter
 
+-- the state with x in c[k]
 abbrev pub setC : ℕ → ℕ → State → State
 setC k x z = record { c = update k x (z .c); mem = z .mem; scopes = z .scopes; answers = z .answers; interpreter = z .interpreter }
 
+-- the state with other bytes of memory
 abbrev pub setMem : (ℕ → ℕ) → State → State
 setMem f z = record { c = z .c; mem = f; scopes = z .scopes; answers = z .answers; interpreter = z .interpreter }
 
+-- the state with other scopes
 abbrev pub setScopes : List Scope → State → State
 setScopes fs z = record { c = z .c; mem = z .mem; scopes = fs; answers = z .answers; interpreter = z .interpreter }
 
@@ -83,23 +86,26 @@ setScopes fs z = record { c = z .c; mem = z .mem; scopes = fs; answers = z .answ
 abbrev pub answered : State → State
 answered z = record { c = z .c; mem = z .mem; scopes = z .scopes; answers = λ k. z .answers (suc k); interpreter = z .interpreter }
 
--- the answer of interp_one, and the state behind it
+-- the answer of the next call of interp_one
 abbrev pub interpAnswer : State → ℕ
 interpAnswer z = z .interpreter 0 (z .c) (z .mem) .answer
 
+-- the state behind that call; interpreter starts with the call after it
 abbrev pub afterInterp : State → State
 afterInterp z =
     let q : Interpreted = z .interpreter 0 (z .c) (z .mem) in
     record { c = q .c; mem = q .mem; scopes = z .scopes; answers = z .answers; interpreter = λ k. z .interpreter (suc k) }
 
--- at { and at }
+-- at {: a scope of its own, in which nothing is declared yet
 abbrev pub enter : State → State
 enter z = setScopes (empty ∷ z .scopes) z
 
+-- the scopes around the innermost one
 abbrev pub outer : List Scope → List Scope
 outer [] = []
 outer (f ∷ fs) = fs
 
+-- at }: the innermost scope ends
 abbrev pub leave : State → State
 leave z = setScopes (outer (z .scopes)) z
 
@@ -108,6 +114,7 @@ abbrev pub orElse : Option Cell → Option Cell → Option Cell
 orElse none y = y
 orElse (some x) y = some x
 
+-- the local with a name's number, of the innermost scope that declares it; none where no scope does
 abbrev pub find : ℕ → List Scope → Option Cell
 find k [] = none
 find k (f ∷ fs) = orElse (f k) (find k fs)
@@ -122,20 +129,22 @@ abbrev pub value : Place → State → Option ℕ
 value (reg k) z = cond (leb k 16) (some (z .c k)) none
 value (var x) z = cellValue (x .0) (find (index (x .1)) (z .scopes))
 
--- a declaration without a value; none where the scope has the name already (6.7)
+-- a declaration without a value in the scope f, by what f has of that name; none where it has the name already (6.7)
 abbrev pub declareIn : Option Cell → Ty → ℕ → Scope → List Scope → Option (List Scope)
 declareIn none y k f fs = some (update k (some (y, none)) f ∷ fs)
 declareIn (some p) y k f fs = none
 
+-- a declaration without a value, in the innermost scope; none also where there is no scope
 abbrev pub declared : Var → List Scope → Option (List Scope)
 declared x [] = none
 declared x (f ∷ fs) = declareIn (f (index (x .1))) (x .0) (index (x .1)) f fs
 
--- a value given to a local, in the innermost scope that has it; none where it is not declared, or with another type
+-- `assigned` at the scope f, by what f has of that name; rest: the same of the scopes around f
 abbrev pub assignIn : Option Cell → Ty → ℕ → ℕ → Scope → List Scope → Option (List Scope) → Option (List Scope)
 assignIn none y k v f fs rest = bind rest λ gs. some (f ∷ gs)
 assignIn (some p) y k v f fs rest = cond (sameTy y (p .0)) (some (update k (some (y, some v)) f ∷ fs)) none
 
+-- a value given to a local, in the innermost scope that has it; none where it is not declared, or with another type
 abbrev pub assigned : Ty → ℕ → ℕ → List Scope → Option (List Scope)
 assigned y k v [] = none
 assigned y k v (f ∷ fs) = assignIn (f k) y k v f fs (assigned y k v fs)

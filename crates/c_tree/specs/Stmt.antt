@@ -40,7 +40,7 @@ pub data Owner : Type 0 where
 pub data Simple : Type 0 where
   gap : Bool → ℕ → Simple  -- white space: a line end if true, then so many spaces
   recordMark : ℕ → ℕ → ℕ → Simple  -- a mark: here starts the text of native records of a block: key, index of the first record, how many
-  plain : Owner → Plain → Simple
+  plain : Owner → Plain → Simple  -- a plain statement with its `;`: where Plain says
   label : ℕ → Simple  -- L_08000000_a:; : emit_block
   goto : Owner → ℕ → Simple  -- goto L_08000000_a;: transfer
   ret : Owner → Expr → Simple  -- return e;: PREAMBLE, transfer, and Bx and pop of PC in emit_block

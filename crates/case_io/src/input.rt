@@ -44,6 +44,7 @@ pub fn bytes(out: &mut [u8]) -> bool {
     io::read_full(STDIN_FILENO, out) == out.len()
 }
 
+// Reads the next number.
 pub fn number() -> Read {
     let mut four = [0u8; 4];
     if !bytes(&mut four) {

@@ -2,14 +2,17 @@
 use crate::verdict::Section;
 use libc::STDOUT_FILENO;
 
+// Prints bytes as they are.
 fn text(bytes: &[u8]) {
     io::write_all(STDOUT_FILENO, bytes);
 }
 
+// Prints a number in decimal.
 fn number(n: u64) {
     io::print_decimal(STDOUT_FILENO, n);
 }
 
+// Prints the name of a section.
 fn name(section: Section) {
     match section {
         Section::Check => {
@@ -45,6 +48,7 @@ fn vector(section: Section, k: u64) {
     text(b": ");
 }
 
+// The line on a vector with other numbers than expected.
 pub fn mismatch(section: Section, k: u64, expected: &[u64], got: &[u64]) {
     vector(section, k);
     text(b"expected");
@@ -64,18 +68,21 @@ fn place_differs(i: u64, expected: u64, got: u64) {
     text(b"\n");
 }
 
+// The line on a vector of the units: work number `i` is not the expected one.
 pub fn work_differs(k: u64, i: u64, expected: u32, got: u32) {
     vector(Section::Units, k);
     text(b"work number ");
     place_differs(i, expected as u64, got as u64);
 }
 
+// The line on a vector of the units: byte `i` of the text is not the expected one.
 pub fn text_differs(k: u64, i: u64, expected: u8, got: u8) {
     vector(Section::Units, k);
     text(b"byte ");
     place_differs(i, expected as u64, got as u64);
 }
 
+// The line on a section: how many cases it has, and how many mismatches.
 pub fn total(section: Section, cases: u64, mismatches: u64) {
     name(section);
     text(b": ");
@@ -85,18 +92,21 @@ pub fn total(section: Section, cases: u64, mismatches: u64) {
     text(b" mismatches\n");
 }
 
+// The line on an input that ends in vector `k`; `k` is 0 where it ends in the count of a section.
 pub fn ends_early(k: u64) {
     text(b"input ends early at ");
     number(k);
     text(b"\n");
 }
 
+// The line on a vector that the buffers do not hold.
 pub fn too_long(k: u64) {
     text(b"vector ");
     number(k);
     text(b" is too long\n");
 }
 
+// The line on an input that does not end behind the last section.
 pub fn goes_on() {
     text(b"input goes on after the last section\n");
 }

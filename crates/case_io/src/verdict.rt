@@ -1,6 +1,7 @@
 // The sections of the input, and what becomes of a vector.
 use crate::report;
 
+// The sections, in the order in which they stand in the input.
 pub enum Section {
     Check,
     Exits,

@@ -7,6 +7,7 @@ use case_io::verdict::Verdict;
 use replay_answers::check_cases;
 use replay_answers::exits_cases;
 
+// Reads vector `k` of a section and tries it.
 fn replay_one(section: Section, k: u64) -> Verdict {
     match section {
         Section::Check => check_cases::replay_one(k),

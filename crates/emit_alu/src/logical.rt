@@ -29,6 +29,7 @@ pub(crate) fn put_result(out: &mut [u8], at: usize, op: AluOp, rd: Reg) -> usize
     text::put(out, p, b"] = r;\n")
 }
 
+// The line that sets C, if the second operand gives a carry.
 fn put_logical_c(out: &mut [u8], at: usize, op2: Operand2, pc: u32) -> usize
     ensures { λ r. ⌜ Wrote (now (out .entry)) at (statementsText (logicalC (operandOf pc op2 .1))) (now (out .exit)) r ⌝ }
 {
@@ -40,6 +41,7 @@ fn put_logical_c(out: &mut [u8], at: usize, op2: Operand2, pc: u32) -> usize
     at
 }
 
+// The lines that set the flags, if s is set: N and Z, and C where the second operand gives a carry.
 fn put_flags(out: &mut [u8], at: usize, s: bool, op2: Operand2, pc: u32) -> usize
     ensures { λ r. ⌜ Wrote (now (out .entry)) at (statementsText (cond s (run f-nz (v32 x-r) ∷ logicalC (operandOf pc op2 .1)) [])) (now (out .exit)) r ⌝ }
 {

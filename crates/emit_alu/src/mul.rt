@@ -22,6 +22,7 @@ pub fn mul_is_inlined(rd: Reg) -> bool
     rd != 15
 }
 
+// The line of the product.
 fn put_product(out: &mut [u8], at: usize, rs: Reg, rm: Reg) -> usize
     ensures { λ r. ⌜ Wrote (now (out .entry)) at (statementsText (let32 x-r (bin mul (get (reg rm)) (get (reg rs))) ∷ [])) (now (out .exit)) r ⌝ }
 {
@@ -30,6 +31,7 @@ fn put_product(out: &mut [u8], at: usize, rs: Reg, rm: Reg) -> usize
     text::put(out, q, b"];\n")
 }
 
+// The line that adds rn, if acc is set.
 fn put_more(out: &mut [u8], at: usize, acc: bool, rn: Reg) -> usize
     ensures { λ r. ⌜ Wrote (now (out .entry)) at (statementsText (only acc (set (var (u32, x-r)) plus (get (reg rn))))) (now (out .exit)) r ⌝ }
 {
@@ -40,6 +42,7 @@ fn put_more(out: &mut [u8], at: usize, acc: bool, rn: Reg) -> usize
     at
 }
 
+// The line that sets rd.
 fn put_low(out: &mut [u8], at: usize, rd: Reg) -> usize
     ensures { λ r. ⌜ Wrote (now (out .entry)) at (statementsText (setReg rd (v32 x-r) ∷ [])) (now (out .exit)) r ⌝ }
 {
@@ -47,6 +50,7 @@ fn put_low(out: &mut [u8], at: usize, rd: Reg) -> usize
     text::put(out, p, b"] = r;\n")
 }
 
+// The line that sets N and Z, if s is set.
 fn put_nz(out: &mut [u8], at: usize, s: bool) -> usize
     ensures { λ r. ⌜ Wrote (now (out .entry)) at (statementsText (only s (run f-nz (v32 x-r)))) (now (out .exit)) r ⌝ }
 {
@@ -87,6 +91,7 @@ fn put_wide(out: &mut [u8], at: usize, signed: bool, n: Reg) -> usize
     text::put(out, q, b"]")
 }
 
+// The line of the product of 64 bits.
 fn put_long_product(out: &mut [u8], at: usize, signed: bool, rs: Reg, rm: Reg) -> usize
     ensures { λ r. ⌜ Wrote (now (out .entry)) at (statementsText (declare (u64, x-r) (cast u64 (par (bin mul (wide signed (get (reg rm))) (wide signed (get (reg rs)))))) [] ∷ [])) (now (out .exit)) r ⌝ }
 {
@@ -97,6 +102,7 @@ fn put_long_product(out: &mut [u8], at: usize, signed: bool, rs: Reg, rm: Reg) -
     text::put(out, w, b");\n")
 }
 
+// The line that adds the two registers of the outcome as they were, if acc is set.
 fn put_long_more(out: &mut [u8], at: usize, acc: bool, hi: Reg, lo: Reg) -> usize
     ensures { λ r. ⌜ Wrote (now (out .entry)) at (statementsText (only acc (set (var (u64, x-r)) plus (bin bor (par (bin shl (cast u64 (get (reg hi))) (lit int 32))) (cast u64 (get (reg lo))))))) (now (out .exit)) r ⌝ }
 {
@@ -117,6 +123,7 @@ fn put_halves(out: &mut [u8], at: usize, hi: Reg, lo: Reg) -> usize
     text::put(out, q, b"] = (uint32_t)(r >> 32);\n")
 }
 
+// The line that sets N and Z by all 64 bits, if s is set.
 fn put_nz64(out: &mut [u8], at: usize, s: bool) -> usize
     ensures { λ r. ⌜ Wrote (now (out .entry)) at (statementsText (only s (run f-nz64 r64))) (now (out .exit)) r ⌝ }
 {

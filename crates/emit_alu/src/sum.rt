@@ -16,6 +16,7 @@ ghost use Rattle.forms.specs.InlineBody.{result, sum};
 ghost use Rattle.forms.specs.Operands.{regOf, operandOf};
 ghost use Rattle.emit_alu.specs.Rows.{statementsText, before, between, behind};
 
+// What stands before the terms of a sum: with s the call of op_adds, which sets the flags.
 fn put_before(out: &mut [u8], at: usize, s: bool) -> usize
     ensures { λ r. ⌜ Wrote (now (out .entry)) at (before s) (now (out .exit)) r ⌝ }
 {
@@ -26,6 +27,7 @@ fn put_before(out: &mut [u8], at: usize, s: bool) -> usize
     }
 }
 
+// What stands between two terms.
 fn put_between(out: &mut [u8], at: usize, s: bool) -> usize
     ensures { λ r. ⌜ Wrote (now (out .entry)) at (between s) (now (out .exit)) r ⌝ }
 {
@@ -36,6 +38,7 @@ fn put_between(out: &mut [u8], at: usize, s: bool) -> usize
     }
 }
 
+// What stands behind the last term.
 fn put_behind(out: &mut [u8], at: usize, s: bool) -> usize
     ensures { λ r. ⌜ Wrote (now (out .entry)) at (behind s) (now (out .exit)) r ⌝ }
 {

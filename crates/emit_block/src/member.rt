@@ -8,6 +8,7 @@ ghost use Rattle.records.specs.Trailer.{blockCount};
 ghost use Rattle.block_file.specs.Address.{among};
 ghost use Rattle.emit_block.specs.Walk.{IsMember};
 
+// A block, as it stands in the plan.
 pub struct Member {
     // How many blocks the file has.
     pub blocks: usize,

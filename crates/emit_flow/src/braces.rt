@@ -1,4 +1,4 @@
-// The braces around the lines of a record that is carried out here.
+// The braces around the lines of a native record.
 ghost use Rattle.text.specs.Wrote.{Wrote};
 ghost use Rattle.emit_flow.specs.Pieces.{straightOpen, straightEnd, beforeCondition, straightIfOpen, straightIfEnd};
 

@@ -71,7 +71,7 @@ pub(crate) fn emit_branch(
     }
 }
 
-// Whether a Bx is carried out here, in a block of a region.
+// Whether a Bx, or the pop of PC, is native in a block of a region: with condition Al, outside region 0.
 pub(crate) fn is_native_exit(region: u32, i: Instr) -> bool
     ensures { λ r. ⌜ r ≡ nativeExit region i ⌝ }
 {

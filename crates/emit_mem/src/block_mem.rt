@@ -55,7 +55,7 @@ fn put_write_back(out: &mut [u8], at: usize, rn: u8, up: bool, total: u32) -> us
     put(out, s, b";\n")
 }
 
-// The write-back of a load, whose base is not to be listed.
+// The write-back of a load: the base is written back if writeback is set and the base is not listed.
 fn put_load_back(
     out: &mut [u8],
     at: usize,
@@ -76,7 +76,7 @@ fn put_load_back(
     at
 }
 
-// The write-back of a store.
+// The write-back of a store: the base is written back if writeback is set.
 fn put_store_back(out: &mut [u8], at: usize, rn: u8, writeback: bool, up: bool, total: u32) -> usize
     ensures { λ n. ⌜ Wrote (now (out .entry)) at (linesText 8 (apart (only writeback (setReg rn (movedBase up total))))) (now (out .exit)) n ⌝ }
 {

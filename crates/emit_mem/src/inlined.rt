@@ -12,6 +12,7 @@ ghost use Rattle.c_tree.specs.Expr.{Expr};
 ghost use Rattle.forms.specs.InlineBody.{shiftedOffset, offsetExpr};
 ghost use Rattle.emit_operands.specs.Operands.{isSome};
 
+// Whether an offset shifted by an amount is inlined: not by RRX, which is Ror with amount 0.
 fn kind_is_inlined(kind: ShiftKind, amount: u8) -> bool
     ensures { λ b. ⌜ ((e : Expr) → b ≡ isSome (shiftedOffset e kind amount)) ⌝ }
 {
@@ -23,6 +24,7 @@ fn kind_is_inlined(kind: ShiftKind, amount: u8) -> bool
     }
 }
 
+// Whether a register as an offset is inlined, by its shift: not if that is by a register.
 fn shift_is_inlined(shift: Shift) -> bool
     ensures { λ b. ⌜ ((i : Instr) (rm : ℕ) → b ≡ isSome (offsetExpr i (MemOffset.Reg rm shift))) ⌝ }
 {
@@ -32,6 +34,7 @@ fn shift_is_inlined(shift: Shift) -> bool
     }
 }
 
+// Whether an offset is inlined; a value always is.
 fn offset_is_inlined(offset: MemOffset) -> bool
     ensures { λ b. ⌜ ((i : Instr) → b ≡ isSome (offsetExpr i offset)) ⌝ }
 {
@@ -41,6 +44,7 @@ fn offset_is_inlined(offset: MemOffset) -> bool
     }
 }
 
+// Whether a Mem is inlined, by rd and its offset.
 pub fn mem_is_inlined(rd: u8, offset: MemOffset) -> bool
     ensures { λ b. ⌜ ((i : Instr) → b ≡ (not (eqb rd 15) && isSome (offsetExpr i offset))) ⌝ }
 {

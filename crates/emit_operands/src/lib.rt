@@ -136,6 +136,7 @@ pub fn put_op2_carry(out: &mut [u8], at: usize, op2: Operand2, pc: u32) -> usize
     }
 }
 
+// Whether a register operand can be written, by its shift: not if that is by a register.
 fn shift_is_native(shift: Shift) -> bool
     ensures { λ r. ⌜ ((i : Instr) (rm : ℕ) → r ≡ isSome (op2Exprs i (Operand2.Reg rm shift))) ⌝ }
 {
@@ -167,6 +168,7 @@ fn kind_has_carry(kind: ShiftKind, amount: u8) -> bool
     }
 }
 
+// Whether a register operand gives a carry, by its shift; a shift by a register counts as none.
 fn shift_has_carry(shift: Shift) -> bool
     ensures { λ r. ⌜ ((pc rm : ℕ) → r ≡ isSome (operandOf pc (Operand2.Reg rm shift) .1)) ⌝ }
 {

@@ -30,6 +30,7 @@ fn put_amount(
     text::put(out, q, u)
 }
 
+// A register shifted by Lsl; amount 0 leaves it as it is.
 fn put_lsl(out: &mut [u8], at: usize, rm: Reg, pc: u32, amount: u8) -> usize
     ensures { λ r. ⌜ Wrote (now (out .entry)) at (exprText (shiftExprs (regOf pc rm) Lsl amount .0)) (now (out .exit)) r ⌝ }
 {
@@ -39,6 +40,7 @@ fn put_lsl(out: &mut [u8], at: usize, rm: Reg, pc: u32, amount: u8) -> usize
     put_amount(out, at, b"(", rm, pc, b" << ", amount, b"u)")
 }
 
+// A register shifted by Lsr; amount 0 means 32, and gives 0.
 fn put_lsr(out: &mut [u8], at: usize, rm: Reg, pc: u32, amount: u8) -> usize
     ensures { λ r. ⌜ Wrote (now (out .entry)) at (exprText (shiftExprs (regOf pc rm) Lsr amount .0)) (now (out .exit)) r ⌝ }
 {
@@ -48,6 +50,7 @@ fn put_lsr(out: &mut [u8], at: usize, rm: Reg, pc: u32, amount: u8) -> usize
     put_amount(out, at, b"(", rm, pc, b" >> ", amount, b"u)")
 }
 
+// A register shifted by Asr; amount 0 means 32, which gives the same as 31.
 fn put_asr(out: &mut [u8], at: usize, rm: Reg, pc: u32, amount: u8) -> usize
     ensures { λ r. ⌜ Wrote (now (out .entry)) at (exprText (shiftExprs (regOf pc rm) Asr amount .0)) (now (out .exit)) r ⌝ }
 {
@@ -75,6 +78,7 @@ fn put_asr(out: &mut [u8], at: usize, rm: Reg, pc: u32, amount: u8) -> usize
     )
 }
 
+// A register shifted by Ror; amount 0 means RRX, which brings the carry flag in at bit 31.
 fn put_ror(out: &mut [u8], at: usize, rm: Reg, pc: u32, amount: u8) -> usize
     ensures { λ r. ⌜ Wrote (now (out .entry)) at (exprText (shiftExprs (regOf pc rm) Ror amount .0)) (now (out .exit)) r ⌝ }
 {
@@ -124,6 +128,7 @@ fn last_out(amount: u8) -> u8
     if amount <= 32 { 32 - amount } else { 0 }
 }
 
+// The carry out of Lsl: nothing with amount 0.
 fn put_left_carry(out: &mut [u8], at: usize, rm: Reg, pc: u32, amount: u8) -> usize
     ensures { λ r. ⌜ Wrote (now (out .entry)) at (carryText (shiftExprs (regOf pc rm) Lsl amount .1)) (now (out .exit)) r ⌝ }
 {
@@ -143,6 +148,7 @@ fn put_right_carry(out: &mut [u8], at: usize, rm: Reg, pc: u32, amount: u8) -> u
     put_bit(out, at, rm, pc, amount - 1)
 }
 
+// The carry out of Ror: with amount 0 that of RRX, bit 0.
 fn put_ror_carry(out: &mut [u8], at: usize, rm: Reg, pc: u32, amount: u8) -> usize
     ensures { λ r. ⌜ Wrote (now (out .entry)) at (carryText (shiftExprs (regOf pc rm) Ror amount .1)) (now (out .exit)) r ⌝ }
 {

@@ -31,21 +31,24 @@ use Rattle.forms.specs.Means.{statements}
 abbrev regs : ℕ → ℕ
 regs = update 1 0x80000003 (update 2 7 (update 3 0x41 (update 4 0x44 λ k. 0)))
 
--- C is set, and a byte of memory is its address modulo 256
+-- a machine with those registers: C is set, and a byte of memory is its address modulo 256
 abbrev machine : Machine
 machine = record { r = regs; n = false; z = false; c = true; v = false; otherBits = 0; mem = λ a. a % 256 }
 
+-- a state that agrees with it, with one scope and nothing declared
 abbrev state : State
 state =
     record { c = update 16 0x20000000 regs; mem = λ a. a % 256; scopes = empty ∷ []; answers = λ k. 0; interpreter = λ k c mem. record { c = c; mem = mem; answer = 0 } }
 
+-- an operation as the ARM instruction at 0x08000000, with the condition Al
 abbrev arm : Op → Instr
 arm op = record { addr = 0x08000000; cond = Al; op = op; thumb = false }
 
--- register k, the status register and the word at 0x3c, behind the lines and behind the operation
+-- register k, the status register and the word at 0x3c, behind the lines of an operation
 abbrev text-has : ℕ → Op → Option (ℕ × ℕ × ℕ)
 text-has k op = bind (opBody false (arm op) op) λ ls. bind (perform (statements ls) (enter state)) λ z. some (z .c k, z .c 16, load w32 (z .mem) 0x3c)
 
+-- the same behind the operation, by the manual
 abbrev manual-has : ℕ → Op → Option (ℕ × ℕ × ℕ)
 manual-has k op = bind (operation (arm op) op machine) λ q. some (q .0 .r k, cpsr (q .0), Memory4 (q .0 .mem) 0x3c)
 

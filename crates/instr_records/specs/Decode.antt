@@ -45,26 +45,29 @@ memOffsetAt f at =
 abbrev pub widthOf : ℕ → MemWidth
 widthOf n = getD (MemWidth.Byte ∷ MemWidth.Half ∷ MemWidth.Word ∷ []) n MemWidth.Word
 
+-- an Alu record: operation, s, rd, rn, second operand
 unfoldable pub aluAt : List ℕ → ℕ → Op
 aluAt f at = Op.Alu (aluOpOf (byteAt f (at + 4) % 16)) (flagAt f (at + 5)) (byteAt f (at + 6)) (byteAt f (at + 7)) (operandAt f at)
 
+-- a Mul record: acc, s, rd, rn, rs, rm
 unfoldable pub mulAt : List ℕ → ℕ → Op
 mulAt f at =
     Op.Mul (flagAt f (at + 4)) (flagAt f (at + 5)) (byteAt f (at + 6)) (byteAt f (at + 7)) (byteAt f (at + 8))
     (byteAt f (at + 9))
 
+-- a MulLong record: signed, acc, s, rd_hi, rd_lo, rs, rm
 unfoldable pub mulLongAt : List ℕ → ℕ → Op
 mulLongAt f at =
     Op.MulLong (flagAt f (at + 4)) (flagAt f (at + 5)) (flagAt f (at + 6)) (byteAt f (at + 7)) (byteAt f (at + 8))
     (byteAt f (at + 9)) (byteAt f (at + 10))
 
--- load, width, signed, rd, rn, offset, pre, up, writeback
+-- a Mem record: load, width, signed, rd, rn, offset, pre, up, writeback
 unfoldable pub memAt : List ℕ → ℕ → Op
 memAt f at =
     Op.Mem (bitAt f (at + 4) 0) (widthOf (byteAt f (at + 5))) (bitAt f (at + 4) 1) (byteAt f (at + 6)) (byteAt f (at + 7))
     (memOffsetAt f at) (bitAt f (at + 4) 2) (bitAt f (at + 4) 3) (bitAt f (at + 4) 4)
 
--- load, rn, rlist, pre, up, s_bit, writeback
+-- a BlockMem record: load, rn, rlist, pre, up, s_bit, writeback
 unfoldable pub blockMemAt : List ℕ → ℕ → Op
 blockMemAt f at =
     Op.BlockMem (bitAt f (at + 4) 0) (byteAt f (at + 6)) (halfAt f (at + 12)) (bitAt f (at + 4) 1) (bitAt f (at + 4) 2)

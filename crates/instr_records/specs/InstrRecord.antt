@@ -6,13 +6,15 @@ use lib.ListN.{getD}
 use lib.Dec.{leb, eqb}
 use Rattle.records.specs.Bytes.{byteAt}
 
--- The largest values of bytes by what they hold.
+-- the largest value of a byte that holds a flag
 abbrev pub maxFlag : ℕ
 maxFlag = 1
 
+-- the largest value of a byte that holds a register
 abbrev pub maxReg : ℕ
 maxReg = 15
 
+-- the largest value of a byte that has no limit of its own
 abbrev pub maxByte : ℕ
 maxByte = 255
 
@@ -72,6 +74,7 @@ unfoldable pub within : List ℕ → ℕ → List ℕ → Bool
 within f at [] = true
 within f at (most ∷ row) = leb (byteAt f at) most && within f (at + 1) row
 
+-- whether a number is even; of a word the low byte settles it
 abbrev pub even : ℕ → Bool
 even n = eqb (n % 2) 0
 

@@ -21,6 +21,7 @@ pub struct TimedInstr {
     pub cost: u16,
 }
 
+// The shift of a register operand: by an amount in form 1, by a register in form 2.
 fn shift(file: &[u8], at: usize) -> Shift
     requires { ⌜ at + 16 ≤ length (now file) ⌝ }
     ensures { λ r. ⌜ r ≡ shiftAt (now (file .entry)) at ⌝ }
@@ -34,6 +35,7 @@ fn shift(file: &[u8], at: usize) -> Shift
     }
 }
 
+// The second operand of an Alu record: a value in form 0.
 fn operand(file: &[u8], at: usize) -> Operand2
     requires { ⌜ at + 16 ≤ length (now file) ⌝ }
     ensures { λ r. ⌜ r ≡ operandAt (now (file .entry)) at ⌝ }
@@ -52,6 +54,7 @@ fn operand(file: &[u8], at: usize) -> Operand2
     }
 }
 
+// The offset of a Mem record: a value in form 0.
 fn mem_offset(file: &[u8], at: usize) -> MemOffset
     requires { ⌜ at + 16 ≤ length (now file) ⌝ }
     ensures { λ r. ⌜ r ≡ memOffsetAt (now (file .entry)) at ⌝ }
@@ -66,6 +69,7 @@ fn mem_offset(file: &[u8], at: usize) -> MemOffset
     }
 }
 
+// The width that a number encodes; the check refuses numbers from 3 on.
 fn width(n: u8) -> MemWidth
     ensures { λ r. ⌜ r ≡ widthOf n ⌝ }
 {
@@ -76,6 +80,7 @@ fn width(n: u8) -> MemWidth
     }
 }
 
+// The operation of an Alu record.
 fn alu(file: &[u8], at: usize) -> Op
     requires { ⌜ at + 16 ≤ length (now file) ⌝ }
     ensures { λ r. ⌜ r ≡ aluAt (now (file .entry)) at ⌝ }
@@ -89,6 +94,7 @@ fn alu(file: &[u8], at: usize) -> Op
     }
 }
 
+// The operation of a Mul record.
 fn mul(file: &[u8], at: usize) -> Op
     requires { ⌜ at + 16 ≤ length (now file) ⌝ }
     ensures { λ r. ⌜ r ≡ mulAt (now (file .entry)) at ⌝ }
@@ -103,6 +109,7 @@ fn mul(file: &[u8], at: usize) -> Op
     }
 }
 
+// The operation of a MulLong record.
 fn mul_long(file: &[u8], at: usize) -> Op
     requires { ⌜ at + 16 ≤ length (now file) ⌝ }
     ensures { λ r. ⌜ r ≡ mulLongAt (now (file .entry)) at ⌝ }
@@ -118,6 +125,7 @@ fn mul_long(file: &[u8], at: usize) -> Op
     }
 }
 
+// The operation of a Mem record.
 fn mem(file: &[u8], at: usize) -> Op
     requires { ⌜ at + 16 ≤ length (now file) ⌝ }
     ensures { λ r. ⌜ r ≡ memAt (now (file .entry)) at ⌝ }
@@ -136,6 +144,7 @@ fn mem(file: &[u8], at: usize) -> Op
     }
 }
 
+// The operation of a BlockMem record.
 fn block_mem(file: &[u8], at: usize) -> Op
     requires { ⌜ at + 16 ≤ length (now file) ⌝ }
     ensures { λ r. ⌜ r ≡ blockMemAt (now (file .entry)) at ⌝ }
@@ -179,6 +188,7 @@ fn free(kind: u8) -> Op
     }
 }
 
+// The operation of a record, by its kind.
 fn op(file: &[u8], at: usize) -> Op
     requires { ⌜ at + 16 ≤ length (now file) ⌝ }
     ensures { λ r. ⌜ r ≡ opAt (now (file .entry)) at ⌝ }

@@ -28,10 +28,11 @@ bodyLength b = lengthOf (b .count) (b .thumb)
 abbrev pub bodyEnd : Body → ℕ
 bodyEnd b = (b .addr + bodyLength b) % 2 ^ 32
 
--- a line end, and spaces
+-- a line end
 abbrev pub nl : Simple
 nl = gap true 0
 
+-- n spaces
 abbrev pub sp : ℕ → Simple
 sp n = gap false n
 
@@ -80,12 +81,13 @@ masked n = bin band (v32 x-t) (un compl (lit udec n))
 abbrev pub leave : Owner → Expr → Code
 leave o e = sp 1 ⨾ ret o e ⨾ sp 1 ⨾ end
 
--- what Bx does with a Thumb target, and with an ARM one
+-- what Bx does with a Thumb target
 abbrev pub toThumb : Owner → Code
 toThumb o =
     sp 1
     ⨾ line o (set (reg 16) or (lit uhex 0x20) ∷ set (reg 15) is (masked 1) ∷ []) (leave o (bin bor (par (masked 1)) (lit udec 1)))
 
+-- what Bx does with an ARM target
 abbrev pub toArm : Owner → Code
 toArm o = gap true 6 ⨾ line o (set (reg 16) and (un compl (lit uhex 0x20)) ∷ set (reg 15) is (masked 3) ∷ []) (leave o (masked 3))
 

@@ -30,13 +30,15 @@ use Rattle.forms.specs.Block.{emitInstr}
 use Rattle.lowering.specs.Block.{nativeText}
 use Rattle.lowering.specs.Records.{isNamedDifference}
 
--- registers, flags and memory hold 0
+-- a machine whose registers, status register and memory hold 0
 abbrev machine : Machine
 machine = record { r = λ k. 0; n = false; z = false; c = false; v = false; otherBits = 0; mem = λ a. 0 }
 
+-- a state that agrees with it, with one scope and nothing declared
 abbrev state : State
 state = record { c = λ k. 0; mem = λ a. 0; scopes = empty ∷ []; answers = λ k. 0; interpreter = λ k c mem. record { c = c; mem = mem; answer = 0 } }
 
+-- a record by its address, its set, its condition and its operation; its cost is 1
 abbrev record-of : ℕ → Bool → Cond → Op → TimedInstr
 record-of a thumb c op = record { instr = record { addr = a; cond = c; op = op; thumb = thumb }; cost = 1 }
 
@@ -45,10 +47,11 @@ abbrev does : Form → Outcome
 does (native r) = run (nativeText [] 0 common r end) state
 does (shell high t k) = none
 
--- c[0], and the word at 4, behind a text; register 0, and the word at 4, behind an instruction
+-- c[0] and the word at 4 behind the text of a record, in a block of region 8 and with no cycles pending
 abbrev text-has : TimedInstr → Option (ℕ × ℕ)
 text-has x = bind (does (emitInstr (x .instr .thumb) 8 0 x .0)) λ q. some (q .0 .c 0, load w32 (q .0 .mem) 4)
 
+-- register 0 and the word at 4 behind the record's instruction, by the manual
 abbrev manual-has : TimedInstr → Option (ℕ × ℕ)
 manual-has x = bind (execute (x .instr) machine) λ q. some (q .0 .r 0, Memory4 (q .0 .mem) 4)
 

@@ -49,11 +49,12 @@ loadMultiplePc i up pre writeback rn rlist m =
     let x : ℕ = loadedPc up pre rn rlist m in
     (loadMultipleWithPc up pre writeback rn rlist m, key (i .thumb) (cond (i .thumb) (x / 2 * 2) (x / 4 * 4)))
 
--- BL of Thumb (A7.1 BL, BLX (1)): H of 10 puts lr, which the decoder has computed from PC and the offset, into R14; H of 11 goes to R14 plus twice its offset,
--- and puts the address behind it, with bit 0 set, into R14. An odd R14 before H of 11 is open: here PC is without bit 0
+-- BL of Thumb (A7.1 BL, BLX (1)), H of 10: lr, which the decoder has computed from PC and the offset, goes into R14
 abbrev pub blHigh : Instr → ℕ → Machine → Machine × ℕ
 blHigh i lr m = onward i (setReg 14 lr m)
 
+-- BL of Thumb, H of 11: it goes to R14 plus twice its offset, and puts the address behind it, with bit 0 set, into R14. An odd R14 before it is open: here PC
+-- is without bit 0
 abbrev pub blLow : Instr → ℕ → Machine → Machine × ℕ
 blLow i off m = (setReg 14 (following i / 2 * 2 + 1) m, key true ((m .r 14 + off * 2) % two32 / 2 * 2))
 

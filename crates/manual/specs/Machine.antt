@@ -23,6 +23,7 @@ pub record Machine : Type 0 where
 abbrev pub pack : Bool → Bool → Bool → Bool → ℕ → ℕ
 pack n z c v otherBits = (oneIf n * 8 + oneIf z * 4 + oneIf c * 2 + oneIf v) * 2 ^ 28 + otherBits
 
+-- the status register of a machine
 abbrev pub cpsr : Machine → ℕ
 cpsr m = pack (m .n) (m .z) (m .c) (m .v) (m .otherBits)
 
@@ -34,15 +35,19 @@ R m pc i = cond (eqb i 15) pc (m .r i)
 abbrev pub update : ℕ → ℕ → (ℕ → ℕ) → ℕ → ℕ
 update k x f i = cond (eqb i k) x (f i)
 
+-- the machine with x in register rd
 abbrev pub setReg : ℕ → ℕ → Machine → Machine
 setReg rd x m = record { r = update rd x (m .r); n = m .n; z = m .z; c = m .c; v = m .v; otherBits = m .otherBits; mem = m .mem }
 
+-- the machine with other registers
 abbrev pub setRegs : (ℕ → ℕ) → Machine → Machine
 setRegs f m = record { r = f; n = m .n; z = m .z; c = m .c; v = m .v; otherBits = m .otherBits; mem = m .mem }
 
+-- the machine with other flags
 abbrev pub setFlags : Bool → Bool → Bool → Bool → Machine → Machine
 setFlags n z c v m = record { r = m .r; n = n; z = z; c = c; v = v; otherBits = m .otherBits; mem = m .mem }
 
+-- the machine with other bytes of memory
 abbrev pub setMem : (ℕ → ℕ) → Machine → Machine
 setMem f m = record { r = m .r; n = m .n; z = m .z; c = m .c; v = m .v; otherBits = m .otherBits; mem = f }
 

@@ -6,10 +6,11 @@ use lib.Dec.{ltb, leb}
 use Rattle.words.specs.Word.{bit}
 use Rattle.manual.specs.Machine.{two32}
 
--- by fewer than 32 places
+-- zeros come in at the right; like all shifts here, by fewer than 32 places
 abbrev pub Logical-Shift-Left : ℕ → ℕ → ℕ
 Logical-Shift-Left x i = x * 2 ^ i % two32
 
+-- zeros come in at the left
 abbrev pub Logical-Shift-Right : ℕ → ℕ → ℕ
 Logical-Shift-Right x i = x / 2 ^ i
 
@@ -21,6 +22,7 @@ Arithmetic-Shift-Right x i = x / 2 ^ i + cond (bit x 31) (two32 - 2 ^ (32 - i)) 
 abbrev pub Rotate-Right : ℕ → ℕ → ℕ
 Rotate-Right x i = x / 2 ^ i + x % 2 ^ i * 2 ^ (32 - i)
 
+-- a word with every bit inverted
 abbrev pub NOT : ℕ → ℕ
 NOT x = (two32 - 1) - x
 
@@ -28,25 +30,27 @@ NOT x = (two32 - 1) - x
 abbrev pub CarryFrom : ℕ → Bool
 CarryFrom s = leb two32 s
 
--- x - y - i cut to a word, and whether it is below 0
+-- x - y - i cut to a word
 abbrev pub minus : ℕ → ℕ → ℕ → ℕ
 minus x y i = (x + two32 + two32 - y - i) % two32
 
+-- whether x - y - i is below 0
 abbrev pub BorrowFrom : ℕ → ℕ → ℕ → Bool
 BorrowFrom x y i = ltb x (y + i)
 
--- an addition overflows where both operands have one sign and the outcome s the other; a subtraction where the operands' signs differ and the outcome's is
--- not the first's
+-- an addition overflows where both operands have one sign and the outcome s the other
 abbrev pub OverflowFromAdd : ℕ → ℕ → ℕ → Bool
 OverflowFromAdd x y s = Bool·beq (bit x 31) (bit y 31) && not (Bool·beq (bit x 31) (bit s 31))
 
+-- a subtraction overflows where the operands' signs differ and the sign of the outcome s is not the first's
 abbrev pub OverflowFromSub : ℕ → ℕ → ℕ → Bool
 OverflowFromSub x y s = not (Bool·beq (bit x 31) (bit y 31)) && not (Bool·beq (bit x 31) (bit s 31))
 
--- a byte, and a halfword, with copies of its top bit in front
+-- a byte with copies of its top bit in front
 abbrev pub SignExtend8 : ℕ → ℕ
 SignExtend8 x = cond (bit x 7) (x + (two32 - 2 ^ 8)) x
 
+-- a halfword with copies of its top bit in front
 abbrev pub SignExtend16 : ℕ → ℕ
 SignExtend16 x = cond (bit x 15) (x + (two32 - 2 ^ 16)) x
 

@@ -34,46 +34,59 @@ use Rattle.manual.specs.Multiple.{listed, loadAll, behind, storeAll, low
 use Rattle.manual.specs.Unsaid.{isNv}
 use Rattle.manual.specs.Execute.{key, branchExchange}
 
--- the opcodes of format 1, of format 2, and so on
+-- the opcodes of format 1: shifts by a value
 pub data Opcode1 : Type 0 where
   lsl-1 lsr-1 asr-1 : Opcode1
 
+-- the opcodes of format 2: sums and differences of Rn and a value, or of Rn and Rm
 pub data Opcode2 : Type 0 where
   add-1 add-3 sub-1 sub-3 : Opcode2
 
+-- the opcodes of format 3: operations on Rd and a value
 pub data Opcode3 : Type 0 where
   mov-1 cmp-1 add-2 sub-2 : Opcode3
 
+-- the opcodes of format 4: operations on Rd and Rm
 pub data Opcode4 : Type 0 where
   and eor lsl-2 lsr-2 asr-2 adc sbc ror tst neg cmp-2 cmn orr mul bic mvn : Opcode4
 
+-- the opcodes of format 5: operations on registers up to R15, and BX
 pub data Opcode5 : Type 0 where
   add-4 cmp-3 mov-3 bx : Opcode5
 
+-- the opcodes of format 7: transfers of words and bytes, with a register as the offset
 pub data Opcode7 : Type 0 where
   str-2 strb-2 ldr-2 ldrb-2 : Opcode7
 
+-- the opcodes of format 8: transfers of halfwords and loads of signed bytes, with a register as the offset
 pub data Opcode8 : Type 0 where
   strh-2 ldrsb ldrh-2 ldrsh : Opcode8
 
+-- the opcodes of format 9: transfers of words and bytes, with a value as the offset
 pub data Opcode9 : Type 0 where
   str-1 ldr-1 strb-1 ldrb-1 : Opcode9
 
+-- the opcodes of format 10: transfers of halfwords, with a value as the offset
 pub data Opcode10 : Type 0 where
   strh-1 ldrh-1 : Opcode10
 
+-- the opcodes of format 11: transfers of words, with SP as the base
 pub data Opcode11 : Type 0 where
   str-3 ldr-4 : Opcode11
 
+-- the opcodes of format 12: PC or SP plus a value, to Rd
 pub data Opcode12 : Type 0 where
   add-5 add-6 : Opcode12
 
+-- the opcodes of format 13: SP plus or minus a value, to SP
 pub data Opcode13 : Type 0 where
   add-7 sub-4 : Opcode13
 
+-- the opcodes of format 14: transfers of several registers, with SP as the base
 pub data Opcode14 : Type 0 where
   push pop : Opcode14
 
+-- the opcodes of format 15: transfers of several registers, with Rn as the base
 pub data Opcode15 : Type 0 where
   stmia ldmia : Opcode15
 
@@ -134,19 +147,21 @@ shiftOf lsl-1 = Lsl
 shiftOf lsr-1 = Lsr
 shiftOf asr-1 = Asr
 
--- the operation that format 2 decodes to, that format 3 does, and so on
+-- the operation that format 2 decodes to; rm is immed_3 for add-1 and sub-1
 abbrev pub decoded2 : Opcode2 → ℕ → ℕ → ℕ → Op
 decoded2 add-1 rm rn rd = Alu Add true rd rn (Operand2.Imm rm 0)
 decoded2 add-3 rm rn rd = Alu Add true rd rn (Operand2.Reg rm noShift)
 decoded2 sub-1 rm rn rd = Alu Sub true rd rn (Operand2.Imm rm 0)
 decoded2 sub-3 rm rn rd = Alu Sub true rd rn (Operand2.Reg rm noShift)
 
+-- the operation that format 3 decodes to: Rd is Rn too, but for MOV (1)
 abbrev pub decoded3 : Opcode3 → ℕ → ℕ → Op
 decoded3 mov-1 rd immed = Alu Mov true rd 0 (Operand2.Imm immed 0)
 decoded3 cmp-1 rd immed = Alu Cmp true rd rd (Operand2.Imm immed 0)
 decoded3 add-2 rd immed = Alu Add true rd rd (Operand2.Imm immed 0)
 decoded3 sub-2 rd immed = Alu Sub true rd rd (Operand2.Imm immed 0)
 
+-- the operation that format 4 decodes to: a shift is a MOV of Rd, shifted by Rs, and NEG is an RSB of Rm with the value 0
 abbrev pub decoded4 : Opcode4 → ℕ → ℕ → Op
 decoded4 and rm rd = Alu And true rd rd (Operand2.Reg rm noShift)
 decoded4 eor rm rd = Alu Eor true rd rd (Operand2.Reg rm noShift)
@@ -165,6 +180,7 @@ decoded4 mul rm rd = Mul false true rd 0 rm rd
 decoded4 bic rm rd = Alu Bic true rd rd (Operand2.Reg rm noShift)
 decoded4 mvn rm rd = Alu Mvn true rd 0 (Operand2.Reg rm noShift)
 
+-- the operation that format 5 decodes to: of the three that are Alu only CMP (3) sets the flags
 abbrev pub decoded5 : Opcode5 → ℕ → ℕ → Op
 decoded5 add-4 rm rd = Alu Add false rd rd (Operand2.Reg rm noShift)
 decoded5 cmp-3 rm rd = Alu Cmp true 0 rd (Operand2.Reg rm noShift)
@@ -175,28 +191,33 @@ decoded5 bx rm rd = Bx rm
 abbrev pub memOp : Bool → MemWidth → Bool → ℕ → ℕ → MemOffset → Op
 memOp ld width signed rd rn offset = Mem ld width signed rd rn offset true true false
 
+-- the operation that format 7 decodes to: the offset is Rm
 abbrev pub decoded7 : Opcode7 → ℕ → ℕ → ℕ → Op
 decoded7 str-2 rm rn rd = memOp false Word false rd rn (MemOffset.Reg rm noShift)
 decoded7 strb-2 rm rn rd = memOp false Byte false rd rn (MemOffset.Reg rm noShift)
 decoded7 ldr-2 rm rn rd = memOp true Word false rd rn (MemOffset.Reg rm noShift)
 decoded7 ldrb-2 rm rn rd = memOp true Byte false rd rn (MemOffset.Reg rm noShift)
 
+-- the operation that format 8 decodes to: the offset is Rm
 abbrev pub decoded8 : Opcode8 → ℕ → ℕ → ℕ → Op
 decoded8 strh-2 rm rn rd = memOp false Half false rd rn (MemOffset.Reg rm noShift)
 decoded8 ldrsb rm rn rd = memOp true Byte true rd rn (MemOffset.Reg rm noShift)
 decoded8 ldrh-2 rm rn rd = memOp true Half false rd rn (MemOffset.Reg rm noShift)
 decoded8 ldrsh rm rn rd = memOp true Half true rd rn (MemOffset.Reg rm noShift)
 
+-- the operation that format 9 decodes to: the offset is immed_5 * 4 for a word, immed_5 for a byte
 abbrev pub decoded9 : Opcode9 → ℕ → ℕ → ℕ → Op
 decoded9 str-1 immed rn rd = memOp false Word false rd rn (MemOffset.Imm (immed * 4))
 decoded9 ldr-1 immed rn rd = memOp true Word false rd rn (MemOffset.Imm (immed * 4))
 decoded9 strb-1 immed rn rd = memOp false Byte false rd rn (MemOffset.Imm immed)
 decoded9 ldrb-1 immed rn rd = memOp true Byte false rd rn (MemOffset.Imm immed)
 
+-- the operation that format 10 decodes to: the offset is immed_5 * 2
 abbrev pub decoded10 : Opcode10 → ℕ → ℕ → ℕ → Op
 decoded10 strh-1 immed rn rd = memOp false Half false rd rn (MemOffset.Imm (immed * 2))
 decoded10 ldrh-1 immed rn rd = memOp true Half false rd rn (MemOffset.Imm (immed * 2))
 
+-- the operation that format 11 decodes to: the base is SP, and the offset immed_8 * 4
 abbrev pub decoded11 : Opcode11 → ℕ → ℕ → Op
 decoded11 str-3 rd immed = memOp false Word false rd 13 (MemOffset.Imm (immed * 4))
 decoded11 ldr-4 rd immed = memOp true Word false rd 13 (MemOffset.Imm (immed * 4))
@@ -205,19 +226,22 @@ decoded11 ldr-4 rd immed = memOp true Word false rd 13 (MemOffset.Imm (immed * 4
 abbrev pub folded : ℕ → ℕ → ℕ
 folded a immed = (immed * 4 + (two32 - a / 2 % 2 * 2)) % two32
 
+-- the operation that format 12 decodes to, at the address a: Rn is PC or SP
 abbrev pub decoded12 : ℕ → Opcode12 → ℕ → ℕ → Op
 decoded12 a add-5 rd immed = Alu Add false rd 15 (Operand2.Imm (folded a immed) 0)
 decoded12 a add-6 rd immed = Alu Add false rd 13 (Operand2.Imm (immed * 4) 0)
 
+-- the operation that format 13 decodes to: Rd and Rn are SP, and the value is immed_7 * 4
 abbrev pub decoded13 : Opcode13 → ℕ → Op
 decoded13 add-7 immed = Alu Add false 13 13 (Operand2.Imm (immed * 4) 0)
 decoded13 sub-4 immed = Alu Sub false 13 13 (Operand2.Imm (immed * 4) 0)
 
--- R adds LR to the list of PUSH, which is STMDB SP!, and PC to that of POP, which is LDMIA SP!
+-- the operation that format 14 decodes to: R adds LR to the list of PUSH, which is STMDB SP!, and PC to that of POP, which is LDMIA SP!
 abbrev pub decoded14 : Opcode14 → Bool → ℕ → Op
 decoded14 push r list = BlockMem false 13 (list + oneIf r * 2 ^ 14) true false false true
 decoded14 pop r list = BlockMem true 13 (list + oneIf r * 2 ^ 15) false true false true
 
+-- the operation that format 15 decodes to: the base is written back
 abbrev pub decoded15 : Opcode15 → ℕ → ℕ → Op
 decoded15 stmia rn list = BlockMem false rn list false true false true
 decoded15 ldmia rn list = BlockMem true rn list false true false true
@@ -326,10 +350,11 @@ does5 a cmp-3 rm rd m = onto a (flagged (subWithBorrow (R m (PC a) rd) (R m (PC 
 does5 a mov-3 rm rd m = cond (eqb rd 15) none (onto a (setReg rd (R m (PC a) rm) m))
 does5 a bx rm rd m = some (branchExchange (R m (PC a) rm) m)
 
--- Rd from memory, and to memory. Open where a word's address is no multiple of 4, or a halfword's is odd: here LDR, STR and the halfword transfers are as in ARM
+-- Rd from memory. Open where a word's address is no multiple of 4, or a halfword's is odd: here LDR and the loads of halfwords are as in ARM
 abbrev pub loads : MemWidth → Bool → ℕ → ℕ → Machine → Machine
 loads width signed rd address m = setReg rd (loaded width signed (m .mem) address) m
 
+-- Rd to memory. Open at the same addresses: here STR and STRH are as in ARM
 abbrev pub stores : MemWidth → ℕ → ℕ → Machine → Machine
 stores width rd address m = setMem (stored width address (m .r rd) (m .mem)) m
 

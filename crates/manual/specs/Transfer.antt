@@ -15,10 +15,11 @@ use Rattle.manual.specs.Shifter.{shifted}
 abbrev pub byte : (ℕ → ℕ) → ℕ → ℕ → ℕ
 byte f a i = f ((a + i) % two32)
 
--- Memory[a, 2] and Memory[a, 4], little-endian (A2.7.2); a word is read and written at its address without bits 1:0 (A2.8)
+-- Memory[a, 2], little-endian (A2.7.2)
 abbrev pub Memory2 : (ℕ → ℕ) → ℕ → ℕ
 Memory2 f a = f a + byte f a 1 * 2 ^ 8
 
+-- Memory[address, 4], little-endian (A2.7.2): a word is read at its address without bits 1:0 (A2.8)
 abbrev pub Memory4 : (ℕ → ℕ) → ℕ → ℕ
 Memory4 f address = let a : ℕ = address / 4 * 4 in f a + byte f a 1 * 2 ^ 8 + byte f a 2 * 2 ^ 16 + byte f a 3 * 2 ^ 24
 
@@ -26,9 +27,11 @@ Memory4 f address = let a : ℕ = address / 4 * 4 in f a + byte f a 1 * 2 ^ 8 + 
 abbrev pub setByte : ℕ → ℕ → ℕ → (ℕ → ℕ) → ℕ → ℕ
 setByte a x i = update ((a + i) % two32) (x / 2 ^ (8 * i) % 256)
 
+-- memory with the low 16 bits of x at a, little-endian
 abbrev pub setMemory2 : ℕ → ℕ → (ℕ → ℕ) → ℕ → ℕ
 setMemory2 a x f = setByte a x 1 (update a (x % 256) f)
 
+-- memory with the word x at an address, little-endian: it is written at the address without bits 1:0 (A2.8)
 abbrev pub setMemory4 : ℕ → ℕ → (ℕ → ℕ) → ℕ → ℕ
 setMemory4 address x f = let a : ℕ = address / 4 * 4 in setByte a x 3 (setByte a x 2 (setByte a x 1 (update a (x % 256) f)))
 

@@ -31,6 +31,7 @@ noInstructionOf thumb c (MsrImm spsr fields value) = false
 noInstructionOf thumb c (Swi imm) = false
 noInstructionOf thumb c (Undefined raw) = false
 
+-- whether a record is left out so, by its set, its condition and its operation
 abbrev pub noInstruction : Instr → Bool
 noInstruction i = noInstructionOf (i .thumb) (i .cond) (i .op)
 

@@ -12,17 +12,25 @@ use Rattle.forms.specs.Block.{bodyOf}
 use Rattle.lowering.specs.Records.{RecordMeans, ThumbMeans, PairMeans, ThumbPairMeans, ClosingMeans}
 use Rattle.meaning.specs.Block.{BlockMeans}
 
--- a block, ks being the keys of its group: each record is of its set, at an even address, and leads by the manual from a sound machine to a sound one, as the
--- claims below ask; each record, and each two records that stand side by side, by A7.1 too where they decode Thumb instructions, the closing transfer, and the whole
+-- what is claimed of the text of a block, ks being the keys of its group; the first three are what the other claims ask of its records
 pub record BlockMeaning (multiplier : ℕ) (ks : List ℕ) (b : Block) : Type 0 where
+  -- each record is of the block's own instruction set
   pub ownSet : (x : TimedInstr) → List·Memᴰ x (b .instrs) → x .instr .thumb ≡ b .thumb
+  -- each record stands at an even address
   pub even : (x : TimedInstr) → List·Memᴰ x (b .instrs) → x .instr .addr % 2 ≡ 0
+  -- each record leads, by the manual, from a sound machine to a sound one
   pub sound : (x : TimedInstr) → List·Memᴰ x (b .instrs) → (m : Machine) (next : Machine × ℕ) → Sound m → execute (x .instr) m ≡ some next → Sound (next .0)
+  -- of each native record the manual says what it does, but for those named in Unsaid, and its text acts so, named differences aside
   pub records : (x : TimedInstr) → List·Memᴰ x (b .instrs) → RecordMeans ks (b .addr) (region (b .addr)) x
+  -- of each native record that decodes a Thumb instruction A7.1 says what it does, and its text acts so
   pub thumb : (x : TimedInstr) → List·Memᴰ x (b .instrs) → ThumbMeans ks (b .addr) (region (b .addr)) x
+  -- of two records side by side that fuse, the text of the pair leaves as the manual says of the two, one after the other
   pub pairs : (us vs : List TimedInstr) (x y : TimedInstr) → b .instrs ≡ us ++ (x ∷ y ∷ vs) → PairMeans ks (b .addr) x y
+  -- two records side by side that decode the halves of a Thumb BL fuse, and the text of the pair leaves as A7.1 says of the two
   pub thumbPairs : (us vs : List TimedInstr) (x y : TimedInstr) → b .instrs ≡ us ++ (x ∷ y ∷ vs) → ThumbPairMeans ks (b .addr) x y
+  -- the closing transfer leaves to the key behind the last record, with the machine as it was
   pub closing : (us : List TimedInstr) (x : TimedInstr) → b .instrs ≡ us ++ (x ∷ []) → ClosingMeans ks (bodyOf multiplier b) (x .instr)
+  -- the text of the block as a whole leaves as the manual and the interpreter say, where its records are covered
   pub whole : BlockMeans multiplier ks b
 
 -- a file, if it is accepted: every block, whatever keys its group has

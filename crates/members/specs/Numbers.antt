@@ -7,7 +7,7 @@ use lib.Dec.{eqb}
 use lib.ListN.{length, getD, take, drop}
 use Rattle.plan.specs.Groups.{interleave}
 
--- the group of block i in the rows of a plan
+-- the group of block i in the rows of a plan; 0 where no row has the block
 unfoldable pub groupOf : ℕ → List ℕ → ℕ
 groupOf i [] = 0
 groupOf i (g ∷ []) = 0

@@ -30,7 +30,7 @@ fn link_one(work: &mut [u32], n: u32, i: u32)
     work[3 * size + r] = i;
 }
 
-// The contract says that nothing is lost.
+// A number as an index; nothing is lost.
 pub(crate) fn wide(x: u32) -> usize
     ensures { λ r. ⌜ r ≡ x ⌝ }
 {

@@ -35,6 +35,7 @@ presentAt f at = eqb (flagsAt f at / 2 % 2) 1
 abbrev pub lengthOf : ℕ → Bool → ℕ
 lengthOf count thumb = count * sizeOf thumb
 
+-- the length in bytes of the block whose record stands at an offset
 abbrev pub lengthAt : List ℕ → ℕ → ℕ
 lengthAt f at = lengthOf (countAt f at) (thumbAt f at)
 
@@ -42,6 +43,7 @@ lengthAt f at = lengthOf (countAt f at) (thumbAt f at)
 abbrev pub keyPlus : ℕ → Bool → ℕ
 keyPlus addr thumb = addr + cond thumb 1 0
 
+-- the key of the block whose record stands at an offset
 abbrev pub keyAt : List ℕ → ℕ → ℕ
 keyAt f at = keyPlus (addrAt f at) (thumbAt f at)
 

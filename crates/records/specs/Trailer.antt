@@ -14,6 +14,7 @@ hasTrailer f = leb 32 (length f)
 unfoldable pub trailerWord : List ℕ → ℕ → ℕ
 trailerWord f k = cond (hasTrailer f) (wordAt f (length f - 32 + 4 * k)) 0
 
+-- the edition of the format, 1 in an accepted file
 abbrev pub edition : List ℕ → ℕ
 edition f = trailerWord f 0
 
@@ -37,9 +38,11 @@ instrCount f = trailerWord f 4
 abbrev pub codeBack : List ℕ → ℕ
 codeBack f = trailerWord f 5
 
+-- how many bytes the code area has
 abbrev pub codeCount : List ℕ → ℕ
 codeCount f = trailerWord f 6
 
+-- the length of the file in bytes, as the trailer has it
 abbrev pub fileLength : List ℕ → ℕ
 fileLength f = trailerWord f 7
 

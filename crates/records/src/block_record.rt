@@ -6,6 +6,7 @@ ghost use Prim.Native.Nat.{_+_, _≤_, _<_, _^_};
 ghost use lib.ListN.{length};
 ghost use Rattle.records.specs.BlockRecord.{addrAt, flagsAt, countAt, codeOffsetAt, thumbAt, presentAt, lengthOf, lengthAt, keyPlus, keyAt, aligned as specAligned, codeRight, blockRight};
 
+// The address of the block's first instruction.
 pub fn addr(file: &[u8], at: usize) -> u32
     requires { ⌜ at + 16 ≤ length (now file) ⌝ }
     ensures { λ r. ⌜ r ≡ addrAt (now (file .entry)) at ⌝ }
@@ -13,6 +14,7 @@ pub fn addr(file: &[u8], at: usize) -> u32
     word(file, at)
 }
 
+// The flags, of which bits 0 and 1 have a meaning.
 fn flags(file: &[u8], at: usize) -> u32
     requires { ⌜ at + 16 ≤ length (now file) ⌝ }
     ensures { λ r. ⌜ r ≡ flagsAt (now (file .entry)) at ⌝ }
@@ -20,6 +22,7 @@ fn flags(file: &[u8], at: usize) -> u32
     word(file, at + 4)
 }
 
+// How many instructions the block has.
 pub fn count(file: &[u8], at: usize) -> u32
     requires { ⌜ at + 16 ≤ length (now file) ⌝ }
     ensures { λ r. ⌜ r ≡ countAt (now (file .entry)) at ⌝ }
@@ -27,6 +30,7 @@ pub fn count(file: &[u8], at: usize) -> u32
     word(file, at + 8)
 }
 
+// The offset of the block's code bytes from the file's start.
 pub fn offset(file: &[u8], at: usize) -> u32
     requires { ⌜ at + 16 ≤ length (now file) ⌝ }
     ensures { λ r. ⌜ r ≡ codeOffsetAt (now (file .entry)) at ⌝ }
@@ -34,6 +38,7 @@ pub fn offset(file: &[u8], at: usize) -> u32
     word(file, at + 12)
 }
 
+// Flag bit 0: a block of Thumb instructions.
 pub fn thumb(file: &[u8], at: usize) -> bool
     requires { ⌜ at + 16 ≤ length (now file) ⌝ }
     ensures { λ r. ⌜ r ≡ thumbAt (now (file .entry)) at ⌝ }
@@ -41,6 +46,7 @@ pub fn thumb(file: &[u8], at: usize) -> bool
     flags(file, at) % 2 == 1
 }
 
+// Flag bit 1: the block's code bytes are present.
 pub fn present(file: &[u8], at: usize) -> bool
     requires { ⌜ at + 16 ≤ length (now file) ⌝ }
     ensures { λ r. ⌜ r ≡ presentAt (now (file .entry)) at ⌝ }
@@ -72,6 +78,7 @@ pub fn key_plus(address: u32, is_thumb: bool) -> u64
     if is_thumb { wide + 1 } else { wide }
 }
 
+// The key of the block.
 pub fn key(file: &[u8], at: usize) -> u64
     requires { ⌜ at + 16 ≤ length (now file) ⌝ }
     ensures { λ r. ⌜ (r ≡ keyAt (now (file .entry)) at) × (r ≤ 2 ^ 32) ⌝ }
@@ -79,6 +86,7 @@ pub fn key(file: &[u8], at: usize) -> u64
     key_plus(addr(file, at), thumb(file, at))
 }
 
+// Whether the address is even in Thumb, or a multiple of 4 in ARM.
 fn aligned(file: &[u8], at: usize) -> bool
     requires { ⌜ at + 16 ≤ length (now file) ⌝ }
     ensures { λ r. ⌜ r ≡ specAligned (now (file .entry)) at ⌝ }
@@ -91,6 +99,7 @@ fn aligned(file: &[u8], at: usize) -> bool
     }
 }
 
+// Whether present code bytes end inside the code area, or the offset of absent ones is 0.
 fn code_right(file: &[u8], at: usize) -> bool
     requires { ⌜ at + 16 ≤ length (now file) ⌝ }
     ensures { λ r. ⌜ r ≡ codeRight (now (file .entry)) at ⌝ }

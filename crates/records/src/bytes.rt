@@ -11,6 +11,7 @@ fn wide(b: u8) -> u32
     b as u32
 }
 
+// The 16-bit number at an offset.
 pub fn half(s: &[u8], at: usize) -> u16
     requires { ⌜ at + 2 ≤ length (now s) ⌝ }
     ensures { λ r. ⌜ r ≡ halfAt (now (s .entry)) at ⌝ }
@@ -20,6 +21,7 @@ pub fn half(s: &[u8], at: usize) -> u16
     (low + 256 * high) as u16
 }
 
+// The 32-bit number at an offset.
 pub fn word(s: &[u8], at: usize) -> u32
     requires { ⌜ at + 4 ≤ length (now s) ⌝ }
     ensures { λ r. ⌜ r ≡ wordAt (now (s .entry)) at ⌝ }

@@ -29,6 +29,7 @@ pub fn section_start(file: &[u8], k: usize) -> usize
     }
 }
 
+// The rule of refusal 2: B and I are within their limits.
 pub fn within_limits(file: &[u8]) -> bool
     ensures { λ r. ⌜ r ≡ withinLimits (now (file .entry)) ⌝ }
 {
@@ -38,6 +39,7 @@ pub fn within_limits(file: &[u8]) -> bool
     trailer_word(file, 4) <= 1048576
 }
 
+// The rule of refusal 3: the edition, the distances of sections that touch, and the lengths.
 pub fn trailer_right(file: &[u8]) -> bool
     ensures { λ r. ⌜ r ≡ trailerRight (now (file .entry)) ⌝ }
 {

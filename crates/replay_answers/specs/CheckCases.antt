@@ -4,6 +4,7 @@ use mathlib.Core.List.{List, [], _∷_}
 use Rattle.block_file.specs.Answer.{Answer, Counts}
 use Rattle.recomp.specs.Answer.{CheckNumbers, checkNumbers}
 
+-- the refusal's number or 0, its i, and the counts of blocks and instructions
 abbrev pub inOrder : CheckNumbers → List ℕ
 inOrder n = n .number ∷ n .at ∷ n .blocks ∷ n .instructions ∷ []
 

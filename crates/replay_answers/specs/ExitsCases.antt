@@ -4,6 +4,7 @@ use mathlib.Core.List.{List, [], _∷_}
 use Rattle.block_file.specs.Answer.{Answer}
 use Rattle.recomp.specs.Answer.{ExitsNumbers, exitsNumbers}
 
+-- the refusal's number or 0, its i, how many keys, the first and the second
 abbrev pub exitsInOrder : ExitsNumbers → List ℕ
 exitsInOrder n = n .number ∷ n .at ∷ n .count ∷ n .first ∷ n .second ∷ []
 

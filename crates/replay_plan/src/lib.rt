@@ -20,11 +20,13 @@ ghost use Rattle.replay_plan.specs.PlanCases.{planAnswerNumbers, planAns
 // The longest file that a vector may hold.
 const LONGEST: usize = 4096;
 
-// The most numbers that a vector may have lent, and those with the three of the answer.
+// The most work numbers that a vector may have lent.
 const MOST_WORK: usize = 512;
 
+// The most numbers of a result that a vector may have lent.
 const MOST_RESULT: usize = 256;
 
+// The most numbers that a call leaves: those two, and the three of the answer.
 const MOST: usize = 771;
 
 // The refusal's number or 0, its i, and the blocks.
@@ -104,6 +106,7 @@ fn lend(lent: &mut [u32], list: &[u64], at: usize)
     }
 }
 
+// Makes each number of a list 0.
 fn clear(list: &mut [u64]) {
     let mut i = 0;
     while i < list.len() {

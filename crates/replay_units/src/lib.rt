@@ -18,10 +18,10 @@ ghost use Rattle.replay_units.specs.UnitCases.{unitAnswerNumbers, unitCa
 // The longest file that a vector may hold.
 const LONGEST: usize = 4096;
 
-// How many work numbers and bytes of text there are, of which a vector lends fewer: what stands
-// behind those lent must be as it was.
+// How many work numbers there are, of which a vector lends fewer: what stands behind those lent must be as it was.
 const WORK: usize = 576;
 
+// How many bytes of text there are, of which a vector lends fewer, likewise.
 const TEXT: usize = 65600;
 
 // What a vector asks for, and how much it lends.

@@ -8,6 +8,7 @@ use lib.Dec.{ltb}
 use Rattle.text.specs.Digits.{numeral, lastDigits}
 
 infixr 60 _▸_
+-- a text, as the pieces that it is put together from
 pub data Doc : Type 0 where
   nothing : Doc
   -- bytes as they are
@@ -35,18 +36,20 @@ abbrev pub chars : String → List ℕ
 chars ε = []
 chars (c ∷ˢ s) = utf8 (code c) ++ chars s
 
--- Numbers as they are printed. They stay shut, so that a proof about a text carries a number on as one piece: 20 decimal digits hold a u64, and so do
--- 16 hexadecimal ones.
+-- a number in decimal, without zeros in front; 20 digits hold a u64. It and the next three do not unfold by themselves, so that a proof about a text carries a
+-- number on as one piece
 unfoldable pub decimal : ℕ → List ℕ
 decimal n = numeral 10 20 n
 
+-- a number in hexadecimal, without zeros in front; 16 digits hold a u64
 unfoldable pub hexadecimal : ℕ → List ℕ
 hexadecimal n = numeral 16 16 n
 
--- with zeros in front
+-- the last 8 hexadecimal digits of a number, with zeros in front
 unfoldable pub hexadecimal8 : ℕ → List ℕ
 hexadecimal8 n = lastDigits 16 8 n
 
+-- the last 16 hexadecimal digits of a number, with zeros in front
 unfoldable pub hexadecimal16 : ℕ → List ℕ
 hexadecimal16 n = lastDigits 16 16 n
 

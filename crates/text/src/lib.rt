@@ -8,6 +8,7 @@ ghost use Rattle.text.specs.Digits.{glyph, lastDigits};
 ghost use Rattle.text.specs.Doc.{raw, dec, hex, hex8, hex16, _▸_};
 ghost use Rattle.text.specs.Wrote.{maxUsize, overlay, Printed, Wrote};
 
+// The largest usize.
 const MAX_USIZE: usize = 0xffff_ffff_ffff_ffff;
 
 // at + n, or the largest usize where that is less.
@@ -21,6 +22,7 @@ fn after(at: usize, n: usize) -> usize
     }
 }
 
+// The smaller of two numbers.
 fn least(a: usize, b: usize) -> usize
     ensures { λ r. ⌜ r ≡ min a b ⌝ }
 {

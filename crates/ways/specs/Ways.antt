@@ -35,9 +35,13 @@ taken false b c = c
 pub data Way (ts : List Top) : Code → Code → List Bool → List Event → Type 0 where
   -- each beginning of a way is one
   stop : {f c : Code} {xs : List Bool} → Way ts f c xs []
+  -- white space: the way goes on behind it, without an event
   w-gap : {f c : Code} {xs : List Bool} {es : List Event} {l : Bool} {n : ℕ} → Way ts f c xs es → Way ts f (gap l n ⨾ c) xs es
+  -- the mark at the start of the text of native records: that start is reached, and the way goes on
   w-record : {f c : Code} {xs : List Bool} {es : List Event} {k i n : ℕ} → Way ts f c xs es → Way ts f (recordMark k i n ⨾ c) xs (nativeStart k i n ∷ es)
+  -- a plain statement is reached, and the way goes on behind it
   w-plain : {f c : Code} {xs : List Bool} {es : List Event} {o : Owner} {p : Plain} → Way ts f c xs es → Way ts f (plain o p ⨾ c) xs (reach o ∷ es)
+  -- a label: the way goes on behind it, without an event
   w-label : {f c : Code} {xs : List Bool} {es : List Event} {k : ℕ} → Way ts f c xs es → Way ts f (label k ⨾ c) xs es
   -- a goto leads to any place in its function with that label; without one it ends the way (with one, ending there is a beginning of a way)
   w-goto : {f c d : Code} {xs : List Bool} {es : List Event} {o : Owner} {k : ℕ} → LabelAt k f d → Way ts f d xs es → Way ts f (goto o k ⨾ c) xs (reach o ∷ es)

@@ -5,13 +5,15 @@ use mathlib.Core.Bool.{Bool, true, false}
 use lib.Bits.{bitAnd, bitOr, bitXor}
 use lib.Dec.{eqb}
 
--- bit by bit: and, or, exclusive or
+-- and, bit by bit
 unfoldable pub AND : ℕ → ℕ → ℕ
 AND x y = bitAnd x y
 
+-- or, bit by bit
 unfoldable pub OR : ℕ → ℕ → ℕ
 OR x y = bitOr x y
 
+-- exclusive or, bit by bit
 unfoldable pub EOR : ℕ → ℕ → ℕ
 EOR x y = bitXor x y
 
