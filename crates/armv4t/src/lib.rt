@@ -4,9 +4,10 @@ ghost use mathlib.Core.Path.{_≡_};
 ghost use Prim.Native.Nat.{_%_};
 ghost use Rattle.armv4t.specs.AluOp.{aluOpOf, isCompare, isUnary};
 ghost use Rattle.armv4t.specs.Bit0.{clearBit0, setBit0};
-ghost use Rattle.armv4t.specs.Cond.{condOf};
+ghost use Rattle.armv4t.specs.Cond.{condOf, isAl};
 ghost use Rattle.armv4t.specs.Fused.{fuse};
 ghost use Rattle.armv4t.specs.Instr.{sizeOf, pcValue};
+ghost use Rattle.armv4t.specs.RegisterList.{lists};
 ghost use Rattle.armv4t.specs.Shift.{shiftKindOf, noShift};
 
 // Register index, 0 to 15.
@@ -20,6 +21,13 @@ pub const LR: Reg = 14;
 
 // The program counter.
 pub const PC: Reg = 15;
+
+// Whether a register list names a register.
+pub fn is_listed(rlist: u16, r: Reg) -> bool
+    ensures { λ b. ⌜ b ≡ lists rlist r ⌝ }
+{
+    if r < 16 { (rlist >> r) % 2 == 1 } else { false }
+}
 
 // Condition codes, in encoding order. Nv (0b1111) is never valid on ARMv4.
 pub enum Cond {
@@ -66,6 +74,16 @@ impl Cond {
         ];
         let i = (bits % 16) as usize;
         all[i]
+    }
+
+    // Whether it always holds.
+    pub fn is_al(self) -> bool
+        ensures { λ r. ⌜ r ≡ isAl self ⌝ }
+    {
+        match self {
+            Cond::Al => true,
+            _ => false,
+        }
     }
 }
 

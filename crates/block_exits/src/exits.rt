@@ -5,6 +5,7 @@ use armv4t::Instr;
 use armv4t::Op;
 use armv4t::PC;
 use armv4t::fuse_thumb_bl;
+use armv4t::is_listed;
 use armv4t::set_bit0;
 use block_file::BlockRecord;
 use block_file::FoundBlock;
@@ -23,7 +24,6 @@ ghost use Rattle.armv4t.specs.Instr.{sizeOf};
 ghost use Rattle.records.specs.Trailer.{blockStart};
 ghost use Rattle.block_file.specs.Parse.{blockAt, blocksOf, Accepted};
 ghost use Rattle.block_file.specs.Read.{foundInstr, IsBlock};
-ghost use Rattle.armv4t.specs.RegisterList.{lists};
 ghost use Rattle.block_exits.specs.Exits.{keyOf, fallThrough, branchExits, lastExits, closingExits, exits, keysOf};
 ghost use Rattle.block_exits.specs.Found.{foundKeys};
 
@@ -52,13 +52,6 @@ pub fn fall_through(thumb: bool, instr: Instr) -> u32
     ensures { λ r. ⌜ r ≡ fallThrough thumb instr ⌝ }
 {
     key_of(std::num::wrapping_add_u32(instr.addr, instr.size()), thumb)
-}
-
-// Whether a register list names PC.
-fn lists_pc(rlist: u16) -> bool
-    ensures { λ r. ⌜ r ≡ lists rlist 15 ⌝ }
-{
-    rlist / 32768 % 2 == 1
 }
 
 // The fall-through, or no exit where the last operation is one that leaves the block by a value it reads.
@@ -94,7 +87,7 @@ pub(crate) fn last_exits(thumb: bool, last: Instr) -> Exits
             Exits::None,
         Op::Alu { rd, .. } => falls_unless(rd == PC, fall),
         Op::Mem { load, rd, .. } => falls_unless(load && rd == PC, fall),
-        Op::BlockMem { load, rlist, .. } => falls_unless(load && lists_pc(rlist), fall),
+        Op::BlockMem { load, rlist, .. } => falls_unless(load && is_listed(rlist, PC), fall),
         _ => Exits::One(fall),
     }
 }

@@ -19,7 +19,7 @@ pub data Plain : Type 0 where
   local : Var → Plain  -- uint32_t pc: emit_block, emit_group
   declare : Var → Expr → List (Name × Expr) → Plain  -- uint32_t cn = e, cz = e: inline_body, emit_block, PREAMBLE. The names behind the first have its type
   adds : Name → Expr → Expr → Expr → Plain  -- uint32_t r = op_adds(c, e, e, e): inline_body
-  set : Place → Set → Expr → Plain  -- c[15] = e: flush_ticks apart, every function that prints statements
+  set : Place → Set → Expr → Plain  -- c[15] = e: inline_body, emit_shell, emit_block, PREAMBLE
   discard : Var → Plain  -- (void)r: inline_body, emit_block, emit_group
   run : Proc → Expr → Plain  -- f_nz(c, e): inline_body
   write : Width → Expr → Expr → Plain  -- a->write32(m, e, e): inline_body

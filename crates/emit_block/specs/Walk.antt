@@ -11,7 +11,7 @@ use Rattle.instr_records.specs.declared.decode.TimedInstr.{TimedInstr}
 use Rattle.block_file.specs.declared.read.BlockRecord.{BlockRecord}
 use Rattle.block_file.specs.Parse.{instrsFrom, blocksOf}
 use Rattle.block_file.specs.Read.{IsBlock}
-use Rattle.members.specs.Members.{membersOf, memberKeys}
+use Rattle.members.specs.Members.{membersOf, keysWithin}
 use Rattle.members.specs.Prepared.{Ready}
 use Rattle.c_tree.specs.Stmt.{end}
 use Rattle.forms.specs.Forms.{Form, Body}
@@ -45,7 +45,7 @@ pub record IsMember (f work : List ℕ) (m : Member) (ks : List ℕ) : Type 0 wh
   pub limit : ℕ
   pub ready : Ready f (m .blocks) limit work
   pub several : m .several ≡ true → 2 ≤ length (membersOf limit (blocksOf f) (m .group))
-  pub keys : ks ≡ cond (m .several) (memberKeys (blocksOf f) (membersOf limit (blocksOf f) (m .group))) []
+  pub keys : ks ≡ keysWithin (m .several) limit f (m .group)
 
 -- a block of an accepted file, as the walk has it
 pub record IsMemberBlock (f work : List ℕ) (m : Member) (r : BlockRecord) (first : ℕ) (ks : List ℕ) (b : Body) : Type 0 where

@@ -14,10 +14,9 @@ use records::block_record::instrs_length;
 ghost use mathlib.Core.Path.{_≡_};
 ghost use mathlib.Core.Bool.{cond};
 ghost use mathlib.Core.List.{List, map};
-ghost use Prim.Native.Nat.{ℕ, _*_, _≤_, _<_};
-ghost use lib.ListN.{length, getD};
+ghost use Prim.Native.Nat.{ℕ, _<_};
+ghost use lib.ListN.{getD};
 ghost use Rattle.block_file.specs.Read.{codeBytes};
-ghost use Rattle.records.specs.Trailer.{blockCount};
 ghost use Rattle.records.specs.BlockRecord.{lengthOf};
 ghost use Rattle.fnv.specs.Fnv.{hashMultiplier, fnv64};
 ghost use Rattle.block_file.specs.Parse.{blocksOf};
@@ -29,6 +28,7 @@ ghost use Rattle.lowering.specs.Block.{blockCode};
 ghost use Rattle.lowering.specs.Units.{defaultBody};
 ghost use Rattle.lowering.specs.Measured.{hashedIf};
 ghost use Rattle.emit_block.specs.Walk.{IsMember};
+ghost use Rattle.plan.specs.Groups.{HasRoom};
 
 // The multiplier of the guards' hash.
 const MULTIPLIER: u64 = 4294967731;
@@ -72,7 +72,7 @@ pub fn emit_block(
     m: Member,
     hashing: bool,
 ) -> usize
-    requires { ⌜ (4 * m .blocks ≤ length (now work)) × (m .blocks ≤ 65536) × (m .blocks ≡ blockCount (now file)) × (m .index < m .blocks) ⌝ }
+    requires { ⌜ HasRoom (now file) (now work) (m .blocks) × (m .index < m .blocks) ⌝ }
     ensures { λ r. ⌜ ((ks : List ℕ) → IsMember (now (file .entry)) (now (work .entry)) m ks → Wrote (now (out .entry)) at (codeText (blockCode ks (hashedIf hashing (getD (map (bodyOf hashMultiplier) (blocksOf (now (file .entry)))) (m .index) defaultBody)))) (now (out .exit)) r) ⌝ }
 {
     let FoundBlock::At(block) = block_at(file, m.index) else {

@@ -19,9 +19,8 @@ ghost use mathlib.Core.Path.{_≡_};
 ghost use mathlib.Core.Bool.{false};
 ghost use mathlib.Core.List.{List, [], _∷_};
 ghost use Prim.Native.Nat.{ℕ, suc, _*_, _≤_, _<_};
-ghost use lib.ListN.{length, drop};
+ghost use lib.ListN.{drop};
 ghost use Rattle.instr_records.specs.declared.decode.TimedInstr.{TimedInstr};
-ghost use Rattle.records.specs.Trailer.{blockCount};
 ghost use Rattle.c_tree.specs.Stmt.{end};
 ghost use Rattle.forms.specs.Forms.{Form, Body};
 ghost use Rattle.forms.specs.Block.{emitPair};
@@ -31,6 +30,7 @@ ghost use Rattle.emit_block.specs.declared.instrs.Next.{Next};
 ghost use Rattle.emit_instr.specs.Onward.{Onward};
 ghost use Rattle.emit_instr.specs.Steps.{BranchInside};
 ghost use Rattle.emit_block.specs.Walk.{instrsOf, IsMember, IsMemberBlock, nextOf, Recorded};
+ghost use Rattle.plan.specs.Groups.{HasRoom};
 
 // What an instruction makes with the one behind it.
 pub(crate) enum Next {
@@ -83,7 +83,7 @@ fn next_of(file: &[u8], block: BlockRecord, first: usize, j: u32, x: Instr) -> N
 
 // Whether a branch goes to a block of the same group; the answer for other operations is of no use.
 fn branch_inside(file: &[u8], work: &[u32], m: Member, thumb: bool, op: Op) -> bool
-    requires { ⌜ (4 * m .blocks ≤ length (now work)) × (m .blocks ≤ 65536) × (m .blocks ≡ blockCount (now file)) × (m .index < m .blocks) ⌝ }
+    requires { ⌜ HasRoom (now file) (now work) (m .blocks) × (m .index < m .blocks) ⌝ }
     ensures { λ r. ⌜ ((ks : List ℕ) → IsMember (now (file .entry)) (now (work .entry)) m ks → BranchInside ks thumb r op) ⌝ }
 {
     match op {
@@ -104,7 +104,7 @@ fn emit_fused(
     target: u32,
     ret: u32,
 ) -> usize
-    requires { ⌜ (4 * m .blocks ≤ length (now work)) × (m .blocks ≤ 65536) × (m .blocks ≡ blockCount (now file)) × (m .index < m .blocks) ⌝ }
+    requires { ⌜ HasRoom (now file) (now work) (m .blocks) × (m .index < m .blocks) ⌝ }
     ensures { λ r. ⌜ ((ks : List ℕ) (b : Body) (j : ℕ) (fs : List Form) → IsMember (now (file .entry)) (now (work .entry)) m ks → b .addr ≡ src → Onward (now (out .entry)) at (codeFrom ks b j (Form.native (emitPair cycles target ret) ∷ fs)) end (now (out .exit)) r) ⌝ }
 {
     let inside = is_inside(file, work, m, set_bit0(target));
@@ -123,7 +123,7 @@ fn emit_alone(
     x: TimedInstr,
     j: u32,
 ) -> Step
-    requires { ⌜ (4 * m .blocks ≤ length (now work)) × (m .blocks ≤ 65536) × (m .blocks ≡ blockCount (now file)) × (m .index < m .blocks) × (j < block .count) ⌝ }
+    requires { ⌜ HasRoom (now file) (now work) (m .blocks) × (m .index < m .blocks) × (j < block .count) ⌝ }
     ensures { λ r. ⌜ ((ks : List ℕ) (b : Body) (first : ℕ) → IsMemberBlock (now (file .entry)) (now (work .entry)) m block first ks b → drop j (instrsOf (now (file .entry)) block first) ≡ x ∷ drop (suc j) (instrsOf (now (file .entry)) block first) → nextOf (x .instr) (drop (suc j) (instrsOf (now (file .entry)) block first)) ≡ Next.Alone → x .cost ≤ 65535 → cycles ≤ 65535 * j → Recorded (now (file .entry)) block first ks b j cycles (now (out .entry)) at (now (out .exit)) r) ⌝ }
 {
     let instr = x.instr;
@@ -156,7 +156,7 @@ pub(crate) fn emit_record(
     cycles: u64,
     j: u32,
 ) -> Step
-    requires { ⌜ (4 * m .blocks ≤ length (now work)) × (m .blocks ≤ 65536) × (m .blocks ≡ blockCount (now file)) × (m .index < m .blocks) × (j < block .count) ⌝ }
+    requires { ⌜ HasRoom (now file) (now work) (m .blocks) × (m .index < m .blocks) × (j < block .count) ⌝ }
     ensures { λ r. ⌜ ((ks : List ℕ) (b : Body) → IsMemberBlock (now (file .entry)) (now (work .entry)) m block first ks b → cycles ≤ 65535 * j → Recorded (now (file .entry)) block first ks b j cycles (now (out .entry)) at (now (out .exit)) r) ⌝ }
 {
     let FoundInstr::At(x) = instr_of(file, block, first, j) else {

@@ -2,11 +2,10 @@
 use members::in_group;
 ghost use mathlib.Core.Path.{_≡_};
 ghost use mathlib.Core.List.{List};
-ghost use Prim.Native.Nat.{ℕ, _*_, _≤_, _<_};
-ghost use lib.ListN.{length};
-ghost use Rattle.records.specs.Trailer.{blockCount};
+ghost use Prim.Native.Nat.{ℕ, _<_};
 ghost use Rattle.block_file.specs.Address.{among};
 ghost use Rattle.emit_block.specs.Walk.{IsMember};
+ghost use Rattle.plan.specs.Groups.{HasRoom};
 
 // A block, as it stands in the plan.
 pub struct Member {
@@ -22,7 +21,7 @@ pub struct Member {
 
 // Whether a transfer to a key is a goto. A lone block has none.
 pub(crate) fn is_inside(file: &[u8], work: &[u32], m: Member, key: u32) -> bool
-    requires { ⌜ (4 * m .blocks ≤ length (now work)) × (m .blocks ≤ 65536) × (m .blocks ≡ blockCount (now file)) × (m .index < m .blocks) ⌝ }
+    requires { ⌜ HasRoom (now file) (now work) (m .blocks) × (m .index < m .blocks) ⌝ }
     ensures { λ r. ⌜ ((ks : List ℕ) → IsMember (now (file .entry)) (now (work .entry)) m ks → among key ks ≡ r) ⌝ }
 {
     if m.several {

@@ -8,9 +8,7 @@ use block_file::BlockRecord;
 use block_writer::emit_closing;
 ghost use mathlib.Core.Path.{_≡_};
 ghost use mathlib.Core.List.{List, []};
-ghost use Prim.Native.Nat.{ℕ, _*_, _≤_, _<_};
-ghost use lib.ListN.{length};
-ghost use Rattle.records.specs.Trailer.{blockCount};
+ghost use Prim.Native.Nat.{ℕ, _<_};
 ghost use Rattle.text.specs.Wrote.{Wrote};
 ghost use Rattle.c_tree.specs.Stmt.{end};
 ghost use Rattle.c_tree.specs.Print.{codeText};
@@ -18,6 +16,7 @@ ghost use Rattle.forms.specs.Forms.{Body};
 ghost use Rattle.lowering.specs.Block.{codeFrom};
 ghost use Rattle.emit_instr.specs.Onward.{Onward};
 ghost use Rattle.emit_block.specs.Walk.{formsFrom, IsMemberBlock};
+ghost use Rattle.plan.specs.Groups.{HasRoom};
 
 // The closing transfer, to the key behind the block.
 fn emit_end(
@@ -29,7 +28,7 @@ fn emit_end(
     block: BlockRecord,
     cycles: u64,
 ) -> usize
-    requires { ⌜ (4 * m .blocks ≤ length (now work)) × (m .blocks ≤ 65536) × (m .blocks ≡ blockCount (now file)) × (m .index < m .blocks) ⌝ }
+    requires { ⌜ HasRoom (now file) (now work) (m .blocks) × (m .index < m .blocks) ⌝ }
     ensures { λ r. ⌜ ((ks : List ℕ) (b : Body) (first j : ℕ) → IsMemberBlock (now (file .entry)) (now (work .entry)) m block first ks b → cycles ≡ formsFrom (now (file .entry)) block first 0 0 .1 → Onward (now (out .entry)) at (codeFrom ks b j []) end (now (out .exit)) r) ⌝ }
 {
     let next = instr_addr(block.addr, block.thumb, block.count);
@@ -48,7 +47,7 @@ pub(crate) fn emit_records(
     block: BlockRecord,
     first: usize,
 ) -> usize
-    requires { ⌜ (4 * m .blocks ≤ length (now work)) × (m .blocks ≤ 65536) × (m .blocks ≡ blockCount (now file)) × (m .index < m .blocks) ⌝ }
+    requires { ⌜ HasRoom (now file) (now work) (m .blocks) × (m .index < m .blocks) ⌝ }
     ensures { λ r. ⌜ ((ks : List ℕ) (b : Body) → IsMemberBlock (now (file .entry)) (now (work .entry)) m block first ks b → Wrote (now (out .entry)) at (codeText (codeFrom ks b 0 (b .forms))) (now (out .exit)) r) ⌝ }
 {
     let mut p = at;

@@ -19,9 +19,10 @@ use Rattle.lowering.specs.Measured.{hashedIf}
 use Rattle.lowering.specs.Units.{labelled, forwarders, emitGroup, defaultBody, bodiesOf}
 use Rattle.emit_flow.specs.Pieces.{blockOpen, functionEnd, groupOpen, switchEnd}
 use Rattle.emit_flow.proofs.Units.{block-text, group-text, member-text}
-use Rattle.emit_tables.specs.Tables.{fileKeys, groupKeys, HaveKeys}
+use Rattle.emit_tables.specs.Tables.{fileKeys, HaveKeys}
 use Rattle.emit_tables.proofs.Around.{member-keys}
 use Rattle.emit_group.specs.Groups.{fileBodies, memberText, labelledText, membersText, groupText}
+use Rattle.members.specs.Members.{groupKeys}
 
 -- the members of a group, one by one
 pub members-each : (written : Bool) (f ks is : List ℕ) (k : List ℕ) → flat (each (labelledText written f ks) is) k ≡ flat (membersText written f ks is) k

@@ -1,7 +1,7 @@
 -- The text of a group of a file, by the numbers of its blocks.
 use Prim.Native.Nat.{ℕ}
-use mathlib.Core.Bool.{Bool, cond}
-use mathlib.Core.List.{List, [], map}
+use mathlib.Core.Bool.{Bool}
+use mathlib.Core.List.{List, map}
 use lib.ListN.{getD}
 use Rattle.text.specs.Doc.{Doc, _▸_}
 use Rattle.fnv.specs.Fnv.{hashMultiplier}
@@ -13,7 +13,6 @@ use Rattle.forms.specs.Forms.{Body}
 use Rattle.lowering.specs.Block.{bodyKey, nl, blockCode}
 use Rattle.lowering.specs.Measured.{hashedIf}
 use Rattle.lowering.specs.Units.{emitGroup, labelled, defaultBody, bodiesOf}
-use Rattle.emit_tables.specs.Tables.{groupKeys}
 
 -- the bodies of a file's blocks
 abbrev pub fileBodies : List ℕ → List Body
@@ -35,7 +34,3 @@ membersText written f ks is = codeText (labelled ks (map (hashedIf written) (bod
 -- the functions of a group of some blocks, written or measured
 abbrev pub groupText : Bool → List ℕ → List ℕ → Doc
 groupText written f is = unitText (emitGroup (map (hashedIf written) (bodiesOf (fileBodies f) is)))
-
--- the keys that a member of group g transfers to by a goto: none where it is alone
-abbrev pub keysWithin : Bool → ℕ → List ℕ → ℕ → List ℕ
-keysWithin several limit f g = cond several (groupKeys limit f g) []

@@ -14,16 +14,16 @@ use members::row_block;
 use members::row_group;
 ghost use mathlib.Core.Path.{_≡_};
 ghost use mathlib.Core.Bool.{true};
-ghost use Prim.Native.Nat.{ℕ, _+_, _*_, _≤_, _<_};
+ghost use Prim.Native.Nat.{ℕ, _+_, _≤_, _<_};
 ghost use lib.ListN.{length, getD};
 ghost use Rattle.text.specs.Wrote.{Wrote};
-ghost use Rattle.records.specs.Trailer.{blockCount};
 ghost use Rattle.block_file.specs.Parse.{blocksOf};
 ghost use Rattle.plan.specs.Plan.{groups};
-ghost use Rattle.members.specs.Members.{membersOf, startOf};
+ghost use Rattle.members.specs.Members.{membersOf, startOf, groupKeys, keysWithin};
 ghost use Rattle.members.specs.Prepared.{Ready};
-ghost use Rattle.emit_tables.specs.Tables.{groupKeys, IsGroup};
-ghost use Rattle.emit_group.specs.Groups.{memberText, labelledText, membersText, groupText, keysWithin};
+ghost use Rattle.emit_tables.specs.Tables.{IsGroup};
+ghost use Rattle.emit_group.specs.Groups.{memberText, labelledText, membersText, groupText};
+ghost use Rattle.plan.specs.Groups.{HasRoom};
 
 // The code of the block in row p.
 fn put_code(
@@ -36,7 +36,7 @@ fn put_code(
     several: bool,
     hashing: bool,
 ) -> usize
-    requires { ⌜ (4 * n ≤ length (now work)) × (n ≤ 65536) × (n ≡ blockCount (now file)) × (p < n) ⌝ }
+    requires { ⌜ HasRoom (now file) (now work) n × (p < n) ⌝ }
     ensures { λ r. ⌜ ((limit g k : ℕ) → Ready (now (file .entry)) n limit (now (work .entry)) → p ≡ startOf (groups limit (blocksOf (now (file .entry)))) g + k → k < length (membersOf limit (blocksOf (now (file .entry))) g) → (several ≡ true → 2 ≤ length (membersOf limit (blocksOf (now (file .entry))) g)) → Wrote (now (out .entry)) at (memberText hashing (now (file .entry)) (keysWithin several limit (now (file .entry)) g) (getD (membersOf limit (blocksOf (now (file .entry))) g) k 0)) (now (out .exit)) r) ⌝ }
 {
     let index = row_block(work, p);
@@ -63,7 +63,7 @@ fn put_lone(
     p: usize,
     hashing: bool,
 ) -> usize
-    requires { ⌜ (4 * n ≤ length (now work)) × (n ≤ 65536) × (n ≡ blockCount (now file)) × (p < n) ⌝ }
+    requires { ⌜ HasRoom (now file) (now work) n × (p < n) ⌝ }
     ensures { λ r. ⌜ ((limit g : ℕ) → IsGroup (now (file .entry)) n limit (now (work .entry)) g p (p + 1) → Wrote (now (out .entry)) at (groupText hashing (now (file .entry)) (membersOf limit (blocksOf (now (file .entry))) g)) (now (out .exit)) r) ⌝ }
 {
     let a = put_block_head(out, at, row_key(file, work, p));
@@ -81,7 +81,7 @@ fn put_member(
     p: usize,
     hashing: bool,
 ) -> usize
-    requires { ⌜ (4 * n ≤ length (now work)) × (n ≤ 65536) × (n ≡ blockCount (now file)) × (p < n) ⌝ }
+    requires { ⌜ HasRoom (now file) (now work) n × (p < n) ⌝ }
     ensures { λ r. ⌜ ((limit g k : ℕ) → Ready (now (file .entry)) n limit (now (work .entry)) → p ≡ startOf (groups limit (blocksOf (now (file .entry)))) g + k → k < length (membersOf limit (blocksOf (now (file .entry))) g) → 2 ≤ length (membersOf limit (blocksOf (now (file .entry))) g) → Wrote (now (out .entry)) at (labelledText hashing (now (file .entry)) (groupKeys limit (now (file .entry)) g) (getD (membersOf limit (blocksOf (now (file .entry))) g) k 0)) (now (out .exit)) r) ⌝ }
 {
     let a = put_label(out, at, row_key(file, work, p));
@@ -100,7 +100,7 @@ fn put_members(
     end: usize,
     hashing: bool,
 ) -> usize
-    requires { ⌜ (4 * n ≤ length (now work)) × (n ≤ 65536) × (n ≡ blockCount (now file)) × (p < end) × (end ≤ n) ⌝ }
+    requires { ⌜ HasRoom (now file) (now work) n × (p < end) × (end ≤ n) ⌝ }
     ensures { λ r. ⌜ ((limit g : ℕ) → IsGroup (now (file .entry)) n limit (now (work .entry)) g p end → 2 ≤ length (membersOf limit (blocksOf (now (file .entry))) g) → Wrote (now (out .entry)) at (membersText hashing (now (file .entry)) (groupKeys limit (now (file .entry)) g) (membersOf limit (blocksOf (now (file .entry))) g)) (now (out .exit)) r) ⌝ }
 {
     let size = end - p;
@@ -124,7 +124,7 @@ fn put_several(
     end: usize,
     hashing: bool,
 ) -> usize
-    requires { ⌜ (4 * n ≤ length (now work)) × (n ≤ 65536) × (n ≡ blockCount (now file)) × (p < end) × (end ≤ n) ⌝ }
+    requires { ⌜ HasRoom (now file) (now work) n × (p < end) × (end ≤ n) ⌝ }
     ensures { λ r. ⌜ ((limit g : ℕ) → IsGroup (now (file .entry)) n limit (now (work .entry)) g p end → 2 ≤ length (membersOf limit (blocksOf (now (file .entry))) g) → Wrote (now (out .entry)) at (groupText hashing (now (file .entry)) (membersOf limit (blocksOf (now (file .entry))) g)) (now (out .exit)) r) ⌝ }
 {
     let a = put_group_head(out, at, row_key(file, work, p));
@@ -146,7 +146,7 @@ pub fn emit_group(
     end: usize,
     hashing: bool,
 ) -> usize
-    requires { ⌜ (4 * n ≤ length (now work)) × (n ≤ 65536) × (n ≡ blockCount (now file)) × (p < end) × (end ≤ n) ⌝ }
+    requires { ⌜ HasRoom (now file) (now work) n × (p < end) × (end ≤ n) ⌝ }
     ensures { λ r. ⌜ ((limit g : ℕ) → IsGroup (now (file .entry)) n limit (now (work .entry)) g p end → Wrote (now (out .entry)) at (groupText hashing (now (file .entry)) (membersOf limit (blocksOf (now (file .entry))) g)) (now (out .exit)) r) ⌝ }
 {
     if end - p == 1 {

@@ -7,7 +7,6 @@ use emit_flow::branch_always;
 use emit_flow::branch_taken;
 use emit_flow::flush_ticks;
 use emit_flow::open_conditional;
-use emit_mem::is_al;
 use emit_mem::put_pop;
 use emit_operands::put_cond_expr;
 use emit_operands::put_reg;
@@ -54,7 +53,7 @@ pub(crate) fn emit_branch(
     let ret = std::num::wrapping_add_u32(i.addr, 4);
     let key = key_of(target, thumb);
     let condition = i.cond;
-    if is_al(condition) {
+    if condition.is_al() {
         let p = branch_always(out, at, cycles, link, ret, target, inside, src, key);
         return Step {
             at: p,
@@ -76,7 +75,7 @@ pub(crate) fn is_native_exit(region: u32, i: Instr) -> bool
     ensures { λ r. ⌜ r ≡ nativeExit region i ⌝ }
 {
     let condition = i.cond;
-    if is_al(condition) {
+    if condition.is_al() {
         return region != 0;
     }
     false

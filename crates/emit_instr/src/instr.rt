@@ -9,7 +9,6 @@ use crate::step::Step;
 use crate::straight::emit_straight;
 use armv4t::Op;
 use block_file::TimedInstr;
-use emit_mem::is_al;
 use emit_mem::is_pop;
 ghost use mathlib.Core.Path.{_≡_};
 ghost use mathlib.Core.List.{List};
@@ -61,7 +60,7 @@ fn emit_block_mem(
 {
     let i = x.instr;
     let condition = i.cond;
-    let al = is_al(condition);
+    let al = condition.is_al();
     if is_pop(region, al, load, rn, rlist, pre, up, s_bit, writeback) {
         leave_by_pop(out, at, thumb, with_cost(cycles, x.cost), rn, rlist)
     } else {

@@ -12,7 +12,6 @@ use emit_flow::flush_ticks;
 use emit_flow::open_conditional;
 use emit_flow::open_straight;
 use emit_flow::open_straight_if;
-use emit_mem::is_al;
 use emit_operands::put_cond_expr;
 ghost use mathlib.Core.Path.{_≡_};
 ghost use mathlib.Core.Bool.{true, false, cond};
@@ -65,7 +64,7 @@ fn put_lowered(out: &mut [u8], at: usize, thumb: bool, i: Instr) -> usize
     ensures { λ r. ⌜ ((body : Lines) → inlineBody thumb i ≡ some body → Wrote (now (out .entry)) at (lowered (isAl (i .cond)) (condExpr (i .cond)) body) (now (out .exit)) r) ⌝ }
 {
     let condition = i.cond;
-    if is_al(condition) {
+    if condition.is_al() {
         put_straight(out, at, thumb, i)
     } else {
         put_straight_if(out, at, thumb, i)

@@ -1,13 +1,11 @@
 -- The registers of a register list: whether one is named, how many are, and which is the lowest.
-use Prim.Native.Nat.{ℕ, zero, suc, _+_, _-_, _*_, _/_, _^_, _≤_, _<_}
+use Prim.Native.Nat.{ℕ, zero, suc, _+_, _-_, _*_, _<_}
 use native.Mathlib.Omega.{arith}
 use native.Mathlib.Numerals.{add-one}
 use mathlib.Core.Path.{_≡_, refl, sym, ap, _∙_}
 use mathlib.Core.Bool.{true, false}
 use mathlib.Core.List.{List, [], _∷_, _++_}
 use lib.ListN.{length, getD, length-append}
-use lib.Arith.{digits-div}
-use lib.Pow.{pow-mono}
 use Rattle.forms.specs.InlineBody.{only, listed}
 use Rattle.armv4t.specs.RegisterList.{lists}
 
@@ -33,14 +31,6 @@ lowest-first rlist r named none (suc m) k e =
       IH .0 ++ only (lists rlist before) before,
       ap (listed rlist) next ∙ listed-suc rlist before ∙ ap (λ (xs : List ℕ). xs ++ only (lists rlist before) before) (IH .1),
     )
-
--- a list of 16 bits names no register from 16 on
-pub names-past : (rlist r : ℕ) → rlist < 2 ^ 16 → 16 ≤ r → false ≡ lists rlist r
-names-past rlist r small past =
-    let least : rlist < 2 ^ r = omega (arith, small, pow-mono past) in
-    let same : rlist ≡ 0 * 2 ^ r + rlist = omega arith in
-    let gone : rlist / 2 ^ r ≡ 0 = ap (λ (n : ℕ). n / 2 ^ r) same ∙ digits-div 0 least in
-    rw (gone) refl
 
 -- the bytes of one register more
 pub bytes-more : (rlist r n : ℕ) → lists rlist r ≡ true → n ≡ length (listed rlist r) * 4 → n + 4 ≡ length (listed rlist (r + 1)) * 4

@@ -1,12 +1,12 @@
 // BlockMem: LDM and STM.
+use crate::registers::bytes_listed;
+use crate::registers::lowest_listed;
 use crate::transfers::put_loads;
 use crate::transfers::put_moved;
 use crate::transfers::put_stores;
-use crate::registers::bytes_listed;
-use crate::registers::is_listed;
-use crate::registers::lowest_listed;
 use armv4t::Instr;
 use armv4t::PC;
+use armv4t::is_listed;
 use text::put;
 use text::put_then_dec;
 ghost use mathlib.Core.Path.{_≡_};

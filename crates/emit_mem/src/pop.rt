@@ -1,9 +1,9 @@
 // The pop of PC: a load of registers upwards from a base that is written back, PC among them, which ends the block.
 use crate::registers::bytes_listed;
-use crate::registers::is_listed;
 use crate::transfers::put_loads;
 use armv4t::Cond;
 use armv4t::PC;
+use armv4t::is_listed;
 use text::put;
 use text::put_then_dec;
 ghost use mathlib.Core.Path.{_≡_};
@@ -62,16 +62,6 @@ pub fn put_pop(out: &mut [u8], at: usize, thumb: bool, rn: u8, rlist: u16) -> us
             q,
             b"      c[15] = a->read32(m, addr & ~3u) & ~3u; return c[15] | 0u; }\n",
         )
-    }
-}
-
-// Whether a condition always holds.
-pub fn is_al(cond: Cond) -> bool
-    ensures { λ b. ⌜ b ≡ isAl cond ⌝ }
-{
-    match cond {
-        Cond::Al => true,
-        _ => false,
     }
 }
 

@@ -1,16 +1,9 @@
 // The registers of a register list.
+use armv4t::is_listed;
 ghost use mathlib.Core.Path.{_≡_};
 ghost use Prim.Native.Nat.{_*_, _≤_};
 ghost use lib.ListN.{length, getD};
 ghost use Rattle.forms.specs.InlineBody.{listed};
-ghost use Rattle.armv4t.specs.RegisterList.{lists};
-
-// Whether a register list names a register.
-pub(crate) fn is_listed(rlist: u16, r: u8) -> bool
-    ensures { λ b. ⌜ b ≡ lists rlist r ⌝ }
-{
-    if r < 16 { (rlist >> r) % 2 == 1 } else { false }
-}
 
 // The bytes of the registers below limit that are listed.
 pub(crate) fn bytes_listed(rlist: u16, limit: u8) -> u32

@@ -1,6 +1,6 @@
 // The loads and stores of a BlockMem, a line for each register.
-use crate::registers::is_listed;
 use armv4t::Instr;
+use armv4t::is_listed;
 use emit_operands::put_place;
 use emit_operands::put_word;
 use text::put;

@@ -17,9 +17,9 @@ use Rattle.block_file.proofs.IsBlock.{missing, block-inside, block-record}
 use Rattle.block_exits.proofs.OwnKey.{key-plus}
 use Rattle.block_file.proofs.Keys.{block-key}
 use Rattle.plan.proofs.Listing.{map-at}
-use Rattle.members.specs.Members.{membersOf}
+use Rattle.members.specs.Members.{membersOf, groupKeys}
 use Rattle.members.proofs.Places.{start-next}
-use Rattle.emit_tables.specs.Tables.{fileKeys, groupKeys, IsGroup}
+use Rattle.emit_tables.specs.Tables.{fileKeys, IsGroup}
 
 -- as many as blocks
 pub file-length : (f : List ℕ) → Accepted f → length (fileKeys f) ≡ blockCount f

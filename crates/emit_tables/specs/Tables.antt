@@ -4,7 +4,7 @@ use mathlib.Core.Path.{_≡_}
 use mathlib.Core.List.{List, map}
 use Rattle.block_file.specs.Parse.{blocksOf, blockKey}
 use Rattle.plan.specs.Plan.{groups}
-use Rattle.members.specs.Members.{membersOf, memberKeys, startOf}
+use Rattle.members.specs.Members.{startOf}
 use Rattle.members.specs.Prepared.{Ready}
 use Rattle.forms.specs.Forms.{Body}
 use Rattle.lowering.specs.Block.{bodyKey}
@@ -12,10 +12,6 @@ use Rattle.lowering.specs.Block.{bodyKey}
 -- the keys of the blocks of a file
 abbrev pub fileKeys : List ℕ → List ℕ
 fileKeys f = map blockKey (blocksOf f)
-
--- the keys of the members of group g
-abbrev pub groupKeys : ℕ → List ℕ → ℕ → List ℕ
-groupKeys limit f g = memberKeys (blocksOf f) (membersOf limit (blocksOf f) g)
 
 -- bodies with some keys: of a body, what stands around the code shows its key alone
 abbrev pub HaveKeys : List Body → List ℕ → Type 0

@@ -2,17 +2,16 @@
 use crate::keys::row_key;
 use emit_flow::put_case;
 use emit_flow::put_forwarder;
-ghost use mathlib.Core.Path.{_≡_};
 ghost use mathlib.Core.List.{List, _∷_, map};
-ghost use Prim.Native.Nat.{ℕ, _*_, _≤_, _<_};
-ghost use lib.ListN.{length};
+ghost use Prim.Native.Nat.{ℕ, _≤_, _<_};
 ghost use Rattle.text.specs.Wrote.{Wrote};
-ghost use Rattle.records.specs.Trailer.{blockCount};
 ghost use Rattle.c_tree.specs.Print.{casesText, unitText};
 ghost use Rattle.forms.specs.Forms.{Body};
 ghost use Rattle.lowering.specs.Block.{bodyKey};
 ghost use Rattle.lowering.specs.Units.{forwarders};
-ghost use Rattle.emit_tables.specs.Tables.{groupKeys, HaveKeys, IsGroup};
+ghost use Rattle.emit_tables.specs.Tables.{HaveKeys, IsGroup};
+ghost use Rattle.members.specs.Members.{groupKeys};
+ghost use Rattle.plan.specs.Groups.{HasRoom};
 
 // The cases of the group in the rows from p to the one before end.
 pub fn put_cases(
@@ -24,7 +23,7 @@ pub fn put_cases(
     p: usize,
     end: usize,
 ) -> usize
-    requires { ⌜ (4 * n ≤ length (now work)) × (n ≤ 65536) × (n ≡ blockCount (now file)) × (p < end) × (end ≤ n) ⌝ }
+    requires { ⌜ HasRoom (now file) (now work) n × (p < end) × (end ≤ n) ⌝ }
     ensures { λ r. ⌜ ((limit g : ℕ) → IsGroup (now (file .entry)) n limit (now (work .entry)) g p end → (bs : List Body) → HaveKeys bs (groupKeys limit (now (file .entry)) g) → Wrote (now (out .entry)) at (casesText 0 (map bodyKey bs)) (now (out .exit)) r) ⌝ }
 {
     let size = end - p;
@@ -47,7 +46,7 @@ pub fn put_forwarders(
     p: usize,
     end: usize,
 ) -> usize
-    requires { ⌜ (4 * n ≤ length (now work)) × (n ≤ 65536) × (n ≡ blockCount (now file)) × (p < end) × (end ≤ n) ⌝ }
+    requires { ⌜ HasRoom (now file) (now work) n × (p < end) × (end ≤ n) ⌝ }
     ensures { λ r. ⌜ ((limit g : ℕ) → IsGroup (now (file .entry)) n limit (now (work .entry)) g p end → (b : Body) (bs : List Body) → HaveKeys (b ∷ bs) (groupKeys limit (now (file .entry)) g) → Wrote (now (out .entry)) at (unitText (forwarders (bodyKey b) 0 (b ∷ bs))) (now (out .exit)) r) ⌝ }
 {
     let group = row_key(file, work, p);

@@ -8,9 +8,9 @@ ghost use Prim.Native.Nat.{ℕ, _+_, _<_};
 ghost use lib.ListN.{length, getD};
 ghost use Rattle.block_file.specs.Parse.{blocksOf, Accepted};
 ghost use Rattle.plan.specs.Plan.{groups};
-ghost use Rattle.members.specs.Members.{membersOf, startOf};
+ghost use Rattle.members.specs.Members.{membersOf, startOf, groupKeys};
 ghost use Rattle.members.specs.Prepared.{Ready};
-ghost use Rattle.emit_tables.specs.Tables.{fileKeys, groupKeys};
+ghost use Rattle.emit_tables.specs.Tables.{fileKeys};
 
 // The key of block i, or 0 where there is none.
 pub fn block_key(file: &[u8], i: usize) -> u32

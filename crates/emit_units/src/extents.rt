@@ -4,14 +4,14 @@ use crate::lengths::after_preamble;
 use crate::lengths::after_tail;
 use members::group_end;
 ghost use mathlib.Core.Path.{_≡_};
-ghost use Prim.Native.Nat.{ℕ, _*_, _≤_};
+ghost use Prim.Native.Nat.{ℕ, _≤_};
 ghost use lib.ListN.{length};
-ghost use Rattle.records.specs.Trailer.{blockCount};
 ghost use Rattle.block_file.specs.Parse.{blocksOf, Accepted};
 ghost use Rattle.plan.specs.Plan.{groups};
 ghost use Rattle.members.specs.Members.{startOf};
 ghost use Rattle.members.specs.Prepared.{Ready};
 ghost use Rattle.emit_units.specs.Units.{FirstUnit, describes};
+ghost use Rattle.plan.specs.Groups.{HasRoom};
 
 // A unit: the rows from start to the one before end, the length of its text, and whether it is the last.
 pub struct Extent {
@@ -29,7 +29,7 @@ pub enum FoundUnit {
 
 // The first unit of the groups from row p on.
 fn measure_unit(file: &[u8], work: &[u32], n: usize, max: u64, p: usize) -> Extent
-    requires { ⌜ (4 * n ≤ length (now work)) × (n ≤ 65536) × (n ≡ blockCount (now file)) × (p ≤ n) ⌝ }
+    requires { ⌜ HasRoom (now file) (now work) n × (p ≤ n) ⌝ }
     requires { ⌜ Accepted (now file) ⌝ }
     ensures { λ r. ⌜ r .end ≤ n ⌝ }
     ensures { λ r. ⌜ ((limit g : ℕ) → Ready (now (file .entry)) n limit (now (work .entry)) → g ≤ length (groups limit (blocksOf (now (file .entry)))) → p ≡ startOf (groups limit (blocksOf (now (file .entry)))) g → FirstUnit (now (file .entry)) limit max g r) ⌝ }
@@ -59,7 +59,7 @@ fn measure_unit(file: &[u8], work: &[u32], n: usize, max: u64, p: usize) -> Exte
 
 // Unit k at a wished size, of an accepted file with n blocks.
 pub fn find_unit(file: &[u8], work: &[u32], n: usize, max: u64, k: u64) -> FoundUnit
-    requires { ⌜ (4 * n ≤ length (now work)) × (n ≤ 65536) × (n ≡ blockCount (now file)) ⌝ }
+    requires { ⌜ HasRoom (now file) (now work) n ⌝ }
     requires { ⌜ Accepted (now file) ⌝ }
     ensures { λ r. ⌜ ((limit : ℕ) → Ready (now (file .entry)) n limit (now (work .entry)) → describes (now (file .entry)) limit max k r) ⌝ }
 {

@@ -3,8 +3,7 @@ use emit_flow::put_preamble;
 use emit_group::emit_group;
 use emit_tables::put_tail;
 ghost use mathlib.Core.Path.{_≡_};
-ghost use Prim.Native.Nat.{ℕ, _*_, _≤_, _<_};
-ghost use lib.ListN.{length};
+ghost use Prim.Native.Nat.{ℕ, _≤_, _<_};
 ghost use Rattle.records.specs.Trailer.{blockCount};
 ghost use Rattle.block_file.specs.Parse.{blocksOf, Accepted};
 ghost use Rattle.lowering.specs.Units.{emitGroup, unitHead, lastUnitEnd, bodiesOf};
@@ -12,6 +11,7 @@ ghost use Rattle.members.specs.Members.{membersOf};
 ghost use Rattle.emit_tables.specs.Tables.{IsGroup};
 ghost use Rattle.emit_group.specs.Groups.{fileBodies};
 ghost use Rattle.emit_units.specs.Units.{after};
+ghost use Rattle.plan.specs.Groups.{HasRoom};
 
 // The length of PREAMBLE and the empty line.
 pub(crate) fn after_preamble() -> usize
@@ -30,7 +30,7 @@ pub(crate) fn after_group(
     p: usize,
     end: usize,
 ) -> usize
-    requires { ⌜ (4 * n ≤ length (now work)) × (n ≤ 65536) × (n ≡ blockCount (now file)) × (p < end) × (end ≤ n) ⌝ }
+    requires { ⌜ HasRoom (now file) (now work) n × (p < end) × (end ≤ n) ⌝ }
     ensures { λ r. ⌜ ((limit g : ℕ) → IsGroup (now (file .entry)) n limit (now (work .entry)) g p end → r ≡ after at (emitGroup (bodiesOf (fileBodies (now (file .entry))) (membersOf limit (blocksOf (now (file .entry))) g)))) ⌝ }
 {
     let mut nothing = [0u8; 0];

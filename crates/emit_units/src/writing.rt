@@ -4,23 +4,22 @@ use emit_flow::put_preamble;
 use emit_group::emit_group;
 use emit_tables::put_tail;
 use members::group_end;
-ghost use mathlib.Core.Path.{_≡_};
 ghost use mathlib.Core.Bool.{true};
-ghost use Prim.Native.Nat.{ℕ, _*_, _≤_};
-ghost use lib.ListN.{length, take, drop};
+ghost use Prim.Native.Nat.{ℕ, _≤_};
+ghost use lib.ListN.{take, drop};
 ghost use Rattle.text.specs.Doc.{each};
 ghost use Rattle.text.specs.Wrote.{Wrote};
-ghost use Rattle.records.specs.Trailer.{blockCount};
 ghost use Rattle.block_file.specs.Parse.{blocksOf, Accepted};
 ghost use Rattle.plan.specs.Plan.{groups};
 ghost use Rattle.members.specs.Prepared.{Ready};
 ghost use Rattle.c_tree.specs.Print.{unitText};
 ghost use Rattle.emit_group.specs.Groups.{groupText};
 ghost use Rattle.emit_units.specs.Units.{Takes, IsUnit};
+ghost use Rattle.plan.specs.Groups.{HasRoom};
 
 // The groups of a unit.
 fn put_groups(out: &mut [u8], at: usize, file: &[u8], work: &[u32], n: usize, e: Extent) -> usize
-    requires { ⌜ (4 * n ≤ length (now work)) × (n ≤ 65536) × (n ≡ blockCount (now file)) × (e .end ≤ n) ⌝ }
+    requires { ⌜ HasRoom (now file) (now work) n × (e .end ≤ n) ⌝ }
     ensures { λ r. ⌜ ((limit g size : ℕ) → Ready (now (file .entry)) n limit (now (work .entry)) → Takes (now (file .entry)) limit g size e → Wrote (now (out .entry)) at (each (groupText true (now (file .entry))) (take size (drop g (groups limit (blocksOf (now (file .entry))))))) (now (out .exit)) r) ⌝ }
 {
     let mut q = at;
@@ -35,7 +34,7 @@ fn put_groups(out: &mut [u8], at: usize, file: &[u8], work: &[u32], n: usize, e:
 
 // The unit of an extent, with its hashes, from the front of `out` on.
 pub fn write_unit(out: &mut [u8], file: &[u8], work: &[u32], n: usize, e: Extent) -> usize
-    requires { ⌜ (4 * n ≤ length (now work)) × (n ≤ 65536) × (n ≡ blockCount (now file)) × (e .end ≤ n) ⌝ }
+    requires { ⌜ HasRoom (now file) (now work) n × (e .end ≤ n) ⌝ }
     requires { ⌜ Accepted (now file) ⌝ }
     ensures { λ r. ⌜ ((limit max k : ℕ) → Ready (now (file .entry)) n limit (now (work .entry)) → (is : IsUnit (now (file .entry)) limit max k e) → Wrote (now (out .entry)) 0 (unitText (is .unit .tree)) (now (out .exit)) r) ⌝ }
 {

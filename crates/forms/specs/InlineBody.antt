@@ -123,7 +123,7 @@ shiftedOffset e Asr n = some (shiftExprs e Asr n .0)
 shiftedOffset e Ror zero = none
 shiftedOffset e Ror (suc n) = some (shiftExprs e Ror (suc n) .0)
 
--- the offset of a Mem; none where the interpreter is to shift by a register
+-- the offset of a Mem; none for RRX, and where the interpreter is to shift by a register
 abbrev pub offsetExpr : Instr → MemOffset → Option Expr
 offsetExpr i (MemOffset.Imm value) = some (lit uhex value)
 offsetExpr i (MemOffset.Reg rm (Shift.Imm kind amount)) = shiftedOffset (regExpr i rm) kind amount

@@ -7,7 +7,7 @@ use plan::PART_LIMIT;
 use plan::clear;
 use plan::group_blocks;
 ghost use mathlib.Core.Path.{_≡_};
-ghost use Prim.Native.Nat.{ℕ, _+_, _*_, _≤_, _<_};
+ghost use Prim.Native.Nat.{ℕ, _+_, _*_, _<_};
 ghost use lib.ListN.{length, getD};
 ghost use Rattle.records.specs.Trailer.{blockCount};
 ghost use Rattle.block_file.specs.Parse.{Parsed, parse, blocksOf, Accepted};
@@ -17,6 +17,7 @@ ghost use Rattle.plan.specs.Plan.{plan};
 ghost use Rattle.list_blocks.specs.Listing.{listing};
 ghost use Rattle.members.specs.Numbers.{groupOf};
 ghost use Rattle.list_blocks.specs.Calls.{listedOf, listingCall};
+ghost use Rattle.plan.specs.Groups.{HasRoom};
 
 // The answer of the call for the listing.
 pub enum Listed {
@@ -28,7 +29,7 @@ pub enum Listed {
 
 // The length of the listing: it is written to no bytes at all.
 fn listing_length(file: &[u8], work: &[u32], n: usize) -> usize
-    requires { ⌜ (4 * n ≤ length (now work)) × (n ≤ 65536) × (n ≡ blockCount (now file)) ⌝ }
+    requires { ⌜ HasRoom (now file) (now work) n ⌝ }
     requires { ⌜ Accepted (now file) × ((i : ℕ) → i < n → getD (now work) (n + i) 0 ≡ groupOf i (plan partLimit (blocksOf (now file)))) ⌝ }
     ensures { λ r. ⌜ r ≡ length (print (listing partLimit (blocksOf (now (file .entry))))) ⌝ }
 {

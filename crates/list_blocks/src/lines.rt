@@ -6,9 +6,9 @@ use block_file::BlockRecord;
 use block_file::FoundBlock;
 use block_file::block_at;
 ghost use mathlib.Core.Path.{_≡_};
-ghost use Prim.Native.Nat.{ℕ, _+_, _*_, _≤_, _<_};
-ghost use lib.ListN.{length, getD};
-ghost use Rattle.records.specs.Trailer.{blockCount, blockStart};
+ghost use Prim.Native.Nat.{ℕ, _+_, _<_};
+ghost use lib.ListN.{getD};
+ghost use Rattle.records.specs.Trailer.{blockStart};
 ghost use Rattle.block_file.specs.Parse.{blockAt, blocksOf, Accepted};
 ghost use Rattle.text.specs.Wrote.{Wrote};
 ghost use Rattle.block_file.specs.Read.{IsBlock};
@@ -17,6 +17,7 @@ ghost use Rattle.plan.specs.Plan.{plan};
 ghost use Rattle.block_exits.specs.Exits.{keysOf};
 ghost use Rattle.list_blocks.specs.Listing.{exitsText, line, blockLine, listing};
 ghost use Rattle.members.specs.Numbers.{groupOf};
+ghost use Rattle.plan.specs.Groups.{HasRoom};
 
 // The exits of a line.
 fn put_exits(out: &mut [u8], at: usize, exits: Exits) -> usize
@@ -59,7 +60,7 @@ fn put_block(
 
 // The header, and the lines of the n blocks of an accepted file, whose groups are in quarter 1 of the work numbers.
 pub(crate) fn put_listing(file: &[u8], work: &[u32], n: usize, out: &mut [u8]) -> usize
-    requires { ⌜ (4 * n ≤ length (now work)) × (n ≤ 65536) × (n ≡ blockCount (now file)) ⌝ }
+    requires { ⌜ HasRoom (now file) (now work) n ⌝ }
     requires { ⌜ Accepted (now file) × ((i : ℕ) → i < n → getD (now work) (n + i) 0 ≡ groupOf i (plan partLimit (blocksOf (now file)))) ⌝ }
     ensures { λ r. ⌜ Wrote (now (out .entry)) 0 (listing partLimit (blocksOf (now (file .entry)))) (now (out .exit)) r ⌝ }
 {

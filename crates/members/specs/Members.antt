@@ -1,8 +1,9 @@
 -- The members of the groups of a plan: their keys, and the rows where they stand.
 use Prim.Native.Nat.{ℕ, zero, suc, _+_}
+use mathlib.Core.Bool.{Bool, cond}
 use mathlib.Core.List.{List, [], _∷_, map}
 use lib.ListN.{length, getD}
-use Rattle.block_file.specs.Parse.{Block, blockKey}
+use Rattle.block_file.specs.Parse.{Block, blockKey, blocksOf}
 use Rattle.plan.specs.Plan.{groups}
 
 -- the blocks of a group, by its number
@@ -12,6 +13,14 @@ membersOf limit bs g = getD (groups limit bs) g []
 -- the keys of some blocks, by their numbers
 abbrev pub memberKeys : List Block → List ℕ → List ℕ
 memberKeys bs is = map (λ (i : ℕ). getD (map blockKey bs) i 0) is
+
+-- the keys of the members of group g of a file
+abbrev pub groupKeys : ℕ → List ℕ → ℕ → List ℕ
+groupKeys limit f g = memberKeys (blocksOf f) (membersOf limit (blocksOf f) g)
+
+-- the keys that a member of group g transfers to by a goto: those of its group where it has several members, and none where it is alone
+abbrev pub keysWithin : Bool → ℕ → List ℕ → ℕ → List ℕ
+keysWithin several limit f g = cond several (groupKeys limit f g) []
 
 -- the row of the first member of a group
 unfoldable pub startOf : List (List ℕ) → ℕ → ℕ

@@ -2,11 +2,11 @@
 use Prim.Native.Nat.{ℕ, _+_, _*_, _≤_, _<_}
 use mathlib.Core.Path.{_≡_}
 use mathlib.Core.List.{List}
-use lib.ListN.{length, getD, take, drop}
+use lib.ListN.{length, getD}
 use Rattle.records.specs.Trailer.{blockCount}
 use Rattle.records.specs.BlockRecord.{countSum}
 use Rattle.block_file.specs.Parse.{blocksOf, Accepted}
-use Rattle.plan.specs.Groups.{interleave}
+use Rattle.plan.specs.Groups.{rowsIn}
 use Rattle.plan.specs.Plan.{plan}
 use Rattle.members.specs.Numbers.{groupOf}
 
@@ -23,7 +23,7 @@ pub record Ready (f : List ℕ) (n limit : ℕ) (work : List ℕ) : Type 0 where
   pub accepted : Accepted f
   pub all : n ≡ blockCount f
   pub room : 4 * n ≤ length work
-  pub rows : interleave (take n (drop (2 * n) work)) (take n work) ≡ plan limit (blocksOf f)
+  pub rows : rowsIn n work ≡ plan limit (blocksOf f)
   pub groups : (i : ℕ) → i < n → getD work (n + i) 0 ≡ groupOf i (plan limit (blocksOf f))
   pub firsts : (i : ℕ) → i < n → getD work (3 * n + i) 0 ≡ countSum f i
 

@@ -2,18 +2,18 @@
 use search::Target;
 use search::find_target;
 ghost use mathlib.Core.Path.{_≡_};
-ghost use Prim.Native.Nat.{ℕ, _*_, _≤_, _<_};
+ghost use Prim.Native.Nat.{ℕ, _≤_, _<_};
 ghost use lib.ListN.{length};
-ghost use Rattle.records.specs.Trailer.{blockCount};
 ghost use Rattle.block_file.specs.Parse.{blocksOf};
-ghost use Rattle.members.specs.Members.{membersOf, memberKeys};
+ghost use Rattle.members.specs.Members.{membersOf, groupKeys};
 ghost use Rattle.block_file.specs.Address.{among};
 ghost use Rattle.members.specs.Prepared.{Ready};
+ghost use Rattle.plan.specs.Groups.{HasRoom};
 
 // Whether a group of several has a block with a key, an exit of block i: a block of page 8, since such a group has no other.
 pub fn in_group(file: &[u8], work: &[u32], n: usize, group: u32, i: usize, key: u32) -> bool
-    requires { ⌜ (4 * n ≤ length (now work)) × (n ≤ 65536) × (n ≡ blockCount (now file)) × (i < n) ⌝ }
-    ensures { λ r. ⌜ ((limit : ℕ) → Ready (now (file .entry)) n limit (now (work .entry)) → 2 ≤ length (membersOf limit (blocksOf (now (file .entry))) group) → r ≡ among key (memberKeys (blocksOf (now (file .entry))) (membersOf limit (blocksOf (now (file .entry))) group))) ⌝ }
+    requires { ⌜ HasRoom (now file) (now work) n × (i < n) ⌝ }
+    ensures { λ r. ⌜ ((limit : ℕ) → Ready (now (file .entry)) n limit (now (work .entry)) → 2 ≤ length (membersOf limit (blocksOf (now (file .entry))) group) → r ≡ among key (groupKeys limit (now (file .entry)) group)) ⌝ }
 {
     let Target::At(j) = find_target(file, key, i) else {
         return false;

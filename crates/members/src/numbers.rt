@@ -3,16 +3,14 @@ use crate::group_numbers::put_groups;
 use block_file::FoundBlock;
 use block_file::block_at;
 use plan::group_blocks;
-ghost use mathlib.Core.Path.{_≡_};
-ghost use Prim.Native.Nat.{_*_, _≤_};
-ghost use lib.ListN.{length};
-ghost use Rattle.records.specs.Trailer.{blockCount};
+ghost use Prim.Native.Nat.{_*_};
 ghost use Rattle.block_file.specs.Parse.{Accepted};
 ghost use Rattle.members.specs.Prepared.{FirstsTo, Prepared};
+ghost use Rattle.plan.specs.Groups.{HasRoom};
 
 // Puts the number of each block's first instruction into quarter 3. In an accepted file nothing wraps.
 fn put_firsts(file: &[u8], work: &mut [u32], n: usize)
-    requires { ⌜ (4 * n ≤ length (now work)) × (n ≤ 65536) × (n ≡ blockCount (now file)) × Accepted (now file) ⌝ }
+    requires { ⌜ HasRoom (now file) (now work) n × Accepted (now file) ⌝ }
     ensures { λ _. ⌜ FirstsTo (now (file .entry)) n n (now (work .entry)) (now (work .exit)) ⌝ }
 {
     let mut first: usize = 0;
@@ -29,7 +27,7 @@ fn put_firsts(file: &[u8], work: &mut [u32], n: usize)
 
 // Fills the work numbers of an accepted file with n blocks. Grouping needs all four quarters, so the groups of the blocks and their first instructions come after it.
 pub fn prepare(file: &[u8], work: &mut [u32], n: u32, limit: u64)
-    requires { ⌜ (4 * n ≤ length (now work)) × (n ≤ 65536) × (n ≡ blockCount (now file)) × Accepted (now file) ⌝ }
+    requires { ⌜ HasRoom (now file) (now work) n × Accepted (now file) ⌝ }
     ensures { λ _. ⌜ Prepared (now (file .entry)) n limit (now (work .entry)) (now (work .exit)) ⌝ }
 {
     let size = n as usize;

@@ -9,11 +9,19 @@ use Rattle.block_file.specs.Parse.{blockAt, blocksOf, Accepted}
 use Rattle.plan.specs.Plan.{joinBlock, parents, plan}
 use Rattle.forest.specs.Forest.{Flatter, Forest, SameRoots, root}
 
+-- work numbers enough for the n blocks of a file, of which there are few
+abbrev pub HasRoom : List ℕ → List ℕ → ℕ → Type 0
+HasRoom f work n = (4 * n ≤ length work) × (n ≤ 65536) × (n ≡ blockCount f)
+
 -- two lists as one, number by number in turn, up to the end of the shorter
 unfoldable pub interleave : List ℕ → List ℕ → List ℕ
 interleave [] ys = []
 interleave (x ∷ xs) [] = []
 interleave (x ∷ xs) (y ∷ ys) = x ∷ y ∷ interleave xs ys
+
+-- the rows of n blocks in the work numbers: group numbers in quarter 2, blocks in quarter 0
+abbrev pub rowsIn : ℕ → List ℕ → List ℕ
+rowsIn n work = interleave (take n (drop (2 * n) work)) (take n work)
 
 -- quarter 1 of the work numbers: the parents
 abbrev pub quarter1 : ℕ → List ℕ → List ℕ
@@ -70,4 +78,4 @@ pub record AllJoined (f : List ℕ) (n : ℕ) (work work′ : List ℕ) : Type 0
 pub record Grouped (f : List ℕ) (n limit : ℕ) (work work′ : List ℕ) : Type 0 where
   pub same : length work′ ≡ length work
   pub after : (k : ℕ) → 4 * n ≤ k → getD work′ k 0 ≡ getD work k 0
-  pub rows : Accepted f → interleave (take n (drop (2 * n) work′)) (take n work′) ≡ plan limit (blocksOf f)
+  pub rows : Accepted f → rowsIn n work′ ≡ plan limit (blocksOf f)

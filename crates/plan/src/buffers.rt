@@ -2,9 +2,9 @@
 ghost use mathlib.Core.Path.{_≡_};
 ghost use mathlib.Core.List.{_++_};
 ghost use Prim.Native.Nat.{_*_, _≤_};
-ghost use lib.ListN.{length, take, drop};
+ghost use lib.ListN.{length, drop};
 ghost use Rattle.plan.specs.Calls.{cleared};
-ghost use Rattle.plan.specs.Groups.{interleave};
+ghost use Rattle.plan.specs.Groups.{rowsIn};
 
 // The first m numbers become 0.
 pub fn clear(work: &mut [u32], m: usize)
@@ -21,7 +21,7 @@ pub fn clear(work: &mut [u32], m: usize)
 // The rows of n blocks: the group numbers of quarter 2 and the blocks of quarter 0 in turn.
 pub(crate) fn put_rows(work: &[u32], n: usize, plan: &mut [u32])
     requires { ⌜ (3 * n ≤ length (now work)) × (2 * n ≤ length (now plan)) ⌝ }
-    ensures { λ _. ⌜ now (plan .exit) ≡ interleave (take n (drop (2 * n) (now (work .entry)))) (take n (now (work .entry))) ++ drop (2 * n) (now (plan .entry)) ⌝ }
+    ensures { λ _. ⌜ now (plan .exit) ≡ rowsIn n (now (work .entry)) ++ drop (2 * n) (now (plan .entry)) ⌝ }
 {
     let mut p = 0;
     while p < n {

@@ -22,7 +22,7 @@ ghost use Rattle.block_exits.specs.Exits.{keysOf};
 ghost use Rattle.forest.specs.Forest.{Forest};
 ghost use Rattle.plan.specs.Plan.{joinTo, joinExits};
 ghost use Rattle.search.specs.Target.{target};
-ghost use Rattle.plan.specs.Groups.{quarter1, Joined, HasFirsts, Firsts, joinRecord, AllJoined, Rooted, AllRooted, Grouped};
+ghost use Rattle.plan.specs.Groups.{quarter1, Joined, HasFirsts, Firsts, joinRecord, AllJoined, Rooted, AllRooted, Grouped, HasRoom};
 
 // The edge from block i to a key, if there is a block of page 8 with that key.
 fn join_key(file: &[u8], work: &mut [u32], n: usize, i: usize, key: u32)
@@ -73,7 +73,7 @@ fn join_block(file: &[u8], work: &mut [u32], n: usize, i: usize)
 
 // The edges from all blocks, in their order; at first each block is its own root.
 fn join_blocks(file: &[u8], work: &mut [u32], n: usize)
-    requires { ⌜ (4 * n ≤ length (now work)) × (n ≤ 65536) × (n ≡ blockCount (now file)) ⌝ }
+    requires { ⌜ HasRoom (now file) (now work) n ⌝ }
     requires { ⌜ (Accepted (now file) → HasFirsts (now file) n (now work)) ⌝ }
     ensures { λ _. ⌜ AllJoined (now (file .entry)) n (now (work .entry)) (now (work .exit)) ⌝ }
 {
@@ -126,7 +126,7 @@ fn put_roots(work: &mut [u32], n: usize)
 
 // Groups the blocks of a file: quarters 0 and 2 get the blocks in emission order and the number of the group of each.
 pub fn group_blocks(file: &[u8], work: &mut [u32], n: u32, limit: u64)
-    requires { ⌜ (4 * n ≤ length (now work)) × (n ≤ 65536) × (n ≡ blockCount (now file)) ⌝ }
+    requires { ⌜ HasRoom (now file) (now work) n ⌝ }
     ensures { λ _. ⌜ Grouped (now (file .entry)) n limit (now (work .entry)) (now (work .exit)) ⌝ }
 {
     let size = n as usize;

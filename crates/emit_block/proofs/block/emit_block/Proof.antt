@@ -14,7 +14,7 @@ use Rattle.emit_block.proofs.block.emit_block.Statement.{statement}
 use Rattle.emit_block.proofs.block.emit_block.Tie as tie
 
 returns : tie.Need-returns
-returns c = λ ks s. absurd (omega (arith, missing _ (s .ready .accepted) _ (sym (c .before .before .block-at .ensures) ∙ c .enum-told .given .1), c .before .before .before .before .before .before .pre .3, c .before .before .before .before .before .before .pre .2))
+returns c = λ ks s. absurd (omega (arith, missing _ (s .ready .accepted) _ (sym (c .before .before .block-at .ensures) ∙ c .enum-told .given .1), c .before .before .before .before .before .before .pre .1, c .before .before .before .before .before .before .pre .0 .2))
 
 returns-2 : tie.Need-returns-2
 returns-2 c = let v = c .before .before .before .before .before .before .before .before .before .before .before .before .before .before .args in

@@ -22,7 +22,7 @@ loop-holds : tie.Need-loop-holds Inv-loop μ-loop
 loop-holds c = (omega arith, refl, λ ks b here. walked-none (here .body) (search needs) (search needs))
 
 emit-record-requires : tie.Need-emit-record-requires Inv-loop μ-loop
-emit-record-requires c κs = let pre = c .before .before .before .before .before .before .before .pre in (pre .0, pre .1, pre .2, pre .3, c .before .if1 .taken)
+emit-record-requires c κs = let pre = c .before .before .before .before .before .before .before .pre in (pre .0, pre .1, c .before .if1 .taken)
 
 returns : tie.Need-returns Inv-loop μ-loop
 returns c = λ ks b here. walked-done (c .before .before .before .before .before .before .before .loop .inv .2 ks b here) (c .before .before .before .emit-record .ensures ks b here (c .before .before .before .before .before .before .before .loop .inv .2 ks b here .few)) (c .if2 .taken)

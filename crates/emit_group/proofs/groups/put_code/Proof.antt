@@ -7,11 +7,11 @@ use mathlib.Core.List.{[]}
 use mathlib.Core.Path.{sym, ap, subst}
 use native.Mathlib.Omega.{arith}
 use Rattle.members.proofs.Places.{row-block-inside}
-use Rattle.members.specs.Members.{membersOf}
+use Rattle.members.specs.Members.{membersOf, keysWithin}
 use Rattle.block_file.specs.Parse.{blocksOf}
 use Rattle.text.proofs.Laws.{said}
 use Rattle.text.specs.Doc.{flat}
-use Rattle.emit_group.specs.Groups.{memberText, keysWithin}
+use Rattle.emit_group.specs.Groups.{memberText}
 use Rattle.emit_group.proofs.groups.put_code.Statement.{statement}
 use Rattle.emit_group.proofs.groups.put_code.Tie as tie
 

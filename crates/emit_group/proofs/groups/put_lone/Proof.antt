@@ -7,9 +7,8 @@ use mathlib.Core.Path.{_≡_, sym}
 use native.Mathlib.Omega.{arith}
 use Rattle.emit_tables.proofs.Around.{hashed-member-keys}
 use Rattle.emit_tables.proofs.Rows.{group-size}
-use Rattle.emit_tables.specs.Tables.{groupKeys}
 use Rattle.fnv.specs.Fnv.{hashMultiplier}
-use Rattle.members.specs.Members.{membersOf}
+use Rattle.members.specs.Members.{membersOf, groupKeys}
 use Rattle.block_file.specs.Parse.{blocksOf}
 use Rattle.emit_group.proofs.Functions.{lone-wrote}
 use Rattle.emit_group.proofs.groups.put_lone.Statement.{statement}

@@ -7,8 +7,8 @@ use mathlib.Core.List.{[]}
 use mathlib.Core.Path.{_≡_, refl, _∙_}
 use native.Mathlib.Omega.{arith}
 use Rattle.emit_tables.proofs.Rows.{group-size}
-use Rattle.emit_tables.specs.Tables.{groupKeys, IsGroup}
-use Rattle.members.specs.Members.{membersOf}
+use Rattle.emit_tables.specs.Tables.{IsGroup}
+use Rattle.members.specs.Members.{membersOf, groupKeys}
 use Rattle.block_file.specs.Parse.{blocksOf}
 use Rattle.text.proofs.Laws.{none, said, each-more, each-all}
 use Rattle.text.specs.Doc.{each}

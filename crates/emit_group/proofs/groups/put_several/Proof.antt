@@ -4,11 +4,10 @@ use borrow.Author.Needs.{needs}
 use mathlib.Core.List.{map}
 use native.Mathlib.Omega.{arith}
 use Rattle.emit_tables.proofs.Around.{hashed-member-keys}
-use Rattle.emit_tables.specs.Tables.{groupKeys}
 use Rattle.fnv.specs.Fnv.{hashMultiplier}
 use Rattle.lowering.specs.Measured.{hashedIf}
 use Rattle.lowering.specs.Units.{bodiesOf}
-use Rattle.members.specs.Members.{membersOf}
+use Rattle.members.specs.Members.{membersOf, groupKeys}
 use Rattle.block_file.specs.Parse.{blocksOf}
 use Rattle.emit_group.specs.Groups.{fileBodies}
 use Rattle.emit_group.proofs.Functions.{members-count, several-wrote}
@@ -36,5 +35,5 @@ returns c = λ limit g is some.
 pub put-several-spec : {M : Type 1} → statement M
 put-several-spec =
     tie.close
-    (tie.spec (search needs) (search needs) (search needs) (search needs) (search needs) (search needs) (search needs)
+    (tie.spec (search needs) (search needs) (search needs) (search needs) (search needs) (search needs) (λ c κs. search needs)
     (search needs) returns)

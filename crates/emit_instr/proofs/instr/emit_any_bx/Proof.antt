@@ -1,4 +1,4 @@
--- `instr::emit_any_bx` meets its contract: by whether it is carried out here. Assumes nothing.
+-- `instr::emit_any_bx` meets its contract: by whether it is native. Assumes nothing.
 use Prim.Native.Nat.{ℕ}
 use mathlib.Core.Path.{sym, ap, _∙_}
 use mathlib.Core.Bool.{false}

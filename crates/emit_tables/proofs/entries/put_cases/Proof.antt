@@ -7,7 +7,7 @@ use mathlib.Core.List.{[], _∷_}
 use mathlib.Core.Path.{_≡_, refl, _∙_}
 use native.Mathlib.Omega.{arith}
 use Rattle.c_tree.specs.Print.{casesText}
-use Rattle.members.specs.Members.{membersOf}
+use Rattle.members.specs.Members.{membersOf, groupKeys}
 use Rattle.block_file.specs.Parse.{blocksOf}
 use Rattle.text.proofs.Laws.{none, said, kept}
 use Rattle.text.specs.Doc.{Doc}
@@ -16,7 +16,7 @@ use Rattle.emit_tables.proofs.Around.{numbered, numbered-more, cases-ke
 use Rattle.emit_tables.proofs.Rows.{group-size, keys-size}
 use Rattle.emit_tables.proofs.entries.put_cases.Statement.{statement}
 use Rattle.emit_tables.proofs.entries.put_cases.Tie as tie
-use Rattle.emit_tables.specs.Tables.{groupKeys, IsGroup}
+use Rattle.emit_tables.specs.Tables.{IsGroup}
 
 abbrev case : ℕ → ℕ → Doc
 case n key = casesText n (key ∷ [])

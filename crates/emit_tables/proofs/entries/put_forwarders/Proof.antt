@@ -6,7 +6,7 @@ use lib.ListN.{length, take}
 use mathlib.Core.List.{[]}
 use mathlib.Core.Path.{_≡_, refl, _∙_}
 use native.Mathlib.Omega.{arith}
-use Rattle.members.specs.Members.{membersOf}
+use Rattle.members.specs.Members.{membersOf, groupKeys}
 use Rattle.block_file.specs.Parse.{blocksOf}
 use Rattle.text.proofs.Laws.{none, seq, said, kept}
 use Rattle.text.specs.Wrote.{Wrote}
@@ -14,7 +14,7 @@ use Rattle.emit_tables.proofs.Around.{numbered, numbered-more, entry, f
 use Rattle.emit_tables.proofs.Rows.{group-size, keys-size}
 use Rattle.emit_tables.proofs.entries.put_forwarders.Statement.{statement}
 use Rattle.emit_tables.proofs.entries.put_forwarders.Tie as tie
-use Rattle.emit_tables.specs.Tables.{groupKeys, IsGroup}
+use Rattle.emit_tables.specs.Tables.{IsGroup}
 
 abbrev Inv-loop : tie.InvT-loop
 Inv-loop out₀ at file work n p end group size q₀ k₀ t12 out q k =

@@ -22,23 +22,23 @@ abbrev μ-loop : tie.MeasureT-loop
 
 loop-holds : tie.Need-loop-holds Inv-loop μ-loop
 unfolding countSum
-loop-holds c = (omega arith, c .before .before .pre .0, refl, firsts-none _ _ _)
+loop-holds c = (omega arith, c .before .before .pre .0 .0, refl, firsts-none _ _ _)
 
 same-length : tie.Need-same-length Inv-loop μ-loop
 same-length c = c .before .before .before .before .loop .inv .3 .same
 
 returns : tie.Need-returns Inv-loop μ-loop
-returns c = absurd (omega (arith, missing _ (c .before .before .before .before .before .before .before .pre .3) _ (sym (c .before .before .block-at .ensures) ∙ c .enum-told .given .1), c .before .before .before .before .before .before .before .pre .2))
+returns c = absurd (omega (arith, missing _ (c .before .before .before .before .before .before .before .pre .1) _ (sym (c .before .before .block-at .ensures) ∙ c .enum-told .given .1), c .before .before .before .before .before .before .before .pre .0 .2))
 
 cast-work : tie.Need-cast-work Inv-loop μ-loop
-cast-work c = let is : IsBlock _ _ _ _ = record { accepted = c .before .before .before .before .before .before .before .before .pre .3; found = sym (c .before .before .before .block-at .ensures) ∙ c .before .block .given .1; starts = c .before .before .before .before .before .loop .inv .2 } in
-    omega (arith, among is, few-instrs _ _ (c .before .before .before .before .before .before .before .before .pre .3))
+cast-work c = let is : IsBlock _ _ _ _ = record { accepted = c .before .before .before .before .before .before .before .before .pre .1; found = sym (c .before .before .before .block-at .ensures) ∙ c .before .block .given .1; starts = c .before .before .before .before .before .loop .inv .2 } in
+    omega (arith, among is, few-instrs _ _ (c .before .before .before .before .before .before .before .before .pre .1))
 
 slice-write-work : tie.Need-slice-write-work Inv-loop μ-loop
 slice-write-work c = omega (arith, c .before .before .before .before .before .loop .inv .3 .same)
 
 loop-again : tie.Need-loop-again Inv-loop μ-loop
-loop-again c = let is : IsBlock _ _ _ _ = record { accepted = c .before .before .before .before .before .before .before .before .before .before .pre .3; found = sym (c .before .before .before .before .before .block-at .ensures) ∙ c .before .before .before .block .given .1; starts = c .before .before .before .before .before .before .before .loop .inv .2 } in
+loop-again c = let is : IsBlock _ _ _ _ = record { accepted = c .before .before .before .before .before .before .before .before .before .before .pre .1; found = sym (c .before .before .before .before .before .block-at .ensures) ∙ c .before .before .before .block .given .1; starts = c .before .before .before .before .before .before .before .loop .inv .2 } in
     (omega arith, c .before .before .before .before .before .before .before .loop .inv .1, c .wrapping-add-usize .ensures ∙ sum-next is, firsts-more _ _ _ _ _ _ (omega arith) (c .before .before .before .before .before .before .before .loop .inv .1) (c .before .before .before .before .before .before .before .loop .inv .2) (c .before .before .before .before .before .before .before .loop .inv .3))
 
 same-length-2 : tie.Need-same-length-2 Inv-loop μ-loop

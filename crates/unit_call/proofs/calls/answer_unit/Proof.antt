@@ -44,7 +44,7 @@ write-unit-requires c κs =
     let f = a .file .now in
     let ready = c .before .before .before .before .before .before .before .before .before .before .pre in
     let is : IsUnit f partLimit (a .max) (a .k) _ = subst (describes f partLimit (a .max) (a .k)) (c .before .before .before .before .e .given .1) (c .before .before .before .before .before .before .find-unit .ensures partLimit ready) in
-    ((ready .room, omega (arith, few-blocks _ _ (ready .accepted), ready .all), ready .all, omega (arith, is .takes .end, start-inside ready (is .group + is .size))), ready .accepted)
+    (((ready .room, omega (arith, few-blocks _ _ (ready .accepted), ready .all), ready .all), omega (arith, is .takes .end, start-inside ready (is .group + is .size))), ready .accepted)
 
 returns-3 : tie.Need-returns-3
 unfolding describes translatedOf textOf

@@ -26,7 +26,7 @@ returns c =
 prepare-requires : tie.Need-prepare-requires
 prepare-requires c κs =
     let pre = c .before .before .before .before .before .pre in
-    (omega arith, omega (arith, few-blocks _ _ (pre .0), pre .1), pre .1, pre .0)
+    ((omega arith, omega (arith, few-blocks _ _ (pre .0), pre .1), pre .1), pre .0)
 
 answer-unit-requires : tie.Need-answer-unit-requires
 answer-unit-requires c κs = c .before .before .before .before .prepare .ensures .ready
