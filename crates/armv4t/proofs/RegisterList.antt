@@ -5,10 +5,10 @@ use mathlib.Core.Path.{_≡_, refl, ap, _∙_}
 use mathlib.Core.Bool.{false}
 use lib.Arith.{digits-div}
 use lib.Pow.{pow-mono}
-use Rattle.armv4t.specs.RegisterList.{lists}
+use Rattle.armv4t.specs.RegisterList.{isListed}
 
 -- a list of 16 bits names no register from 16 on
-pub lists-past : (rlist r : ℕ) → rlist < 2 ^ 16 → 16 ≤ r → false ≡ lists rlist r
+pub lists-past : (rlist r : ℕ) → rlist < 2 ^ 16 → 16 ≤ r → false ≡ isListed rlist r
 lists-past rlist r small past =
     let least : rlist < 2 ^ r = omega (arith, small, pow-mono past) in
     let same : rlist ≡ 0 * 2 ^ r + rlist = omega arith in

@@ -1,4 +1,4 @@
--- The ranges of an operation's fields, as document 01 has them for instruction records; the rotation of a value, which shows in C alone, may be any.
+-- The ranges of an operation's fields, as document 01 has them for instruction records; the rotation of a value, which shows in the flag C alone, may be any.
 use Prim.Native.Nat.{_%_, _≤_, _<_, _^_}
 use mathlib.Core.Path.{_≡_}
 use Rattle.armv4t.specs.declared.Shift.{Shift}

@@ -4,5 +4,5 @@ use mathlib.Core.Bool.{Bool}
 use lib.Dec.{eqb}
 
 -- whether a register list names a register
-abbrev pub lists : ℕ → ℕ → Bool
-lists rlist r = eqb (rlist / 2 ^ r % 2) 1
+abbrev pub isListed : ℕ → ℕ → Bool
+isListed rlist r = eqb (rlist / 2 ^ r % 2) 1

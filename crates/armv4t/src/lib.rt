@@ -7,7 +7,7 @@ ghost use Rattle.armv4t.specs.Bit0.{clearBit0, setBit0};
 ghost use Rattle.armv4t.specs.Cond.{condOf, isAl};
 ghost use Rattle.armv4t.specs.Fused.{fuse};
 ghost use Rattle.armv4t.specs.Instr.{sizeOf, pcValue};
-ghost use Rattle.armv4t.specs.RegisterList.{lists};
+ghost use Rattle.armv4t.specs.RegisterList.{isListed};
 ghost use Rattle.armv4t.specs.Shift.{shiftKindOf, noShift};
 
 // Register index, 0 to 15.
@@ -24,7 +24,7 @@ pub const PC: Reg = 15;
 
 // Whether a register list names a register.
 pub fn is_listed(rlist: u16, r: Reg) -> bool
-    ensures { λ b. ⌜ b ≡ lists rlist r ⌝ }
+    ensures { λ b. ⌜ b ≡ isListed rlist r ⌝ }
 {
     if r < 16 { (rlist >> r) % 2 == 1 } else { false }
 }

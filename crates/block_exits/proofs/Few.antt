@@ -15,7 +15,7 @@ use Rattle.armv4t.specs.declared.Fused.the-variants.{Pair, Nothing}
 use Rattle.armv4t.specs.Fused.{fuse}
 use Rattle.instr_records.specs.declared.decode.TimedInstr.{TimedInstr}
 use Rattle.block_file.specs.Parse.{Block}
-use Rattle.armv4t.specs.RegisterList.{lists}
+use Rattle.armv4t.specs.RegisterList.{isListed}
 use Rattle.block_exits.specs.Exits.{keyOf, branchExits, opExits, closingExits, instrExits, exits}
 
 branch-few : (c : Cond) (target fall : ℕ) → length (branchExits c target fall) ≤ 2
@@ -50,7 +50,7 @@ op-few (Branch link target) c thumb fall = branch-few c (keyOf target thumb) fal
 op-few (ThumbBlHigh lr) c thumb fall = omega arith
 op-few (ThumbBlLow off) c thumb fall = omega arith
 op-few (Mem load width signed rd rn offset pre up writeback) c thumb fall = unless-few (load && eqb rd 15) fall
-op-few (BlockMem load rn rlist pre up s-bit writeback) c thumb fall = unless-few (load && lists rlist 15) fall
+op-few (BlockMem load rn rlist pre up s-bit writeback) c thumb fall = unless-few (load && isListed rlist 15) fall
 op-few (Mrs spsr rd) c thumb fall = omega arith
 op-few (MsrReg spsr fields rm) c thumb fall = omega arith
 op-few (MsrImm spsr fields value) c thumb fall = omega arith

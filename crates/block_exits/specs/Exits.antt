@@ -12,7 +12,7 @@ use Rattle.armv4t.specs.declared.Fused.the-variants.{Pair, Nothing}
 use Rattle.armv4t.specs.Bit0.{setBit0}
 use Rattle.armv4t.specs.Instr.{nextAddr}
 use Rattle.armv4t.specs.Cond.{isAl}
-use Rattle.armv4t.specs.RegisterList.{lists}
+use Rattle.armv4t.specs.RegisterList.{isListed}
 use Rattle.armv4t.specs.Fused.{fuse}
 use Rattle.instr_records.specs.declared.decode.TimedInstr.{TimedInstr}
 use Rattle.block_file.specs.Parse.{Block}
@@ -43,7 +43,7 @@ opExits (Branch link target) c thumb fall = branchExits c (keyOf target thumb) f
 opExits (ThumbBlHigh lr) c thumb fall = fall ∷ []
 opExits (ThumbBlLow off) c thumb fall = []
 opExits (Mem load width signed rd rn offset pre up writeback) c thumb fall = cond (load && eqb rd 15) [] (fall ∷ [])
-opExits (BlockMem load rn rlist pre up s-bit writeback) c thumb fall = cond (load && lists rlist 15) [] (fall ∷ [])
+opExits (BlockMem load rn rlist pre up s-bit writeback) c thumb fall = cond (load && isListed rlist 15) [] (fall ∷ [])
 opExits (Mrs spsr rd) c thumb fall = fall ∷ []
 opExits (MsrReg spsr fields rm) c thumb fall = fall ∷ []
 opExits (MsrImm spsr fields value) c thumb fall = fall ∷ []

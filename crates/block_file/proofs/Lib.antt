@@ -4,6 +4,7 @@ pub mod Answers
 pub mod Exactly
 pub mod IsBlock
 pub mod Keys
+pub mod Nowhere
 mod Passes
 mod Reading
 mod Whole

@@ -199,8 +199,8 @@ module _ (may : Bool) where
   kept-trans z u y p q = (λ h. q .0 h ∙ p .0 h, over-trans (p .1) (q .1))
 
   -- a call of the interpreter
-  interpreted-kept : may ≡ true → (z : State) → Kept z (afterInterp z)
-  interpreted-kept a z = (λ h. absurd (true≢false (sym a ∙ h)), over-refl (z .scopes))
+  after-interp-kept : may ≡ true → (z : State) → Kept z (afterInterp z)
+  after-interp-kept a z = (λ h. absurd (true≢false (sym a ∙ h)), over-refl (z .scopes))
 
   -- what is kept from a state is kept from one before it
   behind : (z u : State) {o : Option State} → Kept z u → All (Kept u) o → All (Kept z) o
@@ -278,8 +278,8 @@ module _ (may : Bool) where
     step-kept (ret o e) a z = returns-kept e z
     step-kept (retIf o t e) a z = all-bind (asks-kept t z) λ q p. all-cond (q .0) (behindBy z (q .1) p (returns-kept e (q .1))) (defined p)
     step-kept (interp k i) a z =
-        all-bind (put-kept (var (u32, x-pc)) (interpAnswer z) (afterInterp z)) λ u p. defined (kept-trans z (afterInterp z) u (interpreted-kept a z) p)
-    step-kept (retInterp k i) a z = defined (interpreted-kept a z)
+        all-bind (put-kept (var (u32, x-pc)) (interpAnswer z) (afterInterp z)) λ u p. defined (kept-trans z (afterInterp z) u (after-interp-kept a z) p)
+    step-kept (retInterp k i) a z = defined (after-interp-kept a z)
     step-kept (call k n) a z = undefined
     step-kept (switch ks) a z = undefined
 

@@ -16,6 +16,7 @@ use Rattle.c_tree.specs.Expr.{Ty, s8, s16, s32, u32, s64, u64, Style, wo
 use Rattle.c_tree.specs.Stmt.{Set, is, plus, and, or, Proc, f-nz, f-c, f-nz64, Plain, registers, local, declare, adds, set, discard, run, write, tick, Test, guard, gate, other}
 use Rattle.c_tree.specs.Print.{tyName, upper, constantText, name, typed, placeText, unText, bits, exprText, setText, procName, declarator, plainText, testText}
 use Rattle.c_tree.specs.Binds.{level, binds, declaratorsBind, plainBinds, testBinds}
+use Rattle.armv4t.proofs.Bools.{left-true as left, right-true as right, both-true as both}
 
 -- `;`, `{` or `}`
 abbrev pub stop : ℕ → Bool
@@ -32,17 +33,6 @@ clean (b ∷ bs) = cleanByte b && clean bs
 -- a doc without `;`, `{`, `}` and line end
 pub record Clean (d : Doc) : Type 0 where
   pub bytes : clean (print d) ≡ true
-
-pub left : (a b : Bool) → (a && b) ≡ true → a ≡ true
-left true b h = refl
-left false b h = h
-
-pub right : (a b : Bool) → (a && b) ≡ true → b ≡ true
-right true b h = h
-right false b h = absurd (true≢false (sym h))
-
-both : (a b : Bool) → a ≡ true → b ≡ true → (a && b) ≡ true
-both a b h k = rw (h, k)
 
 clean-append : (xs ys : List ℕ) → clean xs ≡ true → clean ys ≡ true → clean (xs ++ ys) ≡ true
 clean-append [] ys h k = k
@@ -93,10 +83,10 @@ numeral-clean b z h (suc most) n =
           rw (le-ltb n b (omega arith)) (last (numeral b most (n / b)) (n % b) (numeral-clean b z h most (n / b)) (omega arith))
     ]
 
-fixed-clean : (k n : ℕ) → clean (lastDigits 16 k n) ≡ true
+last-digits-clean : (k n : ℕ) → clean (lastDigits 16 k n) ≡ true
 unfolding lastDigits
-fixed-clean zero n = refl
-fixed-clean (suc k) n = last (lastDigits 16 k (n / 16)) (n % 16) (fixed-clean k (n / 16)) (mod-lt n (omega arith))
+last-digits-clean zero n = refl
+last-digits-clean (suc k) n = last (lastDigits 16 k (n / 16)) (n % 16) (last-digits-clean k (n / 16)) (mod-lt n (omega arith))
 
 upper-append : (xs ys : List ℕ) → upper (xs ++ ys) ≡ upper xs ++ upper ys
 upper-append [] ys = refl
@@ -120,11 +110,11 @@ hex-clean n = record { bytes = numeral-clean 16 (omega arith) (omega arith) 16 n
 
 pub hex8-clean : (n : ℕ) → Clean (hex8 n)
 unfolding print hexadecimal8
-hex8-clean n = record { bytes = fixed-clean 8 n }
+hex8-clean n = record { bytes = last-digits-clean 8 n }
 
 hex16-clean : (n : ℕ) → Clean (hex16 n)
 unfolding print hexadecimal16
-hex16-clean n = record { bytes = fixed-clean 16 n }
+hex16-clean n = record { bytes = last-digits-clean 16 n }
 
 caps-clean : (n : ℕ) → Clean (raw (upper (hexadecimal8 n)))
 unfolding print hexadecimal8

@@ -10,7 +10,8 @@ use Rattle.text.specs.Doc.{Doc, nothing, text, _▸_, chars, print}
 use Rattle.c_tree.specs.Stmt.{Simple, gap, recordMark, plain, label, goto, ret, retIf, interp, retInterp, call, switch, Code, end, _⨾_, when, braces}
 use Rattle.c_tree.specs.Print.{keyText, spaces, casesText, simpleText, codeText}
 use Rattle.c_tree.specs.Binds.{binds, testBinds, simpleBinds, codeBinds}
-use Rattle.c_tree.proofs.Clean.{stop, cleanByte, clean, Clean, left, right, ok, _&_, dec-clean, hex8-clean, expr-clean, test-clean, plain-clean}
+use Rattle.c_tree.proofs.Clean.{stop, cleanByte, clean, Clean, ok, _&_, dec-clean, hex8-clean, expr-clean, test-clean, plain-clean}
+use Rattle.armv4t.proofs.Bools.{left-true as left, right-true as right}
 
 -- the bytes `;`, `{` and `}` of a text
 abbrev pub stops : List ℕ → List ℕ

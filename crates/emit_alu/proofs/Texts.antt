@@ -22,10 +22,6 @@ rows-append [] qs k = refl
 rows-append (p ∷ ps) qs k = ap (flat (spaces 8 ▸ plainText p ▸ text ";\n")) (rows-append ps qs k)
 
 -- constants
-pub zero-u : (k : List ℕ) → flat (text "0u") k ≡ flat (exprText (lit udec 0)) k
-unfolding decimal numeral
-zero-u k = refl
-
 pub one-u : (k : List ℕ) → flat (text "1u") k ≡ flat (exprText (lit udec 1)) k
 unfolding decimal numeral
 one-u k = refl

@@ -10,12 +10,14 @@ use Rattle.lowering.specs.Block.{linesText}
 abbrev pub statementsText : List Plain → Doc
 statementsText ps = linesText 8 (apart ps)
 
--- what stands before the terms of a sum, between two and behind them; whether it sets flags
+-- what stands before the terms of a sum, which sets flags or not
 abbrev pub before : Bool → Doc
 before s = text (cond s "        uint32_t r = op_adds(c, " "        uint32_t r = ")
 
+-- what stands between two terms
 abbrev pub between : Bool → Doc
 between s = text (cond s ", " " + ")
 
+-- what stands behind the last term
 abbrev pub behind : Bool → Doc
 behind s = text (cond s ");\n" ";\n")

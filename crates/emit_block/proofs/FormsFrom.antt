@@ -18,7 +18,7 @@ use Rattle.block_exits.proofs.Closing.{instrAt, later, at-first}
 use Rattle.forms.specs.Forms.{Form}
 use Rattle.forms.specs.Block.{emitPair, emitInstr, fusedOr, consForm, emitInstrs}
 use Rattle.emit_block.specs.declared.instrs.Next.{Next}
-use Rattle.emit_instr.specs.Steps.{empty}
+use Rattle.plan.specs.Plan.{isEmpty}
 use Rattle.emit_block.specs.Walk.{fusedNext, nextOf}
 
 -- instruction j of a block, and those behind it
@@ -66,27 +66,27 @@ module _ (thumb : Bool) (region cycles : ℕ) (x : TimedInstr) where
       by (Fused.Pair t r) e = (emitInstrs thumb region 0 ys .0, cc)
 
 -- there are forms exactly if there are instructions
-pub empty-forms : (thumb : Bool) (region cycles : ℕ) (x : TimedInstr) (ys : List TimedInstr) → empty (emitInstrs thumb region cycles (x ∷ ys) .0) ≡ false
+pub empty-forms : (thumb : Bool) (region cycles : ℕ) (x : TimedInstr) (ys : List TimedInstr) → isEmpty (emitInstrs thumb region cycles (x ∷ ys) .0) ≡ false
 unfolding emitInstrs
 empty-forms thumb region cycles x [] = refl
 empty-forms thumb region cycles x (y ∷ ys) = by (fuse (x .instr) (y .instr))
   where
-    by : (o : Fused) → empty (fusedOr o (consForm (emitInstr thumb region cycles x .0) (emitInstrs thumb region (emitInstr thumb region cycles x .1) (y ∷ ys)))
+    by : (o : Fused) → isEmpty (fusedOr o (consForm (emitInstr thumb region cycles x .0) (emitInstrs thumb region (emitInstr thumb region cycles x .1) (y ∷ ys)))
         (λ target ret. consForm (Form.native (emitPair (cycles + (x .cost + y .cost)) target ret)) (emitInstrs thumb region 0 ys)) .0) ≡ false
     by Fused.Nothing = refl
     by (Fused.Pair t r) = refl
 
 -- an instruction is the last exactly if there is no form behind it
 pub empty-behind : (f : List ℕ) (thumb : Bool) (n k addr j region cycles : ℕ) → j < n
-    → eqb (j + 1) n ≡ empty (emitInstrs thumb region cycles (drop (suc j) (instrsFrom f n k addr thumb)) .0)
+    → eqb (j + 1) n ≡ isEmpty (emitInstrs thumb region cycles (drop (suc j) (instrsFrom f n k addr thumb)) .0)
 unfolding emitInstrs
 empty-behind f thumb n k addr j region cycles h = by (eqb (j + 1) n) refl
   where
-    by : (b : Bool) → eqb (j + 1) n ≡ b → eqb (j + 1) n ≡ empty (emitInstrs thumb region cycles (drop (suc j) (instrsFrom f n k addr thumb)) .0)
+    by : (b : Bool) → eqb (j + 1) n ≡ b → eqb (j + 1) n ≡ isEmpty (emitInstrs thumb region cycles (drop (suc j) (instrsFrom f n k addr thumb)) .0)
     by true e =
         let all : suc j ≡ n = omega (arith, eqb-true (j + 1) n e) in
-        e ∙ ap (λ (ys : List TimedInstr). empty (emitInstrs thumb region cycles ys .0)) (sym (drop-all f thumb n k addr) ∙ ap (λ (m : ℕ). drop m (instrsFrom f n k addr thumb)) (sym all))
+        e ∙ ap (λ (ys : List TimedInstr). isEmpty (emitInstrs thumb region cycles ys .0)) (sym (drop-all f thumb n k addr) ∙ ap (λ (m : ℕ). drop m (instrsFrom f n k addr thumb)) (sym all))
     by false e =
         let more : suc j < n = omega (arith, eqb-false (j + 1) n e) in
-        e ∙ sym (ap (λ (ys : List TimedInstr). empty (emitInstrs thumb region cycles ys .0)) (drop-instr f thumb n k addr (suc j) more)
+        e ∙ sym (ap (λ (ys : List TimedInstr). isEmpty (emitInstrs thumb region cycles ys .0)) (drop-instr f thumb n k addr (suc j) more)
         ∙ empty-forms thumb region cycles (instrAt f k addr thumb (suc j)) (drop (suc (suc j)) (instrsFrom f n k addr thumb)))

@@ -22,6 +22,7 @@ use Rattle.lowering.specs.Block.{nl, sp, line, lines, gotoCode, transfer, condi
 use Rattle.block_file.specs.Address.{among}
 use Rattle.lowering.specs.Units.{unitHead}
 use Rattle.emit_flow.specs.Pieces.{beforeCondition, behindCondition, behindConditional}
+use Rattle.lowering.proofs.LinesBehind.{lines-append}
 
 -- a line, and the code behind it
 pub line-behind : (o p : Owner) (l : List Plain) (c : Code) (k : List ℕ)
@@ -39,11 +40,6 @@ lines-behind o p n (l ∷ ls) c k =
     (line-behind o p l (nl ⨾ lines o n ls c) k
     ∙ ap (λ (t : List ℕ). flat (codeText (line p l end)) (flat (codeText (nl ⨾ end)) t)) (lines-behind o p n ls c k)
     ∙ sym (line-behind p p l (nl ⨾ lines p n ls end) (flat (codeText c) k)))
-
--- lines behind lines
-pub lines-append : (o : Owner) (n : ℕ) (ls ms : Lines) (c : Code) → lines o n (ls ++ ms) c ≡ lines o n ls (lines o n ms c)
-lines-append o n [] ms c = refl
-lines-append o n (l ∷ ls) ms c = ap (λ (d : Code). sp n ⨾ line o l (nl ⨾ d)) (lines-append o n ls ms c)
 
 -- cycles, and the lines behind them
 pub ticked : (o : Owner) (cycles : ℕ) (ms : Lines) (c : Code)

@@ -13,10 +13,11 @@ use Rattle.lowering.specs.Units.{withLocals}
 abbrev pub indent : Bool → ℕ
 indent deep = cond deep 8 4
 
--- the braces around lines that have no condition
+-- the brace before lines that have no condition
 abbrev pub straightOpen : Doc
 straightOpen = codeText (sp 4 ⨾ end) ▸ text "{" ▸ codeText (nl ⨾ end)
 
+-- the brace behind them
 abbrev pub straightEnd : Doc
 straightEnd = codeText (sp 4 ⨾ end) ▸ text "}" ▸ codeText (nl ⨾ end)
 
@@ -32,10 +33,11 @@ behindCondition = text ") {"
 abbrev pub behindConditional : Doc
 behindConditional = text "}" ▸ codeText (sp 1 ⨾ end) ▸ text "}" ▸ codeText (nl ⨾ end)
 
--- the same around lines, with their line ends and indents
+-- `) {` and a line end, behind the condition of lines
 abbrev pub straightIfOpen : Doc
 straightIfOpen = behindCondition ▸ codeText (nl ⨾ end)
 
+-- the braces behind such lines
 abbrev pub straightIfEnd : Doc
 straightIfEnd = codeText (sp 6 ⨾ end) ▸ behindConditional
 
@@ -55,9 +57,10 @@ groupOpen key = headText (group key) ▸ text " {" ▸ codeText (withLocals (sp 
 abbrev pub switchEnd : Doc
 switchEnd = text "    default: return 0u;\n    }" ▸ codeText (nl ⨾ end)
 
--- the head of the table, and its end
+-- the head of the table
 abbrev pub tableOpen : Doc
 tableOpen = text "RCG_EXPORT const RcgBlock rcg_blocks[] = {\n"
 
+-- its end
 abbrev pub tableEnd : Doc
 tableEnd = text "};\n"

@@ -20,7 +20,8 @@ use Rattle.lowering.specs.Block.{bodyKey, bodyEnd, nl, sp, line, lines, transfe
 use Rattle.emit_flow.specs.Pieces.{beforeCondition, behindCondition, behindConditional}
 use Rattle.emit_flow.proofs.Blocks.{straight-text, straight-if-text, branch-text, code-native, code-shell, code-last, closing-text}
 use Rattle.emit_instr.specs.Onward.{Onward}
-use Rattle.emit_instr.specs.Steps.{empty, lowered}
+use Rattle.emit_instr.specs.Steps.{lowered}
+use Rattle.plan.specs.Plan.{isEmpty}
 use Rattle.emit_instr.proofs.Onward.{by}
 
 module _ {o o′ : List ℕ} {at r : ℕ} (ks : List ℕ) (b : Body) (j : ℕ) where
@@ -62,7 +63,7 @@ module _ {o o′ : List ℕ} {at r : ℕ} (ks : List ℕ) (b : Body) (j : ℕ) w
       ∙ ap (λ (n : ℕ). flat (((linesText 4 u ▸ beforeCondition ▸ exprText e) ▸ behindCondition ▸ codeText (sp 1 ⨾ line (Owner.native (bodyKey b)) l (nl ⨾ transfer ks n (Owner.native (bodyKey b)) 8 key (sp 6 ⨾ end))) ▸ behindConditional) ▸ codeText (codeFrom ks b (j + 1) fs)) k) q)
 
   -- a shell that has others behind it
-  pub shell-step : (high last : Bool) (t : Lines) (key : ℕ) (fs : List Form) → last ≡ empty fs → last ≡ false
+  pub shell-step : (high last : Bool) (t : Lines) (key : ℕ) (fs : List Form) → last ≡ isEmpty fs → last ≡ false
       → Wrote o at (codeText (lines common 4 t (shellCode b j key end))) o′ r
       → Onward o at (codeFrom ks b j (shell high t key ∷ fs)) (cond (not high && last) end (codeFrom ks b (j + 1) fs)) o′ r
   shell-step high last t key [] p q w = absurd (true≢false (sym p ∙ q))
@@ -71,7 +72,7 @@ module _ {o o′ : List ℕ} {at r : ℕ} (ks : List ℕ) (b : Body) (j : ℕ) w
   shell-step false false t key (f ∷ fs) p q w = by _ _ w (λ k. code-shell ks b j false t key f fs k)
 
   -- the last shell; behind an unfused half stands the closing transfer
-  pub last-step : (high last : Bool) (t : Lines) (key : ℕ) (fs : List Form) → last ≡ empty fs → last ≡ true
+  pub last-step : (high last : Bool) (t : Lines) (key : ℕ) (fs : List Form) → last ≡ isEmpty fs → last ≡ true
       → Wrote o at (codeText (lines common 4 t (sp 4 ⨾ retInterp (bodyKey b) j ⨾ nl ⨾ end))) o′ r
       → Onward o at (codeFrom ks b j (shell high t key ∷ fs)) (cond (not high && last) end (codeFrom ks b (j + 1) fs)) o′ r
   unfolding codeFrom

@@ -2,7 +2,7 @@
 use mathlib.Core.Path.{_≡_}
 use Prim.Native.Nat.{ℕ, _+_}
 use mathlib.Core.Bool.{Bool, true, false, cond}
-use mathlib.Core.List.{List, [], _∷_}
+use mathlib.Core.List.{List, _∷_}
 use Rattle.armv4t.specs.declared.Op.{Op}
 use Rattle.armv4t.specs.declared.Op.the-variants.{Alu, Mul, MulLong, Swap, Bx, Branch, ThumbBlHigh, ThumbBlLow, Mem, BlockMem, Mrs, MsrReg, MsrImm, Swi, Undefined}
 use Rattle.text.specs.Doc.{Doc, _▸_}
@@ -16,11 +16,6 @@ use Rattle.block_file.specs.Address.{among}
 use Rattle.emit_flow.specs.Pieces.{straightOpen, straightEnd, beforeCondition, straightIfOpen, straightIfEnd}
 use Rattle.emit_instr.specs.declared.step.Step.{Step}
 use Rattle.emit_instr.specs.Onward.{Onward}
-
--- whether there are no forms
-abbrev pub empty : List Form → Bool
-empty [] = true
-empty (f ∷ fs) = false
 
 -- A form was written, behind which others stand, and the cycles pending behind it are as said; done: nothing is left to write, not even the others
 pub record FormWritten (out : List ℕ) (at : ℕ) (ks : List ℕ) (b : Body) (j : ℕ) (f : Form × ℕ) (fs : List Form) (out′ : List ℕ) (r : Step) : Type 0 where

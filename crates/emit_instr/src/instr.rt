@@ -16,7 +16,8 @@ ghost use Prim.Native.Nat.{ℕ, _+_, _^_, _<_};
 ghost use Rattle.armv4t.specs.declared.Op.the-variants.{Bx, BlockMem};
 ghost use Rattle.forms.specs.Forms.{Form, Body};
 ghost use Rattle.forms.specs.Block.{emitOp, emitInstr};
-ghost use Rattle.emit_instr.specs.Steps.{empty, FormWritten, BranchInside};
+ghost use Rattle.emit_instr.specs.Steps.{FormWritten, BranchInside};
+ghost use Rattle.plan.specs.Plan.{isEmpty};
 
 // A Bx: an exit, or left to the interpreter.
 fn emit_any_bx(
@@ -29,7 +30,7 @@ fn emit_any_bx(
     rm: u8,
     last: bool,
 ) -> Step
-    ensures { λ r. ⌜ ((ks : List ℕ) (b : Body) (j : ℕ) (fs : List Form) → last ≡ empty fs → cycles + x .cost < 2 ^ 64 → FormWritten (now (out .entry)) at ks b j (emitOp thumb region cycles x (Bx rm)) fs (now (out .exit)) r) ⌝ }
+    ensures { λ r. ⌜ ((ks : List ℕ) (b : Body) (j : ℕ) (fs : List Form) → last ≡ isEmpty fs → cycles + x .cost < 2 ^ 64 → FormWritten (now (out .entry)) at ks b j (emitOp thumb region cycles x (Bx rm)) fs (now (out .exit)) r) ⌝ }
 {
     let i = x.instr;
     if is_native_exit(region, i) {
@@ -56,7 +57,7 @@ fn emit_block_mem(
     writeback: bool,
     last: bool,
 ) -> Step
-    ensures { λ r. ⌜ ((ks : List ℕ) (b : Body) (j : ℕ) (fs : List Form) → last ≡ empty fs → cycles + x .cost < 2 ^ 64 → FormWritten (now (out .entry)) at ks b j (emitOp thumb region cycles x (BlockMem load rn rlist pre up «s_bit» writeback)) fs (now (out .exit)) r) ⌝ }
+    ensures { λ r. ⌜ ((ks : List ℕ) (b : Body) (j : ℕ) (fs : List Form) → last ≡ isEmpty fs → cycles + x .cost < 2 ^ 64 → FormWritten (now (out .entry)) at ks b j (emitOp thumb region cycles x (BlockMem load rn rlist pre up «s_bit» writeback)) fs (now (out .exit)) r) ⌝ }
 {
     let i = x.instr;
     let condition = i.cond;
@@ -81,7 +82,7 @@ pub fn emit_instr(
     inside: bool,
     src: u32,
 ) -> Step
-    ensures { λ r. ⌜ ((ks : List ℕ) (b : Body) (j : ℕ) (fs : List Form) → last ≡ empty fs → b .addr ≡ src → cycles + x .cost < 2 ^ 64 → BranchInside ks thumb inside (x .instr .op) → FormWritten (now (out .entry)) at ks b j (emitInstr thumb region cycles x) fs (now (out .exit)) r) ⌝ }
+    ensures { λ r. ⌜ ((ks : List ℕ) (b : Body) (j : ℕ) (fs : List Form) → last ≡ isEmpty fs → b .addr ≡ src → cycles + x .cost < 2 ^ 64 → BranchInside ks thumb inside (x .instr .op) → FormWritten (now (out .entry)) at ks b j (emitInstr thumb region cycles x) fs (now (out .exit)) r) ⌝ }
 {
     let i = x.instr;
     let op = i.op;

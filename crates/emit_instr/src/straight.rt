@@ -25,7 +25,8 @@ ghost use Rattle.forms.specs.Operands.{condExpr};
 ghost use Rattle.forms.specs.InlineBody.{inlineBody};
 ghost use Rattle.forms.specs.Block.{flushTicks, emitLines, emitStraight};
 ghost use Rattle.lowering.specs.Block.{linesText};
-ghost use Rattle.emit_instr.specs.Steps.{empty, FormWritten, lowered};
+ghost use Rattle.emit_instr.specs.Steps.{FormWritten, lowered};
+ghost use Rattle.plan.specs.Plan.{isEmpty};
 
 // The cycles pending before an instruction that touches memory; they stay pending before another.
 fn put_ticks(out: &mut [u8], at: usize, touches_bus: bool, cycles: u64) -> usize
@@ -102,7 +103,7 @@ pub(crate) fn emit_straight(
     x: TimedInstr,
     last: bool,
 ) -> Step
-    ensures { λ r. ⌜ ((ks : List ℕ) (b : Body) (j : ℕ) (fs : List Form) → last ≡ empty fs → cycles + x .cost < 2 ^ 64 → FormWritten (now (out .entry)) at ks b j (emitStraight thumb «touches_bus» cycles x) fs (now (out .exit)) r) ⌝ }
+    ensures { λ r. ⌜ ((ks : List ℕ) (b : Body) (j : ℕ) (fs : List Form) → last ≡ isEmpty fs → cycles + x .cost < 2 ^ 64 → FormWritten (now (out .entry)) at ks b j (emitStraight thumb «touches_bus» cycles x) fs (now (out .exit)) r) ⌝ }
 {
     let i = x.instr;
     if is_inlined(thumb, i) {

@@ -4,19 +4,15 @@ use mathlib.Core.Path.{_≡_, refl, sym, ap, _∙_}
 use mathlib.Core.List.{List, [], _∷_, _++_}
 use Rattle.text.specs.Doc.{_▸_, flat}
 use Rattle.c_tree.specs.Expr.{w32, Expr, read}
-use Rattle.c_tree.specs.Stmt.{Plain, write, Owner, common, Code, end, _⨾_}
+use Rattle.c_tree.specs.Stmt.{Plain, write, common, Code, end}
 use Rattle.c_tree.specs.Print.{codeText}
 use Rattle.emit_operands.proofs.Lines.{lines-behind}
 use Rattle.forms.specs.Forms.{Lines}
 use Rattle.emit_mem.proofs.Listed.{listed-suc}
 use Rattle.forms.specs.InlineBody.{only, apart, setReg, aligned, listed, advance, loads, stores}
-use Rattle.armv4t.specs.RegisterList.{lists}
-use Rattle.lowering.specs.Block.{nl, sp, line, lines}
-
--- lines behind lines
-pub lines-append : (o : Owner) (n : ℕ) (ls ms : Lines) (c : Code) → lines o n (ls ++ ms) c ≡ lines o n ls (lines o n ms c)
-lines-append o n [] ms c = refl
-lines-append o n (l ∷ ls) ms c = ap (λ (d : Code). sp n ⨾ line o l (nl ⨾ d)) (lines-append o n ls ms c)
+use Rattle.armv4t.specs.RegisterList.{isListed}
+use Rattle.lowering.specs.Block.{lines}
+use Rattle.lowering.proofs.LinesBehind.{lines-append}
 
 pub lines-both : (n : ℕ) (ls ms : Lines) (c : Code) (k : List ℕ)
     → flat (codeText (lines common n ls end) ▸ codeText (lines common n ms c)) k ≡ flat (codeText (lines common n (ls ++ ms) c)) k
@@ -46,17 +42,17 @@ stores-append value (x ∷ xs) ys = ap (_∷_ (write w32 (aligned 3) (value x) �
 
 -- the lines of one register more
 pub loads-more : (n rlist r : ℕ)
-    → flat (codeText (lines common n (loads (listed rlist r)) end) ▸ codeText (lines common n (loads (only (lists rlist r) r)) end)) []
+    → flat (codeText (lines common n (loads (listed rlist r)) end) ▸ codeText (lines common n (loads (only (isListed rlist r) r)) end)) []
     ≡ flat (codeText (lines common n (loads (listed rlist (r + 1))) end)) []
 loads-more n rlist r =
-    lines-both n (loads (listed rlist r)) (loads (only (lists rlist r) r)) end []
+    lines-both n (loads (listed rlist r)) (loads (only (isListed rlist r) r)) end []
     ∙ ap (λ (ls : Lines). flat (codeText (lines common n ls end)) [])
-    (sym (loads-append (listed rlist r) (only (lists rlist r) r)) ∙ ap loads (sym (listed-suc rlist r)))
+    (sym (loads-append (listed rlist r) (only (isListed rlist r) r)) ∙ ap loads (sym (listed-suc rlist r)))
 
 pub stores-more : (n : ℕ) (value : ℕ → Expr) (rlist r : ℕ)
-    → flat (codeText (lines common n (stores value (listed rlist r)) end) ▸ codeText (lines common n (stores value (only (lists rlist r) r)) end)) []
+    → flat (codeText (lines common n (stores value (listed rlist r)) end) ▸ codeText (lines common n (stores value (only (isListed rlist r) r)) end)) []
     ≡ flat (codeText (lines common n (stores value (listed rlist (r + 1))) end)) []
 stores-more n value rlist r =
-    lines-both n (stores value (listed rlist r)) (stores value (only (lists rlist r) r)) end []
+    lines-both n (stores value (listed rlist r)) (stores value (only (isListed rlist r) r)) end []
     ∙ ap (λ (ls : Lines). flat (codeText (lines common n ls end)) [])
-    (sym (stores-append value (listed rlist r) (only (lists rlist r) r)) ∙ ap (stores value) (sym (listed-suc rlist r)))
+    (sym (stores-append value (listed rlist r) (only (isListed rlist r) r)) ∙ ap (stores value) (sym (listed-suc rlist r)))

@@ -18,7 +18,7 @@ use Rattle.c_tree.specs.Expr.{Expr}
 use Rattle.c_tree.specs.Stmt.{Plain}
 use Rattle.forms.specs.Forms.{Lines}
 use Rattle.forms.specs.InlineBody.{baseExpr, shiftedOffset, offsetExpr, access, memBody, listed, blockMemBody, opBody, memLines}
-use Rattle.armv4t.specs.RegisterList.{lists}
+use Rattle.armv4t.specs.RegisterList.{isListed}
 use Rattle.emit_operands.specs.Operands.{isSome}
 use Rattle.emit_mem.specs.Mem.{offsetOf}
 
@@ -61,7 +61,7 @@ block-some false ls = refl
 
 pub block-mem-inlined : (thumb : Bool) (i : Instr) (load : Bool) (rn rlist : ℕ) (pre up s-bit writeback : Bool)
     → isSome (opBody thumb i (BlockMem load rn rlist pre up s-bit writeback))
-    ≡ not (s-bit || eqb rlist 0 || eqb rn 15 || (load && lists rlist 15))
+    ≡ not (s-bit || eqb rlist 0 || eqb rn 15 || (load && isListed rlist 15))
 block-mem-inlined thumb i load rn rlist pre up s-bit writeback =
-    block-some (s-bit || eqb rlist 0 || eqb rn 15 || (load && lists rlist 15))
-    (blockMemBody i load rn (lists rlist rn) pre up writeback (listed rlist 16))
+    block-some (s-bit || eqb rlist 0 || eqb rn 15 || (load && isListed rlist 15))
+    (blockMemBody i load rn (isListed rlist rn) pre up writeback (listed rlist 16))

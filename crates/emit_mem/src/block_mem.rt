@@ -17,7 +17,7 @@ ghost use Rattle.text.specs.Wrote.{Wrote};
 ghost use Rattle.c_tree.specs.Expr.{x-base, x-addr, get, reg};
 ghost use Rattle.c_tree.specs.Print.{exprText};
 ghost use Rattle.forms.specs.InlineBody.{only, apart, let32, setReg, listed, movedBase, start, loadsOrStores, blockMemBody};
-ghost use Rattle.armv4t.specs.RegisterList.{lists};
+ghost use Rattle.armv4t.specs.RegisterList.{isListed};
 ghost use Rattle.lowering.specs.Block.{linesText};
 
 // The lowest address, where the registers take total bytes downwards.
@@ -97,7 +97,7 @@ fn put_block_loads(
     writeback: bool,
     total: u32,
 ) -> usize
-    ensures { λ n. ⌜ Wrote (now (out .entry)) at (linesText 8 (loadsOrStores true i rn writeback (lists rlist rn) (movedBase up total) (listed rlist 16))) (now (out .exit)) n ⌝ }
+    ensures { λ n. ⌜ Wrote (now (out .entry)) at (linesText 8 (loadsOrStores true i rn writeback (isListed rlist rn) (movedBase up total) (listed rlist 16))) (now (out .exit)) n ⌝ }
 {
     let in_list = is_listed(rlist, rn);
     let p = put_load_back(out, at, rn, writeback, in_list, up, total);
@@ -115,7 +115,7 @@ fn put_block_stores(
     writeback: bool,
     total: u32,
 ) -> usize
-    ensures { λ n. ⌜ Wrote (now (out .entry)) at (linesText 8 (loadsOrStores false i rn writeback (lists rlist rn) (movedBase up total) (listed rlist 16))) (now (out .exit)) n ⌝ }
+    ensures { λ n. ⌜ Wrote (now (out .entry)) at (linesText 8 (loadsOrStores false i rn writeback (isListed rlist rn) (movedBase up total) (listed rlist 16))) (now (out .exit)) n ⌝ }
 {
     let lowest = lowest_listed(rlist);
     let p = put_stores(out, at, i, rn, rlist, lowest, up, total);
@@ -144,7 +144,7 @@ fn put_transfers(
     writeback: bool,
     total: u32,
 ) -> usize
-    ensures { λ n. ⌜ Wrote (now (out .entry)) at (linesText 8 (loadsOrStores load i rn writeback (lists rlist rn) (movedBase up total) (listed rlist 16))) (now (out .exit)) n ⌝ }
+    ensures { λ n. ⌜ Wrote (now (out .entry)) at (linesText 8 (loadsOrStores load i rn writeback (isListed rlist rn) (movedBase up total) (listed rlist 16))) (now (out .exit)) n ⌝ }
 {
     if load {
         put_block_loads(out, at, i, rn, rlist, up, writeback, total)
@@ -165,7 +165,7 @@ pub fn put_block_mem(
     up: bool,
     writeback: bool,
 ) -> usize
-    ensures { λ n. ⌜ Wrote (now (out .entry)) at (linesText 8 (blockMemBody i load rn (lists rlist rn) pre up writeback (listed rlist 16))) (now (out .exit)) n ⌝ }
+    ensures { λ n. ⌜ Wrote (now (out .entry)) at (linesText 8 (blockMemBody i load rn (isListed rlist rn) pre up writeback (listed rlist 16))) (now (out .exit)) n ⌝ }
 {
     let total = bytes_listed(rlist, 16);
     let p = put_block_base(out, at, rn, pre, up, total);
@@ -174,7 +174,7 @@ pub fn put_block_mem(
 
 // Whether a BlockMem is inlined: not if it touches the user's registers or SPSR, names none, is based on PC or loads it.
 pub fn block_mem_is_inlined(load: bool, rn: u8, rlist: u16, s_bit: bool) -> bool
-    ensures { λ b. ⌜ b ≡ not («s_bit» || eqb rlist 0 || eqb rn 15 || (load && lists rlist 15)) ⌝ }
+    ensures { λ b. ⌜ b ≡ not («s_bit» || eqb rlist 0 || eqb rn 15 || (load && isListed rlist 15)) ⌝ }
 {
     if s_bit {
         return false;

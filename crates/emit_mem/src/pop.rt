@@ -20,7 +20,7 @@ ghost use Rattle.c_tree.specs.Expr.{udec, x-addr, reg, add, lit, get, bin};
 ghost use Rattle.c_tree.specs.Stmt.{common, plain, end, _⨾_};
 ghost use Rattle.c_tree.specs.Print.{codeText};
 ghost use Rattle.forms.specs.InlineBody.{apart, let32, setReg, listed, loads};
-ghost use Rattle.armv4t.specs.RegisterList.{lists};
+ghost use Rattle.armv4t.specs.RegisterList.{isListed};
 ghost use Rattle.forms.specs.Block.{isPop, emitPop};
 ghost use Rattle.lowering.specs.Block.{nl, lines, nativeText};
 
@@ -86,7 +86,7 @@ fn is_upward_load(load: bool, pre: bool, up: bool, s_bit: bool, writeback: bool)
 
 // Whether a load is of PC, from another base, in a block outside region 0.
 fn loads_pc(region: u32, rn: u8, rlist: u16) -> bool
-    ensures { λ b. ⌜ b ≡ (lists rlist 15 && not (eqb rn 15) && not (eqb region 0)) ⌝ }
+    ensures { λ b. ⌜ b ≡ (isListed rlist 15 && not (eqb rn 15) && not (eqb region 0)) ⌝ }
 {
     if is_listed(rlist, PC) {
         if rn == PC {

@@ -75,15 +75,19 @@ pub left-carry : (e : Expr) (n : ℕ) → (n ≡ 0 → ⊥) → (k : List ℕ)
 left-carry e zero ne k = absurd (ne refl)
 left-carry e (suc n) ne k = refl
 
+-- to the right, the bit below the amount
+below-amount : (e : Expr) (n : ℕ) (k : List ℕ) → flat (exprText (bitOf e (suc n - 1))) k ≡ flat (exprText (bitOf e n)) k
+below-amount e n k = let same : suc n - 1 ≡ n = omega arith in ap (λ (m : ℕ). flat (exprText (bitOf e m)) k) same
+
 pub right-carry : (e : Expr) (n : ℕ) → (n ≡ 0 → ⊥) → (k : List ℕ)
     → flat (exprText (bitOf e (n - 1))) k ≡ flat (carryText (shiftExprs e Lsr n .1)) k
 right-carry e zero ne k = absurd (ne refl)
-right-carry e (suc n) ne k = let same : suc n - 1 ≡ n = omega arith in ap (λ (m : ℕ). flat (exprText (bitOf e m)) k) same
+right-carry e (suc n) ne k = below-amount e n k
 
 pub ror-carry : (e : Expr) (n : ℕ) → (n ≡ 0 → ⊥) → (k : List ℕ)
     → flat (exprText (bitOf e (n - 1))) k ≡ flat (carryText (shiftExprs e Ror n .1)) k
 ror-carry e zero ne k = absurd (ne refl)
-ror-carry e (suc n) ne k = let same : suc n - 1 ≡ n = omega arith in ap (λ (m : ℕ). flat (exprText (bitOf e m)) k) same
+ror-carry e (suc n) ne k = below-amount e n k
 
 pub sign-carry : (e : Expr) (k : List ℕ)
     → flat (text "(" ▸ exprText e ▸ text " >> 31u)") k ≡ flat (carryText (shiftExprs e Lsr 0 .1)) k

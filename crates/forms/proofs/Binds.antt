@@ -28,14 +28,14 @@ use Rattle.armv4t.specs.Cond.{isAl}
 use Rattle.c_tree.specs.Expr.{Name, x-r, x-base, x-ob, x-addr, Place, reg, udec, Bin, operator, add, band, bxor, bor, Expr, lit, get, bin, un, compl}
 use Rattle.c_tree.specs.Stmt.{Plain}
 use Rattle.c_tree.specs.Preamble.{v32}
-use Rattle.c_tree.proofs.Clean.{left, right}
+use Rattle.armv4t.proofs.Bools.{left-true as left, right-true as right, both-true as both, either}
 use Rattle.c_tree.specs.Binds.{level, binds, declaratorsBind, plainBinds}
 use Rattle.forms.specs.Forms.{Lines, Native, straight, straightIf, branchIf, jump, pair, bx, pop, Form, native, shell}
 use Rattle.forms.specs.Operands.{condExpr, regExpr, carryIn, shiftExprs, op2Exprs}
 use Rattle.forms.specs.InlineBody.{only, apart, let32, setReg, result, logicalC, logical, sum, alu, aluBody, mulBody, mulLongBody, baseExpr, shiftedOffset, offsetExpr, addOrSub, loaded, stored, access, memBody, listed, loads, movedBase, start, storedReg, stores, loadsOrStores, blockMemBody, opBody, inlineBody}
-use Rattle.armv4t.specs.RegisterList.{lists}
+use Rattle.armv4t.specs.RegisterList.{isListed}
 use Rattle.forms.specs.Block.{flushTicks, setWord, emitShell, emitPair, emitPop, emitBranch, emitLines, emitStraight, bodyOf, pcLine}
-use Rattle.forms.proofs.Every.{either, Each, every-form}
+use Rattle.forms.proofs.Every.{Each, every-form}
 
 -- statements of one line
 abbrev pub plainsBind : List Plain → Bool
@@ -61,9 +61,6 @@ nativeBinds (pop t s l u e) = linesBind t && plainBinds false s && linesBind l &
 abbrev pub formBinds : Form → Bool
 formBinds (native r) = nativeBinds r
 formBinds (shell h t k) = linesBind t
-
-both : (a b : Bool) → a ≡ true → b ≡ true → (a && b) ≡ true
-both a b h k = rw (h, k)
 
 -- an operand: it binds as a primary expression, so that it may stand beside any operator
 record Operand (e : Expr) : Type 0 where
@@ -369,8 +366,8 @@ op-bound thumb i (Mem load width signed rd rn offset pre up writeback) =
     either MaybeBound (eqb rd 15) tt
     (mem-bound (baseExpr thumb i rn) up pre (offsetExpr i offset) (base-binds thumb i rn) (access-plains load width signed rd rn (not pre || writeback)) (offset-operand i offset))
 op-bound thumb i (BlockMem load rn rlist pre up s-bit writeback) =
-    either MaybeBound (s-bit || eqb rlist 0 || eqb rn 15 || (load && lists rlist 15)) tt
-    (blockMem-bound i load rn (lists rlist rn) pre up writeback (listed rlist 16))
+    either MaybeBound (s-bit || eqb rlist 0 || eqb rn 15 || (load && isListed rlist 15)) tt
+    (blockMem-bound i load rn (isListed rlist rn) pre up writeback (listed rlist 16))
 op-bound thumb i (Mrs spsr rd) = tt
 op-bound thumb i (MsrReg spsr fields rm) = tt
 op-bound thumb i (MsrImm spsr fields value) = tt

@@ -165,11 +165,11 @@ mul-long-means i sig acc w hi lo rs rm r ls q z m s a bad d next o =
 same-expr : {d e : Expr} {u : State} {x : ℕ} → d ≡ e → Reads d u x → Reads e u x
 same-expr {u = u} {x = x} q p = subst (λ (e : Expr). Reads e u x) q p
 
+pub aligned-lt : (x : ℕ) → x < 4294967296 → x / 4 * 4 < 4294967296
+aligned-lt x h = omega arith
+
 -- the base of a Mem, PC word-aligned in Thumb
 module _ (i : Instr) {m : Machine} (s : Sound m) where
-  aligned-lt : (x : ℕ) → x < 4294967296 → x / 4 * 4 < 4294967296
-  aligned-lt x h = omega arith
-
   base-always : (rn : ℕ) → rn ≤ 15 → Always (baseExpr (i .thumb) i rn) m (base (i .thumb) m (pcValue i) rn)
   base-always rn h u g = go (i .thumb && eqb rn 15)
     where

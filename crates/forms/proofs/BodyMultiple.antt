@@ -12,7 +12,7 @@ use Rattle.words.proofs.Bits.{is-true}
 use Rattle.armv4t.specs.declared.Op.the-variants.{BlockMem}
 use Rattle.armv4t.specs.declared.Instr.{Instr}
 use Rattle.armv4t.specs.Instr.{pcValue}
-use Rattle.armv4t.specs.RegisterList.{lists}
+use Rattle.armv4t.specs.RegisterList.{isListed}
 use Rattle.c_meaning.specs.State.{State, enter}
 use Rattle.forms.specs.Forms.{Lines}
 use Rattle.forms.specs.InlineBody.{blockMemBody}
@@ -27,8 +27,9 @@ use Rattle.forms.specs.Agree.{Agrees, Makes}
 use Rattle.forms.specs.Means.{statements, Leads, OpMeans}
 use Rattle.forms.proofs.Operands.{same-of, under}
 use Rattle.forms.proofs.Body.{some-same, not-none, or-l, or-r}
-use Rattle.forms.proofs.Listed.{listed-same, listed-15, All, all-map, Named, listed-named, member, named-member}
+use Rattle.forms.proofs.Listed.{listed-same, listed-15, Named, listed-named, member, named-member}
 use Rattle.forms.proofs.Multiple.{load-multiple-ok, store-multiple-ok}
+use Rattle.manual.proofs.All.{All, all-map}
 
 -- a list of registers below n has at most n
 pub append-length : (is js : List ℕ) → length (is ++ js) ≡ length is + length js
@@ -55,10 +56,10 @@ four k h = omega arith
 
 module _ (i : Instr) {z : State} {m : Machine} (s : Sound m) (a : Agrees z m) (rn : ℕ) (hn : rn < 15) (rlist : ℕ) (pre up wb : Bool) where
   -- LDM without R15
-  load-lines : bit rlist 15 ≡ false → Makes (statements (blockMemBody i true rn (lists rlist rn) pre up wb (listed rlist 16))) (enter z) (loadMultiple up pre wb rn rlist m)
+  load-lines : bit rlist 15 ≡ false → Makes (statements (blockMemBody i true rn (isListed rlist rn) pre up wb (listed rlist 16))) (enter z) (loadMultiple up pre wb rn rlist m)
   load-lines q =
-      subst (λ (is : List ℕ). Makes (statements (blockMemBody i true rn (lists rlist rn) pre up wb (listed rlist 16))) (enter z) (made is)) (listed-15 rlist q)
-      (load-multiple-ok s a i rn hn (listed rlist 16) (four _ (listed-length rlist 16)) below up pre wb (lists rlist rn) named)
+      subst (λ (is : List ℕ). Makes (statements (blockMemBody i true rn (isListed rlist rn) pre up wb (listed rlist 16))) (enter z) (made is)) (listed-15 rlist q)
+      (load-multiple-ok s a i rn hn (listed rlist 16) (four _ (listed-length rlist 16)) below up pre wb (isListed rlist rn) named)
     where
       made : List ℕ → Machine
       made is =
@@ -69,14 +70,14 @@ module _ (i : Instr) {z : State} {m : Machine} (s : Sound m) (a : Agrees z m) (r
       below : All (λ j. j < 15) (listed rlist 16)
       below = subst (All (λ j. j < 15)) (sym (listed-15 rlist q)) (all-map (Named rlist 15) (λ j. j < 15) (λ j h. h .0) (listed rlist 15) (listed-named rlist 15))
 
-      named : lists rlist rn ≡ true → member rn (listed rlist 16) ≡ true
+      named : isListed rlist rn ≡ true → member rn (listed rlist 16) ≡ true
       named e = named-member rlist 16 rn (omega (arith, hn)) e
 
   -- STM, where a base that is listed and not written is the lowest
   store-lines : (wb ≡ false → bit rlist rn ≡ true → eqb (lowest rlist) rn ≡ true)
-      → Makes (statements (blockMemBody i false rn (lists rlist rn) pre up wb (listed rlist 16))) (enter z) (storeMultiple up pre wb rn rlist (pcValue i) m)
+      → Makes (statements (blockMemBody i false rn (isListed rlist rn) pre up wb (listed rlist 16))) (enter z) (storeMultiple up pre wb rn rlist (pcValue i) m)
   store-lines low =
-      store-multiple-ok s a i rn hn (listed rlist 16) (four _ (listed-length rlist 16)) up pre wb (lists rlist rn)
+      store-multiple-ok s a i rn hn (listed rlist 16) (four _ (listed-length rlist 16)) up pre wb (isListed rlist rn)
       (all-map (Named rlist 16) _ each (listed rlist 16) (listed-named rlist 16))
     where
       at-most : (j : ℕ) → j < 16 → j ≤ 15
@@ -103,7 +104,7 @@ low-base false false false q w e = e
 -- BlockMem
 pub block-mem-means : (i : Instr) (ld : Bool) (rn rlist : ℕ) (pre up s-bit wb : Bool) → InRange (BlockMem ld rn rlist pre up s-bit wb)
     → OpMeans i (BlockMem ld rn rlist pre up s-bit wb)
-block-mem-means i ld rn rlist pre up s-bit wb r ls q z m s a bad d next o = split (s-bit || eqb rlist 0 || eqb rn 15 || (ld && lists rlist 15)) refl q s-bit o
+block-mem-means i ld rn rlist pre up s-bit wb r ls q z m s a bad d next o = split (s-bit || eqb rlist 0 || eqb rn 15 || (ld && isListed rlist 15)) refl q s-bit o
   where
     out : Bool → Machine × ℕ
     out l =
@@ -111,19 +112,19 @@ block-mem-means i ld rn rlist pre up s-bit wb r ls q z m s a bad d next o = spli
         (onward i (storeMultiple up pre wb rn rlist (pcValue i) m))
 
     body : Bool → Lines
-    body l = blockMemBody i l rn (lists rlist rn) pre up wb (listed rlist 16)
+    body l = blockMemBody i l rn (isListed rlist rn) pre up wb (listed rlist 16)
 
-    means : (l : Bool) → rn < 15 → (l && lists rlist 15) ≡ false → (not l && not wb && bit rlist rn && not (eqb (lowest rlist) rn)) ≡ false → Leads i (body l) z (out l)
+    means : (l : Bool) → rn < 15 → (l && isListed rlist 15) ≡ false → (not l && not wb && bit rlist rn && not (eqb (lowest rlist) rn)) ≡ false → Leads i (body l) z (out l)
     means true hn pc d = subst (λ (b : Bool). Leads i (body true) z (cond b (loadMultiplePc i up pre wb rn rlist m) (onward i (loadMultiple up pre wb rn rlist m)))) (sym pc) (load-lines i s a rn hn rlist pre up wb pc, refl)
     means false hn pc d = (store-lines i s a rn hn rlist pre up wb (low-base wb (bit rlist rn) (eqb (lowest rlist) rn) d), refl)
 
-    split : (b : Bool) → (s-bit || eqb rlist 0 || eqb rn 15 || (ld && lists rlist 15)) ≡ b
-        → cond b none (some (blockMemBody i ld rn (lists rlist rn) pre up wb (F.listed rlist 16))) ≡ some ls
+    split : (b : Bool) → (s-bit || eqb rlist 0 || eqb rn 15 || (ld && isListed rlist 15)) ≡ b
+        → cond b none (some (blockMemBody i ld rn (isListed rlist rn) pre up wb (F.listed rlist 16))) ≡ some ls
         → (c : Bool) → cond c none (some (out ld)) ≡ some next → Leads i ls z next
     split true e q c o = absurd (not-none q)
     split false e q true o = absurd (not-none o)
     split false e q false o =
-        let hn : rn < 15 = under rn (r .0) (or-r (s-bit || eqb rlist 0) (eqb rn 15) (or-l (s-bit || eqb rlist 0 || eqb rn 15) (ld && lists rlist 15) e)) in
+        let hn : rn < 15 = under rn (r .0) (or-r (s-bit || eqb rlist 0) (eqb rn 15) (or-l (s-bit || eqb rlist 0 || eqb rn 15) (ld && isListed rlist 15) e)) in
         subst (λ (n : Machine × ℕ). Leads i ls z n) (some-same o)
-        (subst (λ (k : Lines). Leads i k z (out ld)) (ap (λ (is : List ℕ). blockMemBody i ld rn (lists rlist rn) pre up wb is) (sym (listed-same rlist 16)) ∙ some-same q)
-        (means ld hn (or-r (s-bit || eqb rlist 0 || eqb rn 15) (ld && lists rlist 15) e) d))
+        (subst (λ (k : Lines). Leads i k z (out ld)) (ap (λ (is : List ℕ). blockMemBody i ld rn (isListed rlist rn) pre up wb is) (sym (listed-same rlist 16)) ∙ some-same q)
+        (means ld hn (or-r (s-bit || eqb rlist 0 || eqb rn 15) (ld && isListed rlist 15) e) d))

@@ -21,7 +21,8 @@ use Rattle.forms.proofs.RecordCount.{recordCount, instr-count}
 use Rattle.forms.specs.InlineBody.{apart, inlineBody}
 use Rattle.forms.specs.Block.{flushTicks, setWord, emitPair, emitBranch, nativeExit, isPop, emitLines, emitStraight, emitOp, emitInstr, emitInstrs, bodyOf, pcLine}
 use Rattle.block_file.specs.Address.{region}
-use Rattle.forms.proofs.Every.{either, fused-or}
+use Rattle.forms.proofs.Every.{fused-or}
+use Rattle.armv4t.proofs.Bools.{either}
 
 -- the cycles of a tick
 abbrev pub plainTicks : Plain → ℕ

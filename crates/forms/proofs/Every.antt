@@ -1,6 +1,6 @@
 -- What holds of each kind of form that emit_block makes holds of all forms of a block.
 use Prim.Native.Nat.{ℕ, _+_}
-use mathlib.Core.Bool.{Bool, true, false, cond}
+use mathlib.Core.Bool.{Bool, true, false}
 use mathlib.Core.List.{List, [], _∷_}
 use Rattle.armv4t.specs.declared.Op.{Op}
 use Rattle.armv4t.specs.declared.Op.the-variants.{Alu, Mul, MulLong, Swap, Bx, Branch, ThumbBlHigh, ThumbBlLow, Mem, BlockMem, Mrs, MsrReg, MsrImm, Swi, Undefined}
@@ -15,11 +15,7 @@ use Rattle.forms.specs.Operands.{regExpr}
 use Rattle.forms.specs.InlineBody.{listed}
 use Rattle.forms.specs.Block.{flushTicks, emitShell, emitPair, emitBranch, nativeExit, isPop, emitPop, emitStraight, emitOp, emitInstr, fusedOr, emitInstrs, bodyOf}
 use Rattle.block_file.specs.Address.{region}
-
--- what holds of both is held by either
-pub either : {A : Type 0} (P : A → Type 0) (b : Bool) {x y : A} → P x → P y → P (cond b x y)
-either P true p q = p
-either P false p q = q
+use Rattle.armv4t.proofs.Bools.{either}
 
 -- what holds of both is held by a fused pair or not
 pub fused-or : {A : Type 0} (P : A → Type 0) (f : Fused) {x : A} {g : ℕ → ℕ → A} → P x → ((t r : ℕ) → P (g t r)) → P (fusedOr f x g)

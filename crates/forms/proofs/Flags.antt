@@ -26,7 +26,7 @@ every-at p h true = both-l (p true) (p false) h
 every-at p h false = both-r (p true) (p false) h
 
 -- the flags as a number below 16
-nib : Bool → Bool → Bool → Bool → ℕ
+unfoldable pub nib : Bool → Bool → Bool → Bool → ℕ
 nib n z c v = oneIf n * 8 + oneIf z * 4 + oneIf c * 2 + oneIf v
 
 module _ (p q : Bool → Bool → Bool → Bool → Bool → Bool → ℕ) where

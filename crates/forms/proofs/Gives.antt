@@ -148,15 +148,15 @@ module _ {z : State} where
     r-asr = record { typed = refl; gives = rw (p .gives, int-lit h, p .typed, lt-true h, neg-bit x (p .small)) (ap some (asr-cond (bit x 31) (x / 2 ^ k) (4294967296 - 2 ^ (32 - k)))); small = asr-small x k (p .small) h }
 
 -- ror32
-pub turn-none : (x : ℕ) → Rotate-Right x 0 ≡ x
-turn-none x = ap₂ (λ (p q : ℕ). p + q * 4294967296) (div-one x) (mod-one x) ∙ add-zero x
+pub rotate-none : (x : ℕ) → Rotate-Right x 0 ≡ x
+rotate-none x = ap₂ (λ (p q : ℕ). p + q * 4294967296) (div-one x) (mod-one x) ∙ add-zero x
 
-turn-small : (x k : ℕ) → x < 4294967296 → k < 32 → Rotate-Right x k < 4294967296
-turn-small x k h l = subst (λ (p : ℕ). p < 4294967296) (turn x k h (omega arith)) (or-lt 32 (x / 2 ^ k) (x * 2 ^ (32 - k) % 4294967296) (lt-of-le-of-lt (div-le-self x (2 ^ k)) h) (mod-lt (x * 2 ^ (32 - k)) (lit< tt)))
+rotate-small : (x k : ℕ) → x < 4294967296 → k < 32 → Rotate-Right x k < 4294967296
+rotate-small x k h l = subst (λ (p : ℕ). p < 4294967296) (turn x k h (omega arith)) (or-lt 32 (x / 2 ^ k) (x * 2 ^ (32 - k) % 4294967296) (lt-of-le-of-lt (div-le-self x (2 ^ k)) h) (mod-lt (x * 2 ^ (32 - k)) (lit< tt)))
 
 pub ror-ok : (x k : ℕ) → x < 4294967296 → k < 32 → rotated x k ≡ some (Rotate-Right x k)
 unfolding rotated called runs step exec evalAs eval AND
-ror-ok x zero hx h = ap some (sym (turn-none x))
+ror-ok x zero hx h = ap some (sym (rotate-none x))
 ror-ok x (suc j) hx h =
     rw (and-mask (suc j) 5, mod-eq-of-lt h, eqb·suc-zero j, lt-true h, rest j h, lt-true (less j h)) (ap some (turn x (suc j) hx (under j h)))
   where
@@ -171,4 +171,4 @@ ror-ok x (suc j) hx h =
 
 pub r-ror : {z : State} {d e : Expr} {x k : ℕ} → Reads d z x → Reads e z k → k < 32 → Reads (ror d e) z (Rotate-Right x k)
 unfolding eval
-r-ror {x = x} {k = k} p q h = record { typed = refl; gives = rw (p .gives, q .gives, p .typed, q .typed) (ror-ok x k (p .small) h); small = turn-small x k (p .small) h }
+r-ror {x = x} {k = k} p q h = record { typed = refl; gives = rw (p .gives, q .gives, p .typed, q .typed) (ror-ok x k (p .small) h); small = rotate-small x k (p .small) h }

@@ -34,9 +34,10 @@ use Rattle.c_tree.specs.Print.{exprText, plainText}
 use Rattle.forms.specs.Forms.{Lines, Native, straight, straightIf, branchIf, jump, pair, bx, pop, Form, native, shell}
 use Rattle.forms.specs.Operands.{condExpr, regExpr, shiftExprs, op2Exprs}
 use Rattle.forms.specs.InlineBody.{only, apart, setReg, result, logical, sum, alu, aluBody, mulBody, mulLongBody, baseExpr, shiftedOffset, offsetExpr, loaded, stored, access, memBody, listed, loads, movedBase, start, storedReg, stores, loadsOrStores, blockMemBody, opBody, inlineBody}
-use Rattle.armv4t.specs.RegisterList.{lists}
+use Rattle.armv4t.specs.RegisterList.{isListed}
 use Rattle.forms.specs.Block.{flushTicks, setWord, emitShell, emitPair, emitPop, emitBranch, emitLines, emitStraight, bodyOf, pcLine}
-use Rattle.forms.proofs.Every.{either, Each, every-form}
+use Rattle.forms.proofs.Every.{Each, every-form}
+use Rattle.armv4t.proofs.Bools.{either}
 
 -- the statements of a line, with a `;` and a space each
 abbrev pub plainsMost : List Plain → ℕ
@@ -228,7 +229,7 @@ mem-within base false false rest (some off) h k o = record { within = omega (ari
 listed-length : (rlist n : ℕ) → length (listed rlist n) ≤ n
 unfolding listed
 listed-length rlist zero = omega arith
-listed-length rlist (suc n) = omega (arith, length-append (listed rlist n) (only (lists rlist n) n), one (lists rlist n), listed-length rlist n)
+listed-length rlist (suc n) = omega (arith, length-append (listed rlist n) (only (isListed rlist n) n), one (isListed rlist n), listed-length rlist n)
   where
     one : (b : Bool) → length (only b n) ≤ 1
     one true = omega arith
@@ -304,8 +305,8 @@ op-within thumb i (Mem load width signed rd rn offset pre up writeback) =
     (mem-within (baseExpr thumb i rn) up pre (access load width signed rd rn (not pre || writeback)) (offsetExpr i offset) (base-short thumb i rn)
     (access-within load width signed rd rn (not pre || writeback)) (offset-short i offset))
 op-within thumb i (BlockMem load rn rlist pre up s-bit writeback) =
-    either (MaybeWithin 2100) (s-bit || eqb rlist 0 || eqb rn 15 || (load && lists rlist 15)) tt
-    (blockMem-within i load rn (lists rlist rn) pre up writeback (listed rlist 16) (listed-length rlist 16))
+    either (MaybeWithin 2100) (s-bit || eqb rlist 0 || eqb rn 15 || (load && isListed rlist 15)) tt
+    (blockMem-within i load rn (isListed rlist rn) pre up writeback (listed rlist 16) (listed-length rlist 16))
 op-within thumb i (Mrs spsr rd) = tt
 op-within thumb i (MsrReg spsr fields rm) = tt
 op-within thumb i (MsrImm spsr fields value) = tt

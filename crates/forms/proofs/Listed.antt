@@ -14,6 +14,7 @@ use Rattle.manual.specs.Machine.{update}
 use Rattle.manual.specs.Transfer.{Memory4}
 use Rattle.manual.specs.Multiple.{listed, loadAll}
 use Rattle.forms.proofs.Operands.{same-of, ne-of}
+use Rattle.manual.proofs.All.{All, all-append, all-map}
 
 -- the emitter's list is the manual's
 only-same : (b : Bool) (n : ℕ) → only b n ≡ cond b (n ∷ []) []
@@ -33,19 +34,6 @@ append-nil (i ∷ is) = ap (λ (js : List ℕ). i ∷ js) (append-nil is)
 pub listed-15 : (rlist : ℕ) → bit rlist 15 ≡ false → listed rlist 16 ≡ listed rlist 15
 unfolding listed
 listed-15 rlist q = ap (λ (b : Bool). listed rlist 15 ++ cond b (15 ∷ []) []) q ∙ append-nil (listed rlist 15)
-
--- P of each member
-abbrev pub All : (ℕ → Type 0) → List ℕ → Type 0
-All P [] = Unit {0}
-All P (i ∷ is) = P i × All P is
-
-all-append : (P : ℕ → Type 0) (is js : List ℕ) → All P is → All P js → All P (is ++ js)
-all-append P [] js h k = k
-all-append P (i ∷ is) js h k = (h .0, all-append P is js (h .1) k)
-
-pub all-map : (P Q : ℕ → Type 0) → ((i : ℕ) → P i → Q i) → (is : List ℕ) → All P is → All Q is
-all-map P Q f [] h = tt
-all-map P Q f (i ∷ is) h = (f i (h .0), all-map P Q f is (h .1))
 
 -- members are below n and named
 abbrev pub Named : ℕ → ℕ → ℕ → Type 0

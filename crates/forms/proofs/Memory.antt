@@ -39,24 +39,18 @@ module _ {z : State} {e : Expr} {x : ℕ} (p : Reads e z x) (b : (a : ℕ) → z
   unfolding eval
   r-read8 = record { typed = refl; gives = rw (p .gives, p .typed); small = le-trans (b x) (lit≤ tt) }
 
+-- a number below 2 * d is at least d exactly if its top bit is set, where that is so by its numbers
+top-bit : (d x : ℕ) → (d ≤ x → x / d % 2 ≡ 1) → (x / d % 2 ≡ 1 → d ≤ x) → leb d x ≡ eqb (x / d % 2) 1
+top-bit d x one back =
+    bool-ext (leb d x) (eqb (x / d % 2) 1) (λ p. subst (λ (k : ℕ). T (eqb k 1)) (sym (one (leb→le d x p))) tt)
+    (λ p. le→leb d x (back (eqb→eq (x / d % 2) 1 p)))
+
 -- the sign of a byte and of a halfword is its top bit
 neg8 : (x : ℕ) → x < 256 → leb 128 x ≡ bit x 7
-neg8 x h = bool-ext (leb 128 x) (bit x 7) (λ p. subst (λ (k : ℕ). T (eqb k 1)) (sym (one x h (leb→le 128 x p))) tt) (λ p. le→leb 128 x (back x (eqb→eq (x / 128 % 2) 1 p)))
-  where
-    one : (x : ℕ) → x < 256 → 128 ≤ x → x / 128 % 2 ≡ 1
-    one x h p = omega arith
-
-    back : (x : ℕ) → x / 128 % 2 ≡ 1 → 128 ≤ x
-    back x p = omega arith
+neg8 x h = top-bit 128 x (λ p. omega arith) (λ p. omega arith)
 
 neg16 : (x : ℕ) → x < 65536 → leb 32768 x ≡ bit x 15
-neg16 x h = bool-ext (leb 32768 x) (bit x 15) (λ p. subst (λ (k : ℕ). T (eqb k 1)) (sym (one x h (leb→le 32768 x p))) tt) (λ p. le→leb 32768 x (back x (eqb→eq (x / 32768 % 2) 1 p)))
-  where
-    one : (x : ℕ) → x < 65536 → 32768 ≤ x → x / 32768 % 2 ≡ 1
-    one x h p = omega arith
-
-    back : (x : ℕ) → x / 32768 % 2 ≡ 1 → 32768 ≤ x
-    back x p = omega arith
+neg16 x h = top-bit 32768 x (λ p. omega arith) (λ p. omega arith)
 
 cond-lt : (b : Bool) (p q : ℕ) → p < 4294967296 → q < 4294967296 → cond b p q < 4294967296
 cond-lt true p q hp hq = hp
@@ -97,8 +91,8 @@ r-aligned {x = x} p = to (and-high x 30 2 ∙ ap (λ (k : ℕ). k * 4) (mod-eq-o
     quarter x h = omega arith
 
 -- (e & 3u) * 8u
-pub r-turn : {z : State} {e : Expr} {x : ℕ} → Reads e z x → Reads (bin mul (par (bin band e (lit udec 3))) (lit udec 8)) z (8 * (x % 4))
-r-turn {x = x} p = to (ap (λ (k : ℕ). k * 8 % 4294967296) (and-mask x 2) ∙ go x) (r-mul (r-par (r-and p (r-udec (lit< tt)))) (r-udec (lit< tt)))
+pub r-rotation : {z : State} {e : Expr} {x : ℕ} → Reads e z x → Reads (bin mul (par (bin band e (lit udec 3))) (lit udec 8)) z (8 * (x % 4))
+r-rotation {x = x} p = to (ap (λ (k : ℕ). k * 8 % 4294967296) (and-mask x 2) ∙ go x) (r-mul (r-par (r-and p (r-udec (lit< tt)))) (r-udec (lit< tt)))
   where
     go : (x : ℕ) → x % 4 * 8 % 4294967296 ≡ 8 * (x % 4)
     go x = omega arith

@@ -27,8 +27,9 @@ use Rattle.forms.proofs.Memory.{r-read, r-aligned}
 use Rattle.forms.proofs.Operands.{Regs, same-of, under}
 use Rattle.forms.proofs.Multiply.{reg-reads}
 use Rattle.forms.proofs.Transfer.{direction-reads, do-write}
-use Rattle.forms.proofs.Listed.{All, all-map, member, load-over}
+use Rattle.forms.proofs.Listed.{member, load-over}
 use Rattle.forms.proofs.Steps.{step, stop, opened, given, within, do-declare, do-plus, do-reg, with-scopes, with-reg}
+use Rattle.manual.proofs.All.{All, all-map}
 
 -- a local of the innermost scope
 pub in-scope : (x : Name) (f : Scope) (fs : List Scope) (z : State) {k : ℕ} → f (index x) ≡ some (u32, some k) → value (var (u32, x)) (within f fs z) ≡ some k

@@ -14,7 +14,8 @@ use Rattle.forms.specs.Forms.{Lines, records, Form, native, shell}
 use Rattle.forms.specs.InlineBody.{inlineBody}
 use Rattle.forms.specs.Block.{emitLines, emitInstr, emitInstrs, bodyOf}
 use Rattle.block_file.specs.Address.{region}
-use Rattle.forms.proofs.Every.{either, fused-or, every-instr}
+use Rattle.forms.proofs.Every.{fused-or, every-instr}
+use Rattle.armv4t.proofs.Bools.{either}
 
 -- how many records a form stands for
 abbrev pub recordCount : Form → ℕ

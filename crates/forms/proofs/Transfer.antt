@@ -24,8 +24,8 @@ use Rattle.manual.specs.Operators.{Rotate-Right, SignExtend8, SignExtend16}
 use Rattle.manual.specs.Transfer.{Memory2, moved, address}
 use Rattle.manual.specs.Transfer as T
 use Rattle.forms.specs.Agree.{Agrees, Makes}
-use Rattle.forms.proofs.Gives.{Reads, to, r-udec, r-par, r-add, r-sub, r-mul, r-var, r-ror, turn-none}
-use Rattle.forms.proofs.Memory.{r-read, r-read16, r-read8, half-small, r-signed8, r-signed16, r-pick, r-even, r-one, r-aligned, r-turn}
+use Rattle.forms.proofs.Gives.{Reads, to, r-udec, r-par, r-add, r-sub, r-mul, r-var, r-ror, rotate-none}
+use Rattle.forms.proofs.Memory.{r-read, r-read16, r-read8, half-small, r-signed8, r-signed16, r-pick, r-even, r-one, r-aligned, r-rotation}
 use Rattle.forms.proofs.Operands.{same-of, under}
 use Rattle.forms.proofs.Multiply.{reg-reads}
 use Rattle.forms.proofs.Alu.{Always}
@@ -66,7 +66,7 @@ without-bit k = go (bit k 0) (low-bit k)
 -- a halfword, rotated where its address is odd
 half-turned : (b : Bool) (f : ℕ → ℕ) (k : ℕ) → Rotate-Right (load w16 f (cond b (k - 1) k)) (oneIf b * 8) ≡ cond b (Rotate-Right (Memory2 f (k - 1)) 8) (Memory2 f k)
 half-turned true f k = refl
-half-turned false f k = turn-none (load w16 f k)
+half-turned false f k = rotate-none (load w16 f k)
 
 -- the places of a rotation: 8 times the low bits of an address
 few : (k : ℕ) → 8 * (k % 4) < 32
@@ -118,7 +118,7 @@ module _ {z : State} {m : Machine} (s : Sound m) (a : Agrees z m) (b : Expr) (x 
       → Reads (loaded k sig) u (T.loaded k sig (m .mem) (address pre up x y))
   value-reads Word sig u q e =
       let p = addr-in u q in
-      r-ror (to (ap (λ (f : ℕ → ℕ). load w32 f (address pre up x y / 4 * 4)) e) (r-read (r-aligned p) (bytes-in u e))) (r-turn p) (few (address pre up x y))
+      r-ror (to (ap (λ (f : ℕ → ℕ). load w32 f (address pre up x y / 4 * 4)) e) (r-read (r-aligned p) (bytes-in u e))) (r-rotation p) (few (address pre up x y))
   value-reads Half false u q e =
       let p = addr-in u q in
       let k : ℕ = address pre up x y in

@@ -22,7 +22,7 @@ use Rattle.c_tree.specs.Stmt.{Plain, tick}
 use Rattle.forms.specs.Forms.{Lines, Native, straight, straightIf, branchIf, jump, pair, bx, pop, Form, native, shell, Body}
 use Rattle.forms.specs.Operands.{condExpr, regExpr}
 use Rattle.forms.specs.InlineBody.{only, apart, let32, setReg, aligned, listed, loads, inlineBody}
-use Rattle.armv4t.specs.RegisterList.{lists}
+use Rattle.armv4t.specs.RegisterList.{isListed}
 use Rattle.fnv.specs.Fnv.{fnv64}
 
 -- flush_ticks: a line for the cycles pending, if there are any
@@ -64,7 +64,7 @@ nativeExit region i = isAl (i .cond) && not (eqb region 0)
 -- whether a BlockMem is a native pop of PC
 abbrev pub isPop : ℕ → Instr → Bool → ℕ → ℕ → Bool → Bool → Bool → Bool → Bool
 isPop region i load rn rlist pre up s-bit writeback =
-    load && not pre && up && not s-bit && writeback && lists rlist 15 && not (eqb rn 15) && nativeExit region i
+    load && not pre && up && not s-bit && writeback && isListed rlist 15 && not (eqb rn 15) && nativeExit region i
 
 -- a pop of PC
 abbrev pub emitPop : Bool → ℕ → ℕ → List ℕ → Native

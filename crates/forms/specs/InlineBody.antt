@@ -18,7 +18,7 @@ use Rattle.armv4t.specs.declared.Op.the-variants.{Alu, Mul, MulLong, Swap, Bx, 
 use Rattle.armv4t.specs.declared.Instr.{Instr}
 use Rattle.armv4t.specs.AluOp.{isCompare}
 use Rattle.armv4t.specs.Instr.{pcValue}
-use Rattle.armv4t.specs.RegisterList.{lists}
+use Rattle.armv4t.specs.RegisterList.{isListed}
 use Rattle.c_tree.specs.Expr.{Ty, s8, s16, s32, u32, s64, u64, word, uhex, udec, int, Name, x-r, x-base, x-ob, x-addr, reg, var, compl, Bin, mul, add, sub, shl, shr, band, bxor, bor, Width, w8, w16, w32, Expr, lit, get, par, un, bin, cast, pick, ror, read}
 use Rattle.c_tree.specs.Stmt.{is, plus, f-nz, f-c, f-nz64, Plain, declare, adds, set, discard, run, write}
 use Rattle.c_tree.specs.Preamble.{v32}
@@ -165,7 +165,7 @@ abbrev pub access : Bool → MemWidth → Bool → ℕ → ℕ → Bool → List
 access true width signed rd rn wb = only (wb && not (eqb rn rd) && not (eqb rn 15)) (setReg rn (v32 x-ob)) ++ (setReg rd (loaded width signed) ∷ [])
 access false width signed rd rn wb = stored width (get (reg rd)) ∷ only (wb && not (eqb rn 15)) (setReg rn (v32 x-ob))
 
--- the lines of a Mem: the base, the offset, its direction and whether it counts before the access, then the access
+-- the lines of a Mem, by its base, whether the offset is added, whether it counts before the access, the statements of the access, and the offset
 abbrev pub memLines : Expr → Bool → Bool → List Plain → Expr → Lines
 memLines base up pre rest off =
     apart (let32 x-base base ∷ let32 x-ob (bin (addOrSub up) (v32 x-base) off) ∷ let32 x-addr (v32 (cond pre x-ob x-base)) ∷ rest)
@@ -178,7 +178,7 @@ memBody base up pre rest (some off) = some (memLines base up pre rest off)
 -- the registers below n that a register list names, in rising order
 unfoldable pub listed : ℕ → ℕ → List ℕ
 listed rlist zero = []
-listed rlist (suc n) = listed rlist n ++ only (lists rlist n) n
+listed rlist (suc n) = listed rlist n ++ only (isListed rlist n) n
 
 -- addr += 4u;
 abbrev pub advance : Plain
@@ -237,8 +237,8 @@ opBody thumb i (Mem load width signed rd rn offset pre up writeback) =
     cond (eqb rd 15) none
     (memBody (baseExpr thumb i rn) up pre (access load width signed rd rn (not pre || writeback)) (offsetExpr i offset))
 opBody thumb i (BlockMem load rn rlist pre up s-bit writeback) =
-    cond (s-bit || eqb rlist 0 || eqb rn 15 || (load && lists rlist 15)) none
-    (some (blockMemBody i load rn (lists rlist rn) pre up writeback (listed rlist 16)))
+    cond (s-bit || eqb rlist 0 || eqb rn 15 || (load && isListed rlist 15)) none
+    (some (blockMemBody i load rn (isListed rlist rn) pre up writeback (listed rlist 16)))
 opBody thumb i (Mrs spsr rd) = none
 opBody thumb i (MsrReg spsr fields rm) = none
 opBody thumb i (MsrImm spsr fields value) = none

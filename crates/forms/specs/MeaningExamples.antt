@@ -67,7 +67,7 @@ cases =
     ∷ (0, MulLong true false false 0 5 2 1, (0xfffffffc, 0x20000000, 0x3f3e3d3c))
     -- ldr r0, [r3]: the word at 0x40, rotated by a byte
     ∷ (0, Mem true Word false 0 3 (MemOffset.Imm 0) true true false, (0x40434241, 0x20000000, 0x3f3e3d3c))
-    -- str r4, [r4, #-8]!: r4 as it was is stored
+    -- str r4, [r4, #-8]!: r4 as it was is stored, which the manual leaves open (`store` in Transfer)
     ∷ (4, Mem false Word false 4 4 (MemOffset.Imm 8) true false true, (0x3c, 0x20000000, 0x44))
     -- stmdb r4!, {r1, r2}: r1 at the lowest address
     ∷ (4, BlockMem false 4 6 true false false true, (0x3c, 0x20000000, 0x80000003))

@@ -1,9 +1,9 @@
 -- Every unit's tree binds as C's grammar asks: so it is what a compiler reads from the text.
 use Prim.Native.Nat.{ℕ, zero, suc, _+_}
-use mathlib.Core.Bool.{Bool, true, false, cond, _&&_, true≢false}
+use mathlib.Core.Bool.{Bool, true, false, cond, _&&_}
 use mathlib.Core.List.{List, [], _∷_, _++_, map, List·Memᴰ, List·Memᴰ·head, List·Memᴰ·tail, List·Memᴰ·append-cases, List·Memᴰ·not-nil}
 use mathlib.Core.Option.{Option, none, some}
-use mathlib.Core.Path.{_≡_, refl, sym, _∙_}
+use mathlib.Core.Path.{_≡_, refl, _∙_}
 use mathlib.Core.Logic.{_⊎_, inl, inr}
 use lib.Dec.{leb}
 use lib.ListN.{length, getD}
@@ -20,17 +20,7 @@ use Rattle.forms.proofs.Every.{Each}
 use Rattle.lowering.specs.Block.{bodyKey, nl, sp, leave, line, lines, gotoCode, transfer, closing, conditional, nativeText, codeFrom, underGuard, blockCode, bodyEnd, closingLines}
 use Rattle.block_file.specs.Address.{among, outsideRomBios}
 use Rattle.lowering.specs.Units.{withLocals, emitBlock, labelled, groupCode, forwarders, emitGroup, unitHead, lastUnitEnd, TranslationUnit, textOf, cut, defaultBody, bodiesOf, unitsOf}
-
-left : (a b : Bool) → (a && b) ≡ true → a ≡ true
-left true b e = refl
-left false b e = e
-
-right-true : (a b : Bool) → (a && b) ≡ true → b ≡ true
-right-true true b e = e
-right-true false b e = absurd (true≢false (sym e))
-
-both : (a b : Bool) → a ≡ true → b ≡ true → (a && b) ≡ true
-both a b h k = rw (h, k)
+use Rattle.armv4t.proofs.Bools.{left-true as left, right-true, both-true as both}
 
 -- either of two
 pick : (b : Bool) (c d : Code) → codeBinds false c ≡ true → codeBinds false d ≡ true → codeBinds false (cond b c d) ≡ true

@@ -34,6 +34,8 @@ use Rattle.lowering.proofs.Lines.{run-plain, run-line}
 use Rattle.lowering.proofs.Wrapped.{behind-ticks}
 use Rattle.lowering.proofs.Exits.{with-pc, closed-out}
 use Rattle.forms.proofs.Steps.{ne, exec1, opened, given, within, do-declare, do-reg, with-scopes}
+use Rattle.forms.proofs.Flags.{nib}
+use Rattle.lowering.proofs.Aligned.{plus-zero, twos, zeros}
 
 -- bit 5 of the status register
 low-parts : (low : ℕ) → low / 64 * 64 + low % 64 ≡ low
@@ -82,9 +84,6 @@ t-clear-low low h =
 
     join : (low : ℕ) → low / 64 * 64 + low % 64 % 32 ≡ low / 64 * 64 + 0 + low % 32
     join low = omega arith
-
-nib : Bool → Bool → Bool → Bool → ℕ
-nib n z c v = oneIf n * 8 + oneIf z * 4 + oneIf c * 2 + oneIf v
 
 nib-lt : (n z c v : Bool) → nib n z c v < 16
 unfolding nib
@@ -205,15 +204,6 @@ module _ (i : Instr) (rm : ℕ) (hm : rm ≤ 15) (ks : List ℕ) (a : ℕ) (o : 
     where
       rest : Code
       rest = gap true 6 ⨾ when o false (other (bin band (v32 x-t) (lit udec 1))) (toThumb o) (toArm o)
-
-  twos : (x : ℕ) → x / 2 * 2 ≡ (x / 2 * 2 + 1) / 2 * 2
-  twos x = omega arith
-
-  zeros : (x : ℕ) → x / 4 * 4 ≡ (x / 4 * 4 + 0) / 2 * 2
-  zeros x = omega arith
-
-  plus-zero : (x : ℕ) → x ≡ x + 0
-  plus-zero x = omega arith
 
   -- the text leaves as the manual does
   pub bx-leaves : Leaves (nativeText ks a o (bx (flushTicks n) (regExpr i rm))) z (branchExchange target m)

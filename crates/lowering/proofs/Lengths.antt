@@ -30,12 +30,13 @@ use Rattle.c_tree.proofs.Lengths.{most-append}
 use Rattle.forms.specs.Forms.{Lines, Native, straight, straightIf, branchIf, jump, pair, bx, pop, Form, shell, records, Body}
 use Rattle.forms.proofs.RecordCount.{recordCounts, body-count}
 use Rattle.forms.specs.Block.{bodyOf}
-use Rattle.forms.proofs.Every.{either, Each}
+use Rattle.forms.proofs.Every.{Each}
 use Rattle.forms.proofs.Lengths.{plainsMost, linesMost, nativeMost, formMost, forms-within, closing-within}
 use Rattle.lowering.specs.Block.{bodyKey, bodyEnd, nl, sp, line, lines, gotoCode, transfer, closing, conditional, leave, toThumb, toArm, nativeText, shellCode, codeFrom, underGuard, blockCode, closingLines}
 use Rattle.records.specs.BlockRecord.{keyPlus}
 use Rattle.block_file.specs.Address.{among, outsideRomBios}
 use Rattle.lowering.specs.Units.{withLocals, emitBlock, labelled, groupCode, forwarders, emitGroup, unitHead, lastUnitEnd, TranslationUnit, textOf, cut, defaultBody, bodiesOf, unitsOf}
+use Rattle.armv4t.proofs.Bools.{either}
 
 -- the most bytes of the text of code
 abbrev codeMost : Code → ℕ

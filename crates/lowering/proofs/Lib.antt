@@ -1,10 +1,12 @@
 -- What is proved of the tree of blocks, groups and units, and of what the text of records means.
+pub mod Aligned
 pub mod Binds
 pub mod Lengths
 pub mod Measured
 pub mod Starred
 pub mod Units
 pub mod Whole
+pub mod LinesBehind
 pub mod Lines
 pub mod Wrapped
 pub mod Straight

@@ -34,7 +34,7 @@ use Rattle.lowering.specs.Text.{Leaves}
 use Rattle.forms.proofs.Gives.{Reads, to, r-reg, r-udec, r-add, r-var, r-or}
 use Rattle.forms.proofs.Memory.{r-read, r-even, r-aligned, load-small}
 use Rattle.forms.proofs.Multiply.{reg-reads}
-use Rattle.forms.proofs.Listed.{listed-same, All, all-map, Named, listed-named}
+use Rattle.forms.proofs.Listed.{listed-same, Named, listed-named}
 use Rattle.forms.proofs.Multiple.{in-scope}
 use Rattle.forms.proofs.BodyMultiple.{append-length, listed-length}
 use Rattle.lowering.proofs.Lines.{run-plain, run-lines}
@@ -42,6 +42,9 @@ use Rattle.lowering.proofs.Wrapped.{behind-ticks}
 use Rattle.lowering.proofs.Exits.{with-pc, closed-out}
 use Rattle.lowering.proofs.Exchange.{leave-back}
 use Rattle.forms.proofs.Steps.{exec1, opened, given, within, do-declare, do-plus, do-reg, with-scopes, with-reg}
+use Rattle.manual.proofs.All.{All, all-map}
+use Rattle.lowering.proofs.Aligned.{plus-zero, twos, zeros}
+use Rattle.forms.proofs.Body.{aligned-lt}
 
 -- plain statements end in a state of which P holds
 record Reaches (ps : List Plain) (z : State) (P : State → Type 0) : Type 0 where
@@ -161,20 +164,8 @@ module _ {z : State} {m : Machine} (s : Sound m) (a : Agrees z m) (rn : ℕ) (hn
         rest : Code
         rest = nl ⨾ lines o 6 ls out
 
-twos : (x : ℕ) → x / 2 * 2 ≡ (x / 2 * 2 + 1) / 2 * 2
-twos x = omega arith
-
-zeros : (x : ℕ) → x / 4 * 4 ≡ (x / 4 * 4 + 0) / 2 * 2
-zeros x = omega arith
-
 two-lt : (x : ℕ) → x < 4294967296 → x / 2 * 2 < 4294967296
 two-lt x h = omega arith
-
-four-lt : (x : ℕ) → x < 4294967296 → x / 4 * 4 < 4294967296
-four-lt x h = omega arith
-
-plus-zero : (x : ℕ) → x ≡ x + 0
-plus-zero x = omega arith
 
 -- with R15 the list of 16 has one more
 with-pc-length : (rlist : ℕ) → bit rlist 15 ≡ true → length (MM.listed rlist 16) ≡ length (MM.listed rlist 15) + 1
@@ -212,4 +203,4 @@ pop-leaves i rn rlist hn h15 n ks a o {z} {m} s g =
         (λ y e. to (or-shifted (x / 2) 1 1 (lit< tt)) (r-or (r-reg 15 (lit≤ tt) e (two-lt x lt)) (r-udec (lit< tt)))) (twos x)
     go false =
         pop-text s g rn hn is (listed-length rlist 15) hi ks a o n false (x / 4 * 4) (x / 4 * 4 + 0) (λ y r. r-aligned (word-reads s g rn hn is (listed-length rlist 15) hi y r))
-        (λ y e. to (or-zero-r (x / 4 * 4) ∙ plus-zero (x / 4 * 4)) (r-or (r-reg 15 (lit≤ tt) e (four-lt x lt)) (r-udec (lit< tt)))) (zeros x)
+        (λ y e. to (or-zero-r (x / 4 * 4) ∙ plus-zero (x / 4 * 4)) (r-or (r-reg 15 (lit≤ tt) e (aligned-lt x lt)) (r-udec (lit< tt)))) (zeros x)

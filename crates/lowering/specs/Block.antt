@@ -65,7 +65,7 @@ transfer ks a o n k c = cond (among k ks) (gotoCode (leb (clearBit0 k) a) o n k 
 abbrev pub exitCode : List ℕ → ℕ → Owner → Lines → ℕ → Code
 exitCode ks a o ls k = lines o 4 ls (transfer ks a o 4 k end)
 
--- the lines before the closing transfer: what is pending, and PC at the address behind the block
+-- the lines before the closing transfer: what is pending, and PC at the address behind the block; in an accepted file that is the one behind its last instruction
 abbrev pub closingLines : Body → Lines
 closingLines b = flushTicks (b .pending) ++ pcLine (bodyEnd b)
 

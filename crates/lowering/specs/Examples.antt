@@ -196,7 +196,7 @@ ram-owners : owners (blockCode [] ram)
 unfolding blockCode outsideRomBios underGuard codeFrom nativeText transfer closing
 ram-owners = refl
 
--- straight and bx; a fused pair; pop; branch, straight and jump in a group
+-- straight and bx; a fused pair; pop; branchIf, straight and jump in a group
 lone-owners : owners (blockCode [] lone) ≡ replicate 11 (Owner.native 0x08000000)
 unfolding blockCode outsideRomBios codeFrom nativeText
 lone-owners = refl

@@ -36,11 +36,7 @@ use Rattle.manual.specs.Transfer.{byte, Memory2, Memory4, setMemory2, se
 use Rattle.manual.specs.Multiple.{listed, start, loadAll, storeAll, loadMultiple, loadMultipleWithPc, loadedPc, storeMultiple}
 use Rattle.manual.specs.Unsaid.{noInstruction, unpredictable}
 use Rattle.manual.specs.Execute.{key, following, onward, pcRead, operation, execute}
-
--- either of two outcomes has a property that both have
-either : {A : Type 0} (P : A → Type 0) (b : Bool) {x y : A} → P x → P y → P (cond b x y)
-either P true p q = p
-either P false p q = q
+use Rattle.armv4t.proofs.Bools.{either}
 
 either-lt : {n x y : ℕ} (b : Bool) → x < n → y < n → cond b x y < n
 either-lt {n} b p q = either (λ (x : ℕ). x < n) b p q

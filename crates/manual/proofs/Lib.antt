@@ -1,3 +1,4 @@
 -- The laws of the manual's account.
+pub mod All
 pub mod Kept
 pub mod Thumb

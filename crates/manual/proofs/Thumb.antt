@@ -30,6 +30,7 @@ use Rattle.manual.specs.Execute.{key, execute}
 use Rattle.manual.specs.Thumb.{Opcode1, Opcode2, Opcode3, Opcode4, Opcode5, Opcode7, Opcode8, Opcode9, Opcode10, Opcode11, Opcode12, Opcode13, Opcode14, Opcode15, Thumb, Fits, decoded, decoded2, decoded3, decoded4, decoded5, decoded7, decoded8, decoded9, decoded10, decoded11, decoded12, decoded13, decoded14, decoded15, ahead, SignExtend11, thumbOperation, folded, PC, next, onto, sets}
 use Rattle.manual.specs.Thumb.{lsl-1, lsr-1, asr-1, add-1, add-3, sub-1, sub-3, mov-1, cmp-1, add-2, sub-2, and, eor, lsl-2, lsr-2, asr-2, adc, sbc, ror, tst, neg, cmp-2, cmn, orr, mul, bic, mvn, add-4, cmp-3, mov-3, bx, str-2, strb-2, ldr-2, ldrb-2, strh-2, ldrsb, ldrh-2, ldrsh, str-1, ldr-1, strb-1, ldrb-1, strh-1, ldrh-1, str-3, ldr-4, add-5, add-6, add-7, sub-4, push, pop, stmia, ldmia}
 use Rattle.manual.specs.Thumb.{format-1, format-2, format-3, format-4, format-5, format-6, format-7, format-8, format-9, format-10, format-11, format-12, format-13, format-14, format-15, format-16, format-17, format-18, format-19-high, format-19-low}
+use Rattle.manual.proofs.All.{All, all-append, all-map}
 
 -- a register of Thumb's is not R15
 pub low : (r : ℕ) → r < 8 → eqb r 15 ≡ false
@@ -53,8 +54,8 @@ does-1 a lsr-1 immed rm rd p q m = rw (low rd q, low rm p)
 does-1 a asr-1 immed rm rd p q m = rw (low rd q, low rm p)
 
 -- x plus 0 is x, with neither carry nor overflow
-plus-zero : (x : ℕ) → x < two32 → addWithCarry x 0 0 ≡ (x, false, false)
-plus-zero x h =
+add-with-carry-zero : (x : ℕ) → x < two32 → addWithCarry x 0 0 ≡ (x, false, false)
+add-with-carry-zero x h =
     ap (λ (y : ℕ). (y % two32, CarryFrom y, OverflowFromAdd x 0 (y % two32))) (add-zero (x + 0) ∙ add-zero x)
     ∙ ap (λ (y : ℕ). (y, CarryFrom x, OverflowFromAdd x 0 y)) (mod-eq-of-lt h)
     ∙ ap₂ (λ (c v : Bool). (x, c, v)) carry (overflow (bit x 31))
@@ -71,7 +72,7 @@ plus-zero x h =
 
 does-2 : (a : ℕ) (op : Opcode2) (rm rn rd : ℕ) → rm < 8 → rn < 8 → rd < 8 → (m : Machine) → Sound m → Does a (format-2 op rm rn rd) m
 unfolding execute thumbOperation
-does-2 a add-1 zero rn rd p q h m s = rw (low rd h, low rn q) (ap (λ (x : ℕ × Bool × Bool). onto a (sets rd x m)) (plus-zero (m .r rn) (s .words rn (omega arith))))
+does-2 a add-1 zero rn rd p q h m s = rw (low rd h, low rn q) (ap (λ (x : ℕ × Bool × Bool). onto a (sets rd x m)) (add-with-carry-zero (m .r rn) (s .words rn (omega arith))))
 does-2 a add-1 (suc rm) rn rd p q h m s = rw (low rd h, low rn q)
 does-2 a add-3 rm rn rd p q h m s = rw (low rd h, low rn q, low rm p)
 does-2 a sub-1 rm rn rd p q h m s = rw (low rd h, low rn q)
@@ -252,19 +253,6 @@ popped-15 list true h = listed-15 (list + 32768) list 128 (omega arith) (omega a
 popped-16 : (list : ℕ) (r : Bool) → list < 256 → listed (list + oneIf r * 2 ^ 15) 16 ≡ listed list 8 ++ cond r (15 ∷ []) []
 popped-16 list false h = listed-16 (list + 0) list 0 (omega arith) (omega arith) ∙ simp append-nil
 popped-16 list true h = listed-16 (list + 32768) list 128 (omega arith) (omega arith) ∙ simp append-nil
-
--- P of each member of a list
-abbrev All : (ℕ → Type 0) → List ℕ → Type 0
-All P [] = Unit {0}
-All P (i ∷ is) = P i × All P is
-
-all-append : (P : ℕ → Type 0) (is js : List ℕ) → All P is → All P js → All P (is ++ js)
-all-append P [] js h k = k
-all-append P (i ∷ is) js h k = (h .0, all-append P is js (h .1) k)
-
-all-map : (P Q : ℕ → Type 0) → ((i : ℕ) → P i → Q i) → (is : List ℕ) → All P is → All Q is
-all-map P Q f [] h = tt
-all-map P Q f (i ∷ is) h = (f i (h .0), all-map P Q f is (h .1))
 
 listed-below : (x n : ℕ) → All (λ i. i < n) (listed x n)
 unfolding listed

@@ -65,7 +65,7 @@ isHalf (MsrImm spsr fields value) = false
 isHalf (Swi imm) = false
 isHalf (Undefined raw) = false
 
--- whether an instruction is one of which the manual says what it does, whatever its condition, and no named difference
+-- whether an instruction is one of which the manual says what it does, whether or not its condition passes, and no named difference (so not NV)
 abbrev pub isSaid : Instr → Bool
 isSaid i = not (noInstruction i || unpredictable (i .op) || isNv (i .cond) || differsIn i (i .op))
 

@@ -24,6 +24,7 @@ use Rattle.block_file.specs.Address.{among}
 use Rattle.members.specs.Prepared.{Ready}
 use Rattle.members.proofs.GroupOf.{group-listed}
 use Rattle.members.proofs.Places.{list-at, has-member, blocks-all}
+use Rattle.block_file.proofs.Nowhere.{nowhere}
 
 or-right : (b c : Bool) → c ≡ true → (b || c) ≡ true
 or-right true c e = refl
@@ -56,10 +57,6 @@ target-key key (b ∷ bs) i j e = go (eqb (blockKey b) key) (joinable b) refl (t
     go true true h ih e′ = (let same : i ≡ j = cc in (0, omega arith, omega arith, eqb-true _ _ h))
     go true false h ih e′ = later (ih e′)
     go false y h ih e′ = later (ih e′)
-
--- a block to read past the end of a list
-nowhere : Block
-nowhere = record { addr = 0; thumb = false; code = none; instrs = [] }
 
 -- one of some lists has a place among them
 place-of : {is : List ℕ} {gs : List (List ℕ)} → List·Memᴰ is gs → (g : ℕ) × (is ≡ getD gs g [])

@@ -1,9 +1,7 @@
 -- The passes over all blocks: first instructions, edges, and what they make together.
 -- Assumes nothing.
 use mathlib.Core.Path.{_≡_, refl, sym, ap, ap₂, _∙_, subst}
-use mathlib.Core.Bool.{false}
-use mathlib.Core.List.{List, [], _∷_, map}
-use mathlib.Core.Option.{none}
+use mathlib.Core.List.{List, _∷_, map}
 use Prim.Native.Nat.{ℕ, suc, zero-le, _+_, _*_, _-_, _%_, _≤_, _<_, _^_}
 use native.Mathlib.Nat.{not-suc-le-zero, mod-eq-of-lt, le-of-lt}
 use native.Mathlib.Numerals.{add-one}
@@ -28,6 +26,7 @@ use Rattle.block_file.proofs.IsBlock.{nth-block}
 use Rattle.block_file.proofs.Keys.{block-key, keys-rise}
 use Rattle.plan.proofs.Lending.{quarter-length, back-length, back-quarter, back-after, back-before}
 use Rattle.forest.proofs.Roots.{forest-range, same-self, length-range}
+use Rattle.block_file.proofs.Nowhere.{nowhere}
 
 -- what the pass over the counts keeps
 pub record Counting (f : List ℕ) (n : ℕ) (work : List ℕ) (sum m : ℕ) (work′ : List ℕ) : Type 0 where
@@ -137,10 +136,6 @@ module _ (f : List ℕ) (n : ℕ) (w p′ : List ℕ) (room : 4 * n ≤ length w
 pub edges-asks : (f : List ℕ) (n i : ℕ) (w w′ : List ℕ) → 4 * n ≤ length w → (Accepted f → HasFirsts f n w) → Edges f n i w w′
     → (4 * n ≤ length w′) × (Accepted f → HasFirsts f n w′)
 edges-asks f n i w w′ room firsts e = (omega (arith, e .same), λ a k h. e .before k h ∙ firsts a k h)
-
--- a block to read past the end of a list
-nowhere : Block
-nowhere = record { addr = 0; thumb = false; code = none; instrs = [] }
 
 -- the edges of one block more
 next-block : (f : List ℕ) → Accepted f → (i : ℕ) → i < blockCount f → (q : List ℕ)

@@ -15,12 +15,12 @@ use lib.ListN.{length, getD, length-append}
 use lib.Dec.{eqb}
 use Rattle.block_file.specs.Parse.{Block, blockKey}
 use Rattle.forest.specs.Forest.{root}
-use Rattle.plan.specs.Order.{rooted, orderFrom, numbersOf, nextGroup, numbersFrom}
+use Rattle.plan.specs.Order.{withRootIn, orderFrom, numbersOf, nextGroup, numbersFrom}
 use Rattle.plan.specs.Plan.{withRoot, members, closes, insert, sortByKey, isEmpty, parts, groupsFrom, groups, groupRows, rowsFrom, plan, parents}
 use Rattle.plan.specs.Groups.{interleave}
 
 -- the members of a component, by a list of roots
-pub members-rooted : (p roots : List ℕ) (r left k : ℕ) → ((j : ℕ) → k ≤ j → j < k + left → getD roots j 0 ≡ root p j) → withRoot (root p) r left k ≡ rooted roots r left k
+pub members-rooted : (p roots : List ℕ) (r left k : ℕ) → ((j : ℕ) → k ≤ j → j < k + left → getD roots j 0 ≡ root p j) → withRoot (root p) r left k ≡ withRootIn roots r left k
 unfolding withRoot
 members-rooted p roots r zero k same = refl
 members-rooted p roots r (suc left) k same =
@@ -28,25 +28,25 @@ members-rooted p roots r (suc left) k same =
 
 -- a number goes in front of members that have no smaller key
 insert-rooted : (keys roots : List ℕ) (r i left k : ℕ) → ((j : ℕ) → k ≤ j → j < k + left → getD keys i 0 ≤ getD keys j 0)
-    → insert keys i (rooted roots r left k) ≡ i ∷ rooted roots r left k
+    → insert keys i (withRootIn roots r left k) ≡ i ∷ withRootIn roots r left k
 unfolding insert withRoot
 insert-rooted keys roots r i zero k h = refl
 insert-rooted keys roots r i (suc left) k h = go (eqb (getD roots k 0) r) (insert-rooted keys roots r i left (suc k) (λ j l b. h j (omega arith) (omega arith)))
   where
-    go : (b : Bool) → insert keys i (rooted roots r left (suc k)) ≡ i ∷ rooted roots r left (suc k)
-        → insert keys i (cond b (k ∷ rooted roots r left (suc k)) (rooted roots r left (suc k))) ≡ i ∷ cond b (k ∷ rooted roots r left (suc k)) (rooted roots r left (suc k))
+    go : (b : Bool) → insert keys i (withRootIn roots r left (suc k)) ≡ i ∷ withRootIn roots r left (suc k)
+        → insert keys i (cond b (k ∷ withRootIn roots r left (suc k)) (withRootIn roots r left (suc k))) ≡ i ∷ cond b (k ∷ withRootIn roots r left (suc k)) (withRootIn roots r left (suc k))
     go true e = rw (le-leb _ _ (h k (le-refl k) (omega arith)))
     go false e = e
 
 -- where keys rise with the blocks, members stand in the order of their keys
 pub sorted-rooted : (keys roots : List ℕ) (r left k : ℕ) → ((i j : ℕ) → k ≤ i → i < j → j < k + left → getD keys i 0 ≤ getD keys j 0)
-    → sortByKey keys (rooted roots r left k) ≡ rooted roots r left k
+    → sortByKey keys (withRootIn roots r left k) ≡ withRootIn roots r left k
 unfolding sortByKey withRoot
 sorted-rooted keys roots r zero k h = refl
 sorted-rooted keys roots r (suc left) k h = go (eqb (getD roots k 0) r) (sorted-rooted keys roots r left (suc k) (λ i j a l b. h i j (omega arith) l (omega arith)))
   where
-    go : (b : Bool) → sortByKey keys (rooted roots r left (suc k)) ≡ rooted roots r left (suc k)
-        → sortByKey keys (cond b (k ∷ rooted roots r left (suc k)) (rooted roots r left (suc k))) ≡ cond b (k ∷ rooted roots r left (suc k)) (rooted roots r left (suc k))
+    go : (b : Bool) → sortByKey keys (withRootIn roots r left (suc k)) ≡ withRootIn roots r left (suc k)
+        → sortByKey keys (cond b (k ∷ withRootIn roots r left (suc k)) (withRootIn roots r left (suc k))) ≡ cond b (k ∷ withRootIn roots r left (suc k)) (withRootIn roots r left (suc k))
     go true e = ap (insert keys k) e ∙ insert-rooted keys roots r k left (suc k) (λ j l b. h k j (le-refl k) l (omega arith))
     go false e = e
 
@@ -94,16 +94,16 @@ interleave-append (x ∷ xs) (y ∷ ys) xs′ ys′ e = ap (λ (l : List ℕ). x
 
 -- the rows of the components from component r on
 rows-groups : (limit : ℕ) (bs : List Block) (p roots : List ℕ) (g left r : ℕ)
-    → ((s : ℕ) → sortByKey (map blockKey bs) (members p s (length bs)) ≡ rooted roots s (length bs) 0)
+    → ((s : ℕ) → sortByKey (map blockKey bs) (members p s (length bs)) ≡ withRootIn roots s (length bs) 0)
     → rowsFrom g (groupsFrom limit bs p left r) ≡ interleave (numbersFrom limit (countsOf bs) roots (length bs) g left r) (orderFrom roots (length bs) left r)
 unfolding rowsFrom groupsFrom interleave numbersFrom orderFrom
 rows-groups limit bs p roots g zero r same = refl
 rows-groups limit bs p roots g (suc left) r same =
     ap (λ (is : List ℕ). rowsFrom g (parts limit (countsOf bs) [] 0 is ++ groupsFrom limit bs p left (suc r))) (same r)
-    ∙ rows-parts limit (countsOf bs) [] g 0 (rooted roots r (length bs) 0) (groupsFrom limit bs p left (suc r))
-    ∙ ap (λ (l : List ℕ). interleave (numbersOf limit (countsOf bs) g 0 false (rooted roots r (length bs) 0)) (rooted roots r (length bs) 0) ++ l)
-    (rows-groups limit bs p roots (nextGroup limit (countsOf bs) g 0 false (rooted roots r (length bs) 0)) left (suc r) same)
-    ∙ sym (interleave-append (numbersOf limit (countsOf bs) g 0 false (rooted roots r (length bs) 0)) (rooted roots r (length bs) 0) _ _ (length-numbers limit (countsOf bs) g 0 false (rooted roots r (length bs) 0)))
+    ∙ rows-parts limit (countsOf bs) [] g 0 (withRootIn roots r (length bs) 0) (groupsFrom limit bs p left (suc r))
+    ∙ ap (λ (l : List ℕ). interleave (numbersOf limit (countsOf bs) g 0 false (withRootIn roots r (length bs) 0)) (withRootIn roots r (length bs) 0) ++ l)
+    (rows-groups limit bs p roots (nextGroup limit (countsOf bs) g 0 false (withRootIn roots r (length bs) 0)) left (suc r) same)
+    ∙ sym (interleave-append (numbersOf limit (countsOf bs) g 0 false (withRootIn roots r (length bs) 0)) (withRootIn roots r (length bs) 0) _ _ (length-numbers limit (countsOf bs) g 0 false (withRootIn roots r (length bs) 0)))
 
 -- the plan, as the code makes it from the roots of the blocks
 pub plan-is : (limit : ℕ) (bs : List Block) (roots : List ℕ)
@@ -139,7 +139,7 @@ hits-one x (suc left) r l h =
 -- the members of `left` components from component r on among m blocks from block k on
 total : List ℕ → ℕ → ℕ → ℕ → ℕ → ℕ
 total roots zero r m k = 0
-total roots (suc left) r m k = length (rooted roots r m k) + total roots left (suc r) m k
+total roots (suc left) r m k = length (withRootIn roots r m k) + total roots left (suc r) m k
 
 total-none : (roots : List ℕ) (left r k : ℕ) → total roots left r 0 k ≡ 0
 unfolding total withRoot
@@ -152,8 +152,8 @@ total-more roots zero r m k = refl
 total-more roots (suc left) r m k = go (eqb (getD roots k 0) r) (total-more roots left (suc r) m k)
   where
     go : (b : Bool) → total roots left (suc r) (suc m) k ≡ hits (getD roots k 0) left (suc r) + total roots left (suc r) m (suc k)
-        → length (cond b (k ∷ rooted roots r m (suc k)) (rooted roots r m (suc k))) + total roots left (suc r) (suc m) k
-        ≡ cond b 1 0 + hits (getD roots k 0) left (suc r) + (length (rooted roots r m (suc k)) + total roots left (suc r) m (suc k))
+        → length (cond b (k ∷ withRootIn roots r m (suc k)) (withRootIn roots r m (suc k))) + total roots left (suc r) (suc m) k
+        ≡ cond b 1 0 + hits (getD roots k 0) left (suc r) + (length (withRootIn roots r m (suc k)) + total roots left (suc r) m (suc k))
     go true e = omega (arith, e)
     go false e = omega (arith, e)
 
@@ -167,7 +167,7 @@ total-all roots n (suc m) k h =
 length-order : (roots : List ℕ) (n left r : ℕ) → length (orderFrom roots n left r) ≡ total roots left r n 0
 unfolding orderFrom total
 length-order roots n zero r = refl
-length-order roots n (suc left) r = length-append (rooted roots r n 0) _ ∙ ap (λ (m : ℕ). length (rooted roots r n 0) + m) (length-order roots n left (suc r))
+length-order roots n (suc left) r = length-append (withRootIn roots r n 0) _ ∙ ap (λ (m : ℕ). length (withRootIn roots r n 0) + m) (length-order roots n left (suc r))
 
 -- every block is placed once
 pub order-all : (roots : List ℕ) (n : ℕ) → ((j : ℕ) → j < n → getD roots j 0 < n) → length (orderFrom roots n n 0) ≡ n

@@ -1,7 +1,7 @@
 -- The emission order: what is left of a component at a member, and one block or one component more.
 -- Assumes nothing.
 use mathlib.Core.Path.{_≡_, refl, sym, ap, ap₂, _∙_, subst}
-use mathlib.Core.Bool.{Bool, true, false, cond, _&&_, true≢false}
+use mathlib.Core.Bool.{Bool, true, false, cond, true≢false}
 use mathlib.Core.List.{List, [], _∷_, _++_, append-assoc, append-nil}
 use Prim.Native.Nat.{ℕ, zero, suc, pred, zero-le, _+_, _*_, _-_, _≤_, _<_, _^_}
 use native.Mathlib.Nat.{sub-zero, zero-add, le-refl}
@@ -16,7 +16,8 @@ use Rattle.plan.specs.declared.order.Part.{Part}
 use Rattle.block_file.specs.Parse.{Accepted}
 use Rattle.plan.specs.Links.{seek, Linked}
 use Rattle.plan.specs.Plan.{withRoot, closes}
-use Rattle.plan.specs.Order.{rooted, membersFrom, orderFrom, numbersOf, nextGroup, numbersFrom, HasCounts, Placed}
+use Rattle.plan.specs.Order.{withRootIn, membersFrom, orderFrom, numbersOf, nextGroup, numbersFrom, HasCounts, Placed}
+use Rattle.armv4t.proofs.Bools.{right-true}
 
 -- a search stays within its range
 pub seek-low : (roots : List ℕ) (r left k : ℕ) → k ≤ seek roots r left k
@@ -29,13 +30,13 @@ seek-low roots r (suc left) k = go (eqb (getD roots k 0) r) (seek-low roots r le
     go false h = omega arith
 
 -- what is left of a component at the member that a search finds is what the search went over
-pub from-seek : (roots : List ℕ) (r n left k : ℕ) → k + left ≡ n → membersFrom roots r n (seek roots r left k) ≡ rooted roots r left k
+pub from-seek : (roots : List ℕ) (r n left k : ℕ) → k + left ≡ n → membersFrom roots r n (seek roots r left k) ≡ withRootIn roots r left k
 unfolding seek membersFrom withRoot
 from-seek roots r n zero k e = rw (le-ltb _ _ (let same : n ≤ k = omega arith in same))
 from-seek roots r n (suc left) k e = go (eqb (getD roots k 0) r) (from-seek roots r n left (suc k) (omega arith))
   where
-    go : (b : Bool) → membersFrom roots r n (seek roots r left (suc k)) ≡ rooted roots r left (suc k)
-        → membersFrom roots r n (cond b k (seek roots r left (suc k))) ≡ cond b (k ∷ rooted roots r left (suc k)) (rooted roots r left (suc k))
+    go : (b : Bool) → membersFrom roots r n (seek roots r left (suc k)) ≡ withRootIn roots r left (suc k)
+        → membersFrom roots r n (cond b k (seek roots r left (suc k))) ≡ cond b (k ∷ withRootIn roots r left (suc k)) (withRootIn roots r left (suc k))
     go true h =
         let inside : k < n = omega arith in
         let left-is : n - suc k ≡ left = omega arith in
@@ -55,15 +56,11 @@ seek-root roots r n (suc left) k e h = go (eqb (getD roots k 0) r) refl (seek-ro
 
 pub from-member : (roots : List ℕ) (r n h : ℕ) → h < n → membersFrom roots r n h ≡ h ∷ membersFrom roots r n (seek roots r (n - suc h) (suc h))
 unfolding membersFrom
-from-member roots r n h l = ap (λ (b : Bool). cond b (h ∷ rooted roots r (n - suc h) (suc h)) []) (lt-ltb _ _ l) ∙ ap (λ (xs : List ℕ). h ∷ xs) (sym (from-seek roots r n (n - suc h) (suc h) (omega arith)))
+from-member roots r n h l = ap (λ (b : Bool). cond b (h ∷ withRootIn roots r (n - suc h) (suc h)) []) (lt-ltb _ _ l) ∙ ap (λ (xs : List ℕ). h ∷ xs) (sym (from-seek roots r n (n - suc h) (suc h) (omega arith)))
 
 pub from-none : (roots : List ℕ) (r n h : ℕ) → n ≤ h → membersFrom roots r n h ≡ []
 unfolding membersFrom
 from-none roots r n h l = rw (le-ltb _ _ l)
-
-right-true : (a b : Bool) → (a && b) ≡ true → b ≡ true
-right-true true b e = e
-right-true false b e = absurd (true≢false (sym e))
 
 pred-more : (r : ℕ) → pred (r + 1) ≡ r
 pred-more r = omega arith
@@ -89,9 +86,9 @@ length-all : (limit : ℕ) (counts roots : List ℕ) (n g left r : ℕ) → leng
 unfolding numbersFrom orderFrom
 length-all limit counts roots n g zero r = refl
 length-all limit counts roots n g (suc left) r =
-    length-append (numbersOf limit counts g 0 false (rooted roots r n 0)) _
-    ∙ ap₂ (λ (a b : ℕ). a + b) (length-numbers limit counts g 0 false (rooted roots r n 0)) (length-all limit counts roots n _ left (suc r))
-    ∙ sym (length-append (rooted roots r n 0) (orderFrom roots n left (suc r)))
+    length-append (numbersOf limit counts g 0 false (withRootIn roots r n 0)) _
+    ∙ ap₂ (λ (a b : ℕ). a + b) (length-numbers limit counts g 0 false (withRootIn roots r n 0)) (length-all limit counts roots n _ left (suc r))
+    ∙ sym (length-append (withRootIn roots r n 0) (orderFrom roots n left (suc r)))
 
 -- the two stores of a row
 module _ (n place i g : ℕ) (w : List ℕ) (room : 4 * n ≤ length w) (h : place < n) where
@@ -268,13 +265,13 @@ module _ (f w₀ : List ℕ) (n limit : ℕ) where
       first-is : h₁ ≡ seek roots r n 0
       first-is = p .firsts r more ∙ p .linked .first r more ∙ ap (λ (k : ℕ). seek roots r k 0) (sub-zero n)
 
-      rooted-is : membersFrom roots r n h₁ ≡ rooted roots r n 0
+      rooted-is : membersFrom roots r n h₁ ≡ withRootIn roots r n 0
       rooted-is = ap (membersFrom roots r n) first-is ∙ from-seek roots r n n 0 (zero-add n)
 
       one-less : n - r ≡ suc (n - (r + 1))
       one-less = omega arith
 
-      from-next : membersFrom roots (pred (r + 1)) n h₁ ≡ rooted roots r n 0
+      from-next : membersFrom roots (pred (r + 1)) n h₁ ≡ withRootIn roots r n 0
       from-next = ap (λ (k : ℕ). membersFrom roots k n h₁) (pred-more r) ∙ rooted-is
 
       order-next : membersFrom roots (pred r) n h ++ orderFrom roots n (n - r) r ≡ membersFrom roots (pred (r + 1)) n h₁ ++ orderFrom roots n (n - (r + 1)) (r + 1)

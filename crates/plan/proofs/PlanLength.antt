@@ -10,7 +10,7 @@ use lib.Dec.{leb}
 use lib.ListN.{length, getD, length-append}
 use Rattle.block_file.specs.Parse.{Block, blockKey}
 use Rattle.forest.specs.Forest.{range, root}
-use Rattle.plan.specs.Order.{rooted, orderFrom}
+use Rattle.plan.specs.Order.{withRootIn, orderFrom}
 use Rattle.plan.specs.Plan.{parents, members, insert, sortByKey, groups, groupRows, rowsFrom, plan}
 use Rattle.plan.proofs.Components.{component, groups-flat}
 use Rattle.plan.proofs.Edges.{root-block}
@@ -69,7 +69,7 @@ module _ (bs : List Block) where
       (sort-length (map blockKey bs) (members (parents bs) r (length bs))
       ∙ ap length (members-rooted (parents bs) roots r (length bs) 0 (λ j l b. roots-at j (rw zero-add at b))))
       (components-length left (suc r))
-      ∙ sym (length-append (rooted roots r (length bs) 0) (orderFrom roots (length bs) left (suc r)))
+      ∙ sym (length-append (withRootIn roots r (length bs) 0) (orderFrom roots (length bs) left (suc r)))
 
   -- all groups together have each block once
   pub groups-length : (limit : ℕ) → length (flatten (groups limit bs)) ≡ length bs

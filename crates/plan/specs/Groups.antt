@@ -9,7 +9,7 @@ use Rattle.block_file.specs.Parse.{blockAt, blocksOf, Accepted}
 use Rattle.plan.specs.Plan.{joinBlock, parents, plan}
 use Rattle.forest.specs.Forest.{Flatter, Forest, SameRoots, root}
 
--- work numbers enough for the n blocks of a file, of which there are few
+-- work numbers enough for the n blocks of a file, of which there are at most 65,536
 abbrev pub HasRoom : List ℕ → List ℕ → ℕ → Type 0
 HasRoom f work n = (4 * n ≤ length work) × (n ≤ 65536) × (n ≡ blockCount f)
 

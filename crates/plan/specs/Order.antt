@@ -11,17 +11,17 @@ use Rattle.block_file.specs.Parse.{Accepted}
 use Rattle.plan.specs.Plan.{withRoot, closes}
 
 -- of `left` blocks from block k on those whose root is r, by a list of all roots
-abbrev pub rooted : List ℕ → ℕ → ℕ → ℕ → List ℕ
-rooted roots r left k = withRoot (λ (i : ℕ). getD roots i 0) r left k
+abbrev pub withRootIn : List ℕ → ℕ → ℕ → ℕ → List ℕ
+withRootIn roots r left k = withRoot (λ (i : ℕ). getD roots i 0) r left k
 
 -- what is left of component r from member h on, where there are n blocks
 unfoldable pub membersFrom : List ℕ → ℕ → ℕ → ℕ → List ℕ
-membersFrom roots r n h = cond (ltb h n) (h ∷ rooted roots r (n - suc h) (suc h)) []
+membersFrom roots r n h = cond (ltb h n) (h ∷ withRootIn roots r (n - suc h) (suc h)) []
 
 -- the blocks of the components with the `left` roots from r on, where there are n blocks
 unfoldable pub orderFrom : List ℕ → ℕ → ℕ → ℕ → List ℕ
 orderFrom roots n zero r = []
-orderFrom roots n (suc left) r = rooted roots r n 0 ++ orderFrom roots n left (suc r)
+orderFrom roots n (suc left) r = withRootIn roots r n 0 ++ orderFrom roots n left (suc r)
 
 -- the group numbers of some members of a component, where group g is reached and has a total of instructions
 unfoldable pub numbersOf : ℕ → List ℕ → ℕ → ℕ → Bool → List ℕ → List ℕ
@@ -41,8 +41,8 @@ nextGroup limit counts g total isOpen (i ∷ is) =
 unfoldable pub numbersFrom : ℕ → List ℕ → List ℕ → ℕ → ℕ → ℕ → ℕ → List ℕ
 numbersFrom limit counts roots n g zero r = []
 numbersFrom limit counts roots n g (suc left) r =
-    numbersOf limit counts g 0 false (rooted roots r n 0)
-    ++ numbersFrom limit counts roots n (nextGroup limit counts g 0 false (rooted roots r n 0)) left (suc r)
+    numbersOf limit counts g 0 false (withRootIn roots r n 0)
+    ++ numbersFrom limit counts roots n (nextGroup limit counts g 0 false (withRootIn roots r n 0)) left (suc r)
 
 -- counts has the instruction count of each block of a file
 abbrev pub HasCounts : List ℕ → List ℕ → Type 0

@@ -33,7 +33,7 @@ joinBlocks all p i (b ∷ bs) = joinBlocks all (joinBlock all i b p) (suc i) bs
 unfoldable pub parents : List Block → List ℕ
 parents bs = joinBlocks bs (range (length bs) 0) 0 bs
 
--- of n blocks from block i on those whose root is r
+-- of n blocks from block i on those whose root is r, where rootOf gives a block's root
 unfoldable pub withRoot : (ℕ → ℕ) → ℕ → ℕ → ℕ → List ℕ
 withRoot rootOf r zero i = []
 withRoot rootOf r (suc n) i = cond (eqb (rootOf i) r) (i ∷ withRoot rootOf r n (suc i)) (withRoot rootOf r n (suc i))
@@ -57,8 +57,8 @@ abbrev pub asParts : List ℕ → List (List ℕ)
 asParts [] = []
 asParts (i ∷ is) = (i ∷ is) ∷ []
 
--- whether a part is empty
-abbrev pub isEmpty : List ℕ → Bool
+-- whether a list is empty
+abbrev pub isEmpty : {A : Type 0} → List A → Bool
 isEmpty [] = true
 isEmpty (i ∷ is) = false
 

@@ -9,7 +9,7 @@ use lib.Dec.{leb, ltb, eqb}
 use borrow.Author.Tests.{le-ltb, lt-ltb, le-leb, lt-leb, eq-eqb, ne-eqb}
 use Rattle.records.specs.Trailer.{edition, blocksBack, blockCount, instrsBack, instrCount, codeBack, codeCount, fileLength, withinLimits, trailerRight}
 use Rattle.records.specs.BlockRecord.{addrAt, flagsAt, countAt, lengthAt, aligned, codeRight, blockRight}
-use Rattle.records.proofs.Sections.{right-true}
+use Rattle.armv4t.proofs.Bools.{right-true}
 
 module _ (f : List ℕ) where
   pub many-blocks : 65536 < blockCount f → false ≡ withinLimits f

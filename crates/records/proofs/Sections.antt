@@ -1,27 +1,20 @@
 -- What the rules of the trailer say of where the records stand.
 -- Assumes nothing.
-use mathlib.Core.Path.{_≡_, refl, sym}
-use mathlib.Core.Bool.{Bool, true, false, _&&_, true≢false}
+use mathlib.Core.Path.{_≡_}
+use mathlib.Core.Bool.{Bool, true, _&&_}
 use mathlib.Core.List.{List}
 use Prim.Native.Nat.{ℕ, _+_, _*_}
 use lib.ListN.{length}
 use lib.Dec.{eqb}
 use borrow.Author.Tests.{eqb-true}
 use Rattle.records.specs.Trailer.{edition, blocksBack, blockCount, instrsBack, instrCount, codeBack, codeCount, fileLength, trailerRight}
+use Rattle.armv4t.proofs.Bools.{left-true, right-true}
 
 -- the sections of a file with a right trailer
 pub record Sections (f : List ℕ) : Type 0 where
   pub blocks : blocksBack f ≡ 32 + 16 * blockCount f
   pub instrs : instrsBack f ≡ 32 + 16 * blockCount f + 16 * instrCount f
   pub touch : codeCount f + instrsBack f ≡ length f
-
-left-true : (a b : Bool) → (a && b) ≡ true → a ≡ true
-left-true true b e = refl
-left-true false b e = e
-
-pub right-true : (a b : Bool) → (a && b) ≡ true → b ≡ true
-right-true true b e = e
-right-true false b e = absurd (true≢false (sym e))
 
 module _ (a b c d e g : Bool) (all : (a && b && c && d && e && g) ≡ true) where
   fifth : e ≡ true

@@ -21,13 +21,10 @@ use Rattle.block_file.proofs.IsBlock.{missing, nth-block, found-inside, found-r
 use Rattle.block_file.proofs.Keys.{block-key, keys-rise}
 use Rattle.search.specs.Target.{joinable, onPage8, target}
 use Rattle.search.specs.Search.{Between, FirstFrom}
+use Rattle.block_file.proofs.Nowhere.{nowhere}
 
 zero-lt : (n : ℕ) → 0 < suc n
 zero-lt n = omega arith
-
--- a block to read past the end of a list
-nowhere : Block
-nowhere = record { addr = 0; thumb = false; code = none; instrs = [] }
 
 -- no block with the key can be joined
 pub target-none : (k : ℕ) (bs : List Block) (i : ℕ) (d : Block)

@@ -19,9 +19,10 @@ use Rattle.ways.proofs.Faithful.{Faithful}
 use Rattle.ways.specs.Claim.{timesCarried, allUnits}
 use Rattle.ways.specs.Complete.{functionCount, BlockHasWay, Complete}
 use Rattle.ways.proofs.Places.{found-at}
-use Rattle.ways.proofs.Members.{nowhere, File, bodies, key-of, is-member, same-place}
+use Rattle.ways.proofs.Members.{File, bodies, key-of, is-member, same-place}
 use Rattle.ways.proofs.Entered.{entered}
 use Rattle.ways.proofs.Pieces.{Part, group-part, in-part, inGroups, no-end, functions-cut, group-count}
+use Rattle.block_file.proofs.Nowhere.{nowhere}
 
 count-none : (k : ℕ) → count k [] ≡ 0
 unfolding count

@@ -1,9 +1,9 @@
 -- The groups of an accepted file as the ways meet them: members, counts, keys.
 use Prim.Native.Nat.{ℕ, zero, suc, _+_, _%_, _≤_, _<_}
 use mathlib.Core.Path.{_≡_, refl, sym, ap, ap₂, _∙_, subst}
-use mathlib.Core.Bool.{Bool, false, cond}
+use mathlib.Core.Bool.{Bool, cond}
 use mathlib.Core.List.{List, [], _∷_, map, List·Memᴰ, Memᴰ·map, Memᴰ·of-map}
-use mathlib.Core.Option.{Option, none}
+use mathlib.Core.Option.{Option}
 use native.Mathlib.Omega.{arith}
 use lib.ListN.{length, getD}
 use Rattle.block_file.specs.Parse.{Block, Parsed, parse, blockKey}
@@ -21,10 +21,7 @@ use Rattle.ways.proofs.Behind.{Apart}
 use Rattle.ways.proofs.Places.{at-member, place-of}
 use Rattle.ways.proofs.File.{block-even, block-filled, one-key}
 use Rattle.ways.proofs.Functions.{Many}
-
--- a block to read past the end of a list
-pub nowhere : Block
-nowhere = record { addr = 0; thumb = false; code = none; instrs = [] }
+use Rattle.block_file.proofs.Nowhere.{nowhere}
 
 -- what the groups of an accepted file have
 pub record Good (limit : ℕ) (bodies g : List Body) : Type 0 where

@@ -28,7 +28,8 @@ use Rattle.ways.proofs.Once.{lone-rises, once-of}
 use Rattle.ways.proofs.Behind.{Allowed, Apart, History, history-rules, lone-seen, behind-of}
 use Rattle.ways.proofs.Places.{found-at}
 use Rattle.ways.proofs.Functions.{Own, head-foreign, end-foreign, InGroup, from-cut, Many, forwarder, Alone, Among, block-stands, group-stands}
-use Rattle.ways.proofs.Members.{nowhere, Good, File, bodies, key-of, member-of, several, one, good, same-place, apart}
+use Rattle.ways.proofs.Members.{Good, File, bodies, key-of, member-of, several, one, good, same-place, apart}
+use Rattle.block_file.proofs.Nowhere.{nowhere}
 
 -- a way from a forwarder is none, or one through a group's function
 called : {ts : List Top} {f : Code} {k n : ℕ} {xs : List Bool} {es : List Event} → Way ts f (forwarder k n) xs es

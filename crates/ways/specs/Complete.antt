@@ -15,20 +15,20 @@ use Rattle.ways.specs.Ways.{Event, Way}
 use Rattle.ways.specs.Claim.{timesCarried, allUnits}
 
 -- 1 for the function of the block with the key k, else 0
-abbrev pub isFunctionOf : ℕ → Top → ℕ
-isFunctionOf k opening = 0
-isFunctionOf k (function (helper h) c) = 0
-isFunctionOf k (function (block j) c) = cond (eqb k j) 1 0
-isFunctionOf k (function (group j) c) = 0
-isFunctionOf k blank = 0
-isFunctionOf k (extern j) = 0
-isFunctionOf k (table js) = 0
-isFunctionOf k (count n) = 0
+abbrev pub functionTimes : ℕ → Top → ℕ
+functionTimes k opening = 0
+functionTimes k (function (helper h) c) = 0
+functionTimes k (function (block j) c) = cond (eqb k j) 1 0
+functionTimes k (function (group j) c) = 0
+functionTimes k blank = 0
+functionTimes k (extern j) = 0
+functionTimes k (table js) = 0
+functionTimes k (count n) = 0
 
 -- how often a tree has that function
 abbrev pub functionCount : ℕ → List Top → ℕ
 functionCount k [] = 0
-functionCount k (t ∷ ts) = isFunctionOf k t + functionCount k ts
+functionCount k (t ∷ ts) = functionTimes k t + functionCount k ts
 
 module _ (toBody : Block → Body) where
   -- what there is of block i, which is b

@@ -1,6 +1,7 @@
 -- `emit_alu::alu::put_alu` meets its contract: what its calls write, one after another. Assumes nothing.
 use mathlib.Core.Path.{refl}
-use Rattle.emit_alu.proofs.Texts.{zero-u, one-u}
+use Rattle.emit_alu.proofs.Texts.{one-u}
+use Rattle.emit_operands.proofs.Operands.{zero-text as zero-u}
 use Rattle.emit_operands.proofs.Operands.{carry-in-text}
 use Rattle.forms.specs.Operands.{carryIn, operandOf}
 use Rattle.c_tree.specs.Expr.{udec, compl, lit, un}

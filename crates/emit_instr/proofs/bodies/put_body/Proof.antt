@@ -4,7 +4,7 @@ use mathlib.Core.Bool.{_&&_, _||_}
 use mathlib.Core.Option.{Option·some-injective, Option·none-ne-some}
 use mathlib.Core.Path.{refl, sym, _∙_}
 use Rattle.armv4t.specs.declared.Op.the-variants.{Alu, Mul, MulLong, Mem, BlockMem}
-use Rattle.armv4t.specs.RegisterList.{lists}
+use Rattle.armv4t.specs.RegisterList.{isListed}
 use Rattle.emit_alu.proofs.Bodies.{mul-lines}
 use Rattle.emit_instr.proofs.Lined.{as-lines, known-body, tested, tested-lines, alu-by-pc}
 use Rattle.emit_instr.proofs.Operations.{no-lines}
@@ -60,7 +60,7 @@ returns-5 c =
     let v = known .op5 .given .0 in
     λ body e.
     let e′ = known-body (a .thumb) (a .i) (BlockMem (v .0) (v .1 .0) (v .1 .1 .0) (v .1 .1 .1 .0) (v .1 .1 .1 .1 .0) (v .1 .1 .1 .1 .1 .0) (v .1 .1 .1 .1 .1 .1 .0)) body (known .op5 .given .1) e in
-    as-lines _ body (tested-lines ((v .1 .1 .1 .1 .1 .0) || eqb (v .1 .1 .0) 0 || eqb (v .1 .0) 15 || ((v .0) && lists (v .1 .1 .0) 15)) _ body e′) (done .put-block-mem .ensures)
+    as-lines _ body (tested-lines ((v .1 .1 .1 .1 .1 .0) || eqb (v .1 .1 .0) 0 || eqb (v .1 .0) 15 || ((v .0) && isListed (v .1 .1 .0) 15)) _ body e′) (done .put-block-mem .ensures)
 
 returns-6 : tie.Need-returns-6
 returns-6 c =

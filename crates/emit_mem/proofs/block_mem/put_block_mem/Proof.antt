@@ -9,7 +9,7 @@ use Rattle.c_tree.specs.Stmt.{end}
 use Rattle.emit_mem.proofs.Lines.{lines-both}
 use Rattle.forms.specs.Forms.{Lines}
 use Rattle.forms.specs.InlineBody.{apart, let32, listed, movedBase, start, loadsOrStores}
-use Rattle.armv4t.specs.RegisterList.{lists}
+use Rattle.armv4t.specs.RegisterList.{isListed}
 use Rattle.text.proofs.Laws.{seq, said, kept}
 use Rattle.emit_mem.proofs.block_mem.put_block_mem.Statement.{statement}
 use Rattle.emit_mem.proofs.block_mem.put_block_mem.Tie as tie
@@ -23,7 +23,7 @@ returns c =
     let total : ℕ = c1 .bytes-listed .result in
     let first : Lines = apart (let32 x-base (get (reg (a .rn))) ∷ let32 x-addr (start (a .up) (a .pre) total) ∷ []) in
     let rest : Lines =
-    loadsOrStores (a .load) (a .i) (a .rn) (a .writeback) (lists (a .rlist) (a .rn)) (movedBase (a .up) total) (listed (a .rlist) 16) in
+    loadsOrStores (a .load) (a .i) (a .rn) (a .writeback) (isListed (a .rlist) (a .rn)) (movedBase (a .up) total) (listed (a .rlist) 16) in
     rw (sym (c1 .bytes-listed .ensures .0)) (said (seq (c2 .put-block-base .ensures) (c3 .put-transfers .ensures)) (lines-both 8 first rest end []))
 
 pub put-block-mem-spec : {M : Type 1} → statement M

@@ -2,7 +2,7 @@
 -- Assumes nothing.
 use mathlib.Core.Bool.{and-false, not, _&&_}
 use lib.Dec.{eqb}
-use Rattle.armv4t.specs.RegisterList.{lists}
+use Rattle.armv4t.specs.RegisterList.{isListed}
 use borrow.Author.Needs.{needs}
 use mathlib.Core.Path.{refl, sym, _∙_}
 use Rattle.emit_mem.proofs.pop.is_pop.Statement.{statement}
@@ -17,7 +17,7 @@ returns c = λ i e.
 returns-2 : tie.Need-returns-2
 returns-2 c = λ i e.
     let up = c .before in
-    rw (sym (up .before .is-upward-load .ensures) ∙ up .if1 .taken, sym e ∙ c .if2 .left) (sym (and-false (lists (up .before .before .args .rlist) 15 && not (eqb (up .before .before .args .rn) 15))))
+    rw (sym (up .before .is-upward-load .ensures) ∙ up .if1 .taken, sym e ∙ c .if2 .left) (sym (and-false (isListed (up .before .before .args .rlist) 15 && not (eqb (up .before .before .args .rn) 15))))
 
 returns-3 : tie.Need-returns-3
 returns-3 c = λ i e. rw (sym (c .before .is-upward-load .ensures) ∙ c .if1 .left) refl
