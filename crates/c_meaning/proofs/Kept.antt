@@ -13,6 +13,7 @@ use Rattle.c_meaning.specs.Eval.{ty, eval, evalAs}
 use Rattle.c_meaning.specs.Exec.{Goes, on, to, back, Outcome, next, ended, returned, newValue, procTy, declares, initialise, others, exec, asks, returns, step, runs}
 use Rattle.c_meaning.specs.Helpers.{body, arguments, noRor, noCall, called, rotated}
 use Rattle.c_meaning.specs.Helpers as H
+use Rattle.c_tree.proofs.Statements.{EachStatement}
 
 -- P of what is defined
 data All {A : Type 0} (P : A → Type 0) : Option A → Type 0 where
@@ -129,7 +130,7 @@ assigned-over y k v [] = undefined
 assigned-over y k v (f ∷ fs) = assignIn-over (f k) y k v f fs (assigned y k v fs) refl (assigned-over y k v fs)
 
 -- a statement calls the interpreter only if it may
-abbrev Permits : Bool → Simple → Type 0
+abbrev pub Permits : Bool → Simple → Type 0
 Permits may (gap l n) = Unit {0}
 Permits may (recordMark k i n) = Unit {0}
 Permits may (plain o s) = Unit {0}
@@ -144,10 +145,7 @@ Permits may (switch ks) = Unit {0}
 
 -- the same of each statement of code
 abbrev Allows : Bool → Code → Type 0
-Allows may end = Unit {0}
-Allows may (s ⨾ c) = Permits may s × Allows may c
-Allows may (when o n t b c) = Allows may b × Allows may c
-Allows may (braces b c) = Allows may b × Allows may c
+Allows may c = EachStatement (Permits may) c
 
 -- code that does not call the interpreter
 abbrev pub Quiet : Code → Type 0

@@ -3,3 +3,4 @@ pub mod Laws
 pub mod Lengths
 pub mod Clean
 pub mod Skeleton
+pub mod Statements

@@ -1,11 +1,11 @@
 -- What reads of memory give, and addresses without their low bits.
 use mathlib.Core.Path.{_≡_, refl, sym, ap, _∙_, subst}
 use mathlib.Core.Bool.{Bool, true, false, cond}
-use Prim.Native.Nat.{ℕ, _+_, _*_, _/_, _%_, _≤_, _<_}
+use Prim.Native.Nat.{ℕ, _+_, _-_, _*_, _/_, _%_, _^_, _≤_, _<_}
 use native.Mathlib.Nat.{mod-eq-of-lt, le-trans}
 use native.Mathlib.Omega.{arith}
 use lib.Dec.{T, leb, eqb, eqb→eq, lit<, lit≤, leb→le, le→leb}
-use Rattle.words.specs.Word.{bit, oneIf}
+use Rattle.words.specs.Word.{AND, bit, oneIf}
 use Rattle.words.proofs.Bits.{and-mask, and-high, bool-ext}
 use Rattle.c_tree.specs.Expr.{s8, s16, s32, u32, udec, compl, mul, band, w8, w16, w32, Expr, lit, par, un, bin, cast, pick, read}
 use Rattle.c_meaning.specs.State.{State, load, byte}
@@ -72,9 +72,15 @@ unfolding eval
 r-pick true p q r = record { typed = rw (q .typed, r .typed); gives = rw (p .gives, q .gives, q .typed, r .typed); small = q .small }
 r-pick false p q r = record { typed = rw (q .typed, r .typed); gives = rw (p .gives, r .gives, q .typed, r .typed); small = r .small }
 
+-- e & ~m, where ~m has all but the k lowest bits
+r-cleared : {z : State} {e : Expr} {x : ℕ} (m j k : ℕ) → m < 4294967296 → 4294967295 - m ≡ 2 ^ (j + k) - 2 ^ k → x / 2 ^ k < 2 ^ j
+    → Reads e z x → Reads (bin band e (un compl (lit udec m))) z (x / 2 ^ k * 2 ^ k)
+r-cleared {x = x} m j k l e h p =
+    to (ap (AND x) e ∙ and-high x j k ∙ ap (λ (n : ℕ). n * 2 ^ k) (mod-eq-of-lt h)) (r-and p (r-not (r-udec l)))
+
 -- e & ~1u
 pub r-even : {z : State} {e : Expr} {x : ℕ} → Reads e z x → Reads (bin band e (un compl (lit udec 1))) z (x / 2 * 2)
-r-even {x = x} p = to (and-high x 31 1 ∙ ap (λ (k : ℕ). k * 2) (mod-eq-of-lt (half x (p .small)))) (r-and p (r-not (r-udec (lit< tt))))
+r-even {x = x} p = r-cleared 1 31 1 (lit< tt) refl (half x (p .small)) p
   where
     half : (x : ℕ) → x < 4294967296 → x / 2 < 2147483648
     half x h = omega arith
@@ -85,7 +91,7 @@ r-one {x = x} p = to (and-mask x 1) (r-par (r-and p (r-udec (lit< tt))))
 
 -- e & ~3u
 pub r-aligned : {z : State} {e : Expr} {x : ℕ} → Reads e z x → Reads (bin band e (un compl (lit udec 3))) z (x / 4 * 4)
-r-aligned {x = x} p = to (and-high x 30 2 ∙ ap (λ (k : ℕ). k * 4) (mod-eq-of-lt (quarter x (p .small)))) (r-and p (r-not (r-udec (lit< tt))))
+r-aligned {x = x} p = r-cleared 3 30 2 (lit< tt) refl (quarter x (p .small)) p
   where
     quarter : (x : ℕ) → x < 4294967296 → x / 4 < 1073741824
     quarter x h = omega arith

@@ -4,6 +4,7 @@ pub mod Binds
 pub mod Lengths
 pub mod Measured
 pub mod Starred
+pub mod Statements
 pub mod Units
 pub mod Whole
 pub mod LinesBehind

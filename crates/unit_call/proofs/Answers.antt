@@ -3,7 +3,7 @@ use mathlib.Core.Path.{_≡_, refl, sym, ap, ap₂, _∙_}
 use Prim.Native.Nat.{ℕ, zero, suc, _*_, _≤_, _<_}
 use native.Mathlib.Omega.{arith}
 use borrow.Author.Tests.{lt-ltb, le-ltb}
-use mathlib.Core.Bool.{Bool}
+use mathlib.Core.Bool.{Bool, true, false, cond}
 use mathlib.Core.List.{List, [], _∷_, _++_, map}
 use mathlib.Core.Option.{Option, none, some, Option·none-ne-some, Option·some-injective}
 use lib.ListN.{length, drop, getElem?}
@@ -16,6 +16,12 @@ use Rattle.plan.specs.Calls.{cleared, Made, CallOutcome, handOver, callOnBlocks
 use Rattle.lowering.specs.Units.{UnitAnswer, madeUnit, unit, textOf, fileUnits}
 use Rattle.emit_units.specs.declared.extents.Extent.{Extent}
 use Rattle.emit_units.specs.Units.{IsUnit}
+use mir.Val.{boolByte}
+
+-- a boolean as a number
+pub bool-byte : (b : Bool) → boolByte b ≡ cond b 1 0
+bool-byte true = refl
+bool-byte false = refl
 
 get-none : {A B : Type 0} (g : A → B) (xs : List A) (k : ℕ) → getElem? xs k ≡ none → getElem? (map g xs) k ≡ none
 get-none g [] k e = refl

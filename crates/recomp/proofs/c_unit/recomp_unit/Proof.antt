@@ -2,20 +2,13 @@
 -- Assumes nothing.
 use Rattle.unit_call.specs.Calls.{translatedOf}
 use borrow.Author.Needs.{needs}
-use mathlib.Core.Path.{_≡_, refl}
-use mathlib.Core.Bool.{Bool, true, false, cond}
-use mir.Val.{boolByte}
 use Rattle.recomp.proofs.c_unit.recomp_unit.Statement.{statement}
 use Rattle.recomp.proofs.c_unit.recomp_unit.Tie as tie
-
--- a boolean as a number
-bit : (b : Bool) → boolByte b ≡ cond b 1 0
-bit true = refl
-bit false = refl
+use Rattle.unit_call.proofs.Answers.{bool-byte}
 
 returns : tie.Need-returns
 unfolding translatedOf
-returns c = (rw (← c .before .before .before .before .before .before .before .unit .ensures .0, c .before .n .given .1, bit (c .before .n .given .0 .1 .1 .0)), c .before .before .before .before .before .before .before .unit .ensures .1)
+returns c = (rw (← c .before .before .before .before .before .before .before .unit .ensures .0, c .before .n .given .1, bool-byte (c .before .n .given .0 .1 .1 .0)), c .before .before .before .before .before .before .before .unit .ensures .1)
 
 returns-2 : tie.Need-returns-2
 unfolding translatedOf
