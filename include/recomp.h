@@ -41,25 +41,25 @@ extern "C" {
 #endif
 
 /* Whether the file is accepted: refusals 1 to 7, or the number of its blocks and instructions.
- * Definition: `parse` in crates/block_file/specs/Parse.antt. */
+ * Definition: `parse` in crates/file_blocks/specs/Parse.antt. */
 uint32_t recomp_check(const uint8_t *file, size_t file_len,
                       uint64_t *at, uint64_t *blocks, uint64_t *instructions);
 
 /* The keys that block `block` (from 0) can statically go to: `*count` of them, 0 to 2, a branch's
  * target before the fall-through; `*first` and `*second` are 0 where there is none.
- * Refusals 1 to 7 and 9. Definition: `exitsCall` in crates/block_exits/specs/Calls.antt. */
+ * Refusals 1 to 7 and 9. Definition: `exitsCall` in crates/plan_exits/specs/Calls.antt. */
 uint32_t recomp_exits(const uint8_t *file, size_t file_len, uint64_t block,
                       uint64_t *at, uint64_t *count, uint64_t *first, uint64_t *second);
 
 /* The plan: for each of the `*blocks` blocks its group and its number in the file, both from 0, in
  * the order of emission. It needs 2 * blocks numbers.
- * Refusals 1 to 8 and 10. Definition: `planCall` in crates/plan/specs/Calls.antt. */
+ * Refusals 1 to 8 and 10. Definition: `planCall` in crates/plan_groups/specs/Calls.antt. */
 uint32_t recomp_plan(const uint8_t *file, size_t file_len, uint32_t *work, size_t work_len,
                      uint32_t *plan, size_t plan_len, uint64_t *at, uint64_t *blocks);
 
 /* The listing: a header, then a line for each block in file order with key, group and exits. It is
  * `*length` bytes of ASCII, with no zero byte behind it.
- * Refusals 1 to 8 and 10. Definition: `listingCall` in crates/list_blocks/specs/Calls.antt. */
+ * Refusals 1 to 8 and 10. Definition: `listingCall` in crates/call_listing/specs/Calls.antt. */
 uint32_t recomp_listing(const uint8_t *file, size_t file_len, uint32_t *work, size_t work_len,
                         uint8_t *text, size_t text_len, uint64_t *at, uint64_t *length);
 
@@ -68,15 +68,15 @@ uint32_t recomp_listing(const uint8_t *file, size_t file_len, uint32_t *work, si
  * it and in all units before it, `*last` is 1 for the last unit and 0 for the others. Every accepted
  * file has a last unit, at every size; refusal 9 is given for every number above that unit's.
  * Each call goes through the file from its start, and its time does not depend on earlier calls.
- * Refusals 1 to 10. Definition: `unitCall` in crates/unit_call/specs/Calls.antt. It is also proved
+ * Refusals 1 to 10. Definition: `unitCall` in crates/call_unit/specs/Calls.antt. It is also proved
  * that along every way through the units, at every size, at most 8,192 instructions are carried out
  * between two calls of the chain gate in a group of several blocks, that a block alone in its group
  * carries out no instruction twice, and that native code of a block outside ROM and BIOS is reached
- * only after the guard said yes to it: `Demand3Of` in crates/ways/specs/Demand3.antt; and that the
+ * only after the guard said yes to it: `Demand3Of` in crates/claim_ways/specs/Demand3.antt; and that the
  * text of each block, read by C99, does what the ARM manual says of the instructions that are lowered
  * to C, and what interp_one does for the others (supposed to be a step of the machine that leaves in
  * c[15] the address of the key which it answers), but for the records that docs/DIFFERENCES.md names
- * and, as a whole, the blocks that hold one: `MeaningOf` in crates/meaning/specs/Meaning.antt. */
+ * and, as a whole, the blocks that hold one: `MeaningOf` in crates/claim_meaning/specs/Meaning.antt. */
 uint32_t recomp_unit(const uint8_t *file, size_t file_len, uint64_t max_bytes, uint64_t unit,
                      uint32_t *work, size_t work_len, uint8_t *text, size_t text_len,
                      uint64_t *at, uint64_t *length, uint64_t *done, uint64_t *last);

@@ -4,7 +4,7 @@ use Prim.Native.Nat.{ℕ, _+_, _-_, _*_, _/_, _%_, _^_}
 use mathlib.Core.Bool.{Bool, not, cond, _&&_, _||_, Bool·beq}
 use mathlib.Core.Option.{Option, none, some}
 use lib.Dec.{ltb, leb, eqb}
-use Rattle.words.specs.Word.{AND, OR, EOR}
+use Rattle.base_words.specs.Word.{AND, OR, EOR}
 use Rattle.c_tree.specs.Expr.{Ty, s32, u32, Style, word, caps, uhex, udec, int, Un, compl, lnot, Bin, mul, add, sub, shl, shr, eq, ne, band, bxor, bor, land, lor, Expr, lit, get, par, un, bin, orLine, cast, pick, ror, read}
 use Rattle.c_meaning.specs.Types.{width, signed, promote, commonType, negative, convert}
 use Rattle.c_meaning.specs.State.{bind, State, value, placeTy, load}

@@ -4,7 +4,7 @@ use mathlib.Core.Path.{_≡_, refl}
 use mathlib.Core.Bool.{true, false}
 use mathlib.Core.List.{[], _∷_}
 use mathlib.Core.Option.{Option, none, some}
-use Rattle.words.specs.Word.{AND, OR, EOR}
+use Rattle.base_words.specs.Word.{AND, OR, EOR}
 use Rattle.c_tree.specs.Expr.{s8, s32, u32, s64, word, udec, int, x-r, x-pc, reg, var, mul, add, sub, shl, shr, land, lor, w8, w32, lit, get, par, bin, cast, ror, read}
 use Rattle.c_tree.specs.Stmt.{is, plus, f-nz, f-c, local, declare, adds, set, discard, run, write, gate, other, common, plain, goto, ret, retIf, interp, retInterp, end, _⨾_, when, braces}
 use Rattle.c_tree.specs.Preamble.{v32}

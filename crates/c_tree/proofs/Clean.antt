@@ -10,8 +10,8 @@ use mathlib.Core.Bool.{Bool, true, false, not, cond, _&&_, _||_, true≢false}
 use mathlib.Core.List.{List, [], _∷_, _++_}
 use borrow.Author.Tests.{lt-ltb, le-ltb}
 use lib.Dec.{eqb, leb}
-use Rattle.text.specs.Digits.{glyph, numeral, lastDigits}
-use Rattle.text.specs.Doc.{Doc, nothing, raw, text, dec, hex, hex8, hex16, _▸_, chars, decimal, hexadecimal, hexadecimal8, hexadecimal16, print, each}
+use Rattle.base_text.specs.Digits.{glyph, numeral, lastDigits}
+use Rattle.base_text.specs.Doc.{Doc, nothing, raw, text, dec, hex, hex8, hex16, _▸_, chars, decimal, hexadecimal, hexadecimal8, hexadecimal16, print, each}
 use Rattle.c_tree.specs.Expr.{Ty, s8, s16, s32, u32, s64, u64, Style, word, caps, uhex, udec, int, Name, x-r, x-base, x-ob, x-addr, x-t, x-s, x-cn, x-cz, x-cc, x-cv, x-pc, x-v, x-n, x-a, x-b, x-cin, x-w, Var, Place, reg, var, Un, compl, lnot, Bin, mul, add, sub, shl, shr, eq, ne, band, bxor, bor, land, lor, operator, Width, w8, w16, w32, Expr, lit, get, par, un, bin, orLine, cast, pick, ror, read}
 use Rattle.c_tree.specs.Stmt.{Set, is, plus, and, or, Proc, f-nz, f-c, f-nz64, Plain, registers, local, declare, adds, set, discard, run, write, tick, Test, guard, gate, other}
 use Rattle.c_tree.specs.Print.{tyName, upper, constantText, name, typed, placeText, unText, bits, exprText, setText, procName, declarator, plainText, testText}

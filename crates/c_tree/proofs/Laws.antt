@@ -4,8 +4,8 @@ use Prim.Native.Nat.{ℕ, _+_}
 use mathlib.Core.Bool.{Bool, _&&_, and-assoc}
 use mathlib.Core.List.{List, [], _++_}
 use lib.ListN.{length, length-append}
-use Rattle.text.specs.Doc.{_▸_, print, flat}
-use Rattle.text.proofs.Laws.{same-bytes, each-append}
+use Rattle.base_text.specs.Doc.{_▸_, print, flat}
+use Rattle.base_text.proofs.Laws.{same-bytes, each-append}
 use Rattle.c_tree.specs.Stmt.{Code, end, _⨾_, when, braces, _⧺_, Top}
 use Rattle.c_tree.specs.Print.{simpleText, codeText, unitText}
 use Rattle.c_tree.specs.Binds.{testBinds, simpleBinds, codeBinds}

@@ -2,7 +2,7 @@
 use mathlib.Core.Path.{_≡_}
 use Prim.Native.Nat.{_+_}
 use native.Mathlib.Omega.{arith}
-use Rattle.text.proofs.Lengths.{most}
+use Rattle.base_text.proofs.Lengths.{most}
 use Rattle.c_tree.specs.Stmt.{Code, end, _⨾_, when, braces, _⧺_}
 use Rattle.c_tree.specs.Print.{codeText}
 

@@ -4,8 +4,8 @@ use mathlib.Core.Bool.{true, _&&_}
 use Prim.Native.Nat.{ℕ}
 use mathlib.Core.List.{List}
 use lib.ListN.{length}
-use Rattle.text.specs.Digits.{numeral, lastDigits}
-use Rattle.text.specs.Doc.{Doc, text, _▸_, decimal, hexadecimal8, print, flat}
+use Rattle.base_text.specs.Digits.{numeral, lastDigits}
+use Rattle.base_text.specs.Doc.{Doc, text, _▸_, decimal, hexadecimal8, print, flat}
 use Rattle.c_tree.specs.Opening.{openingText}
 use Rattle.c_tree.specs.Print.{unitText}
 use Rattle.c_tree.specs.Binds.{level, binds, declaratorsBind, plainBinds, testBinds, simpleBinds, codeBinds}

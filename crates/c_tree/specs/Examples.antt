@@ -3,8 +3,8 @@ use Prim.Native.Nat.{ℕ}
 use mathlib.Core.Path.{_≡_, refl}
 use mathlib.Core.Bool.{true, false}
 use mathlib.Core.List.{List, [], _∷_}
-use Rattle.text.specs.Digits.{numeral, lastDigits}
-use Rattle.text.specs.Doc.{text, dec, _▸_, decimal, hexadecimal8, hexadecimal16, print, flat}
+use Rattle.base_text.specs.Digits.{numeral, lastDigits}
+use Rattle.base_text.specs.Doc.{text, dec, _▸_, decimal, hexadecimal8, hexadecimal16, print, flat}
 use Rattle.c_tree.specs.Expr.{u32, word, udec, int, x-r, x-s, x-cn, x-cz, x-cc, x-cv, x-pc, reg, lnot, shl, shr, band, ne, land, Expr, lit, get, par, un, bin}
 use Rattle.c_tree.specs.Stmt.{is, f-nz, f-c, Plain, registers, local, declare, set, discard, run, tick, guard, gate, other, native, common, gap, recordMark, plain, label, goto, ret, retIf, interp, retInterp, call, switch, Code, end, _⨾_, when, braces, block, group, Top, function, blank, extern, table, count}
 use Rattle.c_tree.specs.Print.{exprText, codeText, unitText}

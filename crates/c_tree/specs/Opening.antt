@@ -1,5 +1,5 @@
 -- The text of PREAMBLE up to its functions, a line for each line.
-use Rattle.text.specs.Doc.{Doc, text, _▸_}
+use Rattle.base_text.specs.Doc.{Doc, text, _▸_}
 
 -- comments, the table's mark for Windows, the types of the runtime's calls and of a table row
 abbrev pub openingText : Doc

@@ -2,7 +2,7 @@
 use libc::STDIN_FILENO;
 ghost use mathlib.Core.Path.{_≡_};
 ghost use Prim.Native.Nat.{_<_};
-ghost use Rattle.records.specs.Bytes.{wordAt};
+ghost use Rattle.file_records.specs.Bytes.{wordAt};
 ghost use Rattle.case_io.specs.Input.{Within};
 
 // The next number, of 32 bits, or that the input ends before its last byte.

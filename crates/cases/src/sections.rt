@@ -1,19 +1,19 @@
 // The sections of the input: a count of vectors, and the vectors.
+use case_answers::check_cases;
+use case_answers::exits_cases;
 use case_io::input;
 use case_io::input::Read;
 use case_io::report;
 use case_io::verdict::Section;
 use case_io::verdict::Verdict;
-use replay_answers::check_cases;
-use replay_answers::exits_cases;
 
 // Reads vector `k` of a section and tries it.
 fn replay_one(section: Section, k: u64) -> Verdict {
     match section {
         Section::Check => check_cases::replay_one(k),
         Section::Exits => exits_cases::replay_one(k),
-        Section::Plan => replay_plan::replay_one(k),
-        Section::Units => replay_units::replay_one(k),
+        Section::Plan => case_plan::replay_one(k),
+        Section::Units => case_units::replay_one(k),
     }
 }
 

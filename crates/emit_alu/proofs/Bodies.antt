@@ -10,14 +10,14 @@ use Rattle.armv4t.specs.declared.Operand2.{Operand2}
 use Rattle.armv4t.specs.declared.Instr.{Instr}
 use Rattle.armv4t.specs.declared.Op.the-variants.{Alu, Mul}
 use Rattle.armv4t.specs.Instr.{pcValue}
-use Rattle.text.specs.Doc.{_▸_, flat}
+use Rattle.base_text.specs.Doc.{_▸_, flat}
 use Rattle.c_tree.specs.Expr.{Expr}
 use Rattle.c_tree.specs.Stmt.{Plain, Owner, common, Code}
 use Rattle.c_tree.specs.Print.{codeText}
-use Rattle.forms.specs.Forms.{Lines}
-use Rattle.forms.specs.Operands.{regExpr, op2Exprs, regOf, operandOf}
-use Rattle.forms.specs.InlineBody.{apart, alu, aluBody, mulBody, opBody}
-use Rattle.lowering.specs.Block.{lines}
+use Rattle.lower_forms.specs.Forms.{Lines}
+use Rattle.lower_forms.specs.Operands.{regExpr, op2Exprs, regOf, operandOf}
+use Rattle.lower_forms.specs.InlineBody.{apart, alu, aluBody, mulBody, opBody}
+use Rattle.lower_units.specs.Block.{lines}
 use Rattle.emit_operands.specs.Operands.{isSome}
 use Rattle.emit_operands.proofs.Operands.{operand-of}
 use Rattle.emit_operands.proofs.Lines.{lines-owner, lines-behind}

@@ -6,13 +6,13 @@ use mathlib.Core.Bool.{Bool, true, false}
 use mathlib.Core.List.{List, [], _∷_, _++_}
 use mathlib.Core.Option.{Option, none, some}
 use Rattle.armv4t.specs.declared.AluOp.{AluOp}
-use Rattle.text.specs.Digits.{numeral}
-use Rattle.text.specs.Doc.{Doc, nothing, text, dec, _▸_, decimal, flat}
+use Rattle.base_text.specs.Digits.{numeral}
+use Rattle.base_text.specs.Doc.{Doc, nothing, text, dec, _▸_, decimal, flat}
 use Rattle.c_tree.specs.Expr.{u32, u64, udec, int, x-r, reg, var, mul, shl, shr, bor, Expr, lit, get, par, bin, cast}
 use Rattle.c_tree.specs.Stmt.{plus, f-nz, f-nz64, Plain, declare, set, run}
 use Rattle.c_tree.specs.Preamble.{v32}
 use Rattle.c_tree.specs.Print.{exprText, plainText, spaces}
-use Rattle.forms.specs.InlineBody.{only, let32, setReg, result, logicalC, sum, mulBody, wide, r64, mulLongBody}
+use Rattle.lower_forms.specs.InlineBody.{only, let32, setReg, result, logicalC, sum, mulBody, wide, r64, mulLongBody}
 use Rattle.emit_operands.specs.Operands.{carryText, isSome}
 use Rattle.emit_alu.specs.Rows.{statementsText, before, between, behind}
 

@@ -1,10 +1,10 @@
 -- The lines that an instruction is lowered to, and what stands around the terms of a sum.
 use mathlib.Core.Bool.{Bool, cond}
 use mathlib.Core.List.{List}
-use Rattle.text.specs.Doc.{Doc, text}
+use Rattle.base_text.specs.Doc.{Doc, text}
 use Rattle.c_tree.specs.Stmt.{Plain}
-use Rattle.forms.specs.InlineBody.{apart}
-use Rattle.lowering.specs.Block.{linesText}
+use Rattle.lower_forms.specs.InlineBody.{apart}
+use Rattle.lower_units.specs.Block.{linesText}
 
 -- statements in lines of their own, as text
 abbrev pub statementsText : List Plain → Doc

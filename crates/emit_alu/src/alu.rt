@@ -12,10 +12,10 @@ ghost use Prim.Native.Nat.{ℕ};
 ghost use mathlib.Core.Bool.{Bool};
 ghost use Rattle.armv4t.specs.declared.Instr.{Instr};
 ghost use Rattle.armv4t.specs.declared.Op.the-variants.{Alu};
-ghost use Rattle.text.specs.Wrote.{Wrote};
-ghost use Rattle.forms.specs.InlineBody.{alu, opBody};
+ghost use Rattle.base_text.specs.Wrote.{Wrote};
+ghost use Rattle.lower_forms.specs.InlineBody.{alu, opBody};
 ghost use Rattle.emit_operands.specs.Operands.{isSome};
-ghost use Rattle.forms.specs.Operands.{regOf, operandOf};
+ghost use Rattle.lower_forms.specs.Operands.{regOf, operandOf};
 ghost use Rattle.emit_alu.specs.Rows.{statementsText};
 
 // Whether data processing is lowered to lines.

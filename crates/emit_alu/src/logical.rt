@@ -8,14 +8,14 @@ use emit_operands::put_op2_value;
 use emit_operands::put_reg;
 ghost use mathlib.Core.Bool.{cond};
 ghost use mathlib.Core.List.{[], _∷_};
-ghost use Rattle.text.specs.Doc.{raw, text, _▸_};
-ghost use Rattle.text.specs.Wrote.{Wrote};
+ghost use Rattle.base_text.specs.Doc.{raw, text, _▸_};
+ghost use Rattle.base_text.specs.Wrote.{Wrote};
 ghost use Rattle.c_tree.specs.Expr.{x-r};
 ghost use Rattle.c_tree.specs.Stmt.{f-nz, run};
 ghost use Rattle.c_tree.specs.Preamble.{v32};
 ghost use Rattle.c_tree.specs.Print.{exprText};
-ghost use Rattle.forms.specs.InlineBody.{result, logicalC, logicalRest};
-ghost use Rattle.forms.specs.Operands.{regOf, operandOf};
+ghost use Rattle.lower_forms.specs.InlineBody.{result, logicalC, logicalRest};
+ghost use Rattle.lower_forms.specs.Operands.{regOf, operandOf};
 ghost use Rattle.emit_alu.specs.Rows.{statementsText};
 
 // The last line of data processing.
@@ -23,10 +23,10 @@ pub(crate) fn put_result(out: &mut [u8], at: usize, op: AluOp, rd: Reg) -> usize
     ensures { λ r. ⌜ Wrote (now (out .entry)) at (statementsText (result op rd ∷ [])) (now (out .exit)) r ⌝ }
 {
     if op.is_compare() {
-        return text::put(out, at, b"        (void)r;\n");
+        return base_text::put(out, at, b"        (void)r;\n");
     }
-    let p = text::put_then_dec(out, at, b"        c[", rd as u64);
-    text::put(out, p, b"] = r;\n")
+    let p = base_text::put_then_dec(out, at, b"        c[", rd as u64);
+    base_text::put(out, p, b"] = r;\n")
 }
 
 // The line that sets C, if the second operand gives a carry.
@@ -34,9 +34,9 @@ fn put_logical_c(out: &mut [u8], at: usize, op2: Operand2, pc: u32) -> usize
     ensures { λ r. ⌜ Wrote (now (out .entry)) at (statementsText (logicalC (operandOf pc op2 .1))) (now (out .exit)) r ⌝ }
 {
     if op2_has_carry(op2) {
-        let p = text::put(out, at, b"        f_c(c, ");
+        let p = base_text::put(out, at, b"        f_c(c, ");
         let q = put_op2_carry(out, p, op2, pc);
-        return text::put(out, q, b");\n");
+        return base_text::put(out, q, b");\n");
     }
     at
 }
@@ -46,7 +46,7 @@ fn put_flags(out: &mut [u8], at: usize, s: bool, op2: Operand2, pc: u32) -> usiz
     ensures { λ r. ⌜ Wrote (now (out .entry)) at (statementsText (cond s (run f-nz (v32 x-r) ∷ logicalC (operandOf pc op2 .1)) [])) (now (out .exit)) r ⌝ }
 {
     if s {
-        let p = text::put(out, at, b"        f_nz(c, r);\n");
+        let p = base_text::put(out, at, b"        f_nz(c, r);\n");
         return put_logical_c(out, p, op2, pc);
     }
     at
@@ -82,11 +82,11 @@ pub(crate) fn put_two(
 ) -> usize
     ensures { λ r. ⌜ Wrote (now (out .entry)) at (text "        uint32_t r = (" ▸ exprText (regOf pc rn) ▸ raw (now (t .entry)) ▸ exprText (operandOf pc op2 .0) ▸ text ");\n" ▸ statementsText (logicalRest op s rd (operandOf pc op2 .1))) (now (out .exit)) r ⌝ }
 {
-    let p = text::put(out, at, b"        uint32_t r = (");
+    let p = base_text::put(out, at, b"        uint32_t r = (");
     let q = put_reg(out, p, rn, pc);
-    let v = text::put(out, q, t);
+    let v = base_text::put(out, q, t);
     let w = put_op2_value(out, v, op2, pc);
-    let x = text::put(out, w, b");\n");
+    let x = base_text::put(out, w, b");\n");
     put_logical_rest(out, x, op, s, rd, op2, pc)
 }
 
@@ -104,8 +104,8 @@ pub(crate) fn put_one(
 ) -> usize
     ensures { λ r. ⌜ Wrote (now (out .entry)) at (raw (now (t .entry)) ▸ exprText (operandOf pc op2 .0) ▸ raw (now (u .entry)) ▸ statementsText (logicalRest op s rd (operandOf pc op2 .1))) (now (out .exit)) r ⌝ }
 {
-    let p = text::put(out, at, t);
+    let p = base_text::put(out, at, t);
     let q = put_op2_value(out, p, op2, pc);
-    let v = text::put(out, q, u);
+    let v = base_text::put(out, q, u);
     put_logical_rest(out, v, op, s, rd, op2, pc)
 }

@@ -6,12 +6,12 @@ ghost use mathlib.Core.Bool.{Bool};
 ghost use mathlib.Core.List.{[], _∷_};
 ghost use Rattle.armv4t.specs.declared.Instr.{Instr};
 ghost use Rattle.armv4t.specs.declared.Op.the-variants.{Mul};
-ghost use Rattle.text.specs.Wrote.{Wrote};
+ghost use Rattle.base_text.specs.Wrote.{Wrote};
 ghost use Rattle.c_tree.specs.Expr.{u32, u64, x-r, reg, var, int, mul, shl, shr, bor, lit, get, par, bin, cast};
 ghost use Rattle.c_tree.specs.Stmt.{plus, f-nz, f-nz64, declare, set, run};
 ghost use Rattle.c_tree.specs.Preamble.{v32};
 ghost use Rattle.c_tree.specs.Print.{exprText};
-ghost use Rattle.forms.specs.InlineBody.{only, let32, setReg, mulBody, wide, r64, mulLongBody, opBody};
+ghost use Rattle.lower_forms.specs.InlineBody.{only, let32, setReg, mulBody, wide, r64, mulLongBody, opBody};
 ghost use Rattle.emit_operands.specs.Operands.{isSome};
 ghost use Rattle.emit_alu.specs.Rows.{statementsText};
 
@@ -26,9 +26,9 @@ pub fn mul_is_inlined(rd: Reg) -> bool
 fn put_product(out: &mut [u8], at: usize, rs: Reg, rm: Reg) -> usize
     ensures { λ r. ⌜ Wrote (now (out .entry)) at (statementsText (let32 x-r (bin mul (get (reg rm)) (get (reg rs))) ∷ [])) (now (out .exit)) r ⌝ }
 {
-    let p = text::put_then_dec(out, at, b"        uint32_t r = c[", rm as u64);
-    let q = text::put_then_dec(out, p, b"] * c[", rs as u64);
-    text::put(out, q, b"];\n")
+    let p = base_text::put_then_dec(out, at, b"        uint32_t r = c[", rm as u64);
+    let q = base_text::put_then_dec(out, p, b"] * c[", rs as u64);
+    base_text::put(out, q, b"];\n")
 }
 
 // The line that adds rn, if acc is set.
@@ -36,8 +36,8 @@ fn put_more(out: &mut [u8], at: usize, acc: bool, rn: Reg) -> usize
     ensures { λ r. ⌜ Wrote (now (out .entry)) at (statementsText (only acc (set (var (u32, x-r)) plus (get (reg rn))))) (now (out .exit)) r ⌝ }
 {
     if acc {
-        let p = text::put_then_dec(out, at, b"        r += c[", rn as u64);
-        return text::put(out, p, b"];\n");
+        let p = base_text::put_then_dec(out, at, b"        r += c[", rn as u64);
+        return base_text::put(out, p, b"];\n");
     }
     at
 }
@@ -46,8 +46,8 @@ fn put_more(out: &mut [u8], at: usize, acc: bool, rn: Reg) -> usize
 fn put_low(out: &mut [u8], at: usize, rd: Reg) -> usize
     ensures { λ r. ⌜ Wrote (now (out .entry)) at (statementsText (setReg rd (v32 x-r) ∷ [])) (now (out .exit)) r ⌝ }
 {
-    let p = text::put_then_dec(out, at, b"        c[", rd as u64);
-    text::put(out, p, b"] = r;\n")
+    let p = base_text::put_then_dec(out, at, b"        c[", rd as u64);
+    base_text::put(out, p, b"] = r;\n")
 }
 
 // The line that sets N and Z, if s is set.
@@ -55,7 +55,7 @@ fn put_nz(out: &mut [u8], at: usize, s: bool) -> usize
     ensures { λ r. ⌜ Wrote (now (out .entry)) at (statementsText (only s (run f-nz (v32 x-r)))) (now (out .exit)) r ⌝ }
 {
     if s {
-        return text::put(out, at, b"        f_nz(c, r);\n");
+        return base_text::put(out, at, b"        f_nz(c, r);\n");
     }
     at
 }
@@ -84,22 +84,22 @@ fn put_wide(out: &mut [u8], at: usize, signed: bool, n: Reg) -> usize
     ensures { λ r. ⌜ Wrote (now (out .entry)) at (exprText (wide signed (get (reg n)))) (now (out .exit)) r ⌝ }
 {
     if signed {
-        let p = text::put_then_dec(out, at, b"(int64_t)(int32_t)c[", n as u64);
-        return text::put(out, p, b"]");
+        let p = base_text::put_then_dec(out, at, b"(int64_t)(int32_t)c[", n as u64);
+        return base_text::put(out, p, b"]");
     }
-    let q = text::put_then_dec(out, at, b"(uint64_t)c[", n as u64);
-    text::put(out, q, b"]")
+    let q = base_text::put_then_dec(out, at, b"(uint64_t)c[", n as u64);
+    base_text::put(out, q, b"]")
 }
 
 // The line of the product of 64 bits.
 fn put_long_product(out: &mut [u8], at: usize, signed: bool, rs: Reg, rm: Reg) -> usize
     ensures { λ r. ⌜ Wrote (now (out .entry)) at (statementsText (declare (u64, x-r) (cast u64 (par (bin mul (wide signed (get (reg rm))) (wide signed (get (reg rs)))))) [] ∷ [])) (now (out .exit)) r ⌝ }
 {
-    let p = text::put(out, at, b"        uint64_t r = (uint64_t)(");
+    let p = base_text::put(out, at, b"        uint64_t r = (uint64_t)(");
     let q = put_wide(out, p, signed, rm);
-    let v = text::put(out, q, b" * ");
+    let v = base_text::put(out, q, b" * ");
     let w = put_wide(out, v, signed, rs);
-    text::put(out, w, b");\n")
+    base_text::put(out, w, b");\n")
 }
 
 // The line that adds the two registers of the outcome as they were, if acc is set.
@@ -107,9 +107,9 @@ fn put_long_more(out: &mut [u8], at: usize, acc: bool, hi: Reg, lo: Reg) -> usiz
     ensures { λ r. ⌜ Wrote (now (out .entry)) at (statementsText (only acc (set (var (u64, x-r)) plus (bin bor (par (bin shl (cast u64 (get (reg hi))) (lit int 32))) (cast u64 (get (reg lo))))))) (now (out .exit)) r ⌝ }
 {
     if acc {
-        let p = text::put_then_dec(out, at, b"        r += ((uint64_t)c[", hi as u64);
-        let q = text::put_then_dec(out, p, b"] << 32) | (uint64_t)c[", lo as u64);
-        return text::put(out, q, b"];\n");
+        let p = base_text::put_then_dec(out, at, b"        r += ((uint64_t)c[", hi as u64);
+        let q = base_text::put_then_dec(out, p, b"] << 32) | (uint64_t)c[", lo as u64);
+        return base_text::put(out, q, b"];\n");
     }
     at
 }
@@ -118,9 +118,9 @@ fn put_long_more(out: &mut [u8], at: usize, acc: bool, hi: Reg, lo: Reg) -> usiz
 fn put_halves(out: &mut [u8], at: usize, hi: Reg, lo: Reg) -> usize
     ensures { λ r. ⌜ Wrote (now (out .entry)) at (statementsText (setReg lo (cast u32 r64) ∷ setReg hi (cast u32 (par (bin shr r64 (lit int 32)))) ∷ [])) (now (out .exit)) r ⌝ }
 {
-    let p = text::put_then_dec(out, at, b"        c[", lo as u64);
-    let q = text::put_then_dec(out, p, b"] = (uint32_t)r;\n        c[", hi as u64);
-    text::put(out, q, b"] = (uint32_t)(r >> 32);\n")
+    let p = base_text::put_then_dec(out, at, b"        c[", lo as u64);
+    let q = base_text::put_then_dec(out, p, b"] = (uint32_t)r;\n        c[", hi as u64);
+    base_text::put(out, q, b"] = (uint32_t)(r >> 32);\n")
 }
 
 // The line that sets N and Z by all 64 bits, if s is set.
@@ -128,7 +128,7 @@ fn put_nz64(out: &mut [u8], at: usize, s: bool) -> usize
     ensures { λ r. ⌜ Wrote (now (out .entry)) at (statementsText (only s (run f-nz64 r64))) (now (out .exit)) r ⌝ }
 {
     if s {
-        return text::put(out, at, b"        f_nz64(c, r);\n");
+        return base_text::put(out, at, b"        f_nz64(c, r);\n");
     }
     at
 }

@@ -8,12 +8,12 @@ use emit_operands::put_reg;
 ghost use mathlib.Core.Path.{_≡_};
 ghost use Prim.Native.Nat.{ℕ};
 ghost use mathlib.Core.List.{List, [], _∷_};
-ghost use Rattle.text.specs.Doc.{raw, text, _▸_, flat};
-ghost use Rattle.text.specs.Wrote.{Wrote};
+ghost use Rattle.base_text.specs.Doc.{raw, text, _▸_, flat};
+ghost use Rattle.base_text.specs.Wrote.{Wrote};
 ghost use Rattle.c_tree.specs.Expr.{compl, Expr, un};
 ghost use Rattle.c_tree.specs.Print.{exprText};
-ghost use Rattle.forms.specs.InlineBody.{result, sum};
-ghost use Rattle.forms.specs.Operands.{regOf, operandOf};
+ghost use Rattle.lower_forms.specs.InlineBody.{result, sum};
+ghost use Rattle.lower_forms.specs.Operands.{regOf, operandOf};
 ghost use Rattle.emit_alu.specs.Rows.{statementsText, before, between, behind};
 
 // What stands before the terms of a sum: with s the call of op_adds, which sets the flags.
@@ -21,9 +21,9 @@ fn put_before(out: &mut [u8], at: usize, s: bool) -> usize
     ensures { λ r. ⌜ Wrote (now (out .entry)) at (before s) (now (out .exit)) r ⌝ }
 {
     if s {
-        text::put(out, at, b"        uint32_t r = op_adds(c, ")
+        base_text::put(out, at, b"        uint32_t r = op_adds(c, ")
     } else {
-        text::put(out, at, b"        uint32_t r = ")
+        base_text::put(out, at, b"        uint32_t r = ")
     }
 }
 
@@ -32,9 +32,9 @@ fn put_between(out: &mut [u8], at: usize, s: bool) -> usize
     ensures { λ r. ⌜ Wrote (now (out .entry)) at (between s) (now (out .exit)) r ⌝ }
 {
     if s {
-        text::put(out, at, b", ")
+        base_text::put(out, at, b", ")
     } else {
-        text::put(out, at, b" + ")
+        base_text::put(out, at, b" + ")
     }
 }
 
@@ -43,9 +43,9 @@ fn put_behind(out: &mut [u8], at: usize, s: bool) -> usize
     ensures { λ r. ⌜ Wrote (now (out .entry)) at (behind s) (now (out .exit)) r ⌝ }
 {
     if s {
-        text::put(out, at, b");\n")
+        base_text::put(out, at, b");\n")
     } else {
-        text::put(out, at, b";\n")
+        base_text::put(out, at, b";\n")
     }
 }
 
@@ -54,7 +54,7 @@ fn put_sum_rest(out: &mut [u8], at: usize, op: AluOp, s: bool, rd: Reg, carry: &
     ensures { λ r. ⌜ Wrote (now (out .entry)) at (between s ▸ raw (now (carry .entry)) ▸ behind s ▸ statementsText (result op rd ∷ [])) (now (out .exit)) r ⌝ }
 {
     let p = put_between(out, at, s);
-    let q = text::put(out, p, carry);
+    let q = base_text::put(out, p, carry);
     let v = put_behind(out, q, s);
     put_result(out, v, op, rd)
 }
@@ -77,7 +77,7 @@ pub(crate) fn put_sum(
     let p = put_before(out, at, s);
     let q = put_reg(out, p, rn, pc);
     let v = put_between(out, q, s);
-    let w = text::put(out, v, t);
+    let w = base_text::put(out, v, t);
     let x = put_op2_value(out, w, op2, pc);
     put_sum_rest(out, x, op, s, rd, carry)
 }
@@ -99,7 +99,7 @@ pub(crate) fn put_reversed(
     let p = put_before(out, at, s);
     let q = put_op2_value(out, p, op2, pc);
     let v = put_between(out, q, s);
-    let w = text::put(out, v, b"~");
+    let w = base_text::put(out, v, b"~");
     let x = put_reg(out, w, rn, pc);
     put_sum_rest(out, x, op, s, rd, carry)
 }

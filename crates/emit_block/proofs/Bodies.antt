@@ -7,28 +7,28 @@ use mathlib.Core.List.{List, [], map}
 use mathlib.Core.Option.{Option, none, some, Option·map}
 use package.native.Mathlib.Omega.{arith}
 use lib.ListN.{getD}
-use Rattle.block_file.specs.declared.read.BlockRecord.{BlockRecord}
-use Rattle.block_file.specs.declared.read.FoundBlock.{FoundBlock}
-use Rattle.records.specs.Trailer.{blockStart}
-use Rattle.records.specs.BlockRecord.{lengthOf, countSum}
-use Rattle.block_file.specs.Parse.{blockAt, blocksOf}
-use Rattle.block_file.specs.Read.{recordAt, foundBlock, codeBytes, IsBlock}
-use Rattle.block_file.proofs.Accepted.{Reads, length-of, record-reads}
-use Rattle.fnv.specs.Fnv.{fnv64, hashMultiplier}
-use Rattle.block_file.proofs.IsBlock.{nth-block, block-inside, block-record}
-use Rattle.plan.proofs.Listing.{map-at}
-use Rattle.text.specs.Wrote.{Wrote}
-use Rattle.text.proofs.Laws.{seq, said}
+use Rattle.file_blocks.specs.declared.read.BlockRecord.{BlockRecord}
+use Rattle.file_blocks.specs.declared.read.FoundBlock.{FoundBlock}
+use Rattle.file_records.specs.Trailer.{blockStart}
+use Rattle.file_records.specs.BlockRecord.{lengthOf, countSum}
+use Rattle.file_blocks.specs.Parse.{blockAt, blocksOf}
+use Rattle.file_blocks.specs.Read.{recordAt, foundBlock, codeBytes, IsBlock}
+use Rattle.file_blocks.proofs.Accepted.{Reads, length-of, record-reads}
+use Rattle.base_hash.specs.Fnv.{fnv64, hashMultiplier}
+use Rattle.file_blocks.proofs.IsBlock.{nth-block, block-inside, block-record}
+use Rattle.plan_groups.proofs.Listing.{map-at}
+use Rattle.base_text.specs.Wrote.{Wrote}
+use Rattle.base_text.proofs.Laws.{seq, said}
 use Rattle.c_tree.specs.Stmt.{guard, common, Code, end, _⨾_, when}
 use Rattle.c_tree.specs.Print.{codeText}
-use Rattle.forms.specs.Forms.{Body}
-use Rattle.forms.specs.Block.{bodyOf}
-use Rattle.lowering.specs.Block.{bodyLength, nl, sp, codeFrom, defer, underGuard, blockCode}
-use Rattle.block_file.specs.Address.{outsideRomBios}
-use Rattle.lowering.specs.Units.{defaultBody}
-use Rattle.lowering.specs.Measured.{hashIf, hashedIf}
+use Rattle.lower_forms.specs.Forms.{Body}
+use Rattle.lower_forms.specs.Block.{bodyOf}
+use Rattle.lower_units.specs.Block.{bodyLength, nl, sp, codeFrom, defer, underGuard, blockCode}
+use Rattle.file_blocks.specs.Address.{outsideRomBios}
+use Rattle.lower_units.specs.Units.{defaultBody}
+use Rattle.lower_units.specs.Measured.{hashIf, hashedIf}
 use Rattle.emit_flow.proofs.Blocks.{guard-behind}
-use Rattle.members.specs.Prepared.{Ready}
+use Rattle.plan_members.specs.Prepared.{Ready}
 use Rattle.emit_block.specs.declared.member.Member.{Member}
 use Rattle.emit_block.specs.Walk.{IsBody, IsMember}
 

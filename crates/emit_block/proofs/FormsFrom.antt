@@ -12,13 +12,13 @@ use lib.ListN.{drop}
 use Rattle.armv4t.specs.declared.Fused.{Fused}
 use Rattle.armv4t.specs.Fused.{fuse}
 use Rattle.armv4t.specs.Instr.{sizeOf}
-use Rattle.instr_records.specs.declared.decode.TimedInstr.{TimedInstr}
-use Rattle.block_file.specs.Parse.{instrsFrom}
-use Rattle.block_exits.proofs.Closing.{instrAt, later, at-first}
-use Rattle.forms.specs.Forms.{Form}
-use Rattle.forms.specs.Block.{emitPair, emitInstr, fusedOr, consForm, emitInstrs}
+use Rattle.file_instrs.specs.declared.decode.TimedInstr.{TimedInstr}
+use Rattle.file_blocks.specs.Parse.{instrsFrom}
+use Rattle.plan_exits.proofs.Closing.{instrAt, later, at-first}
+use Rattle.lower_forms.specs.Forms.{Form}
+use Rattle.lower_forms.specs.Block.{emitPair, emitInstr, fusedOr, consForm, emitInstrs}
 use Rattle.emit_block.specs.declared.instrs.Next.{Next}
-use Rattle.plan.specs.Plan.{isEmpty}
+use Rattle.plan_groups.specs.Plan.{isEmpty}
 use Rattle.emit_block.specs.Walk.{fusedNext, nextOf}
 
 -- instruction j of a block, and those behind it

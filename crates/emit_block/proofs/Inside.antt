@@ -5,10 +5,10 @@ use mathlib.Core.Path.{_≡_, sym, ap, _∙_}
 use mathlib.Core.Bool.{Bool, true, false}
 use mathlib.Core.List.{List}
 use lib.ListN.{length}
-use Rattle.block_file.specs.Parse.{blocksOf}
-use Rattle.members.specs.Members.{membersOf, memberKeys}
-use Rattle.block_file.specs.Address.{among}
-use Rattle.members.specs.Prepared.{Ready}
+use Rattle.file_blocks.specs.Parse.{blocksOf}
+use Rattle.plan_members.specs.Members.{membersOf, memberKeys}
+use Rattle.file_blocks.specs.Address.{among}
+use Rattle.plan_members.specs.Prepared.{Ready}
 use Rattle.emit_block.specs.declared.member.Member.{Member}
 use Rattle.emit_block.specs.Walk.{IsMember}
 

@@ -8,14 +8,14 @@ use package.native.Mathlib.Nat.{mod-eq-of-lt}
 use package.native.Mathlib.Numerals.{add-one}
 use package.native.Mathlib.Omega.{arith}
 use lib.ListN.{drop}
-use Rattle.instr_records.specs.declared.decode.TimedInstr.{TimedInstr}
-use Rattle.block_file.specs.declared.read.BlockRecord.{BlockRecord}
+use Rattle.file_instrs.specs.declared.decode.TimedInstr.{TimedInstr}
+use Rattle.file_blocks.specs.declared.read.BlockRecord.{BlockRecord}
 use Rattle.c_tree.specs.Stmt.{end}
-use Rattle.forms.specs.Forms.{Form, native, shell, Body}
-use Rattle.forms.specs.Block.{emitPair, emitInstr, consForm, emitInstrs}
-use Rattle.block_file.specs.Address.{region}
-use Rattle.forms.proofs.Cycles.{own, instr-cycles}
-use Rattle.lowering.specs.Block.{codeFrom}
+use Rattle.lower_forms.specs.Forms.{Form, native, shell, Body}
+use Rattle.lower_forms.specs.Block.{emitPair, emitInstr, consForm, emitInstrs}
+use Rattle.file_blocks.specs.Address.{region}
+use Rattle.lower_forms.proofs.Cycles.{own, instr-cycles}
+use Rattle.lower_units.specs.Block.{codeFrom}
 use Rattle.emit_block.specs.declared.instrs.Next.{Next}
 use Rattle.emit_instr.specs.declared.step.Step.{Step}
 use Rattle.emit_instr.specs.Onward.{Onward}

@@ -8,18 +8,18 @@ use package.native.Mathlib.Numerals.{add-one}
 use package.native.Mathlib.Omega.{arith}
 use lib.ListN.{length, drop}
 use Rattle.armv4t.specs.Instr.{sizeOf}
-use Rattle.records.specs.BlockRecord.{lengthOf, keyPlus}
-use Rattle.block_file.specs.declared.read.BlockRecord.{BlockRecord}
-use Rattle.block_file.specs.Read.{IsBlock}
-use Rattle.block_exits.specs.Exits.{keyOf}
-use Rattle.block_exits.proofs.OwnKey.{key-plus}
-use Rattle.text.specs.Wrote.{Wrote, maxUsize}
+use Rattle.file_records.specs.BlockRecord.{lengthOf, keyPlus}
+use Rattle.file_blocks.specs.declared.read.BlockRecord.{BlockRecord}
+use Rattle.file_blocks.specs.Read.{IsBlock}
+use Rattle.plan_exits.specs.Exits.{keyOf}
+use Rattle.plan_exits.proofs.OwnKey.{key-plus}
+use Rattle.base_text.specs.Wrote.{Wrote, maxUsize}
 use Rattle.c_tree.specs.Stmt.{end}
 use Rattle.c_tree.specs.Print.{codeText}
-use Rattle.forms.specs.Forms.{Form, Body}
-use Rattle.forms.specs.Block.{flushTicks, emitInstrs, pcLine}
-use Rattle.block_file.specs.Address.{region}
-use Rattle.lowering.specs.Block.{bodyEnd, closingLines, codeFrom}
+use Rattle.lower_forms.specs.Forms.{Form, Body}
+use Rattle.lower_forms.specs.Block.{flushTicks, emitInstrs, pcLine}
+use Rattle.file_blocks.specs.Address.{region}
+use Rattle.lower_units.specs.Block.{bodyEnd, closingLines, codeFrom}
 use Rattle.emit_instr.specs.declared.step.Step.{Step}
 use Rattle.emit_instr.specs.Onward.{Onward}
 use Rattle.emit_instr.proofs.Onward.{stay, then, finish}

@@ -7,17 +7,17 @@ use lib.ListN.{length, drop}
 use Rattle.armv4t.specs.declared.Instr.{Instr}
 use Rattle.armv4t.specs.declared.Fused.{Fused}
 use Rattle.armv4t.specs.Fused.{fuse}
-use Rattle.instr_records.specs.declared.decode.TimedInstr.{TimedInstr}
-use Rattle.block_file.specs.declared.read.BlockRecord.{BlockRecord}
-use Rattle.block_file.specs.Parse.{instrsFrom, blocksOf}
-use Rattle.block_file.specs.Read.{IsBlock}
-use Rattle.members.specs.Members.{membersOf, keysWithin}
-use Rattle.members.specs.Prepared.{Ready}
+use Rattle.file_instrs.specs.declared.decode.TimedInstr.{TimedInstr}
+use Rattle.file_blocks.specs.declared.read.BlockRecord.{BlockRecord}
+use Rattle.file_blocks.specs.Parse.{instrsFrom, blocksOf}
+use Rattle.file_blocks.specs.Read.{IsBlock}
+use Rattle.plan_members.specs.Members.{membersOf, keysWithin}
+use Rattle.plan_members.specs.Prepared.{Ready}
 use Rattle.c_tree.specs.Stmt.{end}
-use Rattle.forms.specs.Forms.{Form, Body}
-use Rattle.forms.specs.Block.{emitInstrs}
-use Rattle.block_file.specs.Address.{region}
-use Rattle.lowering.specs.Block.{codeFrom}
+use Rattle.lower_forms.specs.Forms.{Form, Body}
+use Rattle.lower_forms.specs.Block.{emitInstrs}
+use Rattle.file_blocks.specs.Address.{region}
+use Rattle.lower_units.specs.Block.{codeFrom}
 use Rattle.emit_block.specs.declared.member.Member.{Member}
 use Rattle.emit_block.specs.declared.instrs.Next.{Next}
 use Rattle.emit_instr.specs.declared.step.Step.{Step}

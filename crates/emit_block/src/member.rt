@@ -1,11 +1,11 @@
 // Where a block stands in the plan, and whether a transfer from it stays in its group.
-use members::in_group;
+use plan_members::in_group;
 ghost use mathlib.Core.Path.{_≡_};
 ghost use mathlib.Core.List.{List};
 ghost use Prim.Native.Nat.{ℕ, _<_};
-ghost use Rattle.block_file.specs.Address.{among};
+ghost use Rattle.file_blocks.specs.Address.{among};
 ghost use Rattle.emit_block.specs.Walk.{IsMember};
-ghost use Rattle.plan.specs.Groups.{HasRoom};
+ghost use Rattle.plan_groups.specs.Groups.{HasRoom};
 
 // A block, as it stands in the plan.
 pub struct Member {

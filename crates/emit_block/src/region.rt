@@ -1,6 +1,6 @@
 // The region of an address.
 ghost use mathlib.Core.Path.{_≡_};
-ghost use Rattle.block_file.specs.Address.{region};
+ghost use Rattle.file_blocks.specs.Address.{region};
 
 // The region of an address: its page modulo 16.
 pub(crate) fn region_of(addr: u32) -> u32

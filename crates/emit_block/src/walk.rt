@@ -2,21 +2,21 @@
 use crate::instrs::emit_record;
 use crate::member::Member;
 use crate::member::is_inside;
-use block_exits::instr_addr;
-use block_exits::key_of;
-use block_file::BlockRecord;
-use block_writer::emit_closing;
+use emit_writer::emit_closing;
+use file_blocks::BlockRecord;
+use plan_exits::instr_addr;
+use plan_exits::key_of;
 ghost use mathlib.Core.Path.{_≡_};
 ghost use mathlib.Core.List.{List, []};
 ghost use Prim.Native.Nat.{ℕ, _<_};
-ghost use Rattle.text.specs.Wrote.{Wrote};
+ghost use Rattle.base_text.specs.Wrote.{Wrote};
 ghost use Rattle.c_tree.specs.Stmt.{end};
 ghost use Rattle.c_tree.specs.Print.{codeText};
-ghost use Rattle.forms.specs.Forms.{Body};
-ghost use Rattle.lowering.specs.Block.{codeFrom};
+ghost use Rattle.lower_forms.specs.Forms.{Body};
+ghost use Rattle.lower_units.specs.Block.{codeFrom};
 ghost use Rattle.emit_instr.specs.Onward.{Onward};
 ghost use Rattle.emit_block.specs.Walk.{formsFrom, IsMemberBlock};
-ghost use Rattle.plan.specs.Groups.{HasRoom};
+ghost use Rattle.plan_groups.specs.Groups.{HasRoom};
 
 // The closing transfer, to the key behind the block.
 fn emit_end(

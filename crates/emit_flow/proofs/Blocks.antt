@@ -4,14 +4,14 @@ use Prim.Native.Nat.{ℕ, _+_}
 use mathlib.Core.Bool.{Bool, true, cond}
 use mathlib.Core.List.{List, [], _∷_, _++_}
 use mathlib.Core.Option.{some}
-use Rattle.text.specs.Doc.{text, _▸_, flat}
+use Rattle.base_text.specs.Doc.{text, _▸_, flat}
 use Rattle.c_tree.specs.Expr.{Expr}
 use Rattle.c_tree.specs.Stmt.{Plain, guard, Owner, common, plain, retInterp, Code, end, _⨾_, when, braces}
 use Rattle.c_tree.specs.Print.{exprText, plainText, codeText}
-use Rattle.forms.specs.Forms.{Lines, Native, straight, straightIf, branchIf, pop, Form, shell, records, Body}
-use Rattle.forms.specs.Block.{flushTicks, pcLine}
-use Rattle.records.specs.BlockRecord.{keyPlus}
-use Rattle.lowering.specs.Block.{bodyKey, bodyLength, bodyEnd, nl, sp, line, lines, transfer, closing, conditional, leave, nativeText, shellCode, codeFrom, defer, underGuard, exitCode, linesText, closingLines}
+use Rattle.lower_forms.specs.Forms.{Lines, Native, straight, straightIf, branchIf, pop, Form, shell, records, Body}
+use Rattle.lower_forms.specs.Block.{flushTicks, pcLine}
+use Rattle.file_records.specs.BlockRecord.{keyPlus}
+use Rattle.lower_units.specs.Block.{bodyKey, bodyLength, bodyEnd, nl, sp, line, lines, transfer, closing, conditional, leave, nativeText, shellCode, codeFrom, defer, underGuard, exitCode, linesText, closingLines}
 use Rattle.emit_flow.specs.Pieces.{straightOpen, straightEnd, beforeCondition, behindCondition, behindConditional, straightIfOpen, straightIfEnd}
 use Rattle.emit_flow.proofs.Pieces.{lines-behind}
 

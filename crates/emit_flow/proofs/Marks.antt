@@ -3,7 +3,7 @@ use mathlib.Core.Path.{_≡_, refl, sym, ap, _∙_}
 use Prim.Native.Nat.{ℕ}
 use mathlib.Core.Bool.{Bool, cond}
 use mathlib.Core.List.{List}
-use Rattle.text.specs.Doc.{text, _▸_, flat}
+use Rattle.base_text.specs.Doc.{text, _▸_, flat}
 use Rattle.c_tree.specs.Stmt.{Test, Owner, common, Simple, gap, recordMark, plain, label, goto, ret, retIf, interp, retInterp, call, switch, Code, end, _⨾_, when, braces}
 use Rattle.c_tree.specs.Print.{testText, simpleText, codeText}
 

@@ -6,23 +6,23 @@ use mathlib.Core.List.{List, [], _∷_, _++_}
 use mathlib.Core.Option.{none}
 use lib.Dec.{leb}
 use Rattle.armv4t.specs.Bit0.{clearBit0, setBit0}
-use Rattle.text.specs.Digits.{numeral}
-use Rattle.text.specs.Doc.{text, dec, hex8, hex16, _▸_, decimal, hexadecimal, flat}
-use Rattle.text.proofs.Laws.{each-append}
+use Rattle.base_text.specs.Digits.{numeral}
+use Rattle.base_text.specs.Doc.{text, dec, hex8, hex16, _▸_, decimal, hexadecimal, flat}
+use Rattle.base_text.proofs.Laws.{each-append}
 use Rattle.c_tree.specs.Expr.{word, Expr, lit}
 use Rattle.c_tree.specs.Stmt.{Plain, gate, guard, Owner, common, plain, ret, retIf, Code, end, _⨾_, when, blank}
 use Rattle.c_tree.specs.Print.{exprText, codeText, topText, unitText}
 use Rattle.c_tree.specs.Opening.{openingText}
 use Rattle.c_tree.specs.Preamble.{preamble}
 use Rattle.c_tree.proofs.Preamble.{helpersText, preamble-text}
-use Rattle.forms.specs.Forms.{Lines, jump, bx, Body}
-use Rattle.forms.specs.InlineBody.{only, apart}
-use Rattle.forms.specs.Block.{flushTicks, setWord, emitPair, branchRegs, pcLine}
-use Rattle.lowering.specs.Block.{nl, sp, line, lines, gotoCode, transfer, conditional, nativeText, defer, underGuard, linesText}
-use Rattle.block_file.specs.Address.{among}
-use Rattle.lowering.specs.Units.{unitHead}
+use Rattle.lower_forms.specs.Forms.{Lines, jump, bx, Body}
+use Rattle.lower_forms.specs.InlineBody.{only, apart}
+use Rattle.lower_forms.specs.Block.{flushTicks, setWord, emitPair, branchRegs, pcLine}
+use Rattle.lower_units.specs.Block.{nl, sp, line, lines, gotoCode, transfer, conditional, nativeText, defer, underGuard, linesText}
+use Rattle.file_blocks.specs.Address.{among}
+use Rattle.lower_units.specs.Units.{unitHead}
 use Rattle.emit_flow.specs.Pieces.{beforeCondition, behindCondition, behindConditional}
-use Rattle.lowering.proofs.LinesBehind.{lines-append}
+use Rattle.lower_units.proofs.LinesBehind.{lines-append}
 
 -- a line, and the code behind it
 pub line-behind : (o p : Owner) (l : List Plain) (c : Code) (k : List ℕ)

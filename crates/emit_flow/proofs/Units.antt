@@ -4,14 +4,14 @@ use Prim.Native.Nat.{ℕ, suc, _+_}
 use native.Mathlib.Omega.{arith}
 use mathlib.Core.List.{List, [], _∷_, _++_, map}
 use lib.ListN.{length}
-use Rattle.text.specs.Doc.{Doc, nothing, text, dec, _▸_, flat, each}
-use Rattle.text.proofs.Laws.{each-append}
+use Rattle.base_text.specs.Doc.{Doc, nothing, text, dec, _▸_, flat, each}
+use Rattle.base_text.proofs.Laws.{each-append}
 use Rattle.c_tree.specs.Stmt.{label, call, end, _⨾_, block, Top, function, extern, table, count}
 use Rattle.c_tree.specs.Print.{keyText, casesText, codeText, rowText, topText, unitText}
 use Rattle.c_tree.proofs.Laws.{flat-append}
-use Rattle.forms.specs.Forms.{Body}
-use Rattle.lowering.specs.Block.{bodyKey, nl, sp, blockCode}
-use Rattle.lowering.specs.Units.{withLocals, emitBlock, labelled, groupCode, forwarders, emitGroup, lastUnitEnd}
+use Rattle.lower_forms.specs.Forms.{Body}
+use Rattle.lower_units.specs.Block.{bodyKey, nl, sp, blockCode}
+use Rattle.lower_units.specs.Units.{withLocals, emitBlock, labelled, groupCode, forwarders, emitGroup, lastUnitEnd}
 use Rattle.emit_flow.specs.Pieces.{blockOpen, functionEnd, groupOpen, switchEnd, tableOpen, tableEnd}
 
 -- a lone block's function

@@ -2,12 +2,12 @@
 use Prim.Native.Nat.{ℕ}
 use mathlib.Core.Bool.{Bool, true, cond}
 use mathlib.Core.List.{[]}
-use Rattle.text.specs.Doc.{Doc, text, _▸_}
+use Rattle.base_text.specs.Doc.{Doc, text, _▸_}
 use Rattle.c_tree.specs.Stmt.{common, gap, end, _⨾_, block, group, blank}
 use Rattle.c_tree.specs.Print.{codeText, headText, topText}
-use Rattle.forms.specs.Operands.{flags}
-use Rattle.lowering.specs.Block.{nl, sp, line}
-use Rattle.lowering.specs.Units.{withLocals}
+use Rattle.lower_forms.specs.Operands.{flags}
+use Rattle.lower_units.specs.Block.{nl, sp, line}
+use Rattle.lower_units.specs.Units.{withLocals}
 
 -- the indent of a transfer: 8 where it is conditional
 abbrev pub indent : Bool → ℕ

@@ -8,16 +8,16 @@ use armv4t::set_bit0;
 ghost use mathlib.Core.Path.{_≡_};
 ghost use mathlib.Core.List.{List, _++_};
 ghost use Prim.Native.Nat.{ℕ};
-ghost use Rattle.text.specs.Doc.{_▸_};
-ghost use Rattle.text.specs.Wrote.{Wrote};
+ghost use Rattle.base_text.specs.Doc.{_▸_};
+ghost use Rattle.base_text.specs.Wrote.{Wrote};
 ghost use Rattle.armv4t.specs.Bit0.{setBit0};
 ghost use Rattle.c_tree.specs.Stmt.{Owner, common, Code, end, _⨾_};
 ghost use Rattle.c_tree.specs.Print.{codeText};
-ghost use Rattle.forms.specs.Forms.{jump};
-ghost use Rattle.forms.specs.InlineBody.{only, apart};
-ghost use Rattle.forms.specs.Block.{flushTicks, setWord, pcLine, emitPair, branchRegs};
-ghost use Rattle.lowering.specs.Block.{nl, sp, line, transfer as Block·transfer, exitCode, nativeText, linesText};
-ghost use Rattle.block_file.specs.Address.{among};
+ghost use Rattle.lower_forms.specs.Forms.{jump};
+ghost use Rattle.lower_forms.specs.InlineBody.{only, apart};
+ghost use Rattle.lower_forms.specs.Block.{flushTicks, setWord, pcLine, emitPair, branchRegs};
+ghost use Rattle.lower_units.specs.Block.{nl, sp, line, transfer as Block·transfer, exitCode, nativeText, linesText};
+ghost use Rattle.file_blocks.specs.Address.{among};
 ghost use Rattle.emit_flow.specs.Pieces.{behindCondition, behindConditional};
 
 // The registers of a branch, behind its condition.
@@ -25,12 +25,12 @@ fn put_taken(out: &mut [u8], at: usize, link: bool, ret: u32, target: u32) -> us
     ensures { λ r. ⌜ Wrote (now (out .entry)) at (behindCondition ▸ codeText (sp 1 ⨾ line common (branchRegs link ret target) (nl ⨾ end))) (now (out .exit)) r ⌝ }
 {
     if link {
-        let p = text::put_then_hex8(out, at, b") { c[14] = 0x", ret);
-        let q = text::put_then_hex8(out, p, b"u; c[15] = 0x", target);
-        text::put(out, q, b"u;\n")
+        let p = base_text::put_then_hex8(out, at, b") { c[14] = 0x", ret);
+        let q = base_text::put_then_hex8(out, p, b"u; c[15] = 0x", target);
+        base_text::put(out, q, b"u;\n")
     } else {
-        let p = text::put_then_hex8(out, at, b") { c[15] = 0x", target);
-        text::put(out, p, b"u;\n")
+        let p = base_text::put_then_hex8(out, at, b") { c[15] = 0x", target);
+        base_text::put(out, p, b"u;\n")
     }
 }
 
@@ -49,7 +49,7 @@ pub fn branch_taken(
 {
     let p = put_taken(out, at, link, ret, target);
     let q = transfer(out, p, inside, src, key, true);
-    text::put(out, q, b"      } }\n")
+    base_text::put(out, q, b"      } }\n")
 }
 
 // r14 set where a branch links.

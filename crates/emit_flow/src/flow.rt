@@ -5,14 +5,14 @@ ghost use mathlib.Core.Path.{_≡_};
 ghost use mathlib.Core.List.{List, [], _∷_};
 ghost use Prim.Native.Nat.{ℕ};
 ghost use mathlib.Core.Bool.{false};
-ghost use Rattle.text.specs.Wrote.{Wrote};
+ghost use Rattle.base_text.specs.Wrote.{Wrote};
 ghost use Rattle.c_tree.specs.Expr.{word, lit};
 ghost use Rattle.c_tree.specs.Stmt.{gate, Owner, common, ret, retIf, end, _⨾_};
 ghost use Rattle.c_tree.specs.Print.{codeText};
-ghost use Rattle.forms.specs.InlineBody.{apart};
-ghost use Rattle.forms.specs.Block.{flushTicks, setWord, pcLine};
-ghost use Rattle.lowering.specs.Block.{nl, sp, gotoCode, transfer, linesText};
-ghost use Rattle.block_file.specs.Address.{among};
+ghost use Rattle.lower_forms.specs.InlineBody.{apart};
+ghost use Rattle.lower_forms.specs.Block.{flushTicks, setWord, pcLine};
+ghost use Rattle.lower_units.specs.Block.{nl, sp, gotoCode, transfer, linesText};
+ghost use Rattle.file_blocks.specs.Address.{among};
 ghost use Rattle.emit_flow.specs.Pieces.{indent};
 
 // The cycles pending, if there are any.
@@ -22,24 +22,24 @@ pub fn flush_ticks(out: &mut [u8], at: usize, cycles: u64) -> usize
     if cycles == 0 {
         return at;
     }
-    let p = text::put_then_dec(out, at, b"    a->tick(m, ", cycles);
-    text::put(out, p, b"u);\n")
+    let p = base_text::put_then_dec(out, at, b"    a->tick(m, ", cycles);
+    base_text::put(out, p, b"u);\n")
 }
 
 // r14 set to n.
 pub(crate) fn set_lr(out: &mut [u8], at: usize, n: u32) -> usize
     ensures { λ r. ⌜ Wrote (now (out .entry)) at (linesText 4 (apart (setWord 14 n ∷ []))) (now (out .exit)) r ⌝ }
 {
-    let p = text::put_then_hex8(out, at, b"    c[14] = 0x", n);
-    text::put(out, p, b"u;\n")
+    let p = base_text::put_then_hex8(out, at, b"    c[14] = 0x", n);
+    base_text::put(out, p, b"u;\n")
 }
 
 // r15 set to n.
 pub(crate) fn set_pc(out: &mut [u8], at: usize, n: u32) -> usize
     ensures { λ r. ⌜ Wrote (now (out .entry)) at (linesText 4 (pcLine n)) (now (out .exit)) r ⌝ }
 {
-    let p = text::put_then_hex8(out, at, b"    c[15] = 0x", n);
-    text::put(out, p, b"u;\n")
+    let p = base_text::put_then_hex8(out, at, b"    c[15] = 0x", n);
+    base_text::put(out, p, b"u;\n")
 }
 
 // Four spaces, or eight.
@@ -47,9 +47,9 @@ fn put_indent(out: &mut [u8], at: usize, deep: bool) -> usize
     ensures { λ r. ⌜ Wrote (now (out .entry)) at (codeText (sp (indent deep) ⨾ end)) (now (out .exit)) r ⌝ }
 {
     if deep {
-        text::put(out, at, b"        ")
+        base_text::put(out, at, b"        ")
     } else {
-        text::put(out, at, b"    ")
+        base_text::put(out, at, b"    ")
     }
 }
 
@@ -59,7 +59,7 @@ fn put_goto(out: &mut [u8], at: usize, key: u32, deep: bool) -> usize
 {
     let p = put_indent(out, at, deep);
     let q = put_then_key(out, p, b"goto L_", key);
-    text::put(out, q, b";\n")
+    base_text::put(out, q, b";\n")
 }
 
 // The chain gate before a goto.
@@ -67,8 +67,8 @@ fn put_gate(out: &mut [u8], at: usize, key: u32, deep: bool) -> usize
     ensures { λ r. ⌜ Wrote (now (out .entry)) at (codeText (sp (indent deep) ⨾ retIf common gate (lit word key) ⨾ nl ⨾ end)) (now (out .exit)) r ⌝ }
 {
     let p = put_indent(out, at, deep);
-    let q = text::put_then_hex8(out, p, b"if (a->chain_gate(m)) return 0x", key);
-    text::put(out, q, b"u;\n")
+    let q = base_text::put_then_hex8(out, p, b"if (a->chain_gate(m)) return 0x", key);
+    base_text::put(out, q, b"u;\n")
 }
 
 // The return of a key.
@@ -76,8 +76,8 @@ fn put_return(out: &mut [u8], at: usize, key: u32, deep: bool) -> usize
     ensures { λ r. ⌜ Wrote (now (out .entry)) at (codeText (sp (indent deep) ⨾ ret common (lit word key) ⨾ nl ⨾ end)) (now (out .exit)) r ⌝ }
 {
     let p = put_indent(out, at, deep);
-    let q = text::put_then_hex8(out, p, b"return 0x", key);
-    text::put(out, q, b"u;\n")
+    let q = base_text::put_then_hex8(out, p, b"return 0x", key);
+    base_text::put(out, q, b"u;\n")
 }
 
 // From the block at src to a key: a goto within the group, gated if it does not go up, or else a return.

@@ -3,12 +3,12 @@ use crate::flow::flush_ticks;
 use crate::flow::set_pc;
 ghost use mathlib.Core.List.{_++_};
 ghost use Prim.Native.Nat.{ℕ};
-ghost use Rattle.text.specs.Wrote.{Wrote};
+ghost use Rattle.base_text.specs.Wrote.{Wrote};
 ghost use Rattle.c_tree.specs.Stmt.{common, retInterp, end, _⨾_};
 ghost use Rattle.c_tree.specs.Print.{codeText};
-ghost use Rattle.forms.specs.Forms.{Body};
-ghost use Rattle.forms.specs.Block.{flushTicks, pcLine};
-ghost use Rattle.lowering.specs.Block.{nl, sp, lines, shellCode};
+ghost use Rattle.lower_forms.specs.Forms.{Body};
+ghost use Rattle.lower_forms.specs.Block.{flushTicks, pcLine};
+ghost use Rattle.lower_units.specs.Block.{nl, sp, lines, shellCode};
 
 // One that has others behind it: on to them if the interpreter comes to their key.
 pub fn emit_shell(out: &mut [u8], at: usize, cycles: u64, addr: u32, expect: u32) -> usize
@@ -16,8 +16,8 @@ pub fn emit_shell(out: &mut [u8], at: usize, cycles: u64, addr: u32, expect: u32
 {
     let p = flush_ticks(out, at, cycles);
     let q = set_pc(out, p, addr);
-    let s = text::put_then_hex8(out, q, b"    pc = a->interp_one(m); if (pc != 0x", expect);
-    text::put(out, s, b"u) return pc;\n")
+    let s = base_text::put_then_hex8(out, q, b"    pc = a->interp_one(m); if (pc != 0x", expect);
+    base_text::put(out, s, b"u) return pc;\n")
 }
 
 // The last of a block.
@@ -26,5 +26,5 @@ pub fn emit_last_shell(out: &mut [u8], at: usize, cycles: u64, addr: u32) -> usi
 {
     let p = flush_ticks(out, at, cycles);
     let q = set_pc(out, p, addr);
-    text::put(out, q, b"    return a->interp_one(m);\n")
+    base_text::put(out, q, b"    return a->interp_one(m);\n")
 }

@@ -5,24 +5,24 @@ use native.Mathlib.Omega.{arith}
 use mathlib.Core.Bool.{Bool}
 use mathlib.Core.List.{List, [], _∷_, map}
 use lib.ListN.{length, getD, length-map}
-use Rattle.text.specs.Doc.{_▸_, flat, each}
-use Rattle.text.specs.Wrote.{Wrote}
-use Rattle.text.proofs.Laws.{seq, said}
-use Rattle.fnv.specs.Fnv.{hashMultiplier}
-use Rattle.block_file.specs.Parse.{blocksOf}
-use Rattle.plan.specs.Plan.{groups}
-use Rattle.plan.proofs.Listing.{map-at}
+use Rattle.base_text.specs.Doc.{_▸_, flat, each}
+use Rattle.base_text.specs.Wrote.{Wrote}
+use Rattle.base_text.proofs.Laws.{seq, said}
+use Rattle.base_hash.specs.Fnv.{hashMultiplier}
+use Rattle.file_blocks.specs.Parse.{blocksOf}
+use Rattle.plan_groups.specs.Plan.{groups}
+use Rattle.plan_groups.proofs.Listing.{map-at}
 use Rattle.c_tree.specs.Print.{casesText, codeText, unitText}
-use Rattle.forms.specs.Forms.{Body}
-use Rattle.lowering.specs.Block.{bodyKey, blockCode}
-use Rattle.lowering.specs.Measured.{hashedIf}
-use Rattle.lowering.specs.Units.{labelled, forwarders, emitGroup, defaultBody, bodiesOf}
+use Rattle.lower_forms.specs.Forms.{Body}
+use Rattle.lower_units.specs.Block.{bodyKey, blockCode}
+use Rattle.lower_units.specs.Measured.{hashedIf}
+use Rattle.lower_units.specs.Units.{labelled, forwarders, emitGroup, defaultBody, bodiesOf}
 use Rattle.emit_flow.specs.Pieces.{blockOpen, functionEnd, groupOpen, switchEnd}
 use Rattle.emit_flow.proofs.Units.{block-text, group-text, member-text}
 use Rattle.emit_tables.specs.Tables.{fileKeys, HaveKeys}
 use Rattle.emit_tables.proofs.Around.{member-keys}
 use Rattle.emit_group.specs.Groups.{fileBodies, memberText, labelledText, membersText, groupText}
-use Rattle.members.specs.Members.{groupKeys}
+use Rattle.plan_members.specs.Members.{groupKeys}
 
 -- the members of a group, one by one
 pub members-each : (written : Bool) (f ks is : List ℕ) (k : List ℕ) → flat (each (labelledText written f ks) is) k ≡ flat (membersText written f ks is) k

@@ -3,16 +3,16 @@ use Prim.Native.Nat.{ℕ}
 use mathlib.Core.Bool.{Bool}
 use mathlib.Core.List.{List, map}
 use lib.ListN.{getD}
-use Rattle.text.specs.Doc.{Doc, _▸_}
-use Rattle.fnv.specs.Fnv.{hashMultiplier}
-use Rattle.block_file.specs.Parse.{blocksOf}
+use Rattle.base_text.specs.Doc.{Doc, _▸_}
+use Rattle.base_hash.specs.Fnv.{hashMultiplier}
+use Rattle.file_blocks.specs.Parse.{blocksOf}
 use Rattle.c_tree.specs.Stmt.{label, end, _⨾_}
 use Rattle.c_tree.specs.Print.{codeText, unitText}
-use Rattle.forms.specs.Block.{bodyOf}
-use Rattle.forms.specs.Forms.{Body}
-use Rattle.lowering.specs.Block.{bodyKey, nl, blockCode}
-use Rattle.lowering.specs.Measured.{hashedIf}
-use Rattle.lowering.specs.Units.{emitGroup, labelled, defaultBody, bodiesOf}
+use Rattle.lower_forms.specs.Block.{bodyOf}
+use Rattle.lower_forms.specs.Forms.{Body}
+use Rattle.lower_units.specs.Block.{bodyKey, nl, blockCode}
+use Rattle.lower_units.specs.Measured.{hashedIf}
+use Rattle.lower_units.specs.Units.{emitGroup, labelled, defaultBody, bodiesOf}
 
 -- the bodies of a file's blocks
 abbrev pub fileBodies : List ℕ → List Body

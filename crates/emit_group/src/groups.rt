@@ -10,20 +10,20 @@ use emit_flow::put_switch_end;
 use emit_tables::put_cases;
 use emit_tables::put_forwarders;
 use emit_tables::row_key;
-use members::row_block;
-use members::row_group;
+use plan_members::row_block;
+use plan_members::row_group;
 ghost use mathlib.Core.Path.{_≡_};
 ghost use mathlib.Core.Bool.{true};
 ghost use Prim.Native.Nat.{ℕ, _+_, _≤_, _<_};
 ghost use lib.ListN.{length, getD};
-ghost use Rattle.text.specs.Wrote.{Wrote};
-ghost use Rattle.block_file.specs.Parse.{blocksOf};
-ghost use Rattle.plan.specs.Plan.{groups};
-ghost use Rattle.members.specs.Members.{membersOf, startOf, groupKeys, keysWithin};
-ghost use Rattle.members.specs.Prepared.{Ready};
+ghost use Rattle.base_text.specs.Wrote.{Wrote};
+ghost use Rattle.file_blocks.specs.Parse.{blocksOf};
+ghost use Rattle.plan_groups.specs.Plan.{groups};
+ghost use Rattle.plan_members.specs.Members.{membersOf, startOf, groupKeys, keysWithin};
+ghost use Rattle.plan_members.specs.Prepared.{Ready};
 ghost use Rattle.emit_tables.specs.Tables.{IsGroup};
 ghost use Rattle.emit_group.specs.Groups.{memberText, labelledText, membersText, groupText};
-ghost use Rattle.plan.specs.Groups.{HasRoom};
+ghost use Rattle.plan_groups.specs.Groups.{HasRoom};
 
 // The code of the block in row p.
 fn put_code(

@@ -10,13 +10,13 @@ use Rattle.armv4t.specs.declared.Instr.{Instr}
 use Rattle.armv4t.specs.declared.Op.{Op}
 use Rattle.armv4t.specs.declared.Op.the-variants.{Alu}
 use Rattle.armv4t.specs.Instr.{pcValue}
-use Rattle.text.specs.Doc.{flat}
-use Rattle.text.specs.Wrote.{Wrote}
-use Rattle.text.proofs.Laws.{said}
-use Rattle.forms.specs.Forms.{Lines}
-use Rattle.forms.specs.InlineBody.{apart, alu, opBody, inlineBody}
-use Rattle.lowering.specs.Block.{linesText}
-use Rattle.forms.specs.Operands.{regOf, operandOf}
+use Rattle.base_text.specs.Doc.{flat}
+use Rattle.base_text.specs.Wrote.{Wrote}
+use Rattle.base_text.proofs.Laws.{said}
+use Rattle.lower_forms.specs.Forms.{Lines}
+use Rattle.lower_forms.specs.InlineBody.{apart, alu, opBody, inlineBody}
+use Rattle.lower_units.specs.Block.{linesText}
+use Rattle.lower_forms.specs.Operands.{regOf, operandOf}
 use Rattle.emit_alu.proofs.Bodies.{alu-lines}
 
 -- equal lines have one text

@@ -4,9 +4,9 @@ use Prim.Native.Nat.{ℕ, _≤_}
 use native.Mathlib.Omega.{arith}
 use mathlib.Core.List.{List}
 use lib.ListN.{length}
-use Rattle.text.specs.Doc.{Doc, nothing, _▸_, flat}
-use Rattle.text.specs.Wrote.{maxUsize, Wrote}
-use Rattle.text.proofs.Laws.{none, seq, said, kept as Wrote·kept}
+use Rattle.base_text.specs.Doc.{Doc, nothing, _▸_, flat}
+use Rattle.base_text.specs.Wrote.{maxUsize, Wrote}
+use Rattle.base_text.proofs.Laws.{none, seq, said, kept as Wrote·kept}
 use Rattle.c_tree.specs.Stmt.{Code, end}
 use Rattle.c_tree.specs.Print.{codeText}
 use Rattle.emit_instr.specs.Onward.{Onward}

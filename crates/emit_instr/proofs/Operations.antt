@@ -10,9 +10,9 @@ use Rattle.armv4t.proofs.Arms.{arm, others}
 use Rattle.armv4t.proofs.Op.{enum, the-type}
 use Rattle.armv4t.specs.declared.Instr.{Instr}
 use Rattle.armv4t.specs.declared.Op.{Op}
-use Rattle.instr_records.specs.declared.decode.TimedInstr.{TimedInstr}
-use Rattle.forms.specs.InlineBody.{opBody}
-use Rattle.forms.specs.Block.{emitStraight, emitOp}
+use Rattle.file_instrs.specs.declared.decode.TimedInstr.{TimedInstr}
+use Rattle.lower_forms.specs.InlineBody.{opBody}
+use Rattle.lower_forms.specs.Block.{emitStraight, emitOp}
 
 -- all but Alu, Mul, MulLong, Mem and BlockMem
 abbrev pub unlined : List ℕ

@@ -4,8 +4,8 @@ use Prim.Native.Nat.{ℕ, _+_}
 use mathlib.Core.Bool.{Bool, true, false, cond}
 use mathlib.Core.List.{List, _∷_}
 use Rattle.c_tree.specs.Stmt.{end}
-use Rattle.forms.specs.Forms.{Form, Body}
-use Rattle.lowering.specs.Block.{codeFrom}
+use Rattle.lower_forms.specs.Forms.{Form, Body}
+use Rattle.lower_units.specs.Block.{codeFrom}
 use Rattle.emit_instr.specs.declared.step.Step.{Step}
 use Rattle.emit_instr.specs.Onward.{Onward}
 use Rattle.emit_instr.specs.Steps.{FormWritten}

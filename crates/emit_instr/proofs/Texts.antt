@@ -4,24 +4,24 @@ use Prim.Native.Nat.{ℕ, _+_, _%_, _^_}
 use mathlib.Core.Bool.{Bool, true, false, not, cond, _&&_, true≢false}
 use mathlib.Core.List.{List, [], _∷_, _++_}
 use Rattle.armv4t.specs.declared.Instr.{Instr}
-use Rattle.text.specs.Doc.{_▸_, flat}
-use Rattle.text.specs.Wrote.{Wrote}
+use Rattle.base_text.specs.Doc.{_▸_, flat}
+use Rattle.base_text.specs.Wrote.{Wrote}
 use Rattle.c_tree.specs.Expr.{Expr}
 use Rattle.c_tree.specs.Stmt.{Plain, Owner, common, retInterp, end, _⨾_}
 use Rattle.c_tree.specs.Print.{exprText, codeText}
-use Rattle.block_exits.specs.Exits.{keyOf}
+use Rattle.plan_exits.specs.Exits.{keyOf}
 use Rattle.armv4t.specs.Cond.{isAl}
-use Rattle.forms.specs.Forms.{Lines, Native, straight, straightIf, branchIf, jump, Form, shell, records, Body}
-use Rattle.forms.specs.Operands.{condExpr}
-use Rattle.forms.specs.InlineBody.{apart}
-use Rattle.forms.specs.Block.{flushTicks, emitBranch, branchRegs, pcLine}
-use Rattle.records.specs.BlockRecord.{keyPlus}
-use Rattle.lowering.specs.Block.{bodyKey, bodyEnd, nl, sp, line, lines, transfer, nativeText, shellCode, codeFrom, exitCode, linesText, closingLines}
+use Rattle.lower_forms.specs.Forms.{Lines, Native, straight, straightIf, branchIf, jump, Form, shell, records, Body}
+use Rattle.lower_forms.specs.Operands.{condExpr}
+use Rattle.lower_forms.specs.InlineBody.{apart}
+use Rattle.lower_forms.specs.Block.{flushTicks, emitBranch, branchRegs, pcLine}
+use Rattle.file_records.specs.BlockRecord.{keyPlus}
+use Rattle.lower_units.specs.Block.{bodyKey, bodyEnd, nl, sp, line, lines, transfer, nativeText, shellCode, codeFrom, exitCode, linesText, closingLines}
 use Rattle.emit_flow.specs.Pieces.{beforeCondition, behindCondition, behindConditional}
 use Rattle.emit_flow.proofs.Blocks.{straight-text, straight-if-text, branch-text, code-native, code-shell, code-last, closing-text}
 use Rattle.emit_instr.specs.Onward.{Onward}
 use Rattle.emit_instr.specs.Steps.{lowered}
-use Rattle.plan.specs.Plan.{isEmpty}
+use Rattle.plan_groups.specs.Plan.{isEmpty}
 use Rattle.emit_instr.proofs.Onward.{by}
 
 module _ {o o′ : List ℕ} {at r : ℕ} (ks : List ℕ) (b : Body) (j : ℕ) where

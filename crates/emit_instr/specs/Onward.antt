@@ -2,8 +2,8 @@
 use mathlib.Core.Path.{_≡_}
 use Prim.Native.Nat.{ℕ}
 use mathlib.Core.List.{List}
-use Rattle.text.specs.Doc.{Doc, _▸_, flat}
-use Rattle.text.specs.Wrote.{Wrote}
+use Rattle.base_text.specs.Doc.{Doc, _▸_, flat}
+use Rattle.base_text.specs.Wrote.{Wrote}
 use Rattle.c_tree.specs.Stmt.{Code}
 use Rattle.c_tree.specs.Print.{codeText}
 

@@ -5,14 +5,14 @@ use mathlib.Core.Bool.{Bool, true, false, cond}
 use mathlib.Core.List.{List, _∷_}
 use Rattle.armv4t.specs.declared.Op.{Op}
 use Rattle.armv4t.specs.declared.Op.the-variants.{Alu, Mul, MulLong, Swap, Bx, Branch, ThumbBlHigh, ThumbBlLow, Mem, BlockMem, Mrs, MsrReg, MsrImm, Swi, Undefined}
-use Rattle.text.specs.Doc.{Doc, _▸_}
+use Rattle.base_text.specs.Doc.{Doc, _▸_}
 use Rattle.c_tree.specs.Expr.{Expr}
 use Rattle.c_tree.specs.Stmt.{end}
 use Rattle.c_tree.specs.Print.{exprText}
-use Rattle.block_exits.specs.Exits.{keyOf}
-use Rattle.forms.specs.Forms.{Lines, Form, Body}
-use Rattle.lowering.specs.Block.{codeFrom, linesText}
-use Rattle.block_file.specs.Address.{among}
+use Rattle.plan_exits.specs.Exits.{keyOf}
+use Rattle.lower_forms.specs.Forms.{Lines, Form, Body}
+use Rattle.lower_units.specs.Block.{codeFrom, linesText}
+use Rattle.file_blocks.specs.Address.{among}
 use Rattle.emit_flow.specs.Pieces.{straightOpen, straightEnd, beforeCondition, straightIfOpen, straightIfEnd}
 use Rattle.emit_instr.specs.declared.step.Step.{Step}
 use Rattle.emit_instr.specs.Onward.{Onward}

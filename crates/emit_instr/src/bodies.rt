@@ -12,10 +12,10 @@ use emit_mem::put_block_mem;
 use emit_mem::put_mem;
 ghost use mathlib.Core.Path.{_≡_};
 ghost use mathlib.Core.Option.{some};
-ghost use Rattle.text.specs.Wrote.{Wrote};
-ghost use Rattle.forms.specs.Forms.{Lines};
-ghost use Rattle.forms.specs.InlineBody.{inlineBody};
-ghost use Rattle.lowering.specs.Block.{linesText};
+ghost use Rattle.base_text.specs.Wrote.{Wrote};
+ghost use Rattle.lower_forms.specs.Forms.{Lines};
+ghost use Rattle.lower_forms.specs.InlineBody.{inlineBody};
+ghost use Rattle.lower_units.specs.Block.{linesText};
 ghost use Rattle.emit_operands.specs.Operands.{isSome};
 
 // Whether an instruction is lowered to lines, or left to the interpreter.

@@ -2,7 +2,6 @@
 use crate::step::Step;
 use armv4t::Cond;
 use armv4t::Instr;
-use block_exits::key_of;
 use emit_flow::branch_always;
 use emit_flow::branch_taken;
 use emit_flow::flush_ticks;
@@ -10,20 +9,21 @@ use emit_flow::open_conditional;
 use emit_mem::put_pop;
 use emit_operands::put_cond_expr;
 use emit_operands::put_reg;
+use plan_exits::key_of;
 ghost use mathlib.Core.Path.{_≡_};
 ghost use mathlib.Core.List.{List};
 ghost use Prim.Native.Nat.{ℕ};
-ghost use Rattle.text.specs.Doc.{_▸_};
-ghost use Rattle.text.specs.Wrote.{Wrote};
+ghost use Rattle.base_text.specs.Doc.{_▸_};
+ghost use Rattle.base_text.specs.Wrote.{Wrote};
 ghost use Rattle.c_tree.specs.Stmt.{Owner, Code};
 ghost use Rattle.c_tree.specs.Print.{exprText, codeText};
-ghost use Rattle.block_exits.specs.Exits.{keyOf};
-ghost use Rattle.forms.specs.Forms.{bx, Form, native, Body};
-ghost use Rattle.forms.specs.Operands.{condExpr, regOf, regExpr};
-ghost use Rattle.forms.specs.InlineBody.{listed};
-ghost use Rattle.forms.specs.Block.{flushTicks, emitBranch, nativeExit, emitPop};
-ghost use Rattle.lowering.specs.Block.{nativeText, linesText};
-ghost use Rattle.block_file.specs.Address.{among};
+ghost use Rattle.plan_exits.specs.Exits.{keyOf};
+ghost use Rattle.lower_forms.specs.Forms.{bx, Form, native, Body};
+ghost use Rattle.lower_forms.specs.Operands.{condExpr, regOf, regExpr};
+ghost use Rattle.lower_forms.specs.InlineBody.{listed};
+ghost use Rattle.lower_forms.specs.Block.{flushTicks, emitBranch, nativeExit, emitPop};
+ghost use Rattle.lower_units.specs.Block.{nativeText, linesText};
+ghost use Rattle.file_blocks.specs.Address.{among};
 ghost use Rattle.emit_flow.specs.Pieces.{beforeCondition};
 ghost use Rattle.emit_instr.specs.Steps.{FormWritten};
 
@@ -86,9 +86,9 @@ fn emit_bx(out: &mut [u8], at: usize, cycles: u64, r: u8, pc: u32) -> usize
     ensures { λ n. ⌜ ((ks : List ℕ) (a : ℕ) (o : Owner) (c : Code) → Wrote (now (out .entry)) at (codeText (nativeText ks a o (bx (flushTicks cycles) (regOf pc r)) c)) (now (out .exit)) n) ⌝ }
 {
     let p = flush_ticks(out, at, cycles);
-    let q = text::put(out, p, b"    { uint32_t t = ");
+    let q = base_text::put(out, p, b"    { uint32_t t = ");
     let s = put_reg(out, q, r, pc);
-    text::put(
+    base_text::put(
         out,
         s,
         b";\n      if (t & 1u) { c[16] |= 0x20u; c[15] = t & ~1u; return (t & ~1u) | 1u; }\n      c[16] &= ~0x20u; c[15] = t & ~3u; return t & ~3u; }\n",

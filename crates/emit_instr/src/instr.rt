@@ -8,16 +8,16 @@ use crate::shells::emit_half;
 use crate::step::Step;
 use crate::straight::emit_straight;
 use armv4t::Op;
-use block_file::TimedInstr;
 use emit_mem::is_pop;
+use file_blocks::TimedInstr;
 ghost use mathlib.Core.Path.{_≡_};
 ghost use mathlib.Core.List.{List};
 ghost use Prim.Native.Nat.{ℕ, _+_, _^_, _<_};
 ghost use Rattle.armv4t.specs.declared.Op.the-variants.{Bx, BlockMem};
-ghost use Rattle.forms.specs.Forms.{Form, Body};
-ghost use Rattle.forms.specs.Block.{emitOp, emitInstr};
+ghost use Rattle.lower_forms.specs.Forms.{Form, Body};
+ghost use Rattle.lower_forms.specs.Block.{emitOp, emitInstr};
 ghost use Rattle.emit_instr.specs.Steps.{FormWritten, BranchInside};
-ghost use Rattle.plan.specs.Plan.{isEmpty};
+ghost use Rattle.plan_groups.specs.Plan.{isEmpty};
 
 // A Bx: an exit, or left to the interpreter.
 fn emit_any_bx(

@@ -1,20 +1,20 @@
 // Instructions left to the interpreter.
 use crate::step::Step;
 use armv4t::Instr;
-use block_exits::fall_through;
 use emit_flow::emit_last_shell;
 use emit_flow::emit_shell;
+use plan_exits::fall_through;
 ghost use mathlib.Core.Path.{_≡_};
 ghost use mathlib.Core.Bool.{Bool, true, false, not, cond, _&&_};
 ghost use mathlib.Core.List.{List, _∷_};
 ghost use Prim.Native.Nat.{ℕ, _+_};
 ghost use Rattle.c_tree.specs.Stmt.{end};
-ghost use Rattle.forms.specs.Forms.{Form, Body};
-ghost use Rattle.forms.specs.Block.{emitShell};
-ghost use Rattle.lowering.specs.Block.{codeFrom};
+ghost use Rattle.lower_forms.specs.Forms.{Form, Body};
+ghost use Rattle.lower_forms.specs.Block.{emitShell};
+ghost use Rattle.lower_units.specs.Block.{codeFrom};
 ghost use Rattle.emit_instr.specs.Onward.{Onward};
 ghost use Rattle.emit_instr.specs.Steps.{FormWritten};
-ghost use Rattle.plan.specs.Plan.{isEmpty};
+ghost use Rattle.plan_groups.specs.Plan.{isEmpty};
 
 // A shell, also for an unfused ThumbBlHigh (high), behind which the closing transfer stands where it is the last of its block.
 fn put_shell(out: &mut [u8], at: usize, thumb: bool, cycles: u64, i: Instr, last: bool) -> usize

@@ -5,7 +5,6 @@ use crate::cycles::pending;
 use crate::shells::emit_interpreted;
 use crate::step::Step;
 use armv4t::Instr;
-use block_file::TimedInstr;
 use emit_flow::close_straight;
 use emit_flow::close_straight_if;
 use emit_flow::flush_ticks;
@@ -13,20 +12,21 @@ use emit_flow::open_conditional;
 use emit_flow::open_straight;
 use emit_flow::open_straight_if;
 use emit_operands::put_cond_expr;
+use file_blocks::TimedInstr;
 ghost use mathlib.Core.Path.{_≡_};
 ghost use mathlib.Core.Bool.{true, false, cond};
 ghost use mathlib.Core.List.{List, []};
 ghost use mathlib.Core.Option.{some};
 ghost use Prim.Native.Nat.{ℕ, _+_, _^_, _<_};
-ghost use Rattle.text.specs.Wrote.{Wrote};
+ghost use Rattle.base_text.specs.Wrote.{Wrote};
 ghost use Rattle.armv4t.specs.Cond.{isAl};
-ghost use Rattle.forms.specs.Forms.{Lines, Form, Body};
-ghost use Rattle.forms.specs.Operands.{condExpr};
-ghost use Rattle.forms.specs.InlineBody.{inlineBody};
-ghost use Rattle.forms.specs.Block.{flushTicks, emitLines, emitStraight};
-ghost use Rattle.lowering.specs.Block.{linesText};
+ghost use Rattle.lower_forms.specs.Forms.{Lines, Form, Body};
+ghost use Rattle.lower_forms.specs.Operands.{condExpr};
+ghost use Rattle.lower_forms.specs.InlineBody.{inlineBody};
+ghost use Rattle.lower_forms.specs.Block.{flushTicks, emitLines, emitStraight};
+ghost use Rattle.lower_units.specs.Block.{linesText};
 ghost use Rattle.emit_instr.specs.Steps.{FormWritten, lowered};
-ghost use Rattle.plan.specs.Plan.{isEmpty};
+ghost use Rattle.plan_groups.specs.Plan.{isEmpty};
 
 // The cycles pending before an instruction that touches memory; they stay pending before another.
 fn put_ticks(out: &mut [u8], at: usize, touches_bus: bool, cycles: u64) -> usize

@@ -2,17 +2,17 @@
 use Prim.Native.Nat.{ℕ, _+_}
 use mathlib.Core.Path.{_≡_, refl, sym, ap, _∙_}
 use mathlib.Core.List.{List, [], _∷_, _++_}
-use Rattle.text.specs.Doc.{_▸_, flat}
+use Rattle.base_text.specs.Doc.{_▸_, flat}
 use Rattle.c_tree.specs.Expr.{w32, Expr, read}
 use Rattle.c_tree.specs.Stmt.{Plain, write, common, Code, end}
 use Rattle.c_tree.specs.Print.{codeText}
 use Rattle.emit_operands.proofs.Lines.{lines-behind}
-use Rattle.forms.specs.Forms.{Lines}
+use Rattle.lower_forms.specs.Forms.{Lines}
 use Rattle.emit_mem.proofs.Listed.{listed-suc}
-use Rattle.forms.specs.InlineBody.{only, apart, setReg, aligned, listed, advance, loads, stores}
+use Rattle.lower_forms.specs.InlineBody.{only, apart, setReg, aligned, listed, advance, loads, stores}
 use Rattle.armv4t.specs.RegisterList.{isListed}
-use Rattle.lowering.specs.Block.{lines}
-use Rattle.lowering.proofs.LinesBehind.{lines-append}
+use Rattle.lower_units.specs.Block.{lines}
+use Rattle.lower_units.proofs.LinesBehind.{lines-append}
 
 pub lines-both : (n : ℕ) (ls ms : Lines) (c : Code) (k : List ℕ)
     → flat (codeText (lines common n ls end) ▸ codeText (lines common n ms c)) k ≡ flat (codeText (lines common n (ls ++ ms) c)) k

@@ -6,7 +6,7 @@ use mathlib.Core.Path.{_≡_, refl, sym, ap, _∙_}
 use mathlib.Core.Bool.{true, false}
 use mathlib.Core.List.{List, [], _∷_, _++_}
 use lib.ListN.{length, getD, length-append}
-use Rattle.forms.specs.InlineBody.{only, listed}
+use Rattle.lower_forms.specs.InlineBody.{only, listed}
 use Rattle.armv4t.specs.RegisterList.{isListed}
 
 -- one register more

@@ -16,8 +16,8 @@ use Rattle.armv4t.specs.declared.Instr.{Instr}
 use Rattle.armv4t.specs.Instr.{pcValue}
 use Rattle.c_tree.specs.Expr.{Expr}
 use Rattle.c_tree.specs.Stmt.{Plain}
-use Rattle.forms.specs.Forms.{Lines}
-use Rattle.forms.specs.InlineBody.{baseExpr, shiftedOffset, offsetExpr, access, memBody, listed, blockMemBody, opBody, memLines}
+use Rattle.lower_forms.specs.Forms.{Lines}
+use Rattle.lower_forms.specs.InlineBody.{baseExpr, shiftedOffset, offsetExpr, access, memBody, listed, blockMemBody, opBody, memLines}
 use Rattle.armv4t.specs.RegisterList.{isListed}
 use Rattle.emit_operands.specs.Operands.{isSome}
 use Rattle.emit_mem.specs.Mem.{offsetOf}

@@ -4,15 +4,15 @@ use mathlib.Core.Bool.{Bool, true, false, cond}
 use mathlib.Core.List.{List, [], _∷_, _++_}
 use mathlib.Core.Path.{_≡_, refl, sym, ap, _∙_}
 use lib.ListN.{length}
-use Rattle.text.specs.Digits.{numeral}
-use Rattle.text.specs.Doc.{Doc, text, _▸_, decimal, flat}
+use Rattle.base_text.specs.Digits.{numeral}
+use Rattle.base_text.specs.Doc.{Doc, text, _▸_, decimal, flat}
 use Rattle.c_tree.specs.Expr.{udec, x-addr, reg, compl, add, band, bor, w32, lit, get, un, bin, read}
 use Rattle.c_tree.specs.Stmt.{Plain, Owner, common, plain, Code, end, _⨾_, braces}
 use Rattle.c_tree.specs.Print.{codeText}
-use Rattle.forms.specs.Forms.{Lines}
-use Rattle.forms.specs.InlineBody.{apart, let32, setReg, aligned, loads}
-use Rattle.forms.specs.Block.{flushTicks, emitPop}
-use Rattle.lowering.specs.Block.{nl, sp, lines, leave, nativeText, linesText}
+use Rattle.lower_forms.specs.Forms.{Lines}
+use Rattle.lower_forms.specs.InlineBody.{apart, let32, setReg, aligned, loads}
+use Rattle.lower_forms.specs.Block.{flushTicks, emitPop}
+use Rattle.lower_units.specs.Block.{nl, sp, lines, leave, nativeText, linesText}
 use Rattle.emit_operands.proofs.Lines.{lines-owner, lines-behind}
 use Rattle.emit_mem.proofs.Lines.{lines-both}
 

@@ -1,18 +1,18 @@
 // The access of a Mem, by its width and sign, and the write-back of its base.
 use armv4t::MemWidth;
 use armv4t::PC;
-use text::put;
-use text::put_then_dec;
+use base_text::put;
+use base_text::put_then_dec;
 ghost use mathlib.Core.Bool.{true, false, not, _&&_};
 ghost use mathlib.Core.List.{[], _∷_};
 ghost use lib.Dec.{eqb};
-ghost use Rattle.text.specs.Wrote.{Wrote};
+ghost use Rattle.base_text.specs.Wrote.{Wrote};
 ghost use Rattle.armv4t.specs.declared.MemWidth.the-variants.{Byte, Half};
 ghost use Rattle.c_tree.specs.Expr.{x-ob, reg, get};
 ghost use Rattle.c_tree.specs.Preamble.{v32};
 ghost use Rattle.c_tree.specs.Print.{exprText};
-ghost use Rattle.forms.specs.InlineBody.{only, apart, setReg, loaded, stored, access};
-ghost use Rattle.lowering.specs.Block.{linesText};
+ghost use Rattle.lower_forms.specs.InlineBody.{only, apart, setReg, loaded, stored, access};
+ghost use Rattle.lower_units.specs.Block.{linesText};
 
 // A byte as it is loaded.
 fn put_byte(out: &mut [u8], at: usize, signed: bool) -> usize

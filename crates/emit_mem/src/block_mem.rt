@@ -7,18 +7,18 @@ use crate::transfers::put_stores;
 use armv4t::Instr;
 use armv4t::PC;
 use armv4t::is_listed;
-use text::put;
-use text::put_then_dec;
+use base_text::put;
+use base_text::put_then_dec;
 ghost use mathlib.Core.Path.{_≡_};
 ghost use mathlib.Core.Bool.{true, false, not, _&&_, _||_};
 ghost use mathlib.Core.List.{[], _∷_};
 ghost use lib.Dec.{eqb};
-ghost use Rattle.text.specs.Wrote.{Wrote};
+ghost use Rattle.base_text.specs.Wrote.{Wrote};
 ghost use Rattle.c_tree.specs.Expr.{x-base, x-addr, get, reg};
 ghost use Rattle.c_tree.specs.Print.{exprText};
-ghost use Rattle.forms.specs.InlineBody.{only, apart, let32, setReg, listed, movedBase, start, loadsOrStores, blockMemBody};
+ghost use Rattle.lower_forms.specs.InlineBody.{only, apart, let32, setReg, listed, movedBase, start, loadsOrStores, blockMemBody};
 ghost use Rattle.armv4t.specs.RegisterList.{isListed};
-ghost use Rattle.lowering.specs.Block.{linesText};
+ghost use Rattle.lower_units.specs.Block.{linesText};
 
 // The lowest address, where the registers take total bytes downwards.
 fn put_down(out: &mut [u8], at: usize, pre: bool, total: u32) -> usize

@@ -9,7 +9,7 @@ ghost use lib.Dec.{eqb};
 ghost use Prim.Native.Nat.{ℕ};
 ghost use Rattle.armv4t.specs.declared.Instr.{Instr};
 ghost use Rattle.c_tree.specs.Expr.{Expr};
-ghost use Rattle.forms.specs.InlineBody.{shiftedOffset, offsetExpr};
+ghost use Rattle.lower_forms.specs.InlineBody.{shiftedOffset, offsetExpr};
 ghost use Rattle.emit_operands.specs.Operands.{isSome};
 
 // Whether an offset shifted by an amount is inlined: not by RRX, which is Ror with amount 0.

@@ -4,25 +4,25 @@ use crate::transfers::put_loads;
 use armv4t::Cond;
 use armv4t::PC;
 use armv4t::is_listed;
-use text::put;
-use text::put_then_dec;
+use base_text::put;
+use base_text::put_then_dec;
 ghost use mathlib.Core.Path.{_≡_};
 ghost use mathlib.Core.Bool.{not, _&&_};
 ghost use mathlib.Core.List.{[], _∷_};
 ghost use lib.Dec.{eqb};
 ghost use lib.ListN.{length};
 ghost use Prim.Native.Nat.{_+_, _*_};
-ghost use Rattle.text.specs.Doc.{text, _▸_};
-ghost use Rattle.text.specs.Wrote.{Wrote};
+ghost use Rattle.base_text.specs.Doc.{text, _▸_};
+ghost use Rattle.base_text.specs.Wrote.{Wrote};
 ghost use Rattle.armv4t.specs.declared.Instr.{Instr};
 ghost use Rattle.armv4t.specs.Cond.{isAl};
 ghost use Rattle.c_tree.specs.Expr.{udec, x-addr, reg, add, lit, get, bin};
 ghost use Rattle.c_tree.specs.Stmt.{common, plain, end, _⨾_};
 ghost use Rattle.c_tree.specs.Print.{codeText};
-ghost use Rattle.forms.specs.InlineBody.{apart, let32, setReg, listed, loads};
+ghost use Rattle.lower_forms.specs.InlineBody.{apart, let32, setReg, listed, loads};
 ghost use Rattle.armv4t.specs.RegisterList.{isListed};
-ghost use Rattle.forms.specs.Block.{isPop, emitPop};
-ghost use Rattle.lowering.specs.Block.{nl, lines, nativeText};
+ghost use Rattle.lower_forms.specs.Block.{isPop, emitPop};
+ghost use Rattle.lower_units.specs.Block.{nl, lines, nativeText};
 
 // The base, and the loads of the registers but PC.
 fn put_pop_loads(out: &mut [u8], at: usize, rn: u8, rlist: u16) -> usize

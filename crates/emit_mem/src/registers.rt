@@ -3,7 +3,7 @@ use armv4t::is_listed;
 ghost use mathlib.Core.Path.{_≡_};
 ghost use Prim.Native.Nat.{_*_, _≤_};
 ghost use lib.ListN.{length, getD};
-ghost use Rattle.forms.specs.InlineBody.{listed};
+ghost use Rattle.lower_forms.specs.InlineBody.{listed};
 
 // The bytes of the registers below limit that are listed.
 pub(crate) fn bytes_listed(rlist: u16, limit: u8) -> u32

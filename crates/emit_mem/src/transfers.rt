@@ -1,22 +1,22 @@
 // The loads and stores of a BlockMem, a line for each register.
 use armv4t::Instr;
 use armv4t::is_listed;
+use base_text::put;
+use base_text::put_then_dec;
 use emit_operands::put_place;
 use emit_operands::put_word;
-use text::put;
-use text::put_then_dec;
 ghost use mathlib.Core.Bool.{cond};
 ghost use mathlib.Core.List.{[], _∷_};
-ghost use Rattle.text.specs.Wrote.{Wrote};
-ghost use Rattle.text.specs.Doc.{text, dec, _▸_};
+ghost use Rattle.base_text.specs.Wrote.{Wrote};
+ghost use Rattle.base_text.specs.Doc.{text, dec, _▸_};
 ghost use Rattle.c_tree.specs.Stmt.{common, end};
 ghost use Prim.Native.Nat.{_+_, _%_, _^_};
 ghost use Rattle.armv4t.specs.Instr.{pcValue};
 ghost use Rattle.c_tree.specs.Expr.{word, lit};
 ghost use Rattle.c_tree.specs.Print.{exprText, spaces, codeText};
-ghost use Rattle.forms.specs.InlineBody.{only, listed, loads, movedBase, storedReg, stores};
+ghost use Rattle.lower_forms.specs.InlineBody.{only, listed, loads, movedBase, storedReg, stores};
 ghost use Rattle.armv4t.specs.RegisterList.{isListed};
-ghost use Rattle.lowering.specs.Block.{lines, linesText};
+ghost use Rattle.lower_units.specs.Block.{lines, linesText};
 
 // The indent of a line, 6 in a pop, and the register that it sets.
 fn put_target(out: &mut [u8], at: usize, pop: bool, r: u8) -> usize

@@ -2,11 +2,11 @@
 use mathlib.Core.Path.{_≡_, refl, ap}
 use Prim.Native.Nat.{ℕ}
 use mathlib.Core.List.{List, [], _∷_}
-use Rattle.text.specs.Doc.{text, _▸_, flat}
+use Rattle.base_text.specs.Doc.{text, _▸_, flat}
 use Rattle.c_tree.specs.Stmt.{Plain, Owner, Code, end, _⨾_}
 use Rattle.c_tree.specs.Print.{plainText, spaces, simpleText, codeText}
-use Rattle.forms.specs.Forms.{Lines}
-use Rattle.lowering.specs.Block.{nl, line, lines}
+use Rattle.lower_forms.specs.Forms.{Lines}
+use Rattle.lower_units.specs.Block.{nl, line, lines}
 
 -- a line, and code behind it
 line-owner : (o q : Owner) (l : List Plain) (c d : Code) → ((k : List ℕ) → flat (codeText c) k ≡ flat (codeText d) k) → (k : List ℕ)

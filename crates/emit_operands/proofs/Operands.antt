@@ -12,11 +12,11 @@ use Rattle.armv4t.specs.declared.Shift.{Shift}
 use Rattle.armv4t.specs.declared.Operand2.{Operand2}
 use Rattle.armv4t.specs.declared.Instr.{Instr}
 use Rattle.armv4t.specs.Instr.{pcValue}
-use Rattle.text.specs.Digits.{numeral}
-use Rattle.text.specs.Doc.{text, dec, _▸_, decimal, flat}
+use Rattle.base_text.specs.Digits.{numeral}
+use Rattle.base_text.specs.Doc.{text, dec, _▸_, decimal, flat}
 use Rattle.c_tree.specs.Expr.{udec, int, Expr, lit}
 use Rattle.c_tree.specs.Print.{exprText}
-use Rattle.forms.specs.Operands.{bitOf, carryIn, shiftExprs, op2Exprs, operandOf}
+use Rattle.lower_forms.specs.Operands.{bitOf, carryIn, shiftExprs, op2Exprs, operandOf}
 use Rattle.emit_operands.specs.Operands.{carryText, isSome}
 
 -- constants

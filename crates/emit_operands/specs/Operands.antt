@@ -1,7 +1,7 @@
 -- Expressions that may be missing: what the writers of operands write, and test for.
 use mathlib.Core.Bool.{Bool, true, false}
 use mathlib.Core.Option.{Option, none, some}
-use Rattle.text.specs.Doc.{Doc, nothing}
+use Rattle.base_text.specs.Doc.{Doc, nothing}
 use Rattle.c_tree.specs.Expr.{Expr}
 use Rattle.c_tree.specs.Print.{exprText}
 

@@ -11,11 +11,11 @@ pub use shifts::put_shift_value;
 ghost use mathlib.Core.Path.{_≡_};
 ghost use Prim.Native.Nat.{ℕ};
 ghost use Rattle.armv4t.specs.declared.Instr.{Instr};
-ghost use Rattle.text.specs.Doc.{raw, _▸_};
-ghost use Rattle.text.specs.Wrote.{Wrote};
+ghost use Rattle.base_text.specs.Doc.{raw, _▸_};
+ghost use Rattle.base_text.specs.Wrote.{Wrote};
 ghost use Rattle.c_tree.specs.Expr.{word, reg, Expr, lit, get};
 ghost use Rattle.c_tree.specs.Print.{exprText};
-ghost use Rattle.forms.specs.Operands.{condExpr, carryIn, shiftExprs, op2Exprs, regOf, operandOf};
+ghost use Rattle.lower_forms.specs.Operands.{condExpr, carryIn, shiftExprs, op2Exprs, regOf, operandOf};
 ghost use Rattle.emit_operands.specs.Operands.{carryText, isSome};
 
 // A condition, without parentheses around it.
@@ -23,22 +23,22 @@ pub fn put_cond_expr(out: &mut [u8], at: usize, cond: Cond) -> usize
     ensures { λ r. ⌜ Wrote (now (out .entry)) at (exprText (condExpr cond)) (now (out .exit)) r ⌝ }
 {
     match cond {
-        Cond::Eq => text::put(out, at, b"cz"),
-        Cond::Ne => text::put(out, at, b"!cz"),
-        Cond::Cs => text::put(out, at, b"cc"),
-        Cond::Cc => text::put(out, at, b"!cc"),
-        Cond::Mi => text::put(out, at, b"cn"),
-        Cond::Pl => text::put(out, at, b"!cn"),
-        Cond::Vs => text::put(out, at, b"cv"),
-        Cond::Vc => text::put(out, at, b"!cv"),
-        Cond::Hi => text::put(out, at, b"cc && !cz"),
-        Cond::Ls => text::put(out, at, b"!cc || cz"),
-        Cond::Ge => text::put(out, at, b"cn == cv"),
-        Cond::Lt => text::put(out, at, b"cn != cv"),
-        Cond::Gt => text::put(out, at, b"!cz && cn == cv"),
-        Cond::Le => text::put(out, at, b"cz || cn != cv"),
-        Cond::Al => text::put(out, at, b"1"),
-        Cond::Nv => text::put(out, at, b"1"),
+        Cond::Eq => base_text::put(out, at, b"cz"),
+        Cond::Ne => base_text::put(out, at, b"!cz"),
+        Cond::Cs => base_text::put(out, at, b"cc"),
+        Cond::Cc => base_text::put(out, at, b"!cc"),
+        Cond::Mi => base_text::put(out, at, b"cn"),
+        Cond::Pl => base_text::put(out, at, b"!cn"),
+        Cond::Vs => base_text::put(out, at, b"cv"),
+        Cond::Vc => base_text::put(out, at, b"!cv"),
+        Cond::Hi => base_text::put(out, at, b"cc && !cz"),
+        Cond::Ls => base_text::put(out, at, b"!cc || cz"),
+        Cond::Ge => base_text::put(out, at, b"cn == cv"),
+        Cond::Lt => base_text::put(out, at, b"cn != cv"),
+        Cond::Gt => base_text::put(out, at, b"!cz && cn == cv"),
+        Cond::Le => base_text::put(out, at, b"cz || cn != cv"),
+        Cond::Al => base_text::put(out, at, b"1"),
+        Cond::Nv => base_text::put(out, at, b"1"),
     }
 }
 
@@ -46,16 +46,16 @@ pub fn put_cond_expr(out: &mut [u8], at: usize, cond: Cond) -> usize
 pub fn put_word(out: &mut [u8], at: usize, value: u32) -> usize
     ensures { λ r. ⌜ Wrote (now (out .entry)) at (exprText (lit word value)) (now (out .exit)) r ⌝ }
 {
-    let p = text::put_then_hex8(out, at, b"0x", value);
-    text::put(out, p, b"u")
+    let p = base_text::put_then_hex8(out, at, b"0x", value);
+    base_text::put(out, p, b"u")
 }
 
 // A register as such.
 pub fn put_place(out: &mut [u8], at: usize, n: Reg) -> usize
     ensures { λ r. ⌜ Wrote (now (out .entry)) at (exprText (get (reg n))) (now (out .exit)) r ⌝ }
 {
-    let p = text::put_then_dec(out, at, b"c[", n as u64);
-    text::put(out, p, b"]")
+    let p = base_text::put_then_dec(out, at, b"c[", n as u64);
+    base_text::put(out, p, b"]")
 }
 
 // A register as an instruction reads it whose PC value is pc.
@@ -73,16 +73,16 @@ pub fn put_reg(out: &mut [u8], at: usize, n: Reg, pc: u32) -> usize
 pub(crate) fn put_around(out: &mut [u8], at: usize, s: &[u8], n: Reg, pc: u32, t: &[u8]) -> usize
     ensures { λ r. ⌜ Wrote (now (out .entry)) at (raw (now (s .entry)) ▸ exprText (regOf pc n) ▸ raw (now (t .entry))) (now (out .exit)) r ⌝ }
 {
-    let p = text::put(out, at, s);
+    let p = base_text::put(out, at, s);
     let q = put_reg(out, p, n, pc);
-    text::put(out, q, t)
+    base_text::put(out, q, t)
 }
 
 // The carry flag.
 pub fn put_carry_in(out: &mut [u8], at: usize) -> usize
     ensures { λ r. ⌜ Wrote (now (out .entry)) at (exprText carryIn) (now (out .exit)) r ⌝ }
 {
-    text::put(out, at, b"((c[16] >> 29) & 1u)")
+    base_text::put(out, at, b"((c[16] >> 29) & 1u)")
 }
 
 // A register operand. The interpreter is to carry out a shift by a register, so no one asks for its text.
@@ -112,8 +112,8 @@ fn put_sign(out: &mut [u8], at: usize, value: u32, ror: u8) -> usize
     if ror == 0 {
         return at;
     }
-    let p = text::put_dec(out, at, (value / 0x8000_0000 % 2) as u64);
-    text::put(out, p, b"u")
+    let p = base_text::put_dec(out, at, (value / 0x8000_0000 % 2) as u64);
+    base_text::put(out, p, b"u")
 }
 
 // The carry out of a register operand.

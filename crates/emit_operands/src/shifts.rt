@@ -6,10 +6,10 @@ use armv4t::ShiftKind;
 ghost use mathlib.Core.Path.{_≡_};
 ghost use Prim.Native.Nat.{_-_};
 ghost use Rattle.armv4t.specs.declared.ShiftKind.the-variants.{Lsl, Lsr, Asr, Ror};
-ghost use Rattle.text.specs.Doc.{raw, dec, _▸_};
-ghost use Rattle.text.specs.Wrote.{Wrote};
+ghost use Rattle.base_text.specs.Doc.{raw, dec, _▸_};
+ghost use Rattle.base_text.specs.Wrote.{Wrote};
 ghost use Rattle.c_tree.specs.Print.{exprText};
-ghost use Rattle.forms.specs.Operands.{bitOf, shiftExprs, regOf};
+ghost use Rattle.lower_forms.specs.Operands.{bitOf, shiftExprs, regOf};
 ghost use Rattle.emit_operands.specs.Operands.{carryText};
 
 // s, the register, t, a number and u.
@@ -26,8 +26,8 @@ fn put_amount(
     ensures { λ r. ⌜ Wrote (now (out .entry)) at (raw (now (s .entry)) ▸ exprText (regOf pc rm) ▸ raw (now (t .entry)) ▸ dec n ▸ raw (now (u .entry))) (now (out .exit)) r ⌝ }
 {
     let p = put_around(out, at, s, rm, pc, t);
-    let q = text::put_dec(out, p, n as u64);
-    text::put(out, q, u)
+    let q = base_text::put_dec(out, p, n as u64);
+    base_text::put(out, q, u)
 }
 
 // A register shifted by Lsl; amount 0 leaves it as it is.
@@ -45,7 +45,7 @@ fn put_lsr(out: &mut [u8], at: usize, rm: Reg, pc: u32, amount: u8) -> usize
     ensures { λ r. ⌜ Wrote (now (out .entry)) at (exprText (shiftExprs (regOf pc rm) Lsr amount .0)) (now (out .exit)) r ⌝ }
 {
     if amount == 0 {
-        return text::put(out, at, b"0u");
+        return base_text::put(out, at, b"0u");
     }
     put_amount(out, at, b"(", rm, pc, b" >> ", amount, b"u)")
 }

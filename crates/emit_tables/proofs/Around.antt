@@ -7,19 +7,19 @@ use mathlib.Core.Bool.{Bool}
 use mathlib.Core.List.{List, [], _∷_, _++_, map}
 use lib.ListN.{length, getD, take, length-map}
 use lib.Seq.{take-suc, take-all, length-take-le}
-use Rattle.text.specs.Doc.{Doc, nothing, text, _▸_, flat, each}
-use Rattle.text.specs.Wrote.{Wrote}
-use Rattle.text.proofs.Laws.{seq, said}
-use Rattle.block_file.specs.Parse.{Block, blockKey}
-use Rattle.members.specs.Members.{memberKeys}
+use Rattle.base_text.specs.Doc.{Doc, nothing, text, _▸_, flat, each}
+use Rattle.base_text.specs.Wrote.{Wrote}
+use Rattle.base_text.proofs.Laws.{seq, said}
+use Rattle.file_blocks.specs.Parse.{Block, blockKey}
+use Rattle.plan_members.specs.Members.{memberKeys}
 use Rattle.c_tree.specs.Stmt.{call, end, _⨾_, block, function, extern, count}
 use Rattle.c_tree.specs.Print.{casesText, rowText, topText, unitText}
-use Rattle.forms.specs.Forms.{Body}
-use Rattle.forms.specs.Block.{bodyOf}
-use Rattle.lowering.specs.Block.{bodyKey, sp}
-use Rattle.lowering.specs.Units.{forwarders, lastUnitEnd, defaultBody, bodiesOf}
-use Rattle.lowering.specs.Measured.{hashedIf}
-use Rattle.lowering.proofs.Measured.{hashed-keys}
+use Rattle.lower_forms.specs.Forms.{Body}
+use Rattle.lower_forms.specs.Block.{bodyOf}
+use Rattle.lower_units.specs.Block.{bodyKey, sp}
+use Rattle.lower_units.specs.Units.{forwarders, lastUnitEnd, defaultBody, bodiesOf}
+use Rattle.lower_units.specs.Measured.{hashedIf}
+use Rattle.lower_units.proofs.Measured.{hashed-keys}
 use Rattle.emit_flow.specs.Pieces.{tableOpen, tableEnd}
 use Rattle.emit_flow.proofs.Units.{end-text, each-map}
 use Rattle.emit_tables.specs.Tables.{HaveKeys}

@@ -4,21 +4,21 @@ use Prim.Native.Nat.{ℕ, _+_, _<_}
 use native.Mathlib.Omega.{arith}
 use mathlib.Core.List.{List}
 use lib.ListN.{length, getD, length-map, List·getD-eq-default}
-use Rattle.block_file.specs.declared.read.BlockRecord.{BlockRecord}
-use Rattle.block_file.specs.declared.read.FoundBlock.{FoundBlock}
-use Rattle.records.specs.BlockRecord.{countSum, keyPlus}
-use Rattle.block_file.specs.Parse.{Block, blockAt, blocksOf, Accepted, blockKey}
-use Rattle.block_file.specs.Read.{recordAt, foundBlock, IsBlock}
-use Rattle.records.specs.Trailer.{blockCount}
-use Rattle.block_file.proofs.Accepted.{length-of}
-use Rattle.block_exits.specs.Exits.{keyOf}
-use Rattle.plan.specs.Plan.{groups}
-use Rattle.block_file.proofs.IsBlock.{missing, block-inside, block-record}
-use Rattle.block_exits.proofs.OwnKey.{key-plus}
-use Rattle.block_file.proofs.Keys.{block-key}
-use Rattle.plan.proofs.Listing.{map-at}
-use Rattle.members.specs.Members.{membersOf, groupKeys}
-use Rattle.members.proofs.Places.{start-next}
+use Rattle.file_blocks.specs.declared.read.BlockRecord.{BlockRecord}
+use Rattle.file_blocks.specs.declared.read.FoundBlock.{FoundBlock}
+use Rattle.file_records.specs.BlockRecord.{countSum, keyPlus}
+use Rattle.file_blocks.specs.Parse.{Block, blockAt, blocksOf, Accepted, blockKey}
+use Rattle.file_blocks.specs.Read.{recordAt, foundBlock, IsBlock}
+use Rattle.file_records.specs.Trailer.{blockCount}
+use Rattle.file_blocks.proofs.Accepted.{length-of}
+use Rattle.plan_exits.specs.Exits.{keyOf}
+use Rattle.plan_groups.specs.Plan.{groups}
+use Rattle.file_blocks.proofs.IsBlock.{missing, block-inside, block-record}
+use Rattle.plan_exits.proofs.OwnKey.{key-plus}
+use Rattle.file_blocks.proofs.Keys.{block-key}
+use Rattle.plan_groups.proofs.Listing.{map-at}
+use Rattle.plan_members.specs.Members.{membersOf, groupKeys}
+use Rattle.plan_members.proofs.Places.{start-next}
 use Rattle.emit_tables.specs.Tables.{fileKeys, IsGroup}
 
 -- as many as blocks

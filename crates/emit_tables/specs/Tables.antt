@@ -2,12 +2,12 @@
 use Prim.Native.Nat.{ℕ, suc}
 use mathlib.Core.Path.{_≡_}
 use mathlib.Core.List.{List, map}
-use Rattle.block_file.specs.Parse.{blocksOf, blockKey}
-use Rattle.plan.specs.Plan.{groups}
-use Rattle.members.specs.Members.{startOf}
-use Rattle.members.specs.Prepared.{Ready}
-use Rattle.forms.specs.Forms.{Body}
-use Rattle.lowering.specs.Block.{bodyKey}
+use Rattle.file_blocks.specs.Parse.{blocksOf, blockKey}
+use Rattle.plan_groups.specs.Plan.{groups}
+use Rattle.plan_members.specs.Members.{startOf}
+use Rattle.plan_members.specs.Prepared.{Ready}
+use Rattle.lower_forms.specs.Forms.{Body}
+use Rattle.lower_units.specs.Block.{bodyKey}
 
 -- the keys of the blocks of a file
 abbrev pub fileKeys : List ℕ → List ℕ

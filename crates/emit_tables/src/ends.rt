@@ -8,14 +8,14 @@ use emit_flow::put_table_head;
 ghost use mathlib.Core.Path.{_≡_};
 ghost use mathlib.Core.List.{List};
 ghost use Prim.Native.Nat.{ℕ};
-ghost use Rattle.text.specs.Doc.{each};
-ghost use Rattle.text.specs.Wrote.{Wrote};
-ghost use Rattle.records.specs.Trailer.{blockCount};
-ghost use Rattle.block_file.specs.Parse.{Accepted};
+ghost use Rattle.base_text.specs.Doc.{each};
+ghost use Rattle.base_text.specs.Wrote.{Wrote};
+ghost use Rattle.file_records.specs.Trailer.{blockCount};
+ghost use Rattle.file_blocks.specs.Parse.{Accepted};
 ghost use Rattle.c_tree.specs.Stmt.{extern};
 ghost use Rattle.c_tree.specs.Print.{rowText, topText, unitText};
-ghost use Rattle.forms.specs.Forms.{Body};
-ghost use Rattle.lowering.specs.Units.{lastUnitEnd};
+ghost use Rattle.lower_forms.specs.Forms.{Body};
+ghost use Rattle.lower_units.specs.Units.{lastUnitEnd};
 ghost use Rattle.emit_tables.specs.Tables.{fileKeys, HaveKeys};
 
 // The declarations of the functions of n blocks.

@@ -4,14 +4,14 @@ use emit_flow::put_case;
 use emit_flow::put_forwarder;
 ghost use mathlib.Core.List.{List, _∷_, map};
 ghost use Prim.Native.Nat.{ℕ, _≤_, _<_};
-ghost use Rattle.text.specs.Wrote.{Wrote};
+ghost use Rattle.base_text.specs.Wrote.{Wrote};
 ghost use Rattle.c_tree.specs.Print.{casesText, unitText};
-ghost use Rattle.forms.specs.Forms.{Body};
-ghost use Rattle.lowering.specs.Block.{bodyKey};
-ghost use Rattle.lowering.specs.Units.{forwarders};
+ghost use Rattle.lower_forms.specs.Forms.{Body};
+ghost use Rattle.lower_units.specs.Block.{bodyKey};
+ghost use Rattle.lower_units.specs.Units.{forwarders};
 ghost use Rattle.emit_tables.specs.Tables.{HaveKeys, IsGroup};
-ghost use Rattle.members.specs.Members.{groupKeys};
-ghost use Rattle.plan.specs.Groups.{HasRoom};
+ghost use Rattle.plan_members.specs.Members.{groupKeys};
+ghost use Rattle.plan_groups.specs.Groups.{HasRoom};
 
 // The cases of the group in the rows from p to the one before end.
 pub fn put_cases(
@@ -57,5 +57,5 @@ pub fn put_forwarders(
         q = put_forwarder(out, q, row_key(file, work, p + k), group, k as u64);
         k += 1;
     }
-    text::put(out, q, b"\n")
+    base_text::put(out, q, b"\n")
 }

@@ -1,15 +1,15 @@
 // The keys of blocks, by their numbers and by the rows of a plan.
-use block_exits::key_of;
-use block_file::FoundBlock;
-use block_file::block_at;
-use members::row_block;
+use file_blocks::FoundBlock;
+use file_blocks::block_at;
+use plan_exits::key_of;
+use plan_members::row_block;
 ghost use mathlib.Core.Path.{_≡_};
 ghost use Prim.Native.Nat.{ℕ, _+_, _<_};
 ghost use lib.ListN.{length, getD};
-ghost use Rattle.block_file.specs.Parse.{blocksOf, Accepted};
-ghost use Rattle.plan.specs.Plan.{groups};
-ghost use Rattle.members.specs.Members.{membersOf, startOf, groupKeys};
-ghost use Rattle.members.specs.Prepared.{Ready};
+ghost use Rattle.file_blocks.specs.Parse.{blocksOf, Accepted};
+ghost use Rattle.plan_groups.specs.Plan.{groups};
+ghost use Rattle.plan_members.specs.Members.{membersOf, startOf, groupKeys};
+ghost use Rattle.plan_members.specs.Prepared.{Ready};
 ghost use Rattle.emit_tables.specs.Tables.{fileKeys};
 
 // The key of block i, or 0 where there is none.

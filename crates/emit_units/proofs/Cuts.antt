@@ -10,17 +10,17 @@ use mathlib.Core.Option.{none, some, Option·none-ne-some, Option·some-injectiv
 use lib.Dec.{leb}
 use lib.ListN.{length, length as ListN·length, getD, take, drop, getElem?, length-map, length-drop}
 use lib.Seq.{take-suc, drop-cons, drop-length, getD-drop}
-use Rattle.text.specs.Wrote.{maxUsize}
-use Rattle.fnv.specs.Fnv.{hashMultiplier}
-use Rattle.block_file.specs.Parse.{blocksOf, Accepted}
-use Rattle.plan.specs.Plan.{groups}
-use Rattle.members.specs.Members.{startOf}
-use Rattle.members.specs.Prepared.{Ready}
-use Rattle.members.proofs.Places.{start-next, start-inside, group-left, group-has}
+use Rattle.base_text.specs.Wrote.{maxUsize}
+use Rattle.base_hash.specs.Fnv.{hashMultiplier}
+use Rattle.file_blocks.specs.Parse.{blocksOf, Accepted}
+use Rattle.plan_groups.specs.Plan.{groups}
+use Rattle.plan_members.specs.Members.{startOf}
+use Rattle.plan_members.specs.Prepared.{Ready}
+use Rattle.plan_members.proofs.Places.{start-next, start-inside, group-left, group-has}
 use Rattle.c_tree.specs.Stmt.{Top}
-use Rattle.forms.specs.Forms.{Body}
-use Rattle.lowering.specs.Units.{TranslationUnit, emitGroup, unitHead, lastUnitEnd, textOf, cut, defaultBody, bodiesOf, unitsOf, unitsFor, fileUnits}
-use Rattle.lowering.proofs.Lengths.{text-append, units-short}
+use Rattle.lower_forms.specs.Forms.{Body}
+use Rattle.lower_units.specs.Units.{TranslationUnit, emitGroup, unitHead, lastUnitEnd, textOf, cut, defaultBody, bodiesOf, unitsOf, unitsFor, fileUnits}
+use Rattle.lower_units.proofs.Lengths.{text-append, units-short}
 use Rattle.emit_units.specs.declared.extents.Extent.{Extent}
 use Rattle.emit_group.specs.Groups.{fileBodies}
 use Rattle.emit_units.specs.Units.{after, grown, unitGroups, unitTree, unitsWith, unitsFrom, FirstUnit, IsUnit}

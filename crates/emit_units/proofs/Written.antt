@@ -7,20 +7,20 @@ use mathlib.Core.Bool.{Bool, true, false}
 use mathlib.Core.List.{List, [], _∷_, _++_, map}
 use lib.ListN.{length, getD, take, drop, length-drop}
 use lib.Seq.{getD-drop}
-use Rattle.text.specs.Doc.{_▸_, flat, each}
-use Rattle.text.specs.Wrote.{maxUsize, Wrote}
-use Rattle.text.proofs.Laws.{none, seq, said, each-append, each-more}
-use Rattle.block_file.specs.Parse.{blocksOf}
-use Rattle.plan.specs.Plan.{groups}
-use Rattle.members.specs.Members.{startOf}
-use Rattle.members.specs.Prepared.{Ready}
-use Rattle.members.proofs.Places.{start-next, group-has}
+use Rattle.base_text.specs.Doc.{_▸_, flat, each}
+use Rattle.base_text.specs.Wrote.{maxUsize, Wrote}
+use Rattle.base_text.proofs.Laws.{none, seq, said, each-append, each-more}
+use Rattle.file_blocks.specs.Parse.{blocksOf}
+use Rattle.plan_groups.specs.Plan.{groups}
+use Rattle.plan_members.specs.Members.{startOf}
+use Rattle.plan_members.specs.Prepared.{Ready}
+use Rattle.plan_members.proofs.Places.{start-next, group-has}
 use Rattle.c_tree.specs.Stmt.{Top}
 use Rattle.c_tree.specs.Print.{topText, unitText}
-use Rattle.forms.specs.Forms.{Body}
-use Rattle.lowering.specs.Measured.{hashedIf}
-use Rattle.lowering.specs.Units.{emitGroup, unitHead, lastUnitEnd, bodiesOf}
-use Rattle.lowering.proofs.Measured.{hashed-written}
+use Rattle.lower_forms.specs.Forms.{Body}
+use Rattle.lower_units.specs.Measured.{hashedIf}
+use Rattle.lower_units.specs.Units.{emitGroup, unitHead, lastUnitEnd, bodiesOf}
+use Rattle.lower_units.proofs.Measured.{hashed-written}
 use Rattle.emit_units.specs.declared.extents.Extent.{Extent}
 use Rattle.emit_group.specs.Groups.{fileBodies, groupText}
 use Rattle.emit_units.specs.Units.{grown, unitGroups, unitTree, Takes}

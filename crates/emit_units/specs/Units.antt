@@ -5,14 +5,14 @@ use mathlib.Core.Bool.{Bool, cond}
 use mathlib.Core.List.{List, [], _∷_, _++_, map}
 use mathlib.Core.Option.{none, some}
 use lib.ListN.{length, take, drop, getElem?}
-use Rattle.text.specs.Wrote.{maxUsize}
-use Rattle.fnv.specs.Fnv.{hashMultiplier}
-use Rattle.block_file.specs.Parse.{blocksOf}
-use Rattle.plan.specs.Plan.{groups}
-use Rattle.members.specs.Members.{startOf}
+use Rattle.base_text.specs.Wrote.{maxUsize}
+use Rattle.base_hash.specs.Fnv.{hashMultiplier}
+use Rattle.file_blocks.specs.Parse.{blocksOf}
+use Rattle.plan_groups.specs.Plan.{groups}
+use Rattle.plan_members.specs.Members.{startOf}
 use Rattle.c_tree.specs.Stmt.{Top}
-use Rattle.forms.specs.Forms.{Body}
-use Rattle.lowering.specs.Units.{TranslationUnit, emitGroup, unitHead, lastUnitEnd, textOf, cut, bodiesOf, fileUnits}
+use Rattle.lower_forms.specs.Forms.{Body}
+use Rattle.lower_units.specs.Units.{TranslationUnit, emitGroup, unitHead, lastUnitEnd, textOf, cut, bodiesOf, fileUnits}
 use Rattle.emit_units.specs.declared.extents.Extent.{Extent}
 use Rattle.emit_units.specs.declared.extents.FoundUnit.{FoundUnit}
 use Rattle.emit_group.specs.Groups.{fileBodies}

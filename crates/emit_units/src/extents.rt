@@ -2,16 +2,16 @@
 use crate::lengths::after_group;
 use crate::lengths::after_preamble;
 use crate::lengths::after_tail;
-use members::group_end;
+use plan_members::group_end;
 ghost use mathlib.Core.Path.{_≡_};
 ghost use Prim.Native.Nat.{ℕ, _≤_};
 ghost use lib.ListN.{length};
-ghost use Rattle.block_file.specs.Parse.{blocksOf, Accepted};
-ghost use Rattle.plan.specs.Plan.{groups};
-ghost use Rattle.members.specs.Members.{startOf};
-ghost use Rattle.members.specs.Prepared.{Ready};
+ghost use Rattle.file_blocks.specs.Parse.{blocksOf, Accepted};
+ghost use Rattle.plan_groups.specs.Plan.{groups};
+ghost use Rattle.plan_members.specs.Members.{startOf};
+ghost use Rattle.plan_members.specs.Prepared.{Ready};
 ghost use Rattle.emit_units.specs.Units.{FirstUnit, describes};
-ghost use Rattle.plan.specs.Groups.{HasRoom};
+ghost use Rattle.plan_groups.specs.Groups.{HasRoom};
 
 // A unit: the rows from start to the one before end, the length of its text, and whether it is the last.
 pub struct Extent {

@@ -4,14 +4,14 @@ use emit_group::emit_group;
 use emit_tables::put_tail;
 ghost use mathlib.Core.Path.{_≡_};
 ghost use Prim.Native.Nat.{ℕ, _≤_, _<_};
-ghost use Rattle.records.specs.Trailer.{blockCount};
-ghost use Rattle.block_file.specs.Parse.{blocksOf, Accepted};
-ghost use Rattle.lowering.specs.Units.{emitGroup, unitHead, lastUnitEnd, bodiesOf};
-ghost use Rattle.members.specs.Members.{membersOf};
+ghost use Rattle.file_records.specs.Trailer.{blockCount};
+ghost use Rattle.file_blocks.specs.Parse.{blocksOf, Accepted};
+ghost use Rattle.lower_units.specs.Units.{emitGroup, unitHead, lastUnitEnd, bodiesOf};
+ghost use Rattle.plan_members.specs.Members.{membersOf};
 ghost use Rattle.emit_tables.specs.Tables.{IsGroup};
 ghost use Rattle.emit_group.specs.Groups.{fileBodies};
 ghost use Rattle.emit_units.specs.Units.{after};
-ghost use Rattle.plan.specs.Groups.{HasRoom};
+ghost use Rattle.plan_groups.specs.Groups.{HasRoom};
 
 // The length of PREAMBLE and the empty line.
 pub(crate) fn after_preamble() -> usize

@@ -3,19 +3,19 @@ use crate::extents::Extent;
 use emit_flow::put_preamble;
 use emit_group::emit_group;
 use emit_tables::put_tail;
-use members::group_end;
+use plan_members::group_end;
 ghost use mathlib.Core.Bool.{true};
 ghost use Prim.Native.Nat.{ℕ, _≤_};
 ghost use lib.ListN.{take, drop};
-ghost use Rattle.text.specs.Doc.{each};
-ghost use Rattle.text.specs.Wrote.{Wrote};
-ghost use Rattle.block_file.specs.Parse.{blocksOf, Accepted};
-ghost use Rattle.plan.specs.Plan.{groups};
-ghost use Rattle.members.specs.Prepared.{Ready};
+ghost use Rattle.base_text.specs.Doc.{each};
+ghost use Rattle.base_text.specs.Wrote.{Wrote};
+ghost use Rattle.file_blocks.specs.Parse.{blocksOf, Accepted};
+ghost use Rattle.plan_groups.specs.Plan.{groups};
+ghost use Rattle.plan_members.specs.Prepared.{Ready};
 ghost use Rattle.c_tree.specs.Print.{unitText};
 ghost use Rattle.emit_group.specs.Groups.{groupText};
 ghost use Rattle.emit_units.specs.Units.{Takes, IsUnit};
-ghost use Rattle.plan.specs.Groups.{HasRoom};
+ghost use Rattle.plan_groups.specs.Groups.{HasRoom};
 
 // The groups of a unit.
 fn put_groups(out: &mut [u8], at: usize, file: &[u8], work: &[u32], n: usize, e: Extent) -> usize

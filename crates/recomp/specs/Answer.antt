@@ -3,9 +3,9 @@ use Prim.Native.Nat.{ℕ}
 use mathlib.Core.Bool.{cond}
 use mathlib.Core.List.{List}
 use lib.ListN.{length, getD}
-use Rattle.block_file.specs.Answer.{Answer, refusal, value, Counts}
-use Rattle.plan.specs.Calls.{CallOutcome}
-use Rattle.lowering.specs.Units.{UnitAnswer}
+use Rattle.file_blocks.specs.Answer.{Answer, refusal, value, Counts}
+use Rattle.plan_groups.specs.Calls.{CallOutcome}
+use Rattle.lower_units.specs.Units.{UnitAnswer}
 
 -- what the check hands over
 pub record CheckNumbers : Type 0 where

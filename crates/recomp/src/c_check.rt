@@ -2,7 +2,7 @@
 use crate::Checked;
 use crate::check;
 ghost use mathlib.Core.Path.{_≡_};
-ghost use Rattle.block_file.specs.Parse.{parse, checkAnswer};
+ghost use Rattle.file_blocks.specs.Parse.{parse, checkAnswer};
 ghost use Rattle.recomp.specs.Answer.{checkNumbers};
 
 // The check's numbers, as the C interface hands them over.

@@ -3,10 +3,10 @@ use crate::Exiting;
 use crate::Exits;
 use crate::exits_of;
 ghost use mathlib.Core.Path.{_≡_};
-ghost use Rattle.block_file.specs.Answer.{value};
-ghost use Rattle.block_file.specs.Parse.{parse};
-ghost use Rattle.block_exits.specs.Exits.{keysOf};
-ghost use Rattle.block_exits.specs.Calls.{exitsCall};
+ghost use Rattle.file_blocks.specs.Answer.{value};
+ghost use Rattle.file_blocks.specs.Parse.{parse};
+ghost use Rattle.plan_exits.specs.Exits.{keysOf};
+ghost use Rattle.plan_exits.specs.Calls.{exitsCall};
 ghost use Rattle.recomp.specs.Answer.{exitsNumbers};
 
 // The numbers of exits: how many keys, and the keys.

@@ -2,8 +2,8 @@
 use crate::Listed;
 use crate::listing_of;
 ghost use mathlib.Core.Path.{_≡_};
-ghost use Rattle.block_file.specs.Parse.{parse};
-ghost use Rattle.list_blocks.specs.Calls.{listingCall};
+ghost use Rattle.file_blocks.specs.Parse.{parse};
+ghost use Rattle.call_listing.specs.Calls.{listingCall};
 ghost use Rattle.recomp.specs.Answer.{outcomeNumbers};
 
 // The bytes of the listing. The answer is 0, or the number of the refusal.

@@ -2,8 +2,8 @@
 use crate::Planned;
 use crate::plan_of;
 ghost use mathlib.Core.Path.{_≡_};
-ghost use Rattle.block_file.specs.Parse.{parse};
-ghost use Rattle.plan.specs.Calls.{planCall};
+ghost use Rattle.file_blocks.specs.Parse.{parse};
+ghost use Rattle.plan_groups.specs.Calls.{planCall};
 ghost use Rattle.recomp.specs.Answer.{outcomeNumbers};
 
 // The numbers of the plan. The answer is 0, or the number of the refusal.

@@ -2,12 +2,12 @@
 use crate::Translated;
 use crate::unit;
 ghost use mathlib.Core.Path.{_≡_};
-ghost use Rattle.fnv.specs.Fnv.{hashMultiplier};
-ghost use Rattle.block_file.specs.Parse.{parse};
-ghost use Rattle.plan.specs.Calls.{partLimit};
-ghost use Rattle.unit_call.specs.Calls.{unitCall};
-ghost use Rattle.ways.specs.Demand3.{Demand3Of};
-ghost use Rattle.meaning.specs.Meaning.{MeaningOf};
+ghost use Rattle.base_hash.specs.Fnv.{hashMultiplier};
+ghost use Rattle.file_blocks.specs.Parse.{parse};
+ghost use Rattle.plan_groups.specs.Calls.{partLimit};
+ghost use Rattle.call_unit.specs.Calls.{unitCall};
+ghost use Rattle.claim_ways.specs.Demand3.{Demand3Of};
+ghost use Rattle.claim_meaning.specs.Meaning.{MeaningOf};
 ghost use Rattle.recomp.specs.Answer.{unitNumbers};
 
 // The text of a unit, its length, the blocks done up to its end, and 1 if it is the last. The answer is 0, or the number of the refusal.

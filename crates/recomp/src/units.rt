@@ -1,13 +1,13 @@
 // The public call for a unit, with demand 3 and the text's meaning in its promise.
 use crate::Translated;
-use unit_call::unit_of;
+use call_unit::unit_of;
 ghost use mathlib.Core.Path.{_≡_};
-ghost use Rattle.fnv.specs.Fnv.{hashMultiplier};
-ghost use Rattle.block_file.specs.Parse.{parse};
-ghost use Rattle.plan.specs.Calls.{partLimit};
-ghost use Rattle.unit_call.specs.Calls.{translatedOf, unitCall};
-ghost use Rattle.ways.specs.Demand3.{Demand3Of};
-ghost use Rattle.meaning.specs.Meaning.{MeaningOf};
+ghost use Rattle.base_hash.specs.Fnv.{hashMultiplier};
+ghost use Rattle.file_blocks.specs.Parse.{parse};
+ghost use Rattle.plan_groups.specs.Calls.{partLimit};
+ghost use Rattle.call_unit.specs.Calls.{translatedOf, unitCall};
+ghost use Rattle.claim_ways.specs.Demand3.{Demand3Of};
+ghost use Rattle.claim_meaning.specs.Meaning.{MeaningOf};
 
 // Unit k of a file at a wished size: its text in the front of `text`. Every way through the units of that file at that size keeps demand 3, and the text
 // of its blocks, read by C99, does what the manual says of their native records, but for what docs/DIFFERENCES.md excepts.

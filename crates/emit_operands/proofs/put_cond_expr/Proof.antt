@@ -3,7 +3,7 @@ use mathlib.Core.Path.{refl}
 use mathlib.Core.List.{[]}
 use borrow.Author.Needs.{needs}
 use Rattle.emit_operands.proofs.Operands.{one-text}
-use Rattle.text.proofs.Laws.{said, kept}
+use Rattle.base_text.proofs.Laws.{said, kept}
 use Rattle.emit_operands.proofs.put_cond_expr.Statement.{statement}
 use Rattle.emit_operands.proofs.put_cond_expr.Tie as tie
 

@@ -1,7 +1,7 @@
 -- `emit_operands::put_op2_carry` meets its contract: what its calls write, one after another. Assumes nothing.
 use mathlib.Core.Path.{refl}
 use borrow.Author.Needs.{needs}
-use Rattle.text.proofs.Laws.{said, kept}
+use Rattle.base_text.proofs.Laws.{said, kept}
 use Rattle.emit_operands.proofs.put_op2_carry.Statement.{statement}
 use Rattle.emit_operands.proofs.put_op2_carry.Tie as tie
 

@@ -2,7 +2,7 @@
 use mathlib.Core.Path.{refl}
 use borrow.Author.Needs.{needs}
 use borrow.Author.Tests.{eq-eqb, ne-eqb}
-use Rattle.text.proofs.Laws.{said, kept}
+use Rattle.base_text.proofs.Laws.{said, kept}
 use Rattle.emit_operands.proofs.put_reg.Statement.{statement}
 use Rattle.emit_operands.proofs.put_reg.Tie as tie
 

@@ -1,7 +1,7 @@
 -- `emit_operands::put_shifted_carry` meets its contract: what its calls write, one after another. Assumes nothing.
 use mathlib.Core.Path.{refl}
 use borrow.Author.Needs.{needs}
-use Rattle.text.proofs.Laws.{none, said, kept}
+use Rattle.base_text.proofs.Laws.{none, said, kept}
 use Rattle.emit_operands.proofs.put_shifted_carry.Statement.{statement}
 use Rattle.emit_operands.proofs.put_shifted_carry.Tie as tie
 

@@ -3,10 +3,10 @@ use mathlib.Core.Path.{refl}
 use Rattle.emit_alu.proofs.Texts.{one-u}
 use Rattle.emit_operands.proofs.Operands.{zero-text as zero-u}
 use Rattle.emit_operands.proofs.Operands.{carry-in-text}
-use Rattle.forms.specs.Operands.{carryIn, operandOf}
+use Rattle.lower_forms.specs.Operands.{carryIn, operandOf}
 use Rattle.c_tree.specs.Expr.{udec, compl, lit, un}
 use borrow.Author.Needs.{needs}
-use Rattle.text.proofs.Laws.{said, kept}
+use Rattle.base_text.proofs.Laws.{said, kept}
 use Rattle.emit_alu.proofs.alu.put_alu.Statement.{statement}
 use Rattle.emit_alu.proofs.alu.put_alu.Tie as tie
 

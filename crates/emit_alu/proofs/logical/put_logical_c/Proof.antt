@@ -3,10 +3,10 @@ use mathlib.Core.Path.{sym, _∙_}
 use Rattle.emit_alu.proofs.Texts.{with-carry, without-carry}
 use mathlib.Core.List.{[]}
 use borrow.Author.Needs.{needs}
-use Rattle.text.proofs.Laws.{none, seq, said, kept}
+use Rattle.base_text.proofs.Laws.{none, seq, said, kept}
 use Rattle.emit_alu.proofs.logical.put_logical_c.Statement.{statement}
 use Rattle.emit_alu.proofs.logical.put_logical_c.Tie as tie
-use Rattle.forms.specs.Operands.{operandOf}
+use Rattle.lower_forms.specs.Operands.{operandOf}
 
 returns : tie.Need-returns
 returns c =

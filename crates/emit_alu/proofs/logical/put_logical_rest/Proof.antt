@@ -5,12 +5,12 @@ use mathlib.Core.List.{[], _∷_}
 use Rattle.c_tree.specs.Expr.{x-r}
 use Rattle.c_tree.specs.Preamble.{v32}
 use Rattle.c_tree.specs.Stmt.{f-nz, run}
-use Rattle.forms.specs.InlineBody.{result, logicalC}
+use Rattle.lower_forms.specs.InlineBody.{result, logicalC}
 use borrow.Author.Needs.{needs}
-use Rattle.text.proofs.Laws.{seq, said, kept}
+use Rattle.base_text.proofs.Laws.{seq, said, kept}
 use Rattle.emit_alu.proofs.logical.put_logical_rest.Statement.{statement}
 use Rattle.emit_alu.proofs.logical.put_logical_rest.Tie as tie
-use Rattle.forms.specs.Operands.{operandOf}
+use Rattle.lower_forms.specs.Operands.{operandOf}
 
 returns : tie.Need-returns
 returns c =

@@ -1,7 +1,7 @@
 -- `emit_alu::logical::put_result` meets its contract: what its calls write, one after another. Assumes nothing.
 use mathlib.Core.Path.{refl, sym, _∙_}
 use borrow.Author.Needs.{needs}
-use Rattle.text.proofs.Laws.{seq, said, kept}
+use Rattle.base_text.proofs.Laws.{seq, said, kept}
 use Rattle.emit_alu.proofs.logical.put_result.Statement.{statement}
 use Rattle.emit_alu.proofs.logical.put_result.Tie as tie
 

@@ -1,7 +1,7 @@
 -- `emit_alu::logical::put_two` meets its contract: what its calls write, one after another. Assumes nothing.
 use mathlib.Core.Path.{refl}
 use borrow.Author.Needs.{needs}
-use Rattle.text.proofs.Laws.{seq, said, kept}
+use Rattle.base_text.proofs.Laws.{seq, said, kept}
 use Rattle.emit_alu.proofs.logical.put_two.Statement.{statement}
 use Rattle.emit_alu.proofs.logical.put_two.Tie as tie
 

@@ -2,7 +2,7 @@
 -- Assumes nothing.
 use lib.Dec.{eqb}
 use Rattle.emit_alu.proofs.Bodies.{cond-has}
-use Rattle.forms.specs.InlineBody.{apart, mulBody}
+use Rattle.lower_forms.specs.InlineBody.{apart, mulBody}
 use Rattle.emit_alu.proofs.mul.mul_is_inlined.Statement.{statement}
 use Rattle.emit_alu.proofs.mul.mul_is_inlined.Tie as tie
 

@@ -2,7 +2,7 @@
 use Rattle.emit_alu.proofs.Texts.{more-text}
 use mathlib.Core.List.{[]}
 use borrow.Author.Needs.{needs}
-use Rattle.text.proofs.Laws.{none, seq, said, kept}
+use Rattle.base_text.proofs.Laws.{none, seq, said, kept}
 use Rattle.emit_alu.proofs.mul.put_long_more.Statement.{statement}
 use Rattle.emit_alu.proofs.mul.put_long_more.Tie as tie
 

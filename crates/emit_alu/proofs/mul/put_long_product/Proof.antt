@@ -1,7 +1,7 @@
 -- `emit_alu::mul::put_long_product` meets its contract: what its calls write, one after another. Assumes nothing.
 use mathlib.Core.Path.{refl}
 use borrow.Author.Needs.{needs}
-use Rattle.text.proofs.Laws.{seq, said, kept}
+use Rattle.base_text.proofs.Laws.{seq, said, kept}
 use Rattle.emit_alu.proofs.mul.put_long_product.Statement.{statement}
 use Rattle.emit_alu.proofs.mul.put_long_product.Tie as tie
 

@@ -2,7 +2,7 @@
 use Rattle.emit_alu.proofs.Texts.{mul-long-text}
 use mathlib.Core.List.{[]}
 use borrow.Author.Needs.{needs}
-use Rattle.text.proofs.Laws.{seq, said, kept}
+use Rattle.base_text.proofs.Laws.{seq, said, kept}
 use Rattle.emit_alu.proofs.mul.put_mul_long.Statement.{statement}
 use Rattle.emit_alu.proofs.mul.put_mul_long.Tie as tie
 

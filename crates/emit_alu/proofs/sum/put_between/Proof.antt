@@ -1,7 +1,7 @@
 -- `emit_alu::sum::put_between` meets its contract: what its calls write, one after another. Assumes nothing.
 use mathlib.Core.Path.{refl}
 use borrow.Author.Needs.{needs}
-use Rattle.text.proofs.Laws.{said, kept}
+use Rattle.base_text.proofs.Laws.{said, kept}
 use Rattle.emit_alu.proofs.sum.put_between.Statement.{statement}
 use Rattle.emit_alu.proofs.sum.put_between.Tie as tie
 

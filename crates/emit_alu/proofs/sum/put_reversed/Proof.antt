@@ -1,13 +1,13 @@
 -- `emit_alu::sum::put_reversed` meets its contract: what its calls write, one after another. Assumes nothing.
 use mathlib.Core.Path.{refl}
 use Rattle.emit_alu.proofs.Texts.{sum-of}
-use Rattle.forms.specs.Operands.{regOf, operandOf}
+use Rattle.lower_forms.specs.Operands.{regOf, operandOf}
 use Rattle.c_tree.specs.Expr.{compl, un}
 use Rattle.c_tree.specs.Print.{exprText}
-use Rattle.text.specs.Doc.{raw, text, _▸_}
+use Rattle.base_text.specs.Doc.{raw, text, _▸_}
 use mathlib.Core.List.{[]}
 use borrow.Author.Needs.{needs}
-use Rattle.text.proofs.Laws.{seq, said, kept}
+use Rattle.base_text.proofs.Laws.{seq, said, kept}
 use Rattle.emit_alu.proofs.sum.put_reversed.Statement.{statement}
 use Rattle.emit_alu.proofs.sum.put_reversed.Tie as tie
 

@@ -1,11 +1,11 @@
 -- `emit_alu::sum::put_sum` meets its contract: what its calls write, one after another. Assumes nothing.
 use Rattle.emit_alu.proofs.Texts.{sum-of}
-use Rattle.forms.specs.Operands.{regOf, operandOf}
+use Rattle.lower_forms.specs.Operands.{regOf, operandOf}
 use Rattle.c_tree.specs.Print.{exprText}
-use Rattle.text.specs.Doc.{raw, _▸_}
+use Rattle.base_text.specs.Doc.{raw, _▸_}
 use mathlib.Core.List.{[]}
 use borrow.Author.Needs.{needs}
-use Rattle.text.proofs.Laws.{seq, said, kept}
+use Rattle.base_text.proofs.Laws.{seq, said, kept}
 use Rattle.emit_alu.proofs.sum.put_sum.Statement.{statement}
 use Rattle.emit_alu.proofs.sum.put_sum.Tie as tie
 

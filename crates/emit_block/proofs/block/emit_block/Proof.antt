@@ -6,8 +6,8 @@ use mathlib.Core.Option.{some}
 use native.Mathlib.Omega.{arith}
 use borrow.Author.Tests.{not-true, not-false}
 use denote.Ref.{now}
-use Rattle.block_file.specs.Read.{IsBlock}
-use Rattle.block_file.proofs.IsBlock.{missing}
+use Rattle.file_blocks.specs.Read.{IsBlock}
+use Rattle.file_blocks.proofs.IsBlock.{missing}
 use Rattle.emit_block.proofs.Bodies.{bodyHere, is-body, hash-there, hash-absent, guarded-by, length-by, block-here, code-bare, code-deferred, code-guarded}
 use borrow.Author.Needs.{needs}
 use Rattle.emit_block.proofs.block.emit_block.Statement.{statement}

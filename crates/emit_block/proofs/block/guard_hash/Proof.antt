@@ -3,8 +3,8 @@
 use mathlib.Core.Path.{sym, ap, _∙_}
 use mathlib.Core.Bool.{Bool, cond}
 use denote.Ref.{now}
-use Rattle.block_file.specs.Read.{codeBytes}
-use Rattle.fnv.specs.Fnv.{fnv64, hashMultiplier}
+use Rattle.file_blocks.specs.Read.{codeBytes}
+use Rattle.base_hash.specs.Fnv.{fnv64, hashMultiplier}
 use borrow.Author.Needs.{needs}
 use Rattle.emit_block.proofs.block.guard_hash.Statement.{statement}
 use Rattle.emit_block.proofs.block.guard_hash.Tie as tie

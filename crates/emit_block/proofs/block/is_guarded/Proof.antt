@@ -6,7 +6,7 @@ use mathlib.Core.Bool.{Bool, false, not, _||_}
 use borrow.Author.Needs.{needs}
 use borrow.Author.Tests.{eq-eqb, ne-eqb}
 use lib.Dec.{eqb}
-use Rattle.block_file.specs.Address.{outsideRomBios}
+use Rattle.file_blocks.specs.Address.{outsideRomBios}
 use Rattle.emit_block.proofs.block.is_guarded.Statement.{statement}
 use Rattle.emit_block.proofs.block.is_guarded.Tie as tie
 

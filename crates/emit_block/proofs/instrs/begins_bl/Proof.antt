@@ -13,7 +13,7 @@ use Rattle.armv4t.specs.declared.Op.{Op}
 use Rattle.armv4t.specs.Fused.{fuse, fuseOps}
 use Rattle.armv4t.proofs.Arms.{arm, others}
 use Rattle.armv4t.proofs.Op.{enum, the-type}
-use Rattle.instr_records.specs.declared.decode.TimedInstr.{TimedInstr}
+use Rattle.file_instrs.specs.declared.decode.TimedInstr.{TimedInstr}
 use Rattle.emit_block.specs.declared.instrs.Next.{Next}
 use Rattle.emit_block.specs.Walk.{fusedNext, nextOf}
 use Rattle.emit_block.proofs.instrs.begins_bl.Statement.{statement}

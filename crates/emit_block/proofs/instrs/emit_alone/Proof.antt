@@ -5,9 +5,9 @@ use mathlib.Core.Path.{ap}
 use mathlib.Core.List.{List}
 use native.Mathlib.Omega.{arith}
 use denote.Ref.{now}
-use Rattle.forms.specs.Forms.{Form}
-use Rattle.forms.specs.Block.{emitInstr}
-use Rattle.block_file.specs.Address.{region}
+use Rattle.lower_forms.specs.Forms.{Form}
+use Rattle.lower_forms.specs.Block.{emitInstr}
+use Rattle.file_blocks.specs.Address.{region}
 use Rattle.emit_instr.proofs.Steps.{same-form}
 use Rattle.emit_block.specs.Walk.{formsFrom}
 use Rattle.emit_block.proofs.FormsFrom.{empty-behind}

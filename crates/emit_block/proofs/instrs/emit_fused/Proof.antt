@@ -4,9 +4,9 @@ use Prim.Native.Nat.{ℕ, _+_}
 use mathlib.Core.Path.{sym, ap, _∙_, subst}
 use denote.Ref.{now}
 use Rattle.c_tree.specs.Stmt.{Owner, end}
-use Rattle.forms.specs.Block.{emitPair}
-use Rattle.lowering.specs.Block.{bodyKey, nativeText, codeFrom}
-use Rattle.block_file.specs.Address.{among}
+use Rattle.lower_forms.specs.Block.{emitPair}
+use Rattle.lower_units.specs.Block.{bodyKey, nativeText, codeFrom}
+use Rattle.file_blocks.specs.Address.{among}
 use Rattle.emit_flow.proofs.Blocks.{code-native}
 use Rattle.emit_instr.specs.Onward.{Onward}
 use Rattle.emit_instr.proofs.Onward.{same-from, start}

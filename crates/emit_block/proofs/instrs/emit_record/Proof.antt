@@ -6,10 +6,10 @@ use mathlib.Core.List.{_∷_}
 use native.Mathlib.Omega.{arith}
 use denote.Ref.{now}
 use Rattle.c_tree.specs.Stmt.{end}
-use Rattle.forms.specs.Forms.{Form}
-use Rattle.forms.specs.Block.{emitPair}
-use Rattle.lowering.specs.Block.{codeFrom}
-use Rattle.block_exits.proofs.Closing.{not-missing}
+use Rattle.lower_forms.specs.Forms.{Form}
+use Rattle.lower_forms.specs.Block.{emitPair}
+use Rattle.lower_units.specs.Block.{codeFrom}
+use Rattle.plan_exits.proofs.Closing.{not-missing}
 use Rattle.emit_instr.specs.Onward.{Onward}
 use Rattle.emit_block.proofs.Reading.{here-read}
 use Rattle.emit_block.proofs.Recording.{pair-sum, pair-recorded}

@@ -6,7 +6,7 @@ use mathlib.Core.List.{List}
 use native.Mathlib.Omega.{arith}
 use borrow.Author.Needs.{needs}
 use lib.ListN.{length}
-use Rattle.forms.specs.Forms.{Body}
+use Rattle.lower_forms.specs.Forms.{Body}
 use Rattle.emit_block.specs.Walk.{IsMemberBlock, Walked}
 use Rattle.emit_block.proofs.Walking.{walked-none, walked-more, walked-done, walked-cycles, walked-end}
 use Rattle.emit_block.proofs.walk.emit_records.Statement.{statement}

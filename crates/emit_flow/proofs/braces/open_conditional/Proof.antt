@@ -1,9 +1,9 @@
 -- `emit_flow::braces::open_conditional` meets its contract: what its calls write, one after another. Assumes nothing.
 use mathlib.Core.Path.{refl}
 use borrow.Author.Needs.{needs}
-use Rattle.text.specs.Digits.{numeral}
-use Rattle.text.specs.Doc.{decimal}
-use Rattle.text.proofs.Laws.{said, kept}
+use Rattle.base_text.specs.Digits.{numeral}
+use Rattle.base_text.specs.Doc.{decimal}
+use Rattle.base_text.proofs.Laws.{said, kept}
 use Rattle.emit_flow.proofs.braces.open_conditional.Statement.{statement}
 use Rattle.emit_flow.proofs.braces.open_conditional.Tie as tie
 

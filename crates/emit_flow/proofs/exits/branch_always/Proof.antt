@@ -1,7 +1,7 @@
 -- `emit_flow::exits::branch_always` meets its contract: what its calls write, one after another. Assumes nothing.
 use borrow.Author.Needs.{needs}
 use Rattle.emit_flow.proofs.Pieces.{jumped}
-use Rattle.text.proofs.Laws.{seq, said}
+use Rattle.base_text.proofs.Laws.{seq, said}
 use Rattle.emit_flow.proofs.exits.branch_always.Statement.{statement}
 use Rattle.emit_flow.proofs.exits.branch_always.Tie as tie
 

@@ -1,8 +1,8 @@
 -- `emit_flow::exits::branch_taken` meets its contract: what its calls write, one after another. Assumes nothing.
 use borrow.Author.Needs.{needs}
 use Rattle.emit_flow.proofs.Pieces.{taken}
-use Rattle.forms.specs.Block.{branchRegs}
-use Rattle.text.proofs.Laws.{seq, said}
+use Rattle.lower_forms.specs.Block.{branchRegs}
+use Rattle.base_text.proofs.Laws.{seq, said}
 use Rattle.emit_flow.proofs.exits.branch_taken.Statement.{statement}
 use Rattle.emit_flow.proofs.exits.branch_taken.Tie as tie
 

@@ -3,8 +3,8 @@ use mathlib.Core.Path.{ap, _∙_}
 use Prim.Native.Nat.{ℕ}
 use borrow.Author.Needs.{needs}
 use Rattle.emit_flow.proofs.Pieces.{paired}
-use Rattle.block_file.specs.Address.{among}
-use Rattle.text.proofs.Laws.{seq, said}
+use Rattle.file_blocks.specs.Address.{among}
+use Rattle.base_text.proofs.Laws.{seq, said}
 use Rattle.emit_flow.proofs.exits.emit_pair.Statement.{statement}
 use Rattle.emit_flow.proofs.exits.emit_pair.Tie as tie
 

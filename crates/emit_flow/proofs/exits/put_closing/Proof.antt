@@ -4,9 +4,9 @@ use Rattle.emit_flow.proofs.Pieces.{lines-behind}
 use mathlib.Core.Path.{sym}
 use mathlib.Core.List.{[]}
 use Rattle.c_tree.specs.Stmt.{common, end}
-use Rattle.forms.specs.Block.{pcLine}
-use Rattle.lowering.specs.Block.{transfer}
-use Rattle.text.proofs.Laws.{seq, said}
+use Rattle.lower_forms.specs.Block.{pcLine}
+use Rattle.lower_units.specs.Block.{transfer}
+use Rattle.base_text.proofs.Laws.{seq, said}
 use Rattle.emit_flow.proofs.exits.put_closing.Statement.{statement}
 use Rattle.emit_flow.proofs.exits.put_closing.Tie as tie
 

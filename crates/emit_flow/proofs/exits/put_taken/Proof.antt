@@ -1,9 +1,9 @@
 -- `emit_flow::exits::put_taken` meets its contract: what its calls write, one after another. Assumes nothing.
 use mathlib.Core.Path.{refl}
 use borrow.Author.Needs.{needs}
-use Rattle.text.specs.Digits.{numeral}
-use Rattle.text.specs.Doc.{decimal}
-use Rattle.text.proofs.Laws.{seq, said, kept}
+use Rattle.base_text.specs.Digits.{numeral}
+use Rattle.base_text.specs.Doc.{decimal}
+use Rattle.base_text.proofs.Laws.{seq, said, kept}
 use Rattle.emit_flow.proofs.exits.put_taken.Statement.{statement}
 use Rattle.emit_flow.proofs.exits.put_taken.Tie as tie
 

@@ -1,7 +1,7 @@
 -- `emit_flow::exits::set_link` meets its contract: what its calls write, one after another. Assumes nothing.
 use mathlib.Core.Path.{refl}
 use borrow.Author.Needs.{needs}
-use Rattle.text.proofs.Laws.{none, said, kept}
+use Rattle.base_text.proofs.Laws.{none, said, kept}
 use Rattle.emit_flow.proofs.exits.set_link.Statement.{statement}
 use Rattle.emit_flow.proofs.exits.set_link.Tie as tie
 

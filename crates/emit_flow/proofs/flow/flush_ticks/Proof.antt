@@ -1,7 +1,7 @@
 -- `emit_flow::flow::flush_ticks` meets its contract: what its calls write, one after another. Assumes nothing.
 use borrow.Author.Needs.{needs}
 use Rattle.emit_flow.proofs.Pieces.{ticks}
-use Rattle.text.proofs.Laws.{none, seq, said, kept}
+use Rattle.base_text.proofs.Laws.{none, seq, said, kept}
 use Rattle.emit_flow.proofs.flow.flush_ticks.Statement.{statement}
 use Rattle.emit_flow.proofs.flow.flush_ticks.Tie as tie
 

@@ -1,7 +1,7 @@
 -- `emit_flow::flow::put_gate` meets its contract: what its calls write, one after another. Assumes nothing.
 use mathlib.Core.Path.{refl}
 use borrow.Author.Needs.{needs}
-use Rattle.text.proofs.Laws.{seq, said, kept}
+use Rattle.base_text.proofs.Laws.{seq, said, kept}
 use Rattle.emit_flow.proofs.flow.put_gate.Statement.{statement}
 use Rattle.emit_flow.proofs.flow.put_gate.Tie as tie
 

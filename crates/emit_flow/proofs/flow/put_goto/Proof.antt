@@ -1,8 +1,8 @@
 -- `emit_flow::flow::put_goto` meets its contract: what its calls write, one after another. Assumes nothing.
 use mathlib.Core.Path.{refl}
 use borrow.Author.Needs.{needs}
-use Rattle.lowering.specs.Block.{gotoCode}
-use Rattle.text.proofs.Laws.{seq, said, kept}
+use Rattle.lower_units.specs.Block.{gotoCode}
+use Rattle.base_text.proofs.Laws.{seq, said, kept}
 use Rattle.emit_flow.proofs.flow.put_goto.Statement.{statement}
 use Rattle.emit_flow.proofs.flow.put_goto.Tie as tie
 

@@ -1,7 +1,7 @@
 -- `emit_flow::flow::set_lr` meets its contract: what its calls write, one after another. Assumes nothing.
 use borrow.Author.Needs.{needs}
 use Rattle.emit_flow.proofs.Pieces.{lr-set}
-use Rattle.text.proofs.Laws.{seq, said, kept}
+use Rattle.base_text.proofs.Laws.{seq, said, kept}
 use Rattle.emit_flow.proofs.flow.set_lr.Statement.{statement}
 use Rattle.emit_flow.proofs.flow.set_lr.Tie as tie
 

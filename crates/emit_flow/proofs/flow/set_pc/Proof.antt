@@ -1,7 +1,7 @@
 -- `emit_flow::flow::set_pc` meets its contract: what its calls write, one after another. Assumes nothing.
 use borrow.Author.Needs.{needs}
 use Rattle.emit_flow.proofs.Pieces.{pc-set}
-use Rattle.text.proofs.Laws.{seq, said, kept}
+use Rattle.base_text.proofs.Laws.{seq, said, kept}
 use Rattle.emit_flow.proofs.flow.set_pc.Statement.{statement}
 use Rattle.emit_flow.proofs.flow.set_pc.Tie as tie
 

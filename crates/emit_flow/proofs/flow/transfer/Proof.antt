@@ -7,7 +7,7 @@ use borrow.Author.Needs.{needs}
 use borrow.Author.Tests.{not-true, not-false, le-leb, lt-leb}
 use Rattle.emit_flow.proofs.Pieces.{returned, gated, ungated}
 use Rattle.emit_flow.specs.Pieces.{indent}
-use Rattle.text.proofs.Laws.{seq, said}
+use Rattle.base_text.proofs.Laws.{seq, said}
 use Rattle.emit_flow.proofs.flow.transfer.Statement.{statement}
 use Rattle.emit_flow.proofs.flow.transfer.Tie as tie
 

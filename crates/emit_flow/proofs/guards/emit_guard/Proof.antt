@@ -1,7 +1,7 @@
 -- `emit_flow::guards::emit_guard` meets its contract: what its calls write, one after another. Assumes nothing.
 use borrow.Author.Needs.{needs}
 use Rattle.emit_flow.proofs.Pieces.{guarding}
-use Rattle.text.proofs.Laws.{seq, said}
+use Rattle.base_text.proofs.Laws.{seq, said}
 use Rattle.emit_flow.proofs.guards.emit_guard.Statement.{statement}
 use Rattle.emit_flow.proofs.guards.emit_guard.Tie as tie
 

@@ -1,8 +1,8 @@
 -- `emit_flow::heads::put_block_head` meets its contract: what its calls write, one after another. Assumes nothing.
 use mathlib.Core.Path.{refl}
 use borrow.Author.Needs.{needs}
-use Rattle.lowering.specs.Units.{withLocals}
-use Rattle.text.proofs.Laws.{seq, said, kept}
+use Rattle.lower_units.specs.Units.{withLocals}
+use Rattle.base_text.proofs.Laws.{seq, said, kept}
 use Rattle.emit_flow.proofs.heads.put_block_head.Statement.{statement}
 use Rattle.emit_flow.proofs.heads.put_block_head.Tie as tie
 

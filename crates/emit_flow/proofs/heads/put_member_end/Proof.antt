@@ -1,7 +1,7 @@
 -- `emit_flow::heads::put_member_end` meets its contract: what its calls write, one after another. Assumes nothing.
 use mathlib.Core.Path.{refl}
 use borrow.Author.Needs.{needs}
-use Rattle.text.proofs.Laws.{said, kept}
+use Rattle.base_text.proofs.Laws.{said, kept}
 use Rattle.emit_flow.proofs.heads.put_member_end.Statement.{statement}
 use Rattle.emit_flow.proofs.heads.put_member_end.Tie as tie
 

@@ -1,7 +1,7 @@
 -- `emit_flow::opening::put_preamble` meets its contract: what its calls write, one after another. Assumes nothing.
 use borrow.Author.Needs.{needs}
 use Rattle.emit_flow.proofs.Pieces.{head-text}
-use Rattle.text.proofs.Laws.{said, kept}
+use Rattle.base_text.proofs.Laws.{said, kept}
 use Rattle.emit_flow.proofs.opening.put_preamble.Statement.{statement}
 use Rattle.emit_flow.proofs.opening.put_preamble.Tie as tie
 

@@ -2,9 +2,9 @@
 use borrow.Author.Needs.{needs}
 use Rattle.emit_flow.proofs.Pieces.{ticked}
 use Rattle.c_tree.specs.Stmt.{common, end}
-use Rattle.lowering.specs.Block.{shellCode}
-use Rattle.forms.specs.Block.{pcLine}
-use Rattle.text.proofs.Laws.{seq, said}
+use Rattle.lower_units.specs.Block.{shellCode}
+use Rattle.lower_forms.specs.Block.{pcLine}
+use Rattle.base_text.proofs.Laws.{seq, said}
 use Rattle.emit_flow.proofs.shells.emit_shell.Statement.{statement}
 use Rattle.emit_flow.proofs.shells.emit_shell.Tie as tie
 

@@ -6,11 +6,11 @@ use lib.ListN.{length}
 use mathlib.Core.List.{[]}
 use mathlib.Core.Path.{sym, ap, subst}
 use native.Mathlib.Omega.{arith}
-use Rattle.members.proofs.Places.{row-block-inside}
-use Rattle.members.specs.Members.{membersOf, keysWithin}
-use Rattle.block_file.specs.Parse.{blocksOf}
-use Rattle.text.proofs.Laws.{said}
-use Rattle.text.specs.Doc.{flat}
+use Rattle.plan_members.proofs.Places.{row-block-inside}
+use Rattle.plan_members.specs.Members.{membersOf, keysWithin}
+use Rattle.file_blocks.specs.Parse.{blocksOf}
+use Rattle.base_text.proofs.Laws.{said}
+use Rattle.base_text.specs.Doc.{flat}
 use Rattle.emit_group.specs.Groups.{memberText}
 use Rattle.emit_group.proofs.groups.put_code.Statement.{statement}
 use Rattle.emit_group.proofs.groups.put_code.Tie as tie

@@ -7,9 +7,9 @@ use mathlib.Core.Path.{_≡_, sym}
 use native.Mathlib.Omega.{arith}
 use Rattle.emit_tables.proofs.Around.{hashed-member-keys}
 use Rattle.emit_tables.proofs.Rows.{group-size}
-use Rattle.fnv.specs.Fnv.{hashMultiplier}
-use Rattle.members.specs.Members.{membersOf, groupKeys}
-use Rattle.block_file.specs.Parse.{blocksOf}
+use Rattle.base_hash.specs.Fnv.{hashMultiplier}
+use Rattle.plan_members.specs.Members.{membersOf, groupKeys}
+use Rattle.file_blocks.specs.Parse.{blocksOf}
 use Rattle.emit_group.proofs.Functions.{lone-wrote}
 use Rattle.emit_group.proofs.groups.put_lone.Statement.{statement}
 use Rattle.emit_group.proofs.groups.put_lone.Tie as tie

@@ -6,9 +6,9 @@ use mathlib.Core.List.{[]}
 use mathlib.Core.Path.{ap, _∙_}
 use Rattle.c_tree.specs.Print.{codeText}
 use Rattle.c_tree.specs.Stmt.{label, end, _⨾_}
-use Rattle.lowering.specs.Block.{nl}
-use Rattle.text.proofs.Laws.{seq, said}
-use Rattle.text.specs.Doc.{flat}
+use Rattle.lower_units.specs.Block.{nl}
+use Rattle.base_text.proofs.Laws.{seq, said}
+use Rattle.base_text.specs.Doc.{flat}
 use Rattle.emit_group.proofs.Functions.{member-key}
 use Rattle.emit_group.proofs.groups.put_member.Statement.{statement}
 use Rattle.emit_group.proofs.groups.put_member.Tie as tie

@@ -8,11 +8,11 @@ use mathlib.Core.Path.{_≡_, refl, _∙_}
 use native.Mathlib.Omega.{arith}
 use Rattle.emit_tables.proofs.Rows.{group-size}
 use Rattle.emit_tables.specs.Tables.{IsGroup}
-use Rattle.members.specs.Members.{membersOf, groupKeys}
-use Rattle.block_file.specs.Parse.{blocksOf}
-use Rattle.text.proofs.Laws.{none, said, each-more, each-all}
-use Rattle.text.specs.Doc.{each}
-use Rattle.text.specs.Wrote.{Wrote}
+use Rattle.plan_members.specs.Members.{membersOf, groupKeys}
+use Rattle.file_blocks.specs.Parse.{blocksOf}
+use Rattle.base_text.proofs.Laws.{none, said, each-more, each-all}
+use Rattle.base_text.specs.Doc.{each}
+use Rattle.base_text.specs.Wrote.{Wrote}
 use Rattle.emit_group.specs.Groups.{labelledText}
 use Rattle.emit_group.proofs.Functions.{members-each}
 use Rattle.emit_group.proofs.groups.put_members.Statement.{statement}

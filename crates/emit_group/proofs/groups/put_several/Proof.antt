@@ -4,11 +4,11 @@ use borrow.Author.Needs.{needs}
 use mathlib.Core.List.{map}
 use native.Mathlib.Omega.{arith}
 use Rattle.emit_tables.proofs.Around.{hashed-member-keys}
-use Rattle.fnv.specs.Fnv.{hashMultiplier}
-use Rattle.lowering.specs.Measured.{hashedIf}
-use Rattle.lowering.specs.Units.{bodiesOf}
-use Rattle.members.specs.Members.{membersOf, groupKeys}
-use Rattle.block_file.specs.Parse.{blocksOf}
+use Rattle.base_hash.specs.Fnv.{hashMultiplier}
+use Rattle.lower_units.specs.Measured.{hashedIf}
+use Rattle.lower_units.specs.Units.{bodiesOf}
+use Rattle.plan_members.specs.Members.{membersOf, groupKeys}
+use Rattle.file_blocks.specs.Parse.{blocksOf}
 use Rattle.emit_group.specs.Groups.{fileBodies}
 use Rattle.emit_group.proofs.Functions.{members-count, several-wrote}
 use Rattle.emit_group.proofs.groups.put_several.Statement.{statement}

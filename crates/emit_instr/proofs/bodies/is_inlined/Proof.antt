@@ -5,7 +5,7 @@ use Rattle.emit_mem.proofs.Offsets.{mem-inlined, block-mem-inlined}
 use Rattle.emit_instr.proofs.Operations.{no-lines}
 use borrow.Author.Needs.{needs}
 use Rattle.armv4t.specs.declared.Op.{Op}
-use Rattle.forms.specs.InlineBody.{opBody, inlineBody}
+use Rattle.lower_forms.specs.InlineBody.{opBody, inlineBody}
 use Rattle.emit_instr.proofs.bodies.is_inlined.Statement.{statement}
 use Rattle.emit_instr.proofs.bodies.is_inlined.Tie as tie
 

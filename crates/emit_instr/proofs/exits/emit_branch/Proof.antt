@@ -3,14 +3,14 @@ use Prim.Native.Nat.{ℕ, _+_}
 use mathlib.Core.Path.{refl, sym, ap, _∙_}
 use mathlib.Core.List.{_++_}
 use Rattle.c_tree.specs.Stmt.{Owner}
-use Rattle.text.proofs.Laws.{seq}
-use Rattle.forms.specs.Forms.{Form}
-use Rattle.forms.specs.Operands.{condExpr}
-use Rattle.forms.specs.InlineBody.{apart}
-use Rattle.forms.specs.Block.{flushTicks, branchRegs}
+use Rattle.base_text.proofs.Laws.{seq}
+use Rattle.lower_forms.specs.Forms.{Form}
+use Rattle.lower_forms.specs.Operands.{condExpr}
+use Rattle.lower_forms.specs.InlineBody.{apart}
+use Rattle.lower_forms.specs.Block.{flushTicks, branchRegs}
 use Rattle.armv4t.specs.Cond.{isAl}
-use Rattle.lowering.specs.Block.{bodyKey, codeFrom}
-use Rattle.block_file.specs.Address.{among}
+use Rattle.lower_units.specs.Block.{bodyKey, codeFrom}
+use Rattle.file_blocks.specs.Address.{among}
 use Rattle.emit_instr.proofs.Texts.{jump-step, branch-step, branch-form}
 use Rattle.emit_instr.proofs.Steps.{same-form}
 use borrow.Author.Needs.{needs}

@@ -1,8 +1,8 @@
 -- `emit_instr::exits::emit_bx` meets its contract: what its calls write, one after another. Assumes nothing.
 use borrow.Author.Needs.{needs}
 use Rattle.emit_flow.proofs.Pieces.{bx-text}
-use Rattle.forms.specs.Operands.{regOf}
-use Rattle.text.proofs.Laws.{seq, said}
+use Rattle.lower_forms.specs.Operands.{regOf}
+use Rattle.base_text.proofs.Laws.{seq, said}
 use Rattle.emit_instr.proofs.exits.emit_bx.Statement.{statement}
 use Rattle.emit_instr.proofs.exits.emit_bx.Tie as tie
 

@@ -2,14 +2,14 @@
 use Prim.Native.Nat.{ℕ, _+_}
 use mathlib.Core.Path.{refl, ap}
 use mathlib.Core.List.{[]}
-use Rattle.text.specs.Doc.{flat}
-use Rattle.text.proofs.Laws.{said}
+use Rattle.base_text.specs.Doc.{flat}
+use Rattle.base_text.proofs.Laws.{said}
 use Rattle.c_tree.specs.Stmt.{Owner}
 use Rattle.c_tree.specs.Print.{codeText}
-use Rattle.forms.specs.Forms.{bx}
-use Rattle.forms.specs.Operands.{regExpr, regOf}
-use Rattle.forms.specs.Block.{flushTicks}
-use Rattle.lowering.specs.Block.{bodyKey, nativeText, codeFrom}
+use Rattle.lower_forms.specs.Forms.{bx}
+use Rattle.lower_forms.specs.Operands.{regExpr, regOf}
+use Rattle.lower_forms.specs.Block.{flushTicks}
+use Rattle.lower_units.specs.Block.{bodyKey, nativeText, codeFrom}
 use Rattle.emit_instr.proofs.Texts.{exit-step}
 use borrow.Author.Needs.{needs}
 use Rattle.emit_instr.proofs.exits.leave_by_bx.Statement.{statement}

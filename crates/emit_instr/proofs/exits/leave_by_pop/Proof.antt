@@ -3,10 +3,10 @@ use Prim.Native.Nat.{_+_}
 use mathlib.Core.Path.{refl, sym}
 use mathlib.Core.List.{[]}
 use Rattle.c_tree.specs.Stmt.{Owner}
-use Rattle.text.proofs.Laws.{seq, said}
-use Rattle.forms.specs.InlineBody.{listed}
-use Rattle.forms.specs.Block.{emitPop}
-use Rattle.lowering.specs.Block.{bodyKey, codeFrom}
+use Rattle.base_text.proofs.Laws.{seq, said}
+use Rattle.lower_forms.specs.InlineBody.{listed}
+use Rattle.lower_forms.specs.Block.{emitPop}
+use Rattle.lower_units.specs.Block.{bodyKey, codeFrom}
 use Rattle.emit_mem.proofs.PopText.{ticks-then-pop}
 use Rattle.emit_instr.proofs.Texts.{exit-step}
 use borrow.Author.Needs.{needs}

@@ -1,5 +1,5 @@
 -- `exits::put_condition` meets its contract: what its calls write, one after another. Assumes nothing.
-use Rattle.text.proofs.Laws.{seq}
+use Rattle.base_text.proofs.Laws.{seq}
 use borrow.Author.Needs.{needs}
 use Rattle.emit_instr.proofs.exits.put_condition.Statement.{statement}
 use Rattle.emit_instr.proofs.exits.put_condition.Tie as tie

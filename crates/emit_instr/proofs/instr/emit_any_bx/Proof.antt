@@ -2,9 +2,9 @@
 use Prim.Native.Nat.{ℕ}
 use mathlib.Core.Path.{sym, ap, _∙_}
 use mathlib.Core.Bool.{false}
-use Rattle.forms.specs.Forms.{bx, Form}
-use Rattle.forms.specs.Operands.{regExpr}
-use Rattle.forms.specs.Block.{flushTicks, nativeExit, emitStraight}
+use Rattle.lower_forms.specs.Forms.{bx, Form}
+use Rattle.lower_forms.specs.Operands.{regExpr}
+use Rattle.lower_forms.specs.Block.{flushTicks, nativeExit, emitStraight}
 use Rattle.emit_instr.proofs.Chosen.{chosen, refused}
 use Rattle.emit_instr.proofs.Steps.{same-form}
 use borrow.Author.Needs.{needs}

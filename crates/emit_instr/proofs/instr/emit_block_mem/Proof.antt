@@ -2,9 +2,9 @@
 use Prim.Native.Nat.{ℕ}
 use mathlib.Core.Path.{sym, ap, _∙_}
 use mathlib.Core.Bool.{true}
-use Rattle.forms.specs.Forms.{Form}
-use Rattle.forms.specs.InlineBody.{listed}
-use Rattle.forms.specs.Block.{isPop, emitPop, emitStraight}
+use Rattle.lower_forms.specs.Forms.{Form}
+use Rattle.lower_forms.specs.InlineBody.{listed}
+use Rattle.lower_forms.specs.Block.{isPop, emitPop, emitStraight}
 use Rattle.emit_instr.proofs.Chosen.{chosen, refused}
 use Rattle.emit_instr.proofs.Steps.{same-form}
 use borrow.Author.Needs.{needs}

@@ -1,8 +1,8 @@
 -- `instr::emit_instr` meets its contract: an arm of one operation is given its fields, and `_` answers for all that go on to the next instruction and do not touch memory. Assumes nothing.
 use Prim.Native.Nat.{ℕ}
 use mathlib.Core.Path.{sym, ap, subst, _∙_}
-use Rattle.forms.specs.Forms.{Form}
-use Rattle.forms.specs.Block.{emitBranch, emitOp, emitInstr}
+use Rattle.lower_forms.specs.Forms.{Form}
+use Rattle.lower_forms.specs.Block.{emitBranch, emitOp, emitInstr}
 use Rattle.emit_instr.specs.Steps.{BranchInside}
 use Rattle.emit_instr.proofs.Steps.{same-form}
 use Rattle.emit_instr.proofs.Operations.{straight-on}

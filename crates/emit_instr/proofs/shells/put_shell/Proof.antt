@@ -2,14 +2,14 @@
 use Prim.Native.Nat.{ℕ}
 use mathlib.Core.Path.{ap}
 use mathlib.Core.List.{[], _++_}
-use Rattle.text.specs.Doc.{flat}
-use Rattle.text.proofs.Laws.{said}
+use Rattle.base_text.specs.Doc.{flat}
+use Rattle.base_text.proofs.Laws.{said}
 use Rattle.c_tree.specs.Stmt.{common, end}
 use Rattle.c_tree.specs.Print.{codeText}
-use Rattle.block_exits.specs.Exits.{fallThrough}
-use Rattle.forms.specs.Forms.{Lines}
-use Rattle.forms.specs.Block.{flushTicks, pcLine}
-use Rattle.lowering.specs.Block.{bodyKey, lines, shellCode}
+use Rattle.plan_exits.specs.Exits.{fallThrough}
+use Rattle.lower_forms.specs.Forms.{Lines}
+use Rattle.lower_forms.specs.Block.{flushTicks, pcLine}
+use Rattle.lower_units.specs.Block.{bodyKey, lines, shellCode}
 use Rattle.emit_instr.proofs.Texts.{shell-step, last-step}
 use borrow.Author.Needs.{needs}
 use Rattle.emit_instr.proofs.shells.put_shell.Statement.{statement}

@@ -1,10 +1,10 @@
 -- `straight::emit_lowered` meets its contract: what its calls write, one after the other, is a form with lines. Assumes nothing.
 use mathlib.Core.Bool.{cond}
 use mathlib.Core.List.{[]}
-use Rattle.text.proofs.Laws.{seq}
+use Rattle.base_text.proofs.Laws.{seq}
 use Rattle.armv4t.specs.Cond.{isAl}
-use Rattle.forms.specs.Operands.{condExpr}
-use Rattle.forms.specs.Block.{flushTicks}
+use Rattle.lower_forms.specs.Operands.{condExpr}
+use Rattle.lower_forms.specs.Block.{flushTicks}
 use Rattle.emit_instr.proofs.Texts.{lowered-step}
 use borrow.Author.Needs.{needs}
 use Rattle.emit_instr.proofs.straight.emit_lowered.Statement.{statement}

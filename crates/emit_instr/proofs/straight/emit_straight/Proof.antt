@@ -1,8 +1,8 @@
 -- `straight::emit_straight` meets its contract: by whether there are lines. Assumes nothing.
 use mathlib.Core.Path.{sym, ap, _∙_}
 use mathlib.Core.Option.{none, some}
-use Rattle.forms.specs.InlineBody.{inlineBody}
-use Rattle.forms.specs.Block.{emitLines}
+use Rattle.lower_forms.specs.InlineBody.{inlineBody}
+use Rattle.lower_forms.specs.Block.{emitLines}
 use Rattle.emit_instr.proofs.Chosen.{there, missing}
 use Rattle.emit_instr.proofs.Steps.{same-form}
 use borrow.Author.Needs.{needs}

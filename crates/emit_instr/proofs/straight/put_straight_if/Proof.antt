@@ -1,5 +1,5 @@
 -- `straight::put_straight_if` meets its contract: what its calls write, one after another. Assumes nothing.
-use Rattle.text.proofs.Laws.{seq}
+use Rattle.base_text.proofs.Laws.{seq}
 use borrow.Author.Needs.{needs}
 use Rattle.emit_instr.proofs.straight.put_straight_if.Statement.{statement}
 use Rattle.emit_instr.proofs.straight.put_straight_if.Tie as tie

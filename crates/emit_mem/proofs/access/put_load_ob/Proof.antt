@@ -3,7 +3,7 @@
 use mathlib.Core.Path.{refl}
 use borrow.Author.Needs.{needs}
 use borrow.Author.Tests.{eq-eqb, ne-eqb}
-use Rattle.text.proofs.Laws.{none, said, kept}
+use Rattle.base_text.proofs.Laws.{none, said, kept}
 use Rattle.emit_mem.proofs.access.put_load_ob.Statement.{statement}
 use Rattle.emit_mem.proofs.access.put_load_ob.Tie as tie
 

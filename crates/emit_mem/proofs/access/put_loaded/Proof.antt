@@ -2,9 +2,9 @@
 -- Assumes nothing.
 use mathlib.Core.Path.{refl}
 use borrow.Author.Needs.{needs}
-use Rattle.text.specs.Digits.{numeral}
-use Rattle.text.specs.Doc.{decimal}
-use Rattle.text.proofs.Laws.{said, kept}
+use Rattle.base_text.specs.Digits.{numeral}
+use Rattle.base_text.specs.Doc.{decimal}
+use Rattle.base_text.proofs.Laws.{said, kept}
 use Rattle.emit_mem.proofs.access.put_loaded.Statement.{statement}
 use Rattle.emit_mem.proofs.access.put_loaded.Tie as tie
 

@@ -8,8 +8,8 @@ use Rattle.c_tree.specs.Expr.{x-ob, reg, get}
 use Rattle.c_tree.specs.Preamble.{v32}
 use Rattle.c_tree.specs.Stmt.{Plain}
 use Rattle.emit_mem.proofs.Lines.{apart-both}
-use Rattle.forms.specs.InlineBody.{only, setReg, stored}
-use Rattle.text.proofs.Laws.{seq, said, kept}
+use Rattle.lower_forms.specs.InlineBody.{only, setReg, stored}
+use Rattle.base_text.proofs.Laws.{seq, said, kept}
 use Rattle.emit_mem.proofs.access.put_mem_store.Statement.{statement}
 use Rattle.emit_mem.proofs.access.put_mem_store.Tie as tie
 

@@ -6,9 +6,9 @@ use mathlib.Core.List.{[]}
 use borrow.Author.Needs.{needs}
 use Rattle.c_tree.specs.Stmt.{end}
 use Rattle.emit_mem.proofs.Lines.{lines-both}
-use Rattle.forms.specs.Forms.{Lines}
-use Rattle.forms.specs.InlineBody.{only, apart, setReg, listed, loads, movedBase}
-use Rattle.text.proofs.Laws.{seq, said, kept}
+use Rattle.lower_forms.specs.Forms.{Lines}
+use Rattle.lower_forms.specs.InlineBody.{only, apart, setReg, listed, loads, movedBase}
+use Rattle.base_text.proofs.Laws.{seq, said, kept}
 use Rattle.emit_mem.proofs.block_mem.put_block_loads.Statement.{statement}
 use Rattle.emit_mem.proofs.block_mem.put_block_loads.Tie as tie
 

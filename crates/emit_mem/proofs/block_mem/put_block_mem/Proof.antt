@@ -7,10 +7,10 @@ use borrow.Author.Needs.{needs}
 use Rattle.c_tree.specs.Expr.{x-base, x-addr, reg, get}
 use Rattle.c_tree.specs.Stmt.{end}
 use Rattle.emit_mem.proofs.Lines.{lines-both}
-use Rattle.forms.specs.Forms.{Lines}
-use Rattle.forms.specs.InlineBody.{apart, let32, listed, movedBase, start, loadsOrStores}
+use Rattle.lower_forms.specs.Forms.{Lines}
+use Rattle.lower_forms.specs.InlineBody.{apart, let32, listed, movedBase, start, loadsOrStores}
 use Rattle.armv4t.specs.RegisterList.{isListed}
-use Rattle.text.proofs.Laws.{seq, said, kept}
+use Rattle.base_text.proofs.Laws.{seq, said, kept}
 use Rattle.emit_mem.proofs.block_mem.put_block_mem.Statement.{statement}
 use Rattle.emit_mem.proofs.block_mem.put_block_mem.Tie as tie
 

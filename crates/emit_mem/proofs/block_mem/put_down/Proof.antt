@@ -2,9 +2,9 @@
 -- Assumes nothing.
 use mathlib.Core.Path.{refl}
 use borrow.Author.Needs.{needs}
-use Rattle.text.specs.Digits.{numeral}
-use Rattle.text.specs.Doc.{decimal}
-use Rattle.text.proofs.Laws.{seq, said, kept}
+use Rattle.base_text.specs.Digits.{numeral}
+use Rattle.base_text.specs.Doc.{decimal}
+use Rattle.base_text.proofs.Laws.{seq, said, kept}
 use Rattle.emit_mem.proofs.block_mem.put_down.Statement.{statement}
 use Rattle.emit_mem.proofs.block_mem.put_down.Tie as tie
 

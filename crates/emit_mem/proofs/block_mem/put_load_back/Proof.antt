@@ -2,7 +2,7 @@
 -- Assumes nothing.
 use mathlib.Core.Path.{refl}
 use borrow.Author.Needs.{needs}
-use Rattle.text.proofs.Laws.{none, said, kept}
+use Rattle.base_text.proofs.Laws.{none, said, kept}
 use Rattle.emit_mem.proofs.block_mem.put_load_back.Statement.{statement}
 use Rattle.emit_mem.proofs.block_mem.put_load_back.Tie as tie
 

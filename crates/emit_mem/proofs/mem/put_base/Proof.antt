@@ -3,7 +3,7 @@
 use mathlib.Core.Path.{refl, sym}
 use borrow.Author.Needs.{needs}
 use borrow.Author.Tests.{eq-eqb, ne-eqb}
-use Rattle.text.proofs.Laws.{said, kept}
+use Rattle.base_text.proofs.Laws.{said, kept}
 use Rattle.emit_mem.proofs.mem.put_base.Statement.{statement}
 use Rattle.emit_mem.proofs.mem.put_base.Tie as tie
 

@@ -7,11 +7,11 @@ use mathlib.Core.Path.{ap}
 use Rattle.emit_mem.proofs.Offsets.{mem-lines}
 use Rattle.emit_mem.proofs.mem.put_mem.Statement.{statement}
 use Rattle.emit_mem.proofs.mem.put_mem.Tie as tie
-use Rattle.forms.specs.Forms.{Lines}
-use Rattle.forms.specs.InlineBody.{baseExpr, access}
-use Rattle.lowering.specs.Block.{linesText}
-use Rattle.text.proofs.Laws.{said, kept}
-use Rattle.text.specs.Doc.{flat}
+use Rattle.lower_forms.specs.Forms.{Lines}
+use Rattle.lower_forms.specs.InlineBody.{baseExpr, access}
+use Rattle.lower_units.specs.Block.{linesText}
+use Rattle.base_text.proofs.Laws.{said, kept}
+use Rattle.base_text.specs.Doc.{flat}
 
 returns : tie.Need-returns
 returns c = λ ls e.

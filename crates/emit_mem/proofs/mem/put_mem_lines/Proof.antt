@@ -7,9 +7,9 @@ use Rattle.armv4t.specs.Instr.{pcValue}
 use Rattle.c_tree.specs.Stmt.{end}
 use Rattle.emit_mem.proofs.Lines.{lines-both}
 use Rattle.emit_mem.specs.Mem.{offsetOf}
-use Rattle.forms.specs.Forms.{Lines}
-use Rattle.forms.specs.InlineBody.{apart, baseExpr, access, memLines}
-use Rattle.text.proofs.Laws.{seq, said, kept}
+use Rattle.lower_forms.specs.Forms.{Lines}
+use Rattle.lower_forms.specs.InlineBody.{apart, baseExpr, access, memLines}
+use Rattle.base_text.proofs.Laws.{seq, said, kept}
 use Rattle.emit_mem.proofs.mem.put_mem_lines.Statement.{statement}
 use Rattle.emit_mem.proofs.mem.put_mem_lines.Tie as tie
 

@@ -3,8 +3,8 @@
 use mathlib.Core.Bool.{true, false}
 use borrow.Author.Needs.{needs}
 use Rattle.emit_mem.proofs.PopText.{pop-text}
-use Rattle.forms.specs.InlineBody.{listed}
-use Rattle.text.proofs.Laws.{seq, said, kept}
+use Rattle.lower_forms.specs.InlineBody.{listed}
+use Rattle.base_text.proofs.Laws.{seq, said, kept}
 use Rattle.emit_mem.proofs.pop.put_pop.Statement.{statement}
 use Rattle.emit_mem.proofs.pop.put_pop.Tie as tie
 

@@ -5,8 +5,8 @@ use Prim.Native.Nat.{_+_, _*_}
 use lib.ListN.{length}
 use native.Mathlib.Omega.{arith}
 use borrow.Author.Needs.{needs}
-use Rattle.forms.specs.InlineBody.{listed}
-use Rattle.text.proofs.Laws.{seq, said, kept}
+use Rattle.lower_forms.specs.InlineBody.{listed}
+use Rattle.base_text.proofs.Laws.{seq, said, kept}
 use Rattle.emit_mem.proofs.pop.put_pop_base.Statement.{statement}
 use Rattle.emit_mem.proofs.pop.put_pop_base.Tie as tie
 

@@ -9,7 +9,7 @@ use native.Mathlib.Omega.{arith}
 use Rattle.emit_mem.proofs.Listed.{bytes-more, bytes-same}
 use Rattle.emit_mem.proofs.registers.bytes_listed.Statement.{statement}
 use Rattle.emit_mem.proofs.registers.bytes_listed.Tie as tie
-use Rattle.forms.specs.InlineBody.{listed}
+use Rattle.lower_forms.specs.InlineBody.{listed}
 
 abbrev Inv-loop : tie.InvT-loop
 Inv-loop rlist limit n₀ r₀ n r = (r ≤ limit) × (n ≤ r * 4) × (n ≡ length (listed rlist r) * 4)

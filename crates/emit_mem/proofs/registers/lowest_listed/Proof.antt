@@ -8,7 +8,7 @@ use native.Mathlib.Omega.{arith}
 use Rattle.emit_mem.proofs.Listed.{listed-not, lowest-is, lowest-none}
 use Rattle.emit_mem.proofs.registers.lowest_listed.Statement.{statement}
 use Rattle.emit_mem.proofs.registers.lowest_listed.Tie as tie
-use Rattle.forms.specs.InlineBody.{listed}
+use Rattle.lower_forms.specs.InlineBody.{listed}
 
 abbrev Inv-loop : tie.InvT-loop
 Inv-loop rlist r₀ r = (r ≤ 16) × (listed rlist r ≡ [])

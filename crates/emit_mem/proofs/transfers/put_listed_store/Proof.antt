@@ -2,7 +2,7 @@
 -- Assumes nothing.
 use mathlib.Core.Path.{refl, sym, _∙_}
 use borrow.Author.Needs.{needs}
-use Rattle.text.proofs.Laws.{none, said, kept}
+use Rattle.base_text.proofs.Laws.{none, said, kept}
 use Rattle.emit_mem.proofs.transfers.put_listed_store.Statement.{statement}
 use Rattle.emit_mem.proofs.transfers.put_listed_store.Tie as tie
 

@@ -10,10 +10,10 @@ use Rattle.c_tree.specs.Stmt.{common, end}
 use Rattle.emit_mem.proofs.Lines.{loads-more}
 use Rattle.emit_mem.proofs.transfers.put_loads.Statement.{statement}
 use Rattle.emit_mem.proofs.transfers.put_loads.Tie as tie
-use Rattle.forms.specs.InlineBody.{loads, listed}
-use Rattle.lowering.specs.Block.{lines}
-use Rattle.text.proofs.Laws.{none, seq, said, kept}
-use Rattle.text.specs.Wrote.{Wrote}
+use Rattle.lower_forms.specs.InlineBody.{loads, listed}
+use Rattle.lower_units.specs.Block.{lines}
+use Rattle.base_text.proofs.Laws.{none, seq, said, kept}
+use Rattle.base_text.specs.Wrote.{Wrote}
 
 abbrev Inv-loop : tie.InvT-loop
 Inv-loop out₀ at pop rlist limit p₀ r₀ out p r = (r ≤ limit) × Wrote out₀ at (codeText (lines common (cond pop 6 8) (loads (listed rlist r)) end)) out p

@@ -2,7 +2,7 @@
 -- Assumes nothing.
 use mathlib.Core.Path.{refl, sym}
 use borrow.Author.Needs.{needs}
-use Rattle.text.proofs.Laws.{said, kept}
+use Rattle.base_text.proofs.Laws.{said, kept}
 use Rattle.emit_mem.proofs.transfers.put_stored_pc.Statement.{statement}
 use Rattle.emit_mem.proofs.transfers.put_stored_pc.Tie as tie
 

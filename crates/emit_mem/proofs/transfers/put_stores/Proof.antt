@@ -7,10 +7,10 @@ use mathlib.Core.Path.{_≡_, sym}
 use Rattle.emit_mem.proofs.Lines.{stores-more}
 use Rattle.emit_mem.proofs.transfers.put_stores.Statement.{statement}
 use Rattle.emit_mem.proofs.transfers.put_stores.Tie as tie
-use Rattle.forms.specs.InlineBody.{listed, movedBase, storedReg, stores}
-use Rattle.lowering.specs.Block.{linesText}
-use Rattle.text.proofs.Laws.{none, seq, said, kept}
-use Rattle.text.specs.Wrote.{Wrote}
+use Rattle.lower_forms.specs.InlineBody.{listed, movedBase, storedReg, stores}
+use Rattle.lower_units.specs.Block.{linesText}
+use Rattle.base_text.proofs.Laws.{none, seq, said, kept}
+use Rattle.base_text.specs.Wrote.{Wrote}
 
 abbrev Inv-loop : tie.InvT-loop
 Inv-loop out₀ at i rn rlist lowest up total p₀ r₀ out p r = (r ≤ 16) × Wrote out₀ at (linesText 8 (stores (storedReg i rn lowest (movedBase up total)) (listed rlist r))) out p

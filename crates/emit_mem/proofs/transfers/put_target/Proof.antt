@@ -2,7 +2,7 @@
 -- Assumes nothing.
 use mathlib.Core.Path.{refl}
 use borrow.Author.Needs.{needs}
-use Rattle.text.proofs.Laws.{said, kept}
+use Rattle.base_text.proofs.Laws.{said, kept}
 use Rattle.emit_mem.proofs.transfers.put_target.Statement.{statement}
 use Rattle.emit_mem.proofs.transfers.put_target.Tie as tie
 

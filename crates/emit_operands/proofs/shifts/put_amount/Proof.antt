@@ -1,7 +1,7 @@
 -- `emit_operands::shifts::put_amount` meets its contract: what its calls write, one after another. Assumes nothing.
 use mathlib.Core.Path.{refl}
 use borrow.Author.Needs.{needs}
-use Rattle.text.proofs.Laws.{seq, said, kept}
+use Rattle.base_text.proofs.Laws.{seq, said, kept}
 use Rattle.emit_operands.proofs.shifts.put_amount.Statement.{statement}
 use Rattle.emit_operands.proofs.shifts.put_amount.Tie as tie
 

@@ -2,7 +2,7 @@
 use mathlib.Core.List.{[]}
 use borrow.Author.Needs.{needs}
 use Rattle.emit_operands.proofs.Operands.{left-carry}
-use Rattle.text.proofs.Laws.{none, said, kept}
+use Rattle.base_text.proofs.Laws.{none, said, kept}
 use Rattle.emit_operands.proofs.shifts.put_left_carry.Statement.{statement}
 use Rattle.emit_operands.proofs.shifts.put_left_carry.Tie as tie
 

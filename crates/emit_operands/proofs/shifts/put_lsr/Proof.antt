@@ -2,7 +2,7 @@
 use mathlib.Core.List.{[]}
 use borrow.Author.Needs.{needs}
 use Rattle.emit_operands.proofs.Operands.{zero-text, lsr-text}
-use Rattle.text.proofs.Laws.{said, kept}
+use Rattle.base_text.proofs.Laws.{said, kept}
 use Rattle.emit_operands.proofs.shifts.put_lsr.Statement.{statement}
 use Rattle.emit_operands.proofs.shifts.put_lsr.Tie as tie
 

@@ -1,9 +1,9 @@
 -- `emit_operands::shifts::put_right_carry` meets its contract: what its calls write, one after another. Assumes nothing.
 use mathlib.Core.List.{[]}
-use Rattle.forms.specs.Operands.{regOf}
+use Rattle.lower_forms.specs.Operands.{regOf}
 use borrow.Author.Needs.{needs}
 use Rattle.emit_operands.proofs.Operands.{right-carry, sign-carry}
-use Rattle.text.proofs.Laws.{said, kept}
+use Rattle.base_text.proofs.Laws.{said, kept}
 use Rattle.emit_operands.proofs.shifts.put_right_carry.Statement.{statement}
 use Rattle.emit_operands.proofs.shifts.put_right_carry.Tie as tie
 

@@ -1,14 +1,14 @@
 -- `emit_operands::shifts::put_shift_carry` meets its contract: what its calls write, one after another. Assumes nothing.
 use mathlib.Core.Path.{refl, ap}
 use Rattle.emit_operands.specs.Operands.{carryText}
-use Rattle.forms.specs.Operands.{regOf}
-use Rattle.text.specs.Doc.{flat}
+use Rattle.lower_forms.specs.Operands.{regOf}
+use Rattle.base_text.specs.Doc.{flat}
 use Rattle.c_tree.specs.Expr.{Expr}
 use mathlib.Core.Option.{Option}
 use mathlib.Core.List.{[]}
 use borrow.Author.Needs.{needs}
 use Rattle.emit_operands.proofs.Operands.{asr-carry}
-use Rattle.text.proofs.Laws.{said, kept}
+use Rattle.base_text.proofs.Laws.{said, kept}
 use Rattle.emit_operands.proofs.shifts.put_shift_carry.Statement.{statement}
 use Rattle.emit_operands.proofs.shifts.put_shift_carry.Tie as tie
 

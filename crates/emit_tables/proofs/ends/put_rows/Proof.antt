@@ -7,9 +7,9 @@ use mathlib.Core.Path.{ap}
 use native.Mathlib.Omega.{arith}
 use lib.ListN.{take}
 use Rattle.c_tree.specs.Print.{rowText}
-use Rattle.text.proofs.Laws.{none, said, each-more, each-all, kept}
-use Rattle.text.specs.Doc.{flat, each}
-use Rattle.text.specs.Wrote.{Wrote}
+use Rattle.base_text.proofs.Laws.{none, said, each-more, each-all, kept}
+use Rattle.base_text.specs.Doc.{flat, each}
+use Rattle.base_text.specs.Wrote.{Wrote}
 use Rattle.emit_tables.proofs.Rows.{file-length}
 use Rattle.emit_tables.proofs.ends.put_rows.Statement.{statement}
 use Rattle.emit_tables.proofs.ends.put_rows.Tie as tie

@@ -3,7 +3,7 @@
 use borrow.Author.Needs.{needs}
 use mathlib.Core.List.{[]}
 use mathlib.Core.Path.{sym, _∙_}
-use Rattle.text.proofs.Laws.{seq, said}
+use Rattle.base_text.proofs.Laws.{seq, said}
 use Rattle.emit_tables.proofs.Around.{end-keys}
 use Rattle.emit_tables.proofs.Rows.{file-length}
 use Rattle.emit_tables.proofs.ends.put_tail.Statement.{statement}

@@ -7,11 +7,11 @@ use mathlib.Core.List.{[], _∷_}
 use mathlib.Core.Path.{_≡_, refl, _∙_}
 use native.Mathlib.Omega.{arith}
 use Rattle.c_tree.specs.Print.{casesText}
-use Rattle.members.specs.Members.{membersOf, groupKeys}
-use Rattle.block_file.specs.Parse.{blocksOf}
-use Rattle.text.proofs.Laws.{none, said, kept}
-use Rattle.text.specs.Doc.{Doc}
-use Rattle.text.specs.Wrote.{Wrote}
+use Rattle.plan_members.specs.Members.{membersOf, groupKeys}
+use Rattle.file_blocks.specs.Parse.{blocksOf}
+use Rattle.base_text.proofs.Laws.{none, said, kept}
+use Rattle.base_text.specs.Doc.{Doc}
+use Rattle.base_text.specs.Wrote.{Wrote}
 use Rattle.emit_tables.proofs.Around.{numbered, numbered-more, cases-keys}
 use Rattle.emit_tables.proofs.Rows.{group-size, keys-size}
 use Rattle.emit_tables.proofs.entries.put_cases.Statement.{statement}

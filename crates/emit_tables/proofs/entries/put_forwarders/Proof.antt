@@ -6,10 +6,10 @@ use lib.ListN.{length, take}
 use mathlib.Core.List.{[]}
 use mathlib.Core.Path.{_≡_, refl, _∙_}
 use native.Mathlib.Omega.{arith}
-use Rattle.members.specs.Members.{membersOf, groupKeys}
-use Rattle.block_file.specs.Parse.{blocksOf}
-use Rattle.text.proofs.Laws.{none, seq, said, kept}
-use Rattle.text.specs.Wrote.{Wrote}
+use Rattle.plan_members.specs.Members.{membersOf, groupKeys}
+use Rattle.file_blocks.specs.Parse.{blocksOf}
+use Rattle.base_text.proofs.Laws.{none, seq, said, kept}
+use Rattle.base_text.specs.Wrote.{Wrote}
 use Rattle.emit_tables.proofs.Around.{numbered, numbered-more, entry, forwarders-keys}
 use Rattle.emit_tables.proofs.Rows.{group-size, keys-size}
 use Rattle.emit_tables.proofs.entries.put_forwarders.Statement.{statement}

@@ -3,7 +3,7 @@
 use Prim.Native.Nat.{ℕ, _-_, _≤_}
 use borrow.Author.Needs.{needs}
 use native.Mathlib.Omega.{arith}
-use Rattle.members.specs.Prepared.{Ready}
+use Rattle.plan_members.specs.Prepared.{Ready}
 use Rattle.emit_units.specs.Units.{describes}
 use Rattle.emit_units.proofs.Cuts.{Reached, reached-none, reached-more, reached-past, reached-unit}
 use Rattle.emit_units.proofs.extents.find_unit.Statement.{statement}

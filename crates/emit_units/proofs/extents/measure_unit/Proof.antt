@@ -5,10 +5,10 @@ use borrow.Author.Needs.{needs}
 use lib.ListN.{length}
 use mathlib.Core.Path.{_≡_}
 use native.Mathlib.Omega.{arith}
-use Rattle.members.specs.Members.{startOf}
-use Rattle.members.specs.Prepared.{Ready}
-use Rattle.block_file.specs.Parse.{blocksOf}
-use Rattle.plan.specs.Plan.{groups}
+use Rattle.plan_members.specs.Members.{startOf}
+use Rattle.plan_members.specs.Prepared.{Ready}
+use Rattle.file_blocks.specs.Parse.{blocksOf}
+use Rattle.plan_groups.specs.Plan.{groups}
 use Rattle.emit_units.proofs.Cuts.{Walked, walked-none, walked-more, walked-handed, walked-end}
 use Rattle.emit_units.proofs.extents.measure_unit.Statement.{statement}
 use Rattle.emit_units.proofs.extents.measure_unit.Tie as tie

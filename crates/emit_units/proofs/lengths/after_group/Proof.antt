@@ -3,11 +3,11 @@
 use Prim.Native.Nat.{ℕ, _+_, min}
 use borrow.Author.Needs.{needs}
 use mathlib.Core.Path.{ap, _∙_}
-use Rattle.lowering.proofs.Measured.{measured-length}
-use Rattle.lowering.specs.Units.{bodiesOf, textOf}
-use Rattle.members.specs.Members.{membersOf}
-use Rattle.block_file.specs.Parse.{blocksOf}
-use Rattle.text.specs.Wrote.{maxUsize}
+use Rattle.lower_units.proofs.Measured.{measured-length}
+use Rattle.lower_units.specs.Units.{bodiesOf, textOf}
+use Rattle.plan_members.specs.Members.{membersOf}
+use Rattle.file_blocks.specs.Parse.{blocksOf}
+use Rattle.base_text.specs.Wrote.{maxUsize}
 use Rattle.emit_group.specs.Groups.{fileBodies}
 use Rattle.emit_units.proofs.lengths.after_group.Statement.{statement}
 use Rattle.emit_units.proofs.lengths.after_group.Tie as tie

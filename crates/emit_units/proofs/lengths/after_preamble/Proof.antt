@@ -1,7 +1,7 @@
 -- A text that is written to no bytes is measured.
 -- Assumes nothing.
 use borrow.Author.Needs.{needs}
-use Rattle.lowering.specs.Units.{textOf}
+use Rattle.lower_units.specs.Units.{textOf}
 use Rattle.emit_units.proofs.lengths.after_preamble.Statement.{statement}
 use Rattle.emit_units.proofs.lengths.after_preamble.Tie as tie
 

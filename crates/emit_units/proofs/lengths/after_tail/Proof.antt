@@ -2,9 +2,9 @@
 -- Assumes nothing.
 use borrow.Author.Needs.{needs}
 use Rattle.emit_tables.proofs.Around.{body-keys}
-use Rattle.fnv.specs.Fnv.{hashMultiplier}
-use Rattle.lowering.specs.Units.{textOf}
-use Rattle.block_file.specs.Parse.{blocksOf}
+use Rattle.base_hash.specs.Fnv.{hashMultiplier}
+use Rattle.lower_units.specs.Units.{textOf}
+use Rattle.file_blocks.specs.Parse.{blocksOf}
 use Rattle.emit_group.specs.Groups.{fileBodies}
 use Rattle.emit_units.proofs.lengths.after_tail.Statement.{statement}
 use Rattle.emit_units.proofs.lengths.after_tail.Tie as tie

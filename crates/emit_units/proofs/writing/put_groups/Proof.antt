@@ -5,7 +5,7 @@ use borrow.Author.Needs.{needs}
 use lib.ListN.{length}
 use mathlib.Core.Path.{_≡_, refl, _∙_}
 use native.Mathlib.Omega.{arith}
-use Rattle.members.specs.Prepared.{Ready}
+use Rattle.plan_members.specs.Prepared.{Ready}
 use Rattle.emit_units.specs.Units.{Takes}
 use Rattle.emit_units.proofs.Written.{PutTo, put-none, put-more, put-all}
 use Rattle.emit_units.proofs.writing.put_groups.Statement.{statement}

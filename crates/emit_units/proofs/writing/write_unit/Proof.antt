@@ -2,8 +2,8 @@
 -- Assumes nothing.
 use borrow.Author.Needs.{needs}
 use Rattle.emit_tables.proofs.Around.{body-keys}
-use Rattle.fnv.specs.Fnv.{hashMultiplier}
-use Rattle.block_file.specs.Parse.{blocksOf}
+use Rattle.base_hash.specs.Fnv.{hashMultiplier}
+use Rattle.file_blocks.specs.Parse.{blocksOf}
 use Rattle.emit_group.specs.Groups.{fileBodies}
 use Rattle.emit_units.proofs.Written.{unit-handed, unit-last}
 use Rattle.emit_units.proofs.writing.write_unit.Statement.{statement}

@@ -1,6 +1,6 @@
 -- `recomp::c_check::recomp_check` meets its contract: each case hands over the numbers of its answer.
 -- Assumes nothing.
-use Rattle.block_file.specs.Answer.{checkedOf}
+use Rattle.file_blocks.specs.Answer.{checkedOf}
 use borrow.Author.Needs.{needs}
 use Rattle.recomp.proofs.c_check.recomp_check.Statement.{statement}
 use Rattle.recomp.proofs.c_check.recomp_check.Tie as tie

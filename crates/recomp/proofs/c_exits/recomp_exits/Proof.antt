@@ -1,6 +1,6 @@
 -- `recomp::c_exits::recomp_exits` meets its contract: each case hands over the numbers of its answer.
 -- Assumes nothing.
-use Rattle.block_exits.specs.Calls.{exitingOf}
+use Rattle.plan_exits.specs.Calls.{exitingOf}
 use borrow.Author.Needs.{needs}
 use Rattle.recomp.proofs.c_exits.recomp_exits.Statement.{statement}
 use Rattle.recomp.proofs.c_exits.recomp_exits.Tie as tie

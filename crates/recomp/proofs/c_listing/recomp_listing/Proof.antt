@@ -1,6 +1,6 @@
 -- `recomp::c_listing::recomp_listing` meets its contract: each case hands over the numbers of its answer.
 -- Assumes nothing.
-use Rattle.list_blocks.specs.Calls.{listedOf}
+use Rattle.call_listing.specs.Calls.{listedOf}
 use borrow.Author.Needs.{needs}
 use Rattle.recomp.proofs.c_listing.recomp_listing.Statement.{statement}
 use Rattle.recomp.proofs.c_listing.recomp_listing.Tie as tie

@@ -1,6 +1,6 @@
 -- `recomp::c_plan::recomp_plan` meets its contract: each case hands over the numbers of its answer.
 -- Assumes nothing.
-use Rattle.plan.specs.Calls.{plannedOf}
+use Rattle.plan_groups.specs.Calls.{plannedOf}
 use borrow.Author.Needs.{needs}
 use Rattle.recomp.proofs.c_plan.recomp_plan.Statement.{statement}
 use Rattle.recomp.proofs.c_plan.recomp_plan.Tie as tie

@@ -1,10 +1,10 @@
 -- `recomp::c_unit::recomp_unit` meets its contract: each case hands over the numbers of its answer.
 -- Assumes nothing.
-use Rattle.unit_call.specs.Calls.{translatedOf}
+use Rattle.call_unit.specs.Calls.{translatedOf}
 use borrow.Author.Needs.{needs}
 use Rattle.recomp.proofs.c_unit.recomp_unit.Statement.{statement}
 use Rattle.recomp.proofs.c_unit.recomp_unit.Tie as tie
-use Rattle.unit_call.proofs.Answers.{bool-byte}
+use Rattle.call_unit.proofs.Answers.{bool-byte}
 
 returns : tie.Need-returns
 unfolding translatedOf

@@ -1,10 +1,10 @@
 -- `recomp::units::unit` meets its contract: the call below it gives the equation, the theorem on ways gives demand 3, and the theorem on the text's meaning that.
 -- Assumes nothing.
 use denote.Ref.{now}
-use Rattle.fnv.specs.Fnv.{hashMultiplier}
-use Rattle.plan.specs.Calls.{partLimit}
-use Rattle.ways.proofs.Demand3.{demand-3-of}
-use Rattle.meaning.proofs.Meaning.{meaning-of}
+use Rattle.base_hash.specs.Fnv.{hashMultiplier}
+use Rattle.plan_groups.specs.Calls.{partLimit}
+use Rattle.claim_ways.proofs.Demand3.{demand-3-of}
+use Rattle.claim_meaning.proofs.Meaning.{meaning-of}
 use borrow.Author.Needs.{needs}
 use Rattle.recomp.proofs.units.unit.Statement.{statement}
 use Rattle.recomp.proofs.units.unit.Tie as tie

@@ -1,0 +1,16 @@
+-- `text::put` meets its contract: what `line` prints to the part from index at, it writes to the whole.
+use borrow.Author.Needs.{needs}
+use Rattle.base_text.proofs.Printers.{lent}
+use Rattle.base_text.proofs.put.Statement.{statement}
+use Rattle.base_text.proofs.put.Tie as tie
+
+returns : tie.Need-returns
+returns c =
+    lent (search needs) (c .before .before .before .before .before .least .ensures)
+    (c .before .before .before .line .ensures) (c .after .ensures)
+
+pub put-spec : {M : Type 1} → statement M
+put-spec =
+    tie.close
+    (tie.spec (search needs) (search needs) (search needs) (search needs) (search needs) (search needs) (search needs)
+    returns)

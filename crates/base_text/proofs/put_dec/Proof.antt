@@ -1,0 +1,16 @@
+-- `text::put_dec` meets its contract: what `dec` prints to the part from index at, it writes to the whole.
+use borrow.Author.Needs.{needs}
+use Rattle.base_text.proofs.Printers.{lent}
+use Rattle.base_text.proofs.put_dec.Statement.{statement}
+use Rattle.base_text.proofs.put_dec.Tie as tie
+
+returns : tie.Need-returns
+returns c =
+    lent (search needs) (c .before .before .before .before .before .least .ensures)
+    (c .before .before .before .dec .ensures) (c .after .ensures)
+
+pub put-dec-spec : {M : Type 1} → statement M
+put-dec-spec =
+    tie.close
+    (tie.spec (search needs) (search needs) (search needs) (search needs) (search needs) (search needs) (search needs)
+    returns)

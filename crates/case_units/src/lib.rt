@@ -1,0 +1,213 @@
+// The section of the units: block files, each with what is asked for and how much to lend, and what
+// the call for a unit must answer and leave in what it was lent.
+use case_io::compare;
+use case_io::input;
+use case_io::input::Filled;
+use case_io::report;
+use case_io::verdict;
+use case_io::verdict::Section;
+use case_io::verdict::Verdict;
+use recomp::Translated;
+ghost use mathlib.Core.Path.{_≡_};
+ghost use Prim.Native.Nat.{_≤_};
+ghost use lib.ListN.{length};
+ghost use Rattle.call_unit.specs.Calls.{translatedOf};
+ghost use Rattle.case_io.specs.Same.{sameNumbers};
+ghost use Rattle.case_units.specs.UnitCases.{unitAnswerNumbers, unitCallLeaves, sameUnit};
+
+// The longest file that a vector may hold.
+const LONGEST: usize = 4096;
+
+// How many work numbers there are, of which a vector lends fewer: what stands behind those lent must be as it was.
+const WORK: usize = 576;
+
+// How many bytes of text there are, of which a vector lends fewer, likewise.
+const TEXT: usize = 65600;
+
+// What a vector asks for, and how much it lends.
+struct Asked {
+    // The wished bytes of a unit.
+    size: u64,
+    // The unit's number.
+    unit: u64,
+    // How many work numbers are lent.
+    work: usize,
+    // How many bytes of text are lent.
+    text: usize,
+}
+
+// The refusal's number or 0, its i, the text's length, the blocks done, and 1 for the last unit.
+fn answer(translated: Translated) -> [u64; 5]
+    ensures { λ r. ⌜ r ≡ unitAnswerNumbers (translatedOf translated) ⌝ }
+{
+    match translated {
+        Translated::Unit { length, done, last } => [0, 0, length, done, last as u64],
+        Translated::Refused { number, at } => [number as u64, at, 0, 0, 0],
+    }
+}
+
+// Whether the work numbers are the expected ones. The first that is not is printed.
+fn same_work(k: u64, expected: &[u32], got: &[u32]) -> bool
+    requires { ⌜ length (now expected) ≡ length (now got) ⌝ }
+    ensures { λ r. ⌜ r ≡ sameNumbers (now (expected .entry)) (now (got .entry)) ⌝ }
+{
+    let mut i = 0;
+    while i < expected.len() {
+        if expected[i] != got[i] {
+            report::work_differs(k, i as u64, expected[i], got[i]);
+            return false;
+        }
+        i += 1;
+    }
+    true
+}
+
+// Whether the bytes of text are the expected ones. The first that is not is printed.
+fn same_text(k: u64, expected: &[u8], got: &[u8]) -> bool
+    requires { ⌜ length (now expected) ≡ length (now got) ⌝ }
+    ensures { λ r. ⌜ r ≡ sameNumbers (now (expected .entry)) (now (got .entry)) ⌝ }
+{
+    let mut i = 0;
+    while i < expected.len() {
+        if expected[i] != got[i] {
+            report::text_differs(k, i as u64, expected[i], got[i]);
+            return false;
+        }
+        i += 1;
+    }
+    true
+}
+
+// Whether the call answers all the expected numbers and leaves what is expected. The first of these
+// that is not so is printed.
+fn is_right(
+    k: u64,
+    asked: Asked,
+    file: &[u8],
+    expected: &[u64; 5],
+    expected_work: [u32; WORK],
+    expected_text: [u8; TEXT],
+    mut work: [u32; WORK],
+    mut text: [u8; TEXT],
+) -> bool
+    requires { ⌜ (asked .work ≤ 576) × (asked .text ≤ 65600) ⌝ }
+    ensures { λ r. ⌜ r ≡ sameUnit (now (expected .entry)) «expected_work» «expected_text» (unitCallLeaves (asked .size) (asked .unit) (asked .work) (asked .text) (now (file .entry)) work text) ⌝ }
+{
+    let work_length = asked.work;
+    let text_length = asked.text;
+    let got = answer(recomp::unit(
+        file,
+        asked.size,
+        asked.unit,
+        &mut work[..work_length],
+        &mut text[..text_length],
+    ));
+    if !compare::same(expected, &got) {
+        report::mismatch(Section::Units, k, expected, &got);
+        return false;
+    }
+    if !same_work(k, &expected_work, &work) {
+        return false;
+    }
+    same_text(k, &expected_text, &text)
+}
+
+// So many times 0, and then numbers that no call writes, each another one.
+fn work_numbers(cleared: usize) -> [u32; WORK] {
+    let mut list = [0u32; WORK];
+    let mut i = cleared;
+    while i < WORK {
+        list[i] = 4294967295 - i as u32;
+        i += 1;
+    }
+    list
+}
+
+// Bytes that no text has, each another one than those beside it.
+fn no_text() -> [u8; TEXT] {
+    let mut list = [0u8; TEXT];
+    let mut i = 0;
+    while i < TEXT {
+        list[i] = 255 - (i % 127) as u8;
+        i += 1;
+    }
+    list
+}
+
+// Reads the expected text of vector `k` and tries the vector.
+fn replay_text(k: u64, asked: Asked, cleared: usize, expected: &[u64; 5], file: &[u8]) -> Verdict
+    requires { ⌜ (asked .work ≤ 576) × (asked .text ≤ 65600) ⌝ }
+{
+    let length = expected[2] as usize;
+    if TEXT < length {
+        return verdict::too_long(k);
+    }
+    let mut expected_text = no_text();
+    if !input::bytes(&mut expected_text[..length]) {
+        return verdict::ended(k);
+    }
+    let expected_work = work_numbers(cleared);
+    let work = work_numbers(0);
+    let text = no_text();
+    if is_right(
+        k,
+        asked,
+        file,
+        expected,
+        expected_work,
+        expected_text,
+        work,
+        text,
+    ) {
+        Verdict::Right
+    } else {
+        Verdict::Wrong
+    }
+}
+
+// Reads the answer and the file of vector `k`, and tries it.
+fn replay_file(k: u64, asked: Asked, cleared: usize) -> Verdict
+    requires { ⌜ (asked .work ≤ 576) × (asked .text ≤ 65600) ⌝ }
+{
+    let mut expected = [0u64; 5];
+    if !input::numbers(&mut expected) {
+        return verdict::ended(k);
+    }
+    let mut buffer = [0u8; LONGEST];
+    match input::file(&mut buffer) {
+        Filled::To(n) => replay_text(k, asked, cleared, &expected, &buffer[..n]),
+        Filled::Ended => verdict::ended(k),
+        Filled::TooLong => verdict::too_long(k),
+    }
+}
+
+// A number of 64 bits from its halves, which have 32 bits each, as all that is read.
+fn whole(low: u64, high: u64) -> u64 {
+    low % 4294967296 + 4294967296 * (high % 4294967296)
+}
+
+// Reads vector `k` and tries it.
+pub fn replay_one(k: u64) -> Verdict {
+    let mut numbers = [0u64; 7];
+    if !input::numbers(&mut numbers) {
+        return verdict::ended(k);
+    }
+    let size = whole(numbers[0], numbers[1]);
+    let unit = whole(numbers[2], numbers[3]);
+    let work = numbers[4] as usize;
+    let text = numbers[5] as usize;
+    let cleared = numbers[6] as usize;
+    if WORK <= work {
+        return verdict::too_long(k);
+    }
+    if TEXT <= text {
+        return verdict::too_long(k);
+    }
+    let asked = Asked {
+        size,
+        unit,
+        work,
+        text,
+    };
+    replay_file(k, asked, cleared)
+}

@@ -1,0 +1,58 @@
+-- What an accepted file gives of its blocks: even addresses, an instruction at least, and no key twice.
+use Prim.Native.Nat.{ℕ, _%_, _≤_, _<_}
+use mathlib.Core.Path.{_≡_, sym, ap, _∙_}
+use mathlib.Core.Bool.{Bool, true, false}
+use mathlib.Core.List.{List}
+use native.Mathlib.Omega.{arith}
+use native.Mathlib.Decide.{decLt}
+use lib.ListN.{length, getD}
+use Rattle.armv4t.specs.Instr.{sizeOf}
+use Rattle.file_records.specs.Trailer.{blockCount, blockStart}
+use Rattle.file_records.specs.BlockRecord.{addrAt, thumbAt, countAt}
+use Rattle.file_blocks.specs.Parse.{Block, Parsed, blockAt, parse, blockKey}
+use Rattle.file_blocks.specs.Read.{recordAt}
+use Rattle.file_blocks.proofs.Accepted.{length-of, has-instr, address-aligned, record-reads}
+use Rattle.file_blocks.proofs.Keys.{block-is, block-key, keys-rise}
+
+-- a multiple of 2 or 4 is even
+halved : (x : Bool) (a : ℕ) → a % sizeOf x ≡ 0 → a % 2 ≡ 0
+halved true a e = e
+halved false a e = omega arith
+
+module _ (f : List ℕ) (bs : List Block) (accepted : parse f ≡ Parsed.accepted bs) where
+  long : length bs ≡ blockCount f
+  long = length-of f bs accepted
+
+  module _ (i : ℕ) (d : Block) (h : i < length bs) where
+    inside : i < blockCount f
+    inside = omega (arith, long)
+
+    pub block-even : getD bs i d .addr % 2 ≡ 0
+    unfolding blockAt
+    block-even =
+        ap (λ (b : Block). b .addr % 2) (block-is f bs accepted i d inside)
+        ∙ halved (thumbAt f (blockStart f i)) (addrAt f (blockStart f i)) (address-aligned f bs accepted i inside)
+
+    pub block-filled : 1 ≤ length (getD bs i d .instrs)
+    unfolding recordAt
+    block-filled =
+        let same : length (getD bs i d .instrs) ≡ countAt f (blockStart f i)
+        = ap (λ (b : Block). length (b .instrs)) (block-is f bs accepted i d inside) ∙ sym (record-reads f bs accepted i inside .count) in
+        omega (arith, same, has-instr f bs accepted i inside)
+
+  rise : (d : Block) (i j : ℕ) → i < j → j < length bs → blockKey (getD bs i d) < blockKey (getD bs j d)
+  rise d i j l h =
+      let there : j < blockCount f = omega (arith, long) in
+      omega (arith, keys-rise f bs accepted i j l there, block-key f bs accepted i d (omega arith), block-key f bs accepted j d there)
+
+  -- two blocks with one key are one
+  pub one-key : (d : Block) (i j : ℕ) → i < length bs → j < length bs → blockKey (getD bs i d) ≡ blockKey (getD bs j d) → i ≡ j
+  one-key d i j h l e =
+      elim (decLt i j) [
+        | yes a ↦ absurd (omega (arith, e, rise d i j a l))
+        | no a ↦
+            elim (decLt j i) [
+              | yes b ↦ absurd (omega (arith, e, rise d j i b h))
+              | no b ↦ omega arith
+            ]
+      ]

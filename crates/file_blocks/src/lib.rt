@@ -1,0 +1,14 @@
+// Block files: refusals 1 to 7, and readers of records and code bytes.
+mod read;
+mod refusal;
+
+pub use file_instrs::decode::TimedInstr;
+pub use read::BlockRecord;
+pub use read::FoundBlock;
+pub use read::FoundInstr;
+pub use read::block_at;
+pub use read::block_count;
+pub use read::code_bytes;
+pub use read::instr_at;
+pub use refusal::Checked;
+pub use refusal::check;

@@ -1,0 +1,16 @@
+-- `mul_long` reads the seven fields of a MulLong. It is the definition field by field, once all reads are within the record.
+use mathlib.Core.Path.{refl}
+use Rattle.file_instrs.specs.Decode.{mulLongAt}
+use borrow.Author.Needs.{needs}
+use Rattle.file_instrs.proofs.decode.mul_long.Statement.{statement}
+use Rattle.file_instrs.proofs.decode.mul_long.Tie as tie
+
+returns : tie.Need-returns
+unfolding mulLongAt
+returns c = refl
+
+pub mul-long-spec : {M : Type 1} → statement M
+mul-long-spec =
+    tie.close
+    (tie.spec (search needs) (search needs) (search needs) (search needs) (search needs) (search needs) (search needs)
+    (search needs) (search needs) (search needs) (search needs) (search needs) (search needs) (search needs) returns)

@@ -1,0 +1,14 @@
+-- `even_fields` tells whether the fields that must be even are. Both tests are made at once, which is right since no kind is both Alu and Branch.
+use borrow.Author.Needs.{needs}
+use Rattle.file_instrs.proofs.Rows.{no-odd}
+use Rattle.file_instrs.proofs.instr_record.even_fields.Statement.{statement}
+use Rattle.file_instrs.proofs.instr_record.even_fields.Tie as tie
+
+returns : tie.Need-returns
+returns c = no-odd _ _
+
+pub even-fields-spec : {M : Type 1} → statement M
+even-fields-spec =
+    tie.close
+    (tie.spec (search needs) (search needs) (search needs) (search needs) (search needs) (search needs) (search needs)
+    returns)

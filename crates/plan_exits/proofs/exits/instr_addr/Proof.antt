@@ -1,0 +1,17 @@
+-- `block_exits::exits::instr_addr` meets its contract: each arm is told the Thumb bit.
+-- Assumes nothing.
+use borrow.Author.Needs.{needs}
+use Rattle.plan_exits.proofs.exits.instr_addr.Statement.{statement}
+use Rattle.plan_exits.proofs.exits.instr_addr.Tie as tie
+
+returns : tie.Need-returns
+returns c = rw (c .if1 .taken)
+
+returns-2 : tie.Need-returns-2
+returns-2 c = rw (c .if1 .left)
+
+pub instr-addr-spec : {M : Type 1} → statement M
+instr-addr-spec =
+    tie.close
+    (tie.spec (search needs) (search needs) (search needs) (search needs) (search needs) (search needs) returns
+    returns-2)

@@ -1,0 +1,11 @@
+-- `block_exits::exits::key_of` meets its contract: each arm is told the Thumb bit.
+-- Assumes nothing.
+use borrow.Author.Needs.{needs}
+use Rattle.plan_exits.proofs.exits.key_of.Statement.{statement}
+use Rattle.plan_exits.proofs.exits.key_of.Tie as tie
+
+returns : tie.Need-returns
+returns c = rw (c .before .if1 .taken) (c .set-bit0 .ensures)
+
+pub key-of-spec : {M : Type 1} → statement M
+key-of-spec = tie.close (tie.spec (search needs) returns (λ c. search needs))

@@ -1,0 +1,182 @@
+// The exit list of a block, by its last instruction, or by its last two where they fuse.
+use armv4t::Cond;
+use armv4t::Fused;
+use armv4t::Instr;
+use armv4t::Op;
+use armv4t::PC;
+use armv4t::fuse_thumb_bl;
+use armv4t::is_listed;
+use armv4t::set_bit0;
+use file_blocks::BlockRecord;
+use file_blocks::FoundBlock;
+use file_blocks::FoundInstr;
+use file_blocks::block_at;
+use file_blocks::instr_at;
+ghost use mathlib.Core.Path.{_≡_};
+ghost use mathlib.Core.Bool.{false, cond};
+ghost use mathlib.Core.List.{[], _∷_, map};
+ghost use Prim.Native.Nat.{ℕ, _+_, _*_, _%_, _^_};
+ghost use lib.ListN.{getElem?};
+ghost use Rattle.armv4t.specs.declared.Fused.{Fused};
+ghost use Rattle.armv4t.specs.declared.Instr.{Instr};
+ghost use Rattle.armv4t.specs.Fused.{fuse};
+ghost use Rattle.armv4t.specs.Instr.{sizeOf};
+ghost use Rattle.file_records.specs.Trailer.{blockStart};
+ghost use Rattle.file_blocks.specs.Parse.{blockAt, blocksOf, Accepted};
+ghost use Rattle.file_blocks.specs.Read.{foundInstr, IsBlock};
+ghost use Rattle.plan_exits.specs.Exits.{keyOf, fallThrough, branchExits, lastExits, closingExits, exits, keysOf};
+ghost use Rattle.plan_exits.specs.Found.{foundKeys};
+
+// The keys of an exit list, the target before the fall-through.
+pub enum Exits {
+    None,
+    One(u32),
+    Two(u32, u32),
+}
+
+// The exits of a block by its number, or that there is no such block.
+pub(crate) enum FoundExits {
+    Exits(Exits),
+    Nothing,
+}
+
+// An address with the block's Thumb bit.
+pub fn key_of(addr: u32, thumb: bool) -> u32
+    ensures { λ r. ⌜ r ≡ keyOf addr thumb ⌝ }
+{
+    if thumb { set_bit0(addr) } else { addr }
+}
+
+// The key after an instruction.
+pub fn fall_through(thumb: bool, instr: Instr) -> u32
+    ensures { λ r. ⌜ r ≡ fallThrough thumb instr ⌝ }
+{
+    key_of(std::num::wrapping_add_u32(instr.addr, instr.size()), thumb)
+}
+
+// The fall-through, or no exit where the last operation is one that leaves the block by a value it reads.
+fn falls_unless(leaves: bool, fall: u32) -> Exits
+    ensures { λ r. ⌜ keysOf r ≡ cond leaves [] (fall ∷ []) ⌝ }
+{
+    if leaves {
+        Exits::None
+    } else {
+        Exits::One(fall)
+    }
+}
+
+// The exits of a branch: a condition other than Al adds the fall-through.
+fn branch_exits(condition: Cond, target: u32, fall: u32) -> Exits
+    ensures { λ r. ⌜ keysOf r ≡ branchExits condition target fall ⌝ }
+{
+    match condition {
+        Cond::Al => Exits::One(target),
+        _ => Exits::Two(target, fall),
+    }
+}
+
+// The exits by the last instruction alone.
+pub(crate) fn last_exits(thumb: bool, last: Instr) -> Exits
+    ensures { λ r. ⌜ keysOf r ≡ lastExits thumb last ⌝ }
+{
+    let fall = fall_through(thumb, last);
+    let op = last.op;
+    match op {
+        Op::Branch { target, .. } => branch_exits(last.cond, key_of(target, thumb), fall),
+        Op::Bx { .. } | Op::Swi { .. } | Op::Undefined { .. } | Op::ThumbBlLow { .. } =>
+            Exits::None,
+        Op::Alu { rd, .. } => falls_unless(rd == PC, fall),
+        Op::Mem { load, rd, .. } => falls_unless(load && rd == PC, fall),
+        Op::BlockMem { load, rlist, .. } => falls_unless(load && is_listed(rlist, PC), fall),
+        _ => Exits::One(fall),
+    }
+}
+
+// The exits by the last two instructions: a fused pair goes to its target in Thumb, otherwise the last one decides.
+pub(crate) fn closing_exits(thumb: bool, before: Instr, last: Instr) -> Exits
+    ensures { λ r. ⌜ keysOf r ≡ closingExits (fuse before last) (lastExits thumb last) ⌝ }
+{
+    match fuse_thumb_bl(before, last) {
+        Fused::Pair { target, .. } => Exits::One(set_bit0(target)),
+        Fused::Nothing => last_exits(thumb, last),
+    }
+}
+
+// Whether an instruction is the second half of a Thumb BL; any other makes no pair with the one before it.
+fn ends_bl(instr: Instr) -> bool
+    ensures { λ r. ⌜ (r ≡ false → (before : Instr) → fuse before instr ≡ Fused.Nothing) ⌝ }
+{
+    let op = instr.op;
+    match op {
+        Op::ThumbBlLow { .. } => true,
+        _ => false,
+    }
+}
+
+// The address of instruction j of a block at an address.
+pub fn instr_addr(addr: u32, thumb: bool, j: u32) -> u32
+    ensures { λ r. ⌜ r ≡ (addr + sizeOf thumb * j) % 2 ^ 32 ⌝ }
+{
+    let start = addr as u64;
+    let n = j as u64;
+    if thumb {
+        ((start + 2 * n) % 4294967296) as u32
+    } else {
+        ((start + 4 * n) % 4294967296) as u32
+    }
+}
+
+// Instruction j of a block whose instructions are those from record `first` on. In an accepted file nothing wraps.
+pub fn instr_of(file: &[u8], block: BlockRecord, first: usize, j: u32) -> FoundInstr
+    ensures { λ r. ⌜ r ≡ foundInstr (now (file .entry)) ((first + j) % 2 ^ 64) ((block .addr + sizeOf (block .thumb) * j) % 2 ^ 32) (block .thumb) ⌝ }
+{
+    let at = std::num::wrapping_add_usize(first, j as usize);
+    instr_at(
+        file,
+        at,
+        instr_addr(block.addr, block.thumb, j),
+        block.thumb,
+    )
+}
+
+// The exits of the block with a record, whose instructions are those from record `first` on.
+pub fn exits_at(file: &[u8], block: BlockRecord, first: usize) -> Exits
+    ensures { λ r. ⌜ ((i : ℕ) → IsBlock (now (file .entry)) i block first → keysOf r ≡ exits (blockAt (now (file .entry)) (blockStart (now (file .entry)) i) first)) ⌝ }
+{
+    let count = block.count;
+    if count == 0 {
+        return Exits::None;
+    }
+    let FoundInstr::At(last) = instr_of(file, block, first, count - 1) else {
+        return Exits::None;
+    };
+    if count == 1 {
+        return last_exits(block.thumb, last.instr);
+    }
+    if !ends_bl(last.instr) {
+        return last_exits(block.thumb, last.instr);
+    }
+    let FoundInstr::At(previous) = instr_of(file, block, first, count - 2) else {
+        return Exits::None;
+    };
+    closing_exits(block.thumb, previous.instr, last.instr)
+}
+
+// The exits of block i, or Nothing. `first` sums the counts of the blocks before block k; in an accepted file it does not wrap.
+pub(crate) fn block_exits(file: &[u8], i: usize) -> FoundExits
+    ensures { λ r. ⌜ (Accepted (now (file .entry)) → foundKeys r ≡ getElem? (map exits (blocksOf (now (file .entry)))) i) ⌝ }
+{
+    let mut first: usize = 0;
+    let mut k = 0;
+    while k < i {
+        let FoundBlock::At(earlier) = block_at(file, k) else {
+            return FoundExits::Nothing;
+        };
+        first = std::num::wrapping_add_usize(first, earlier.count as usize);
+        k += 1;
+    }
+    let FoundBlock::At(block) = block_at(file, i) else {
+        return FoundExits::Nothing;
+    };
+    FoundExits::Exits(exits_at(file, block, first))
+}

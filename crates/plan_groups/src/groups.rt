@@ -1,0 +1,138 @@
+// The groups of an accepted file in the work numbers, four quarters of n numbers each.
+use crate::links::link_members;
+use crate::links::wide;
+use crate::order::count_of;
+use crate::order::place_blocks;
+use base_forest::find;
+use base_forest::hang_under;
+use base_forest::own_roots;
+use file_blocks::FoundBlock;
+use file_blocks::block_at;
+use plan_exits::Exits;
+use plan_exits::exits_at;
+use plan_search::Target;
+use plan_search::find_target;
+use plan_search::on_page_8;
+ghost use mathlib.Core.Path.{_≡_};
+ghost use Prim.Native.Nat.{_*_, _≤_, _<_};
+ghost use lib.ListN.{length};
+ghost use Rattle.file_records.specs.Trailer.{blockCount};
+ghost use Rattle.file_blocks.specs.Parse.{Accepted, blocksOf};
+ghost use Rattle.plan_exits.specs.Exits.{keysOf};
+ghost use Rattle.base_forest.specs.Forest.{Forest};
+ghost use Rattle.plan_groups.specs.Plan.{joinTo, joinExits};
+ghost use Rattle.plan_search.specs.Target.{target};
+ghost use Rattle.plan_groups.specs.Groups.{quarter1, Joined, HasFirsts, Firsts, joinRecord, AllJoined, Rooted, AllRooted, Grouped, HasRoom};
+
+// The edge from block i to a key, if there is a block of page 8 with that key.
+fn join_key(file: &[u8], work: &mut [u32], n: usize, i: usize, key: u32)
+    requires { ⌜ (4 * n ≤ length (now work)) × (n ≤ 65536) × (i < n) × (n ≡ blockCount (now file)) ⌝ }
+    requires { ⌜ Forest (2 * n) (quarter1 n (now work)) ⌝ }
+    ensures { λ _. ⌜ Joined 1 n (now (work .entry)) (now (work .exit)) (λ q. joinTo i q (target key (blocksOf (now (file .entry))) 0)) (Accepted (now (file .entry))) ⌝ }
+{
+    let Target::At(j) = find_target(file, key, i) else {
+        return;
+    };
+    let end = 2 * n;
+    hang_under(&mut work[n..end], i, j);
+}
+
+// The edges from block i, in the order of its exits.
+fn join_exits(file: &[u8], work: &mut [u32], n: usize, i: usize, exits: Exits)
+    requires { ⌜ (4 * n ≤ length (now work)) × (n ≤ 65536) × (i < n) × (n ≡ blockCount (now file)) ⌝ }
+    requires { ⌜ Forest (2 * i) (quarter1 n (now work)) ⌝ }
+    ensures { λ _. ⌜ Joined 2 n (now (work .entry)) (now (work .exit)) (λ q. joinExits (blocksOf (now (file .entry))) i q (keysOf exits)) (Accepted (now (file .entry))) ⌝ }
+{
+    match exits {
+        Exits::None => {}
+        Exits::One(key) => join_key(file, work, n, i, key),
+        Exits::Two(first, second) => {
+            join_key(file, work, n, i, first);
+            join_key(file, work, n, i, second);
+        }
+    }
+}
+
+// The edges from block i, if it is one of page 8.
+fn join_block(file: &[u8], work: &mut [u32], n: usize, i: usize)
+    requires { ⌜ (4 * n ≤ length (now work)) × (n ≤ 65536) × (i < n) × (n ≡ blockCount (now file)) ⌝ }
+    requires { ⌜ Forest (2 * i) (quarter1 n (now work)) ⌝ }
+    requires { ⌜ (Accepted (now file) → HasFirsts (now file) n (now work)) ⌝ }
+    ensures { λ _. ⌜ Joined 2 n (now (work .entry)) (now (work .exit)) (joinRecord (now (file .entry)) i) (Accepted (now (file .entry))) ⌝ }
+{
+    let FoundBlock::At(block) = block_at(file, i) else {
+        return;
+    };
+    if !on_page_8(block.addr) {
+        return;
+    }
+    let first = wide(work[i]);
+    let exits = exits_at(file, block, first);
+    join_exits(file, work, n, i, exits);
+}
+
+// The edges from all blocks, in their order; at first each block is its own root.
+fn join_blocks(file: &[u8], work: &mut [u32], n: usize)
+    requires { ⌜ HasRoom (now file) (now work) n ⌝ }
+    requires { ⌜ (Accepted (now file) → HasFirsts (now file) n (now work)) ⌝ }
+    ensures { λ _. ⌜ AllJoined (now (file .entry)) n (now (work .entry)) (now (work .exit)) ⌝ }
+{
+    let end = 2 * n;
+    own_roots(&mut work[n..end]);
+    let mut i = 0;
+    while i < n {
+        join_block(file, work, n, i);
+        i += 1;
+    }
+}
+
+// Puts the number of each block's first instruction into quarter 0. In an accepted file it fits.
+fn first_instrs(file: &[u8], work: &mut [u32], n: usize)
+    requires { ⌜ (4 * n ≤ length (now work)) × (n ≤ 65536) ⌝ }
+    ensures { λ _. ⌜ Firsts (now (file .entry)) n (now (work .entry)) (now (work .exit)) ⌝ }
+{
+    let mut sum: u64 = 0;
+    let mut i = 0;
+    while i < n {
+        work[i] = (sum % 4294967296) as u32;
+        sum += count_of(file, i);
+        i += 1;
+    }
+}
+
+// Puts the root of block i, by the parents in quarter 1, into quarter 2.
+fn put_root(work: &mut [u32], n: usize, i: usize)
+    requires { ⌜ (4 * n ≤ length (now work)) × (n ≤ 65536) × (i < n) ⌝ }
+    requires { ⌜ Forest (2 * n) (quarter1 n (now work)) ⌝ }
+    ensures { λ _. ⌜ Rooted n i (now (work .entry)) (now (work .exit)) ⌝ }
+{
+    let end = 2 * n;
+    let r = find(&mut work[n..end], i);
+    work[end + i] = r as u32;
+}
+
+// Puts the roots of all blocks into quarter 2.
+fn put_roots(work: &mut [u32], n: usize)
+    requires { ⌜ (4 * n ≤ length (now work)) × (n ≤ 65536) ⌝ }
+    requires { ⌜ Forest (2 * n) (quarter1 n (now work)) ⌝ }
+    ensures { λ _. ⌜ AllRooted n n (now (work .entry)) (now (work .exit)) ⌝ }
+{
+    let mut i = 0;
+    while i < n {
+        put_root(work, n, i);
+        i += 1;
+    }
+}
+
+// Groups the blocks of a file: quarters 0 and 2 get the blocks in emission order and the number of the group of each.
+pub fn group_blocks(file: &[u8], work: &mut [u32], n: u32, limit: u64)
+    requires { ⌜ HasRoom (now file) (now work) n ⌝ }
+    ensures { λ _. ⌜ Grouped (now (file .entry)) n limit (now (work .entry)) (now (work .exit)) ⌝ }
+{
+    let size = n as usize;
+    first_instrs(file, work, size);
+    join_blocks(file, work, size);
+    put_roots(work, size);
+    link_members(work, n);
+    place_blocks(file, work, n, limit);
+}

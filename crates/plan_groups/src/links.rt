@@ -1,0 +1,53 @@
+// Lists of members in the work numbers. Of four quarters of n numbers each, quarter 2 has the roots; quarter 1 gets each block's next member, quarter 3 each component's first.
+ghost use mathlib.Core.Path.{_≡_};
+ghost use Prim.Native.Nat.{ℕ, _+_, _*_, _≤_, _<_};
+ghost use lib.ListN.{length, getD};
+ghost use mathlib.Core.List.{List};
+ghost use Rattle.plan_groups.specs.Links.{Filled, linkOne, HasRoots, Linked, Outside};
+
+// Quarter 3 with n in each place: no component has a member yet.
+fn no_members(work: &mut [u32], n: u32)
+    requires { ⌜ 4 * n ≤ length (now work) ⌝ }
+    ensures { λ _. ⌜ Filled n n (now (work .entry)) (now (work .exit)) ⌝ }
+{
+    let start = 3 * n as usize;
+    let mut r = 0;
+    while r < n as usize {
+        work[start + r] = n;
+        r += 1;
+    }
+}
+
+// Puts block i in front of its component.
+fn link_one(work: &mut [u32], n: u32, i: u32)
+    requires { ⌜ (4 * n ≤ length (now work)) × (i < n) × (getD (now work) (2 * n + i) 0 < n) ⌝ }
+    ensures { λ _. ⌜ now (work .exit) ≡ linkOne n i (now (work .entry)) ⌝ }
+{
+    let size = n as usize;
+    let at = i as usize;
+    let r = wide(work[2 * size + at]);
+    work[size + at] = work[3 * size + r];
+    work[3 * size + r] = i;
+}
+
+// A number as an index; nothing is lost.
+pub(crate) fn wide(x: u32) -> usize
+    ensures { λ r. ⌜ r ≡ x ⌝ }
+{
+    x as usize
+}
+
+// Links the members of each component, from the last block to the first.
+pub(crate) fn link_members(work: &mut [u32], n: u32)
+    requires { ⌜ 4 * n ≤ length (now work) ⌝ }
+    requires { ⌜ ((i : ℕ) → i < n → getD (now work) (2 * n + i) 0 < n) ⌝ }
+    ensures { λ _. ⌜ Outside n (now (work .entry)) (now (work .exit)) ⌝ }
+    ensures { λ _. ⌜ ((roots : List ℕ) → HasRoots n roots (now (work .entry)) → Linked roots n 0 (now (work .exit))) ⌝ }
+{
+    no_members(work, n);
+    let mut left = n;
+    while 0 < left {
+        left = left - 1;
+        link_one(work, n, left);
+    }
+}
