@@ -20,7 +20,7 @@
  * - `*at` is i for 4, 5 and 7, counted from 0 through the file, else 0. The other numbers handed
  *   over are 0 on refusal. All of them are written on every return.
  * - Work numbers: the first 4 * blocks are 0 after success and after 9 and 10, and are as they were
- *   after 1 to 8. What they hold before a call does not matter. Those behind are never changed.
+ *   after 1 to 8. What they hold before a call does not matter. Those after are never changed.
  * - A lent plan or text is changed on success only, and only in its front, as far as the result
  *   reaches.
  * - Nothing is allocated, kept or read beyond what is lent. Calls with different buffers may run at
@@ -58,13 +58,13 @@ uint32_t recomp_plan(const uint8_t *file, size_t file_len, uint32_t *work, size_
                      uint32_t *plan, size_t plan_len, uint64_t *at, uint64_t *blocks);
 
 /* The listing: a header, then a line for each block in file order with key, group and exits. It is
- * `*length` bytes of ASCII, with no zero byte behind it.
+ * `*length` bytes of ASCII, with no zero byte after it.
  * Refusals 1 to 8 and 10. Definition: `listingCall` in crates/call_listing/specs/Calls.antt. */
 uint32_t recomp_listing(const uint8_t *file, size_t file_len, uint32_t *work, size_t work_len,
                         uint8_t *text, size_t text_len, uint64_t *at, uint64_t *length);
 
 /* The C text of unit `unit` (from 0) of those that are closed once they have `max_bytes` bytes after
- * a group: `*length` bytes of UTF-8, with no zero byte behind it. `*done` is the number of blocks in
+ * a group: `*length` bytes of UTF-8, with no zero byte after it. `*done` is the number of blocks in
  * it and in all units before it, `*last` is 1 for the last unit and 0 for the others. Every accepted
  * file has a last unit, at every size; refusal 9 is given for every number above that unit's.
  * Each call goes through the file from its start, and its time does not depend on earlier calls.

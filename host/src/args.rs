@@ -32,7 +32,7 @@ pub enum Command {
     },
 }
 
-/// The arguments behind a command's name, options apart.
+/// The arguments after a command's name, options apart.
 #[derive(Default)]
 struct Words {
     help: bool,
@@ -80,13 +80,13 @@ fn wrong(command: &str, what: &str) -> Failure {
     Failure::error(format!("{command}: {what}; run recomp {command} --help"))
 }
 
-/// Sorts arguments into options and others. Behind `--` there are no options.
+/// Sorts arguments into options and others. After `--` there are no options.
 fn words(command: &str, mut args: impl Iterator<Item = OsString>) -> Result<Words, Failure> {
     let mut words = Words::default();
     while let Some(arg) = args.next() {
         let text = arg.to_string_lossy().into_owned();
         let mut value = |what: &str| {
-            let none = || wrong(command, &format!("{text} needs {what} behind it"));
+            let none = || wrong(command, &format!("{text} needs {what} after it"));
             args.next().map(Some).ok_or_else(none)
         };
         match (text.as_str(), command) {

@@ -1,4 +1,4 @@
-//! The calls of include/recomp.h: declared, and behind safe functions that hand over every number,
+//! The calls of include/recomp.h: declared, and in safe functions that hand over every number,
 //! what the call returned first, then those that it was lent, in the header's order.
 
 /// What a lent number holds before a call, so that one left unwritten shows.

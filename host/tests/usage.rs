@@ -47,7 +47,7 @@ fn wrong_uses() {
         ),
         (
             &["units", file, "-o"],
-            "units: -o needs a folder behind it; run recomp units --help",
+            "units: -o needs a folder after it; run recomp units --help",
         ),
         (
             &["units", file, "-o", ""],
@@ -55,7 +55,7 @@ fn wrong_uses() {
         ),
         (
             &["units", file, "-o", "x", "--unit-size"],
-            "units: --unit-size needs a size behind it; run recomp units --help",
+            "units: --unit-size needs a size after it; run recomp units --help",
         ),
         (
             &["units", file, "-o", "x", "--unit-size", "1G"],
@@ -92,7 +92,7 @@ fn wrong_uses() {
 }
 
 #[test]
-fn behind_two_dashes_a_name_may_begin_with_one() {
+fn after_two_dashes_a_name_may_begin_with_one() {
     let line = recomp(&["check", "--", "-x"]).failed(2);
     assert!(line.starts_with("recomp: cannot read -x: "), "{line}");
 }

@@ -81,7 +81,7 @@ fn refused_file() {
     assert_eq!(outcome(seventh, &[], 5, [12, 62]), refused(7, 2, 0));
 }
 
-/// Two groups behind a front of three bytes, and the end.
+/// Two groups after a front of three bytes, and the end.
 #[test]
 fn lengths_reached() {
     let unit = |text: &str| Unit {

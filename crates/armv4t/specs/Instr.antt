@@ -11,7 +11,7 @@ abbrev pub sizeOf : Bool → ℕ
 sizeOf true = 2
 sizeOf false = 4
 
--- the address behind an instruction, with addresses that wrap at 2^32
+-- the address after an instruction, with addresses that wrap at 2^32
 abbrev pub nextAddr : Instr → ℕ
 nextAddr i = (i .addr + sizeOf (i .thumb)) % 2 ^ 32
 

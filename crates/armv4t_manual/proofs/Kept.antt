@@ -319,7 +319,7 @@ execute-each P i m p q = go (noInstruction i) (passed (i .cond) m) (unpredictabl
     go false true true = tt
     go false true false = q
 
--- the machine behind an operation is in range
+-- the machine after an operation is in range
 abbrev Kept : Machine × ℕ → Type 0
 Kept next = Sound (next .0)
 

@@ -24,7 +24,7 @@ use Rattle.armv4t.specs.InRange.{InRange}
 use Rattle.armv4t_manual.specs.Operators.{CarryFrom, minus, OverflowFromAdd, SignExtend8}
 use Rattle.armv4t_manual.specs.DataProcessing.{logical, addWithCarry}
 use Rattle.armv4t_manual.specs.Transfer.{Memory4, setMemory4}
-use Rattle.armv4t_manual.specs.Multiple.{listed, loadAll, behind, storeAll, lowest, storedFor}
+use Rattle.armv4t_manual.specs.Multiple.{listed, loadAll, addressAfter, storeAll, lowest, storedFor}
 use Rattle.armv4t_manual.specs.Unsaid.{noInstructionOf, noInstruction, unpredictable, isNv}
 use Rattle.armv4t_manual.specs.Execute.{key, execute}
 use Rattle.armv4t_manual.specs.Thumb.{Opcode1, Opcode2, Opcode3, Opcode4, Opcode5, Opcode7, Opcode8, Opcode9, Opcode10, Opcode11, Opcode12, Opcode13, Opcode14, Opcode15, Thumb, Fits, decoded, decoded2, decoded3, decoded4, decoded5, decoded7, decoded8, decoded9, decoded10, decoded11, decoded12, decoded13, decoded14, decoded15, ahead, SignExtend11, thumbOperation, folded, PC, next, onto, sets}
@@ -217,7 +217,7 @@ same-listed x y zero h = refl
 same-listed x y (suc n) h =
     ap₂ (λ (is : List ℕ) (b : Bool). is ++ cond b (n ∷ []) []) (same-listed x y n (λ i l. h i (omega (arith, l)))) (h n (omega arith))
 
--- those of registers 8 to 14 that b holds for, behind a list
+-- those of registers 8 to 14 that b holds for, after a list
 abbrev above : List ℕ → (ℕ → Bool) → List ℕ
 above is b =
     ((((((is ++ cond (b 0) (8 ∷ []) []) ++ cond (b 1) (9 ∷ []) []) ++ cond (b 2) (10 ∷ []) []) ++ cond (b 3) (11 ∷ []) []) ++ cond (b 4) (12 ∷ []) [])
@@ -298,7 +298,7 @@ same-stores r q [] a f h = refl
 same-stores r q (i ∷ is) a f h =
     same-stores r q is ((a + 4) % two32) (setMemory4 a (r i) f) (h .1) ∙ ap (λ (x : ℕ). storeAll q is ((a + 4) % two32) (setMemory4 a x f)) (h .0)
 
--- loads leave SP, and a value written to it before them is there behind them
+-- loads leave SP, and a value written to it before them is there after them
 load-keeps : (is : List ℕ) (a : ℕ) (f r : ℕ → ℕ) → All Plain is → loadAll is a f r 13 ≡ r 13
 load-keeps [] a f r h = refl
 load-keeps (i ∷ is) a f r h =
@@ -370,7 +370,7 @@ bit-15 list true h = ap (λ (x : ℕ). eqb x 1) (set list h)
     set x h = omega arith
 
 module _ (a list : ℕ) (h : list < 256) (m : Machine) where
-  -- SP behind POP of so many registers
+  -- SP after POP of so many registers
   pop-end : (r : Bool) → (m .r 13 + length (listed (list + oneIf r * 2 ^ 15) 16) * 4) % two32 ≡ (m .r 13 + 4 * (oneIf r + length (listed list 8))) % two32
   pop-end r =
       ap (λ (k : ℕ). (m .r 13 + k) % two32)
@@ -389,7 +389,7 @@ module _ (a list : ℕ) (h : list < 256) (m : Machine) where
       ∙ ap (λ (y : ℕ). ended (listed list 8) y) (pop-end true))
     where
       ended : List ℕ → ℕ → Option (Machine × ℕ)
-      ended is y = some (setReg 13 y (setRegs (loadAll is (m .r 13) (m .mem) (m .r)) m), key true (clearBit0 (Memory4 (m .mem) (behind is (m .r 13)))))
+      ended is y = some (setReg 13 y (setRegs (loadAll is (m .r 13) (m .mem) (m .r)) m), key true (clearBit0 (Memory4 (m .mem) (addressAfter is (m .r 13)))))
 
       loaded : List ℕ → ℕ → Option (Machine × ℕ)
       loaded is x = ended is ((x + length (listed (list + 2 ^ 15) 16) * 4) % two32)

@@ -67,7 +67,7 @@ abbrev pub isWordOffset : Operand2 → Bool
 isWordOffset (Operand2.Imm value rot) = eqb (value % 4) 0
 isWordOffset (Operand2.Reg rm s) = false
 
--- the machine behind an outcome: N and Z from it where S is set, and Rd where the operation is no comparison
+-- the machine after an outcome: N and Z from it where S is set, and Rd where the operation is no comparison
 abbrev pub settle : AluOp → Bool → ℕ → ℕ × Bool × Bool → Machine → Machine
 settle op s rd a m =
     let m1 : Machine = cond s (setFlags (bit (a .0) 31) (eqb (a .0) 0) (a .1) (a .2) m) m in

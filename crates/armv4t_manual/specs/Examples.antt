@@ -31,14 +31,14 @@ abbrev thumb : ℕ → Op → Instr
 thumb a op = record { addr = a; cond = Al; op = op; thumb = true }
 
 -- two instructions one after the other
-abbrev behind : Instr → Option (Machine × ℕ) → Option (Machine × ℕ)
-behind j none = none
-behind j (some p) = execute j (p .0)
+abbrev thenExecute : Instr → Option (Machine × ℕ) → Option (Machine × ℕ)
+thenExecute j none = none
+thenExecute j (some p) = execute j (p .0)
 
 abbrev both : Instr → Instr → Machine → Option (Machine × ℕ)
-both i j m = behind j (execute i m)
+both i j m = thenExecute j (execute i m)
 
--- register k behind an instruction, the status register, and the key where it goes on
+-- register k after an instruction, the status register, and the key where it goes on
 abbrev seen : ℕ → Option (Machine × ℕ) → Option (ℕ × ℕ × ℕ)
 seen k none = none
 seen k (some p) = some (p .0 .r k, cpsr (p .0), p .1)

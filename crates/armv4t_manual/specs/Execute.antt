@@ -1,4 +1,4 @@
--- One instruction: the machine behind it and where it goes on. A key is an address whose bit 0 stands for T there. None: the manual does not say (Unsaid), or
+-- One instruction: the machine after it and where it goes on. A key is an address whose bit 0 stands for T there. None: the manual does not say (Unsaid), or
 -- the operation is not written out here, since no native record has it.
 use Prim.Native.Nat.{ℕ, _+_, _*_, _/_, _%_}
 use mathlib.Core.Bool.{Bool, true, cond, _&&_}
@@ -23,19 +23,19 @@ use Rattle.armv4t_manual.specs.Unsaid.{noInstruction, unpredictable}
 abbrev pub key : Bool → ℕ → ℕ
 key thumb a = a + oneIf thumb
 
--- the address of the instruction behind one. Open over the end of the address space (A2.7.1): here it wraps
+-- the address of the instruction after one. Open over the end of the address space (A2.7.1): here it wraps
 abbrev pub following : Instr → ℕ
 following i = (i .addr + sizeOf (i .thumb)) % two32
 
 -- the key of that instruction
-abbrev pub keyBehind : Instr → ℕ
-keyBehind i = key (i .thumb) (following i)
+abbrev pub keyAfter : Instr → ℕ
+keyAfter i = key (i .thumb) (following i)
 
--- the machine and the key behind an instruction that leads on
+-- the machine and the key after an instruction that leads on
 abbrev pub onward : Instr → Machine → Machine × ℕ
-onward i m = (m, keyBehind i)
+onward i m = (m, keyAfter i)
 
--- B, BL (A4.1; A7.1 B (1), B (2)): the target is resolved, over an end of the address space, which is open, by wrapping; L puts the address behind the instruction into R14
+-- B, BL (A4.1; A7.1 B (1), B (2)): the target is resolved, over an end of the address space, which is open, by wrapping; L puts the address after the instruction into R14
 abbrev pub branch : Instr → Bool → ℕ → Machine → Machine × ℕ
 branch i link target m = (cond link (setReg 14 (following i) m) m, key (i .thumb) target)
 
@@ -53,7 +53,7 @@ loadMultiplePc i up pre writeback rn rlist m =
 abbrev pub blHigh : Instr → ℕ → Machine → Machine × ℕ
 blHigh i lr m = onward i (setReg 14 lr m)
 
--- BL of Thumb, H of 11: it goes to R14 plus twice its offset, and puts the address behind it, with bit 0 set, into R14. An odd R14 before it is open: here PC
+-- BL of Thumb, H of 11: it goes to R14 plus twice its offset, and puts the address after it, with bit 0 set, into R14. An odd R14 before it is open: here PC
 -- is without bit 0
 abbrev pub blLow : Instr → ℕ → Machine → Machine × ℕ
 blLow i off m = (setReg 14 (following i / 2 * 2 + 1) m, key true ((m .r 14 + off * 2) % two32 / 2 * 2))

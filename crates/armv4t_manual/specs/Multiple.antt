@@ -27,10 +27,10 @@ abbrev pub loadAll : List ℕ → ℕ → (ℕ → ℕ) → (ℕ → ℕ) → �
 loadAll [] a f r = r
 loadAll (i ∷ is) a f r = loadAll is ((a + 4) % two32) f (update i (Memory4 f a) r)
 
--- the address behind so many words
-abbrev pub behind : List ℕ → ℕ → ℕ
-behind [] a = a
-behind (i ∷ is) a = behind is ((a + 4) % two32)
+-- the address after so many words
+abbrev pub addressAfter : List ℕ → ℕ → ℕ
+addressAfter [] a = a
+addressAfter (i ∷ is) a = addressAfter is ((a + 4) % two32)
 
 -- LDM (1) without R15: the base is written, and then the registers. A base that is written and listed is open (A4.1 LDM (1)); in Thumb (A7.1 LDMIA) it is the
 -- value loaded, as here
@@ -47,9 +47,9 @@ loadMultipleWithPc up pre writeback rn rlist m =
     let r1 : ℕ → ℕ = loadAll (listed rlist 15) (start up pre (m .r rn) k) (m .mem) (m .r) in
     setRegs (cond writeback (update rn (moved up (r1 rn) (k * 4)) r1) r1) m
 
--- what it loads for R15: the word behind the others
+-- what it loads for R15: the word after the others
 abbrev pub loadedPc : Bool → Bool → ℕ → ℕ → Machine → ℕ
-loadedPc up pre rn rlist m = Memory4 (m .mem) (behind (listed rlist 15) (start up pre (m .r rn) (length (listed rlist 16))))
+loadedPc up pre rn rlist m = Memory4 (m .mem) (addressAfter (listed rlist 15) (start up pre (m .r rn) (length (listed rlist 16))))
 
 -- values stored at rising addresses, over the end likewise
 abbrev pub storeAll : (ℕ → ℕ) → List ℕ → ℕ → (ℕ → ℕ) → ℕ → ℕ
@@ -61,7 +61,7 @@ abbrev pub lowest : ℕ → ℕ
 lowest rlist = getD (listed rlist 16) 0 16
 
 -- what STM (1) stores for register i: its value, and for R15, which is implementation defined (A2.4.3), here pc plus 4. A base that is written, listed and not
--- lowest is open (A4.1 STM (1), A7.1 STMIA): here it is stored as it is behind the instruction
+-- lowest is open (A4.1 STM (1), A7.1 STMIA): here it is stored as it is after the instruction
 abbrev pub storedFor : Machine → Bool → ℕ → ℕ → ℕ → ℕ → ℕ → ℕ
 storedFor m writeback rn rlist newBase pc i = cond (writeback && eqb i rn && not (eqb i (lowest rlist))) newBase (R m ((pc + 4) % two32) i)
 

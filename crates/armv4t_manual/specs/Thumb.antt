@@ -30,7 +30,7 @@ use Rattle.armv4t_manual.specs.Conditions.{passed}
 use Rattle.armv4t_manual.specs.Shifter.{shift, shiftBy}
 use Rattle.armv4t_manual.specs.DataProcessing.{logical, addWithCarry, subWithBorrow}
 use Rattle.armv4t_manual.specs.Transfer.{Memory4, loaded, stored}
-use Rattle.armv4t_manual.specs.Multiple.{listed, loadAll, behind, storeAll, lowest}
+use Rattle.armv4t_manual.specs.Multiple.{listed, loadAll, addressAfter, storeAll, lowest}
 use Rattle.armv4t_manual.specs.Unsaid.{isNv}
 use Rattle.armv4t_manual.specs.Execute.{key, branchExchange}
 
@@ -410,11 +410,11 @@ pushes r list m =
 abbrev pub pops : Bool → ℕ → Machine → Machine
 pops r list m = setReg 13 ((m .r 13 + 4 * (oneIf r + length (listed list 8))) % two32) (setRegs (loadAll (listed list 8) (m .r 13) (m .mem) (m .r)) m)
 
--- PUSH, POP: where R is set, POP makes PC the word behind those of the list AND 0xFFFFFFFE, and ARMv4 keeps T
+-- PUSH, POP: where R is set, POP makes PC the word after those of the list AND 0xFFFFFFFE, and ARMv4 keeps T
 abbrev pub does14 : ℕ → Opcode14 → Bool → ℕ → Machine → Option (Machine × ℕ)
 does14 a push r list m = onto a (pushes r list m)
 does14 a pop false list m = onto a (pops false list m)
-does14 a pop true list m = some (pops true list m, key true (clearBit0 (Memory4 (m .mem) (behind (listed list 8) (m .r 13)))))
+does14 a pop true list m = some (pops true list m, key true (clearBit0 (Memory4 (m .mem) (addressAfter (listed list 8) (m .r 13)))))
 
 -- STMIA, LDMIA: Rn plus 4 times the number of registers becomes Rn. Where LDMIA names Rn, Rn is the value loaded. Where STMIA names Rn as the lowest register,
 -- the old value is stored. Open: STMIA with Rn listed and not lowest, where the new value is stored here; an empty list, which is here as otherwise
@@ -431,7 +431,7 @@ does15 ldmia rn list m =
 abbrev pub branches : ℕ → ℕ → Machine → Option (Machine × ℕ)
 branches a offset m = some (m, key true ((PC a + offset) % two32))
 
--- what A7.1 says of an instruction at an address: the machine and the key behind it. Not written out: SWI
+-- what A7.1 says of an instruction at an address: the machine and the key after it. Not written out: SWI
 unfoldable pub thumbOperation : ℕ → Thumb → Machine → Option (Machine × ℕ)
 thumbOperation a (format-1 op immed rm rd) m = onto a (does1 op immed rm rd m)
 thumbOperation a (format-2 op rm rn rd) m = onto a (does2 op rm rn rd m)

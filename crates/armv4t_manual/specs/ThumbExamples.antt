@@ -15,12 +15,12 @@ use Rattle.armv4t_manual.specs.Thumb.{lsr-1, add-1, neg, add-5, push, po
 abbrev begin : Bool → Machine
 begin c = record { r = λ k. 16 * k; n = false; z = false; c = c; v = false; otherBits = 0x30; mem = λ a. a % 16 }
 
--- register k behind an instruction, the status register, and the key where it goes on
+-- register k after an instruction, the status register, and the key where it goes on
 abbrev seen : ℕ → Option (Machine × ℕ) → Option (ℕ × ℕ × ℕ)
 seen k none = none
 seen k (some p) = some (p .0 .r k, cpsr (p .0), p .1)
 
--- a byte of memory behind an instruction
+-- a byte of memory after an instruction
 abbrev stored : ℕ → Option (Machine × ℕ) → Option ℕ
 stored a none = none
 stored a (some p) = some (p .0 .mem a)
@@ -41,7 +41,7 @@ load-pc : seen 1 (thumbOperation 0x08000002 (format-6 1 1) (begin false)) ≡ so
 unfolding thumbOperation
 load-pc = refl
 
--- bd01 pop {r0, pc}: r0, and SP behind both words; T stays though the word for PC is even
+-- bd01 pop {r0, pc}: r0, and SP after both words; T stays though the word for PC is even
 pops : seen 0 (thumbOperation 0x08000000 (format-14 pop true 1) (begin false)) ≡ some (0x03020100, 0x30, 0x07060505)
 unfolding thumbOperation listed
 pops = refl
@@ -97,7 +97,7 @@ not-taken : seen 0 (thumbOperation 0x08000100 (format-16 Eq 0xfc) (begin false))
 unfolding thumbOperation
 not-taken = refl
 
--- f7ff: LR becomes PC less 0x1000; f803 from LR, and LR is the address behind it with bit 0
+-- f7ff: LR becomes PC less 0x1000; f803 from LR, and LR is the address after it with bit 0
 bl-high : seen 14 (thumbOperation 0x08002000 (format-19-high 0x7ff) (begin false)) ≡ some (0x08001004, 0x30, 0x08002003)
 unfolding thumbOperation
 bl-high = refl

@@ -11,7 +11,7 @@ use Rattle.armv4t_manual.specs.Machine.{two32, Machine, R, update, setRe
 use Rattle.armv4t_manual.specs.Operators.{Rotate-Right, SignExtend8, SignExtend16}
 use Rattle.armv4t_manual.specs.Shifter.{shifted}
 
--- byte i behind address a. Addresses wrap (A2.7.1); no aligned access goes over the end
+-- byte i after address a. Addresses wrap (A2.7.1); no aligned access goes over the end
 abbrev pub byte : (ℕ → ℕ) → ℕ → ℕ → ℕ
 byte f a i = f ((a + i) % two32)
 
@@ -23,7 +23,7 @@ Memory2 f a = f a + byte f a 1 * 2 ^ 8
 abbrev pub Memory4 : (ℕ → ℕ) → ℕ → ℕ
 Memory4 f address = let a : ℕ = address / 4 * 4 in f a + byte f a 1 * 2 ^ 8 + byte f a 2 * 2 ^ 16 + byte f a 3 * 2 ^ 24
 
--- byte i of x put behind address a
+-- byte i of x put after address a
 abbrev pub setByte : ℕ → ℕ → ℕ → (ℕ → ℕ) → ℕ → ℕ
 setByte a x i = update ((a + i) % two32) (x / 2 ^ (8 * i) % 256)
 
@@ -46,7 +46,7 @@ abbrev pub moved : Bool → ℕ → ℕ → ℕ
 moved true x off = (x + off) % two32
 moved false x off = (x + (two32 - off)) % two32
 
--- P: the offset counts before the access, or only for the base behind it (A5.2.8 to A5.2.10, A5.3.6, A5.3.7)
+-- P: the offset counts before the access, or only for the base after it (A5.2.8 to A5.2.10, A5.3.6, A5.3.7)
 abbrev pub address : Bool → Bool → ℕ → ℕ → ℕ
 address true up x off = moved up x off
 address false up x off = x

@@ -201,13 +201,13 @@ module _ (may : Bool) where
   after-interp-kept a z = (λ h. absurd (true≢false (sym a ∙ h)), over-refl (z .scopes))
 
   -- what is kept from a state is kept from one before it
-  behind : (z u : State) {o : Option State} → Kept z u → All (Kept u) o → All (Kept z) o
-  behind z u p undefined = undefined
-  behind z u p (defined {x} q) = defined (kept-trans z u x p q)
+  kept-on : (z u : State) {o : Option State} → Kept z u → All (Kept u) o → All (Kept z) o
+  kept-on z u p undefined = undefined
+  kept-on z u p (defined {x} q) = defined (kept-trans z u x p q)
 
-  behindBy : (z u : State) {o : Outcome} → Kept z u → All (KeptBy u) o → All (KeptBy z) o
-  behindBy z u p undefined = undefined
-  behindBy z u p (defined {x} q) = defined (kept-trans z u (x .0) p q)
+  afterBy : (z u : State) {o : Outcome} → Kept z u → All (KeptBy u) o → All (KeptBy z) o
+  afterBy z u p undefined = undefined
+  afterBy z u p (defined {x} q) = defined (kept-trans z u (x .0) p q)
 
   put-kept : (p : Place) (v : ℕ) (z : State) → All (Kept z) (put p v z)
   put-kept (reg k) v z = all-cond (leb k 16) (defined (kept-refl z)) undefined
@@ -222,7 +222,7 @@ module _ (may : Bool) where
   ended-kept (back x) z u p = undefined
 
   next-kept : (g : Goes) (z u : State) (f : State → Outcome) → Kept z u → ((y : State) → All (KeptBy y) (f y)) → All (KeptBy z) (next g u f)
-  next-kept on z u f p h = behindBy z u p (h u)
+  next-kept on z u f p h = afterBy z u p (h u)
   next-kept (to k) z u f p h = defined p
   next-kept (back x) z u f p h = defined p
 
@@ -233,23 +233,23 @@ module _ (may : Bool) where
   -- with helpers that keep
   module _ (R : ℕ → ℕ → Option ℕ) (C : Helper → List ℕ → State → Outcome) (call-kept : (h : Helper) (vs : List ℕ) (z : State) → All (KeptBy z) (C h vs z)) where
     initialise-kept : (x : Var) (e : Expr) (z : State) → All (Kept z) (initialise R C x e z)
-    initialise-kept x e z = all-bind (declares-kept x z) λ u p. all-value (evalAs R (x .0) e u) λ k. behind z u p (put-kept (var x) k u)
+    initialise-kept x e z = all-bind (declares-kept x z) λ u p. all-value (evalAs R (x .0) e u) λ k. kept-on z u p (put-kept (var x) k u)
 
     others-kept : (y : Ty) (ds : List (Name × Expr)) (z : State) → All (Kept z) (others R C y ds z)
     unfolding others
     others-kept y [] z = defined (kept-refl z)
-    others-kept y (d ∷ ds) z = all-bind (initialise-kept (y, d .0) (d .1) z) λ u p. behind z u p (others-kept y ds u)
+    others-kept y (d ∷ ds) z = all-bind (initialise-kept (y, d .0) (d .1) z) λ u p. kept-on z u p (others-kept y ds u)
 
     exec-kept : (s : Plain) (z : State) → All (Kept z) (exec R C s z)
     unfolding exec
     exec-kept registers z = defined (kept-refl z)
     exec-kept (local x) z = declares-kept x z
-    exec-kept (declare x e ds) z = all-bind (initialise-kept x e z) λ u p. behind z u p (others-kept (x .0) ds u)
+    exec-kept (declare x e ds) z = all-bind (initialise-kept x e z) λ u p. kept-on z u p (others-kept (x .0) ds u)
     exec-kept (adds x d e f) z =
         all-bind (declares-kept (u32, x) z) λ u p.
         all-value (evalAs R u32 d u) λ k. all-value (evalAs R u32 e u) λ l. all-value (evalAs R u32 f u) λ i.
         all-bind (call-kept op-adds (k ∷ l ∷ i ∷ []) u) λ q h. all-value (returned (q .1)) λ r.
-        behind z u p (behind u (q .0) h (put-kept (var (u32, x)) r (q .0)))
+        kept-on z u p (kept-on u (q .0) h (put-kept (var (u32, x)) r (q .0)))
     exec-kept (set p o e) z = all-value (eval R e z) λ k. all-value (newValue o p (ty e) k z) λ x. put-kept p x z
     exec-kept (discard x) z = all-value (find (index (x .1)) (z .scopes)) λ p. all-cond (sameTy (x .0) (p .0)) (defined (kept-refl z)) undefined
     exec-kept (run p e) z =
@@ -274,14 +274,14 @@ module _ (may : Bool) where
     step-kept (label k) a z = defined (kept-refl z)
     step-kept (goto o k) a z = defined (kept-refl z)
     step-kept (ret o e) a z = returns-kept e z
-    step-kept (retIf o t e) a z = all-bind (asks-kept t z) λ q p. all-cond (q .0) (behindBy z (q .1) p (returns-kept e (q .1))) (defined p)
+    step-kept (retIf o t e) a z = all-bind (asks-kept t z) λ q p. all-cond (q .0) (afterBy z (q .1) p (returns-kept e (q .1))) (defined p)
     step-kept (interp k i) a z =
         all-bind (put-kept (var (u32, x-pc)) (interpAnswer z) (afterInterp z)) λ u p. defined (kept-trans z (afterInterp z) u (after-interp-kept a z) p)
     step-kept (retInterp k i) a z = defined (after-interp-kept a z)
     step-kept (call k n) a z = undefined
     step-kept (switch ks) a z = undefined
 
-    -- braces, and the code behind them
+    -- braces, and the code after them
     braces-kept : (b c : Code) (z : State) → ((u : State) → All (KeptBy u) (runs R C b u)) → ((u : State) → All (KeptBy u) (runs R C c u))
         → All (KeptBy z) (bind (runs R C b (enter z)) λ r. next (r .1) (leave (r .0)) (runs R C c))
     braces-kept b c z f g = all-bind (f (enter z)) λ r p. next-kept (r .1) z (leave (r .0)) (runs R C c) (leave-kept z (r .0) p) g
@@ -292,7 +292,7 @@ module _ (may : Bool) where
     runs-kept (s ⨾ c) a z = all-bind (step-kept s (a .0) z) λ q p. next-kept (q .1) z (q .0) (runs R C c) p (runs-kept c (a .1))
     runs-kept (when o n t b c) a z =
         all-bind (asks-kept t z) λ q p.
-        all-cond (Bool·beq n (q .0)) (behindBy z (q .1) p (runs-kept c (a .1) (q .1))) (behindBy z (q .1) p (braces-kept b c (q .1) (runs-kept b (a .0)) (runs-kept c (a .1))))
+        all-cond (Bool·beq n (q .0)) (afterBy z (q .1) p (runs-kept c (a .1) (q .1))) (afterBy z (q .1) p (braces-kept b c (q .1) (runs-kept b (a .0)) (runs-kept c (a .1))))
     runs-kept (braces b c) a z = braces-kept b c z (runs-kept b (a .0)) (runs-kept c (a .1))
 
   called-kept : (h : Helper) (vs : List ℕ) (z : State) → All (KeptBy z) (called h vs z)

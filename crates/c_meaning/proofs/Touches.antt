@@ -11,7 +11,7 @@ use Rattle.c_meaning.specs.Eval.{evalAs}
 use Rattle.c_meaning.specs.Exec.{exec, asks}
 use Rattle.c_meaning.specs.Helpers.{rotated, called}
 
--- the words of c, the scopes and the runtime are as in z behind what is defined
+-- the words of c, the scopes and the runtime are as in z after what is defined
 abbrev MemoryOnly : State → Option State → Type 0
 MemoryOnly z none = Unit {0}
 MemoryOnly z (some y) = (y .c ≡ z .c) × (y .scopes ≡ z .scopes) × (y .answers ≡ z .answers) × (y .interpreter ≡ z .interpreter)

@@ -19,11 +19,11 @@ use Rattle.c_meaning.specs.Helpers as H
 abbrev begin : State
 begin = record { c = update 16 0 (λ (k : ℕ). k); mem = λ a. 0xfe; scopes = empty ∷ []; answers = λ k. 1; interpreter = λ k c mem. record { c = update 0 (9 + k) c; mem = mem; answer = 8 + k } }
 
--- c[k] behind statements
+-- c[k] after statements
 abbrev after : ℕ → Option State → Option ℕ
 after k o = bind o λ z. some (z .c k)
 
--- c[k] behind code, and where it led
+-- c[k] after code, and where it led
 abbrev afterCode : ℕ → Outcome → Option (ℕ × Goes)
 afterCode k o = bind o λ q. some (q .0 .c k, q .1)
 
@@ -68,7 +68,7 @@ signed-byte : evaluate (cast u32 (cast s32 (cast s8 (read w8 (get (reg 1)))))) b
 unfolding evaluate eval
 signed-byte = refl
 
--- || does not look at what is undefined behind a yes, and && does
+-- || does not look at what is undefined after a yes, and && does
 or-stops : evaluate (bin lor (get (reg 1)) (bin shl (get (reg 1)) (lit udec 32))) begin ≡ some 1
 unfolding evaluate eval
 or-stops = refl
@@ -142,7 +142,7 @@ taken : afterCode 0 (H.run (braces (plain common (declare (u32, x-r) (get (reg 1
 unfolding H.run eval evalAs exec execs others runs step asks
 taken = refl
 
--- behind its braces a local is gone
+-- after its braces a local is gone
 gone : afterCode 0 (H.run (braces (plain common (declare (u32, x-r) (get (reg 1)) []) ⨾ end) (ret common (v32 x-r) ⨾ end)) begin) ≡ none
 unfolding H.run eval evalAs exec execs others runs step asks
 gone = refl

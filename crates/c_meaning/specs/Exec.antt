@@ -12,7 +12,7 @@ use Rattle.c_meaning.specs.Eval.{ty, binValue, eval, evalAs}
 
 -- where statements lead
 pub data Goes : Type 0 where
-  on : Goes  -- behind them
+  on : Goes  -- after them
   to : ℕ → Goes  -- to a label, by a goto: its key
   back : ℕ → Goes  -- out of the function, by a return: its value
 
@@ -20,7 +20,7 @@ pub data Goes : Type 0 where
 abbrev pub Outcome : Type 0
 Outcome = Option (State × Goes)
 
--- what comes behind, where statements led on
+-- what comes after, where statements led on
 abbrev pub next : Goes → State → (State → Outcome) → Outcome
 next on z f = f z
 next (to k) z f = some (z, to k)
@@ -93,7 +93,7 @@ module _ (rorAnswer : ℕ → ℕ → Option ℕ) (helperCall : Helper → List 
   execs [] z = some z
   execs (p ∷ ps) z = bind (exec p z) (execs ps)
 
-  -- whether a test holds, and the state behind it; the runtime's answers are used up in order
+  -- whether a test holds, and the state after it; the runtime's answers are used up in order
   unfoldable pub asks : Test → State → Option (Bool × State)
   unfolding eval
   asks (guard a l h) z = some (not (eqb (z .answers 0) 0), answered z)

@@ -31,7 +31,7 @@ noRor x n = none
 abbrev pub noCall : Helper → List ℕ → State → Outcome
 noCall h vs z = none
 
--- a call: the parameters are all the locals that the body starts with, and the caller's come back behind it
+-- a call: the parameters are all the locals that the body starts with, and the caller's come back after it
 unfoldable pub called : Helper → List ℕ → State → Outcome
 unfolding runs
 called h vs z = bind (runs noRor noCall (body h) (setScopes (arguments (params h) vs ∷ []) z)) λ q. some (setScopes (z .scopes) (q .0), q .1)

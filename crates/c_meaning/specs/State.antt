@@ -82,7 +82,7 @@ setMem f z = record { c = z .c; mem = f; scopes = z .scopes; answers = z .answer
 abbrev pub setScopes : List Scope → State → State
 setScopes fs z = record { c = z .c; mem = z .mem; scopes = fs; answers = z .answers; interpreter = z .interpreter }
 
--- the state behind an answer of the runtime
+-- the state after an answer of the runtime
 abbrev pub answered : State → State
 answered z = record { c = z .c; mem = z .mem; scopes = z .scopes; answers = λ k. z .answers (suc k); interpreter = z .interpreter }
 
@@ -90,7 +90,7 @@ answered z = record { c = z .c; mem = z .mem; scopes = z .scopes; answers = λ k
 abbrev pub interpAnswer : State → ℕ
 interpAnswer z = z .interpreter 0 (z .c) (z .mem) .answer
 
--- the state behind that call; interpreter starts with the call after it
+-- the state after that call; interpreter starts with the call after it
 abbrev pub afterInterp : State → State
 afterInterp z =
     let q : Interpreted = z .interpreter 0 (z .c) (z .mem) in
@@ -159,7 +159,7 @@ abbrev pub placeTy : Place → Ty
 placeTy (reg k) = u32
 placeTy (var x) = x .0
 
--- byte i behind address a; addresses wrap at 2^32
+-- byte i after address a; addresses wrap at 2^32
 abbrev pub byte : (ℕ → ℕ) → ℕ → ℕ → ℕ
 byte f a i = f ((a + i) % 2 ^ 32)
 
@@ -169,7 +169,7 @@ load w8 f a = f a
 load w16 f a = f a + byte f a 1 * 2 ^ 8
 load w32 f a = f a + byte f a 1 * 2 ^ 8 + byte f a 2 * 2 ^ 16 + byte f a 3 * 2 ^ 24
 
--- byte i of x put behind address a
+-- byte i of x put after address a
 abbrev pub setByte : ℕ → ℕ → ℕ → (ℕ → ℕ) → ℕ → ℕ
 setByte a x i = update ((a + i) % 2 ^ 32) (x / 2 ^ (8 * i) % 256)
 

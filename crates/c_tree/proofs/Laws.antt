@@ -1,4 +1,4 @@
--- Code behind code, and tops behind tops: the text is the one and then the other.
+-- Code after code, and tops after tops: the text is the one and then the other.
 use mathlib.Core.Path.{_≡_, refl, sym, ap, _∙_}
 use Prim.Native.Nat.{ℕ, _+_}
 use mathlib.Core.Bool.{Bool, _&&_, and-assoc}
@@ -10,7 +10,7 @@ use Rattle.c_tree.specs.Stmt.{Code, end, _⨾_, when, braces, _⧺_, Top
 use Rattle.c_tree.specs.Print.{simpleText, codeText, unitText}
 use Rattle.c_tree.specs.Binds.{testBinds, simpleBinds, codeBinds}
 
--- code behind code
+-- code after code
 pub append-end : (c : Code) → c ⧺ end ≡ c
 append-end end = refl
 append-end (s ⨾ c) = ap (λ (x : Code). s ⨾ x) (append-end c)
@@ -37,7 +37,7 @@ print-append c d = same-bytes (codeText (c ⧺ d)) (codeText c ▸ codeText d) (
 pub length-code : (c d : Code) → length (print (codeText (c ⧺ d))) ≡ length (print (codeText c)) + length (print (codeText d))
 length-code c d = ap length (print-append c d) ∙ length-append (print (codeText c)) (print (codeText d))
 
--- code behind code binds if both do
+-- code after code binds if both do
 pub binds-append : (l : Bool) (c d : Code) → codeBinds l (c ⧺ d) ≡ (codeBinds l c && codeBinds l d)
 unfolding codeBinds
 binds-append l end d = refl
@@ -49,7 +49,7 @@ binds-append l (when o n t b c) d =
 binds-append l (braces b c) d =
     ap (λ (x : Bool). codeBinds l b && x) (binds-append l c d) ∙ sym (and-assoc (codeBinds l b) (codeBinds l c) (codeBinds l d))
 
--- tops behind tops
+-- tops after tops
 pub print-unit : (ts us : List Top) → print (unitText (ts ++ us)) ≡ print (unitText ts) ++ print (unitText us)
 unfolding print
 print-unit ts us = sym (same-bytes (unitText ts ▸ unitText us) (unitText (ts ++ us)) (each-append _ ts us []))

@@ -6,7 +6,7 @@ use Rattle.base_text.proofs.Lengths.{most}
 use Rattle.c_tree.specs.Stmt.{Code, end, _⨾_, when, braces, _⧺_}
 use Rattle.c_tree.specs.Print.{codeText}
 
--- code behind code
+-- code after code
 pub most-append : (c d : Code) → most (codeText (c ⧺ d)) ≡ most (codeText c) + most (codeText d)
 most-append end d = omega arith
 most-append (s ⨾ c) d = omega (arith, most-append c d)

@@ -35,7 +35,7 @@ binds l (pick c d e) = (leb 3 (level c) && binds l c) && binds l d && (leb 2 (le
 binds l (ror d e) = binds l d && binds l e
 binds l (read w e) = binds l e
 
--- the same of the declarators behind the first
+-- the same of the declarators after the first
 unfoldable pub declaratorsBind : Bool → List (Name × Expr) → Bool
 unfolding binds
 declaratorsBind l [] = true
@@ -54,7 +54,7 @@ plainBinds l (run p e) = binds l e
 plainBinds l (write w d e) = binds l d && binds l e
 plainBinds l (tick n) = true
 
--- of what a condition tests, if n behind a `!`
+-- of what a condition tests, if n after a `!`
 unfoldable pub testBinds : Bool → Bool → Test → Bool
 unfolding level binds
 testBinds l n (guard a k h) = true

@@ -98,7 +98,7 @@ procName f-nz = "f_nz"
 procName f-c = "f_c"
 procName f-nz64 = "f_nz64"
 
--- a declarator behind the first
+-- a declarator after the first
 abbrev pub declarator : Name × Expr → Doc
 declarator p = text ", " ▸ text (name (p .0)) ▸ text " = " ▸ exprText (p .1)
 

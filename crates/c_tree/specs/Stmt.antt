@@ -13,11 +13,11 @@ pub data Set : Type 0 where
 pub data Proc : Type 0 where
   f-nz f-c f-nz64 : Proc
 
--- statements that only compute, so that a way goes on behind them; without their `;`
+-- statements that only compute, so that a way goes on after them; without their `;`
 pub data Plain : Type 0 where
   registers : Plain  -- uint32_t* c = (uint32_t*)m: emit_block, emit_group
   local : Var → Plain  -- uint32_t pc: emit_block, emit_group
-  declare : Var → Expr → List (Name × Expr) → Plain  -- uint32_t cn = e, cz = e: inline_body, emit_block, PREAMBLE. The names behind the first have its type
+  declare : Var → Expr → List (Name × Expr) → Plain  -- uint32_t cn = e, cz = e: inline_body, emit_block, PREAMBLE. The names after the first have its type
   adds : Name → Expr → Expr → Expr → Plain  -- uint32_t r = op_adds(c, e, e, e): inline_body
   set : Place → Set → Expr → Plain  -- c[15] = e: inline_body, emit_shell, emit_block, PREAMBLE
   discard : Var → Plain  -- (void)r: inline_body, emit_block, emit_group
@@ -55,11 +55,11 @@ infixr 66 _⨾_
 pub data Code : Type 0 where
   end : Code
   _⨾_ : Simple → Code → Code
-  when : Owner → Bool → Test → Code → Code → Code  -- if (test) { code }, and the code behind; with a `!` before the test if true: emit_block
-  braces : Code → Code → Code  -- { code }, and the code behind: emit_block
+  when : Owner → Bool → Test → Code → Code → Code  -- if (test) { code }, and the code after; with a `!` before the test if true: emit_block
+  braces : Code → Code → Code  -- { code }, and the code after: emit_block
 
 infixr 64 _⧺_
--- some code, and other code behind it
+-- some code, and other code after it
 abbrev pub _⧺_ : Code → Code → Code
 end ⧺ d = d
 (s ⨾ c) ⧺ d = s ⨾ (c ⧺ d)

@@ -106,7 +106,7 @@ pub fn too_long(k: u64) {
     text(b" is too long\n");
 }
 
-// The line on an input that does not end behind the last section.
+// The line on an input that does not end after the last section.
 pub fn goes_on() {
     text(b"input goes on after the last section\n");
 }

@@ -1,4 +1,4 @@
--- The list of all numbers that a call for the plan leaves, as it is put together: three numbers stored, and what two buffers hold put behind them.
+-- The list of all numbers that a call for the plan leaves, as it is put together: three numbers stored, and what two buffers hold put after them.
 use Prim.Native.Nat.{ℕ, _+_, _≤_}
 use native.Mathlib.Omega.{arith}
 use mathlib.Core.Path.{_≡_, refl, sym, ap, ap₂, _∙_}
@@ -9,7 +9,7 @@ use Rattle.file_blocks.specs.Answer.{Answer, refusal, value}
 use Rattle.recomp.specs.Answer.{withAnswer}
 use Rattle.case_plan.specs.PlanCases.{outcomeInOrder, planAnswerNumbers}
 
--- the numbers of a buffer put behind a front, up to the end
+-- the numbers of a buffer put after a front, up to the end
 ends : (front g w : List ℕ) (at : ℕ) → take at g ≡ front → length g ≡ at + length w → paste g at w (length w) ≡ front ++ w
 ends front g w at t l =
     let rest : drop (at + length w) g ≡ [] = ap (λ (k : ℕ). drop k g) (sym l) ∙ drop-length g in
@@ -19,8 +19,8 @@ module _ (a b c : ℕ) (g w r : List ℕ) (long : length g ≡ 3 + (length w + l
   abbrev stored : List ℕ
   stored = set (set (set g 0 a) 1 b) 2 c
 
-  abbrev behind : List ℕ
-  behind = paste stored 3 w (length w)
+  abbrev after : List ℕ
+  after = paste stored 3 w (length w)
 
   stored-length : length stored ≡ 3 + (length w + length r)
   stored-length = length-sets g 0 (a ∷ b ∷ c ∷ []) ∙ long
@@ -28,21 +28,21 @@ module _ (a b c : ℕ) (g w r : List ℕ) (long : length g ≡ 3 + (length w + l
   stored-front : take 3 stored ≡ a ∷ b ∷ c ∷ []
   stored-front = ap (take 3) (sets-eq (a ∷ b ∷ c ∷ []) g 0 (omega (arith, long)))
 
-  behind-length : length behind ≡ 3 + length w + length r
-  behind-length =
+  after-length : length after ≡ 3 + length w + length r
+  after-length =
       let inside : 3 + length w ≤ length stored = omega (arith, stored-length) in
       let sum : length stored ≡ 3 + length w + length r = omega (arith, stored-length) in
       length-paste stored 3 w (length w) inside (omega arith) ∙ sum
 
-  behind-front : take (3 + length w) behind ≡ a ∷ b ∷ c ∷ w
-  behind-front =
+  after-front : take (3 + length w) after ≡ a ∷ b ∷ c ∷ w
+  after-front =
       let inside : 3 ≤ length stored = omega (arith, stored-length) in
       take-paste stored 3 w (length w) inside (omega arith) ∙ ap₂ (λ (x y : List ℕ). x ++ y) stored-front (take-length w)
 
-  pub gathered : paste behind (3 + length w) r (length r) ≡ a ∷ b ∷ c ∷ (w ++ r)
-  gathered = ends (a ∷ b ∷ c ∷ w) behind r (3 + length w) behind-front behind-length
+  pub gathered : paste after (3 + length w) r (length r) ≡ a ∷ b ∷ c ∷ (w ++ r)
+  gathered = ends (a ∷ b ∷ c ∷ w) after r (3 + length w) after-front after-length
 
--- the numbers of an answer, with those lent behind them
+-- the numbers of an answer, with those lent after them
 pub with-lent : (a : Answer ℕ) (w r : List ℕ)
     → getD (planAnswerNumbers a) 0 0 ∷ getD (planAnswerNumbers a) 1 0 ∷ getD (planAnswerNumbers a) 2 0 ∷ (w ++ r) ≡ outcomeInOrder (withAnswer a w r)
 with-lent (refusal n i) w r = refl

@@ -18,7 +18,7 @@ unitInOrder n = n .number ∷ n .at ∷ n .length ∷ n .done ∷ n .last ∷ []
 abbrev pub unitAnswerNumbers : Answer UnitAnswer → List ℕ
 unitAnswerNumbers a = unitInOrder (withUnit a [] [])
 
--- with more work numbers and more text behind what was lent
+-- with more work numbers and more text after what was lent
 abbrev pub withRest : UnitNumbers → List ℕ → List ℕ → UnitNumbers
 withRest n work text =
     record { number = n .number; at = n .at; length = n .length; done = n .done; last = n .last; work = n .work ++ work; text = n .text ++ text }

@@ -5,7 +5,7 @@ use case_io::input;
 use case_io::report;
 use case_io::verdict::Section;
 
-// After a vector that cannot be read nothing can be. What stands behind the last section is
+// After a vector that cannot be read nothing can be. What stands after the last section is
 // vectors that nothing replays.
 fn main() {
     if !sections::replay(Section::Check) {

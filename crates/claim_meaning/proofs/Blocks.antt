@@ -88,7 +88,7 @@ run-defer : (multiplier : ℕ) (b : Block) (n : ℕ) (c : Code) (z : State) → 
 unfolding bodyOf run runs step exec eval
 run-defer multiplier b n c z h = rw (lt-true h)
 
--- behind a guard that says no, and one that says yes
+-- after a guard that says no, and one that says yes
 run-refused : (multiplier : ℕ) (ks : List ℕ) (b : Block) (h : ℕ) (z : State) → b .addr < 4294967296 → eqb (z .answers 0) 0 ≡ true
     → run (underGuard ks (bodyOf multiplier b) (some h)) z
     ≡ some (setScopes (z .scopes) (afterInterp (setC 15 (b .addr) (enter (answered z)))), back (interpAnswer (setC 15 (b .addr) (enter (answered z)))))

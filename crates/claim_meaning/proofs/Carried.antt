@@ -1,4 +1,4 @@
--- The text of records one behind the other carries them out in order, up to where it leaves the block.
+-- The text of records one after the other carries them out in order, up to where it leaves the block.
 use Prim.Native.Nat.{ℕ, suc, _+_, _%_, _<_}
 use mathlib.Core.Path.{_≡_, refl, sym, ap, _∙_, subst}
 use mathlib.Core.Bool.{Bool, true, false, cond}
@@ -26,7 +26,7 @@ use Rattle.c_meaning.proofs.Kept.{Quiet, run-quiet, run-declares}
 use Rattle.armv4t_manual.specs.Machine.{Machine, Sound}
 use Rattle.armv4t.specs.InRange.{InRange}
 use Rattle.armv4t_manual.specs.Conditions.{passed}
-use Rattle.armv4t_manual.specs.Execute.{key, execute, keyBehind}
+use Rattle.armv4t_manual.specs.Execute.{key, execute, keyAfter}
 use Rattle.armv4t_manual.proofs.Kept.{execute-sound, execute-said}
 use Rattle.lower_forms.specs.Forms.{Native, Form, records}
 use Rattle.lower_forms.specs.Block.{emitShell, emitPair, emitInstr, fusedOr, consForm, emitInstrs, bodyOf}
@@ -37,8 +37,8 @@ use Rattle.lower_units.specs.Text.{Continues, Leaves, Acts, continues, leaves}
 use Rattle.lower_units.specs.Records.{isTaken, RecordMeans, PairMeans, ClosingMeans}
 use Rattle.claim_meaning.specs.Block.{ActsAsStep, Interprets, isNative, isCovered, Alone, leavesBy, final, away, transfers, CarriedOut, byManual, byInterpreter, Sequence, last, pair, more}
 use Rattle.lower_units.proofs.Exits.{with-pc}
-use Rattle.claim_meaning.proofs.Closing.{behind-even}
-use Rattle.claim_meaning.proofs.Shells.{Emitted, as-native, as-shell, emitted, some-form, Half, halves, behind-address, run-return, GoesOn, goes-on}
+use Rattle.claim_meaning.proofs.Closing.{after-even}
+use Rattle.claim_meaning.proofs.Shells.{Emitted, as-native, as-shell, emitted, some-form, Half, halves, after-address, run-return, GoesOn, goes-on}
 use Rattle.claim_meaning.proofs.Quiet.{closing-quiet, native-quiet}
 use Rattle.claim_meaning.proofs.Covered.{Said, covered-native, covered-half, no-difference}
 
@@ -95,7 +95,7 @@ module _ {step : ℕ → ℕ → Machine → Machine × ℕ} {n : ℕ} {z : Stat
   pub left-now : Interprets (step n) (z .interpreter 0)
   left-now = subst (λ (i : ℕ). Interprets (step i) (z .interpreter 0)) (add-zero n) (l .each 0)
 
-  -- those behind it
+  -- those after it
   pub left-later : {y : State} → y .interpreter ≡ (λ (k : ℕ). z .interpreter (suc k)) → Left step (suc n) y
   left-later {y} e = record {
     each = λ k.
@@ -104,9 +104,9 @@ module _ {step : ℕ → ℕ → Machine → Machine × ℕ} {n : ℕ} {z : Stat
         (subst (λ (i : ℕ). Interprets (step i) (z .interpreter (suc k))) shift (l .each (suc k)));
   }
 
-  -- those from behind code that does not call
-  left-behind : (c : Code) → Quiet c → {y : State} (w : Goes) → run c z ≡ some (y, w) → Left step n y
-  left-behind c q {y} w e = record { each = λ k. subst (λ (f : ℕ → Interpreter). Interprets (step (n + k)) (f k)) (sym (run-quiet c q z y w e)) (l .each k) }
+  -- those from after code that does not call
+  left-after : (c : Code) → Quiet c → {y : State} (w : Goes) → run c z ≡ some (y, w) → Left step n y
+  left-after c q {y} w e = record { each = λ k. subst (λ (f : ℕ → Interpreter). Interprets (step (n + k)) (f k)) (sym (run-quiet c q z y w e)) (l .each k) }
 
 -- a state and a machine between two records, and the number of calls before
 pub record Ready (step : ℕ → ℕ → Machine → Machine × ℕ) (n : ℕ) (z : State) (m : Machine) : Type 0 where
@@ -115,13 +115,13 @@ pub record Ready (step : ℕ → ℕ → Machine → Machine × ℕ) (n : ℕ) (
   pub sound : Sound m
   pub agrees : Agrees z m
 
--- behind text that continues
-ready-behind : {step : ℕ → ℕ → Machine → Machine × ℕ} {n : ℕ} {text : Code → Code} {z : State} {m next : Machine} → Ready step n z m → Sound next
+-- after text that continues
+ready-after : {step : ℕ → ℕ → Machine → Machine × ℕ} {n : ℕ} {text : Code → Code} {z : State} {m next : Machine} → Ready step n z m → Sound next
     → Quiet (text end) → (c : Continues text z next) → Ready step n (c .end) next
 unfolding run runs
-ready-behind {step} {n} {text} {z} q s quiet c =
+ready-after {step} {n} {text} {z} q s quiet c =
     record {
-      left = left-behind (q .left) (text end) quiet on (c .goes end);
+      left = left-after (q .left) (text end) quiet on (c .goes end);
       declares = run-declares (text end) z (c .end) on (u32, x-pc) (c .goes end) (q .declares);
       sound = s;
       agrees = c .same;
@@ -157,18 +157,18 @@ module _ {step : ℕ → Machine → Machine × ℕ} (a : ℕ) (z : State) (m : 
       }
 
 module _ (multiplier : ℕ) (ks : List ℕ) (b : Block) (step : ℕ → ℕ → Machine → Machine × ℕ) where
-  -- what the forms behind a record do, if that leads to them
-  abbrev Behind : TimedInstr → List TimedInstr → List Form → Type 0
-  Behind x xs fs =
+  -- what the forms after a record do, if that leads to them
+  abbrev After : TimedInstr → List TimedInstr → List Form → Type 0
+  After x xs fs =
       (before after : ℕ) (m : Machine) (next : Machine × ℕ) → CarriedOut step (region (b .addr)) x m next before after
-      → leavesBy (region (b .addr)) x m ≡ false → next .1 ≡ keyBehind (x .instr)
+      → leavesBy (region (b .addr)) x m ≡ false → next .1 ≡ keyAfter (x .instr)
       → (i : ℕ) (z : State) → Ready step after z (next .0) → Done step before multiplier ks b (x ∷ xs) m i fs z
 
   module _ (x : TimedInstr) (k : Known ks b x) where
     -- the key that a shell compares with
-    fall : fallThrough (b .thumb) (x .instr) ≡ keyBehind (x .instr)
+    fall : fallThrough (b .thumb) (x .instr) ≡ keyAfter (x .instr)
     fall =
-        rw (k .set) (even-key-of (b .thumb) ((x .instr .addr + sizeOf (b .thumb)) % 4294967296) (behind-even (b .thumb) (x .instr .addr) (k .aligned)))
+        rw (k .set) (even-key-of (b .thumb) ((x .instr .addr + sizeOf (b .thumb)) % 4294967296) (after-even (b .thumb) (x .instr .addr) (k .aligned)))
 
     fall-lt : fallThrough (b .thumb) (x .instr) < 4294967296
     fall-lt = key-of-lt (b .thumb) _ (mod-lt (x .instr .addr + sizeOf (x .instr .thumb)) (lit< tt))
@@ -181,11 +181,11 @@ module _ (multiplier : ℕ) (ks : List ℕ) (b : Block) (step : ℕ → ℕ → 
       said : Said (x .instr)
       said = covered-native (region (b .addr)) x (ap isNative (own-set 0) ∙ natively) (k .covered)
 
-      native-done : (xs : List TimedInstr) (fs : List Form) → Alone x xs → Behind x xs fs
+      native-done : (xs : List TimedInstr) (fs : List Form) → Alone x xs → After x xs fs
           → (i cycles : ℕ) (r : Native) → emitInstr (b .thumb) (region (b .addr)) cycles x .0 ≡ Form.native r
           → (before : ℕ) (z : State) (m : Machine) → Ready step before z m → Done step before multiplier ks b (x ∷ xs) m i (Form.native r ∷ fs) z
       unfolding bodyOf codeFrom run runs
-      native-done xs fs alone behind i cycles r e before z m q =
+      native-done xs fs alone onward i cycles r e before z m q =
           go (k .means .acts cycles r (own-set cycles ∙ e) owner z m (q .sound) (q .agrees) (no-difference _ (passed (x .instr .cond) m) _ (said .condition) (said .same)) next (outcome .1))
         where
           owner : Owner
@@ -210,9 +210,9 @@ module _ (multiplier : ℕ) (ks : List ℕ) (b : Block) (step : ℕ → ℕ → 
           stays : isTaken (x .instr) m ≡ false → leavesBy (region (b .addr)) x m ≡ false
           stays t = rw (ap isNative (own-set 0) ∙ natively) t
 
-          go : Acts (nativeText ks (b .addr) owner r) (isTaken (x .instr) m) z next (keyBehind (x .instr)) → Done step before multiplier ks b (x ∷ xs) m i (Form.native r ∷ fs) z
+          go : Acts (nativeText ks (b .addr) owner r) (isTaken (x .instr) m) z next (keyAfter (x .instr)) → Done step before multiplier ks b (x ∷ xs) m i (Form.native r ∷ fs) z
           go (continues t to-next c) =
-              let d = behind before before m next carried (stays t) to-next (i + records r) (c .end) (ready-behind q still (native-quiet ks (b .addr) owner r end tt) c) in
+              let d = onward before before m next carried (stays t) to-next (i + records r) (c .end) (ready-after q still (native-quiet ks (b .addr) owner r end tt) c) in
               record {
                 out = d .out;
                 after = d .after;
@@ -228,7 +228,7 @@ module _ (multiplier : ℕ) (ks : List ℕ) (b : Block) (step : ℕ → ℕ → 
                 sequence = last before before x xs m next alone carried (transfers (leaving t));
                 sound = still;
                 leaves = record { end = l .end; exit = l .exit; ends = λ c. l .ends (codeFrom ks (bodyOf multiplier b) (i + records r) fs); leads = l .leads; pc = l .pc; same = l .same };
-                left = left-behind (q .left) (nativeText ks (b .addr) owner r end) (native-quiet ks (b .addr) owner r end tt) (l .exit) (l .ends end);
+                left = left-after (q .left) (nativeText ks (b .addr) owner r end) (native-quiet ks (b .addr) owner r end tt) (l .exit) (l .ends end);
               }
 
     -- a shell
@@ -254,15 +254,15 @@ module _ (multiplier : ℕ) (ks : List ℕ) (b : Block) (step : ℕ → ℕ → 
               sound = by-step .sound;
               leaves =
                   interpreter-leaves (x .instr .addr) z m (left-now (q .left)) (q .sound) (q .agrees) (z .scopes) λ c.
-                  behind-address cycles (x .instr .addr) _ z (k .below)
+                  after-address cycles (x .instr .addr) _ z (k .below)
                   ∙ run-return (bodyKey (bodyOf multiplier b)) i (nl ⨾ cond high (closing ks (bodyOf multiplier b)) end) (setC 15 (x .instr .addr) z);
               left = left-later (q .left) refl;
             }
 
-        shell-done : (xs : List TimedInstr) (r : Form) (rs : List Form) → Alone x xs → Behind x xs (r ∷ rs)
+        shell-done : (xs : List TimedInstr) (r : Form) (rs : List Form) → Alone x xs → After x xs (r ∷ rs)
             → Done step before multiplier ks b (x ∷ xs) m i (emitShell (b .thumb) high cycles (x .instr) ∷ r ∷ rs) z
         unfolding codeFrom
-        shell-done xs r rs alone behind = go (eqb (interpAnswer (setC 15 (x .instr .addr) z)) (fallThrough (b .thumb) (x .instr))) refl
+        shell-done xs r rs alone onward = go (eqb (interpAnswer (setC 15 (x .instr .addr) z)) (fallThrough (b .thumb) (x .instr))) refl
           where
             g : GoesOn (setC 15 (x .instr .addr) z)
             g = goes-on (setC 15 (x .instr .addr) z) (q .declares)
@@ -270,14 +270,14 @@ module _ (multiplier : ℕ) (ks : List ℕ) (b : Block) (step : ℕ → ℕ → 
             after : State
             after = setScopes (g .scopes) (afterInterp (setC 15 (x .instr .addr) z))
 
-            -- by whether the interpreter answers the key behind the record
+            -- by whether the interpreter answers the key after the record
             branches : Bool → Outcome
             branches t = cond t (run (codeFrom ks (bodyOf multiplier b) (i + 1) (r ∷ rs)) after) (some (after, back (interpAnswer (setC 15 (x .instr .addr) z))))
 
             starts : (t : Bool) → eqb (interpAnswer (setC 15 (x .instr .addr) z)) (fallThrough (b .thumb) (x .instr)) ≡ t
                 → run (codeFrom ks (bodyOf multiplier b) i (emitShell (b .thumb) high cycles (x .instr) ∷ r ∷ rs)) z ≡ branches t
             starts t e =
-                behind-address cycles (x .instr .addr) _ z (k .below)
+                after-address cycles (x .instr .addr) _ z (k .below)
                 ∙ g .goes (bodyOf multiplier b) i (fallThrough (b .thumb) (x .instr)) (codeFrom ks (bodyOf multiplier b) (i + 1) (r ∷ rs)) fall-lt
                 ∙ ap branches e
 
@@ -286,7 +286,7 @@ module _ (multiplier : ℕ) (ks : List ℕ) (b : Block) (step : ℕ → ℕ → 
             go true e =
                 let to-next = sym (by-step .answers) ∙ eqb-true _ _ e ∙ fall in
                 let d =
-                behind before (suc before) m (step before (x .instr .addr) m) (shell-carried before m) (shell-stays m) to-next (i + 1) after
+                onward before (suc before) m (step before (x .instr .addr) m) (shell-carried before m) (shell-stays m) to-next (i + 1) after
                 (record { left = left-later (q .left) refl; declares = g .declares; sound = by-step .sound; agrees = with-scopes (by-step .same) (g .scopes) })
                 in
                 record { out = d .out; after = d .after; sequence = d .sequence; sound = d .sound; leaves = through (λ c. starts true e) (d .leaves); left = d .left }
@@ -301,7 +301,7 @@ module _ (multiplier : ℕ) (ks : List ℕ) (b : Block) (step : ℕ → ℕ → 
                   left = left-later (q .left) refl;
                 }
 
-  -- a fused pair, whatever stands behind it
+  -- a fused pair, whatever stands after it
   pair-done : (x y : TimedInstr) → Known ks b x → Known ks b y → PairMeans ks (b .addr) x y
       → (target ret : ℕ) → fuse (x .instr) (y .instr) ≡ Pair target ret
       → (xs : List TimedInstr) (fs : List Form) (i cycles before : ℕ) (z : State) (m : Machine) → Ready step before z m
@@ -326,7 +326,7 @@ module _ (multiplier : ℕ) (ks : List ℕ) (b : Block) (step : ℕ → ℕ → 
             };
         left =
             let r : Native = emitPair cycles target ret in
-            left-behind (q .left) (nativeText ks (b .addr) o r end) (native-quiet ks (b .addr) o r end tt) (t .exit) (t .ends end);
+            left-after (q .left) (nativeText ks (b .addr) o r end) (native-quiet ks (b .addr) o r end tt) (t .exit) (t .ends end);
       }
     where
       both : Half (x .instr .op) × Half (y .instr .op)
@@ -347,10 +347,10 @@ module _ (multiplier : ℕ) (ks : List ℕ) (b : Block) (step : ℕ → ℕ → 
       still : Sound (half .0 .0)
       still = execute-sound (x .instr) m (k .ranged) (q .sound) (half .0) (half .1)
 
-  -- behind the last record stands the closing transfer
-  behind-last : (x : TimedInstr) → ClosingMeans ks (bodyOf multiplier b) (x .instr) → Behind x [] []
+  -- after the last record stands the closing transfer
+  after-last : (x : TimedInstr) → ClosingMeans ks (bodyOf multiplier b) (x .instr) → After x [] []
   unfolding codeFrom
-  behind-last x means before after m next carried stays to-next i z q =
+  after-last x means before after m next carried stays to-next i z q =
       let l = means z (next .0) (q .agrees) in
       record {
         out = next;
@@ -359,13 +359,13 @@ module _ (multiplier : ℕ) (ks : List ℕ) (b : Block) (step : ℕ → ℕ → 
         sound = q .sound;
         leaves =
             record { end = l .end; exit = l .exit; ends = l .ends; leads = l .leads ∙ ap some (sym to-next); pc = l .pc ∙ ap clearBit0 (sym to-next); same = l .same };
-        left = left-behind (q .left) (closing ks (bodyOf multiplier b)) (closing-quiet ks (bodyOf multiplier b)) (l .exit) (l .ends end);
+        left = left-after (q .left) (closing ks (bodyOf multiplier b)) (closing-quiet ks (bodyOf multiplier b)) (l .exit) (l .ends end);
       }
 
-  -- behind another stand those that follow
-  behind-more : (x y : TimedInstr) (ys : List TimedInstr) (fs : List Form) → Alone x (y ∷ ys)
-      → ((i before : ℕ) (z : State) (m : Machine) → Ready step before z m → Done step before multiplier ks b (y ∷ ys) m i fs z) → Behind x (y ∷ ys) fs
-  behind-more x y ys fs alone follow before after m next carried stays to-next i z q =
+  -- after another stand those that follow
+  after-more : (x y : TimedInstr) (ys : List TimedInstr) (fs : List Form) → Alone x (y ∷ ys)
+      → ((i before : ℕ) (z : State) (m : Machine) → Ready step before z m → Done step before multiplier ks b (y ∷ ys) m i fs z) → After x (y ∷ ys) fs
+  after-more x y ys fs alone follow before after m next carried stays to-next i z q =
       let d = follow i after z (next .0) q in
       record {
         out = d .out;
@@ -385,19 +385,19 @@ module _ (multiplier : ℕ) (ks : List ℕ) (b : Block) (step : ℕ → ℕ → 
         go : {f : Form} {n : Bool} → Emitted (b .thumb) cycles (x .instr) f n
             → emitInstr (b .thumb) (region (b .addr)) cycles x .0 ≡ f → isNative (emitInstr (b .thumb) (region (b .addr)) 0 x .0) ≡ n
             → Done step before multiplier ks b (x ∷ []) m i (f ∷ []) z
-        go (as-native r) e t = native-done x k t [] [] tt (behind-last x means) i cycles r e before z m q
+        go (as-native r) e t = native-done x k t [] [] tt (after-last x means) i cycles r e before z m q
         go (as-shell high) e t = shell-last x k t high i cycles before z m q
 
     -- another that is not fused
-    alone-done : (y : TimedInstr) (ys : List TimedInstr) (r : Form) (rs : List Form) → Alone x (y ∷ ys) → Behind x (y ∷ ys) (r ∷ rs)
+    alone-done : (y : TimedInstr) (ys : List TimedInstr) (r : Form) (rs : List Form) → Alone x (y ∷ ys) → After x (y ∷ ys) (r ∷ rs)
         → Done step before multiplier ks b (x ∷ y ∷ ys) m i (emitInstr (b .thumb) (region (b .addr)) cycles x .0 ∷ r ∷ rs) z
-    alone-done y ys r rs alone behind = go (emitted (b .thumb) (region (b .addr)) cycles x) refl refl
+    alone-done y ys r rs alone onward = go (emitted (b .thumb) (region (b .addr)) cycles x) refl refl
       where
         go : {f : Form} {n : Bool} → Emitted (b .thumb) cycles (x .instr) f n
             → emitInstr (b .thumb) (region (b .addr)) cycles x .0 ≡ f → isNative (emitInstr (b .thumb) (region (b .addr)) 0 x .0) ≡ n
             → Done step before multiplier ks b (x ∷ y ∷ ys) m i (f ∷ r ∷ rs) z
-        go (as-native s) e t = native-done x k t (y ∷ ys) (r ∷ rs) alone behind i cycles s e before z m q
-        go (as-shell high) e t = shell-done x k t high i cycles before z m q (y ∷ ys) r rs alone behind
+        go (as-native s) e t = native-done x k t (y ∷ ys) (r ∷ rs) alone onward i cycles s e before z m q
+        go (as-shell high) e t = shell-done x k t high i cycles before z m q (y ∷ ys) r rs alone onward
 
   -- the text of records, from one on
   pub carries : (xs : List TimedInstr) (x : TimedInstr) → KnownFrom multiplier ks b (x ∷ xs) → (i cycles before : ℕ) (z : State) (m : Machine) → Ready step before z m
@@ -422,7 +422,7 @@ module _ (multiplier : ℕ) (ks : List ℕ) (b : Block) (step : ℕ → ℕ → 
           let f = some-form (b .thumb) (region (b .addr)) (s .1) y ys in
           subst (λ (rs : List Form). Done step before multiplier ks b (x ∷ y ∷ ys) m i (s .0 ∷ rs) z) (sym (f .2))
           (alone-done x (first k) i cycles before z m q y ys (f .0) (f .1) e
-          (subst (λ (rs : List Form). Behind x (y ∷ ys) rs) (f .2) (behind-more x y ys (fs .0) e (λ j n u. follow j (s .1) n u))))
+          (subst (λ (rs : List Form). After x (y ∷ ys) rs) (f .2) (after-more x y ys (fs .0) e (λ j n u. follow j (s .1) n u))))
       go follow (Pair target ret) e =
           pair-done x y (first k) (first (others k)) (k .pairs [] ys x y refl) target ret e ys (emitInstrs (b .thumb) (region (b .addr)) 0 ys .0) i
           (cycles + (x .cost + y .cost)) before z m q

@@ -24,7 +24,7 @@ use Rattle.file_blocks.specs.Read.{recordAt}
 use Rattle.file_blocks.proofs.Accepted.{blocks-of, instr-right, has-instr, ends-inside, address-aligned, instrs-inside, record-reads}
 use Rattle.armv4t.specs.InRange.{InRange}
 
--- instructions of a block's set, one behind the other from an address on
+-- instructions of a block's set, one after the other from an address on
 abbrev pub Consecutive : ℕ → Bool → List TimedInstr → Type 0
 Consecutive a t [] = Unit {0}
 Consecutive a t (x ∷ xs) = (x .instr .addr ≡ a) × (x .instr .thumb ≡ t) × Consecutive (a + sizeOf t) t xs
@@ -215,7 +215,7 @@ module _ (f : List ℕ) (bs : List Block) (accepted : parse f ≡ Parsed.accepte
       let r = from-record f (countAt f at) (countSum f (place .at)) _ _ x (subst (λ (c : Block). List·Memᴰ x (c .instrs)) (place .same) mx) in
       rw (r .same) (record-fits f (instrStart f (r .at)) (instr-right f bs accepted (r .at) (omega (arith, instrs-inside f bs accepted (place .at) (place .inside)))))
 
-  -- its instructions are of its set, and stand behind each other from its address on
+  -- its instructions are of its set, and stand after each other from its address on
   pub accepted-consecutive : Consecutive (b .addr) (b .thumb) (b .instrs)
   unfolding blockAt
   accepted-consecutive = rw (place .same) (follow f (countAt f (blockStart f (place .at))) (countSum f (place .at)) _ _)

@@ -133,14 +133,14 @@ pub halves : (high low : Instr) (target ret : ℕ) → fuse high low ≡ Pair ta
 unfolding fuse
 halves high low target ret e = op-halves (high .op) (low .op) (low .addr) e
 
--- c[15] = a; behind ticks
+-- c[15] = a; after ticks
 address-set : (n a : ℕ) (z : State) → a < 4294967296 → perform (statements (flushTicks n ++ pcLine a)) z ≡ some (setC 15 a z)
 unfolding perform execs exec eval
 address-set n a z h = rw (ticks-first n (pcLine a) z, lt-true h)
 
-pub behind-address : (n a : ℕ) (c : Code) (z : State) → a < 4294967296
+pub after-address : (n a : ℕ) (c : Code) (z : State) → a < 4294967296
     → run (lines common 4 (flushTicks n ++ pcLine a) c) z ≡ run c (setC 15 a z)
-behind-address n a c z h =
+after-address n a c z h =
     run-lines common 4 (flushTicks n ++ pcLine a) c z ∙ ap (λ (q : Option State). bind q (run c)) (address-set n a z h)
 
 -- return interp_one
@@ -148,7 +148,7 @@ pub run-return : (k i : ℕ) (c : Code) (z : State) → run (sp 4 ⨾ retInterp 
 unfolding run runs step
 run-return k i c z = refl
 
--- a shell that others stand behind, where c[15] is set: it goes on behind it where the interpreter answers k, and else returns the answer
+-- a shell that others stand after, where c[15] is set: it goes on after it where the interpreter answers k, and else returns the answer
 pub record GoesOn (z : State) : Type 0 where
   pub scopes : List Scope
   pub declares : Declares scopes (u32, x-pc)

@@ -35,7 +35,7 @@ an-interpreter z m e s a =
       pc = ap (λ (f : Interpreter). f (z .c) (z .mem) .c 15) e;
     }
 
--- behind c and pc, at the head of a function, pc is declared, and nothing else has changed
+-- after c and pc, at the head of a function, pc is declared, and nothing else has changed
 pub locals-declared : (c : Code) (z : State) (fs : List Scope) → z .scopes ≡ empty ∷ fs
     → (y : State) × (run (withLocals c) z ≡ run c y) × Declares (y .scopes) (u32, x-pc) × (y .c ≡ z .c) × (y .mem ≡ z .mem) × (y .interpreter ≡ z .interpreter)
     × (y .answers ≡ z .answers)

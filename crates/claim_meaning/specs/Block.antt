@@ -17,7 +17,7 @@ use Rattle.c_tree.specs.Expr.{u32, x-pc}
 use Rattle.c_meaning.specs.State.{Interpreter, State, interpAnswer, afterInterp, Declares}
 use Rattle.armv4t_manual.specs.Machine.{Machine, Sound}
 use Rattle.armv4t_manual.specs.Unsaid.{noInstruction, unpredictable, isNv}
-use Rattle.armv4t_manual.specs.Execute.{execute, keyBehind}
+use Rattle.armv4t_manual.specs.Execute.{execute, keyAfter}
 use Rattle.lower_forms.specs.Forms.{Form, native, shell}
 use Rattle.lower_forms.specs.Block.{emitInstr, hashOf, bodyOf}
 use Rattle.lower_forms.specs.Agree.{Agrees}
@@ -74,7 +74,7 @@ isSaid i = not (noInstruction i || unpredictable (i .op) || isNv (i .cond) || di
 abbrev pub isCovered : ℕ → TimedInstr → Bool
 isCovered region x = (not (isNativeRecord region x) && not (isHalf (x .instr .op))) || isSaid (x .instr)
 
--- a record does not fuse with the one behind it
+-- a record does not fuse with the one after it
 abbrev pub Alone : TimedInstr → List TimedInstr → Type 0
 Alone x [] = Unit {0}
 Alone x (y ∷ ys) = fuse (x .instr) (y .instr) ≡ Nothing
@@ -83,10 +83,10 @@ Alone x (y ∷ ys) = fuse (x .instr) (y .instr) ≡ Nothing
 abbrev pub leavesBy : ℕ → TimedInstr → Machine → Bool
 leavesBy region x m = isNativeRecord region x && isTaken (x .instr) m
 
--- a sequence ends with a record that leads from m to next: no record is behind it, or the key is not the one behind it, or it leaves the block
+-- a sequence ends with a record that leads from m to next: no record is after it, or the key is not the one after it, or it leaves the block
 pub data Ends (region : ℕ) (x : TimedInstr) (xs : List TimedInstr) (m : Machine) (next : Machine × ℕ) : Type 0 where
   final : xs ≡ [] → Ends region x xs m next
-  away : (next .1 ≡ keyBehind (x .instr) → ⊥) → Ends region x xs m next
+  away : (next .1 ≡ keyAfter (x .instr) → ⊥) → Ends region x xs m next
   transfers : leavesBy region x m ≡ true → Ends region x xs m next
 
 -- step k is what the call of interp_one with the number k does, from 0 on
@@ -105,9 +105,9 @@ module _ (step : ℕ → ℕ → Machine → Machine × ℕ) (region : ℕ) wher
     -- or with a pair that fuses
     pair : (n : ℕ) (x y : TimedInstr) (xs : List TimedInstr) (target ret : ℕ) (m : Machine) (half next : Machine × ℕ) → fuse (x .instr) (y .instr) ≡ Pair target ret
         → execute (x .instr) m ≡ some half → execute (y .instr) (half .0) ≡ some next → Sequence n n (x ∷ y ∷ xs) m next
-    -- or goes on behind a record that leads to the one behind it, and does not leave the block
+    -- or goes on after a record that leads to the one after it, and does not leave the block
     more : (i j k : ℕ) (x : TimedInstr) (xs : List TimedInstr) (m : Machine) (next out : Machine × ℕ) → Alone x xs → CarriedOut x m next i j
-        → leavesBy region x m ≡ false → next .1 ≡ keyBehind (x .instr) → Sequence j k xs (next .0) out → Sequence i k (x ∷ xs) m out
+        → leavesBy region x m ≡ false → next .1 ≡ keyAfter (x .instr) → Sequence j k xs (next .0) out → Sequence i k (x ∷ xs) m out
 
   -- what becomes of a machine by a block, where z is the state that its text starts in, and how many calls it makes: in ROM or BIOS its records one after the other;
   -- elsewhere the same where it has code bytes and the guard says yes, and one step of the interpreter where it has none or the guard says no

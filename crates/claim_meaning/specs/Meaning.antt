@@ -28,7 +28,7 @@ pub record BlockMeaning (multiplier : ℕ) (ks : List ℕ) (b : Block) : Type 0 
   pub pairs : (us vs : List TimedInstr) (x y : TimedInstr) → b .instrs ≡ us ++ (x ∷ y ∷ vs) → PairMeans ks (b .addr) x y
   -- two records side by side that decode the halves of a Thumb BL fuse, and the text of the pair leaves as A7.1 says of the two
   pub thumbPairs : (us vs : List TimedInstr) (x y : TimedInstr) → b .instrs ≡ us ++ (x ∷ y ∷ vs) → ThumbPairMeans ks (b .addr) x y
-  -- the closing transfer leaves to the key behind the last record, with the machine as it was
+  -- the closing transfer leaves to the key after the last record, with the machine as it was
   pub closing : (us : List TimedInstr) (x : TimedInstr) → b .instrs ≡ us ++ (x ∷ []) → ClosingMeans ks (bodyOf multiplier b) (x .instr)
   -- the text of the block as a whole leaves as the manual and the interpreter say, where its records are covered
   pub whole : BlockMeans multiplier ks b

@@ -122,7 +122,7 @@ module _ (L : Logic) (b : Body) (ks : List ℕ) (R : Rules L b ks) where
         go true m = ok-goto n k (m tt) (leb (clearBit0 k) (b .addr)) (nleb→lt (clearBit0 k) (b .addr)) c K
         go false m = λ s i. quiet p w s (reach o) i u .0
 
-    -- { flags; if (e) { d } }, and c behind it
+    -- { flags; if (e) { d } }, and c after it
     ok-conditional : (e : Expr) (d c : Code) (K : S → Type 0) → Fits p w d (λ s. Ok L c s K) → Fits p w c K → Fits p w (conditional o e d c) K
     ok-conditional e d c K f g =
         ok-line flags (gap true 6 ⨾ when o false (other e) d (sp 1 ⨾ end)) (λ s. Ok L c s K) (ok-when e d (sp 1 ⨾ end) (λ s. Ok L c s K) f g)

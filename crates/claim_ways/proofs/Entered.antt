@@ -26,7 +26,7 @@ taken-append : (x : Bool) (b c d : Code) → taken x b c ⧺ d ≡ taken x b (c 
 taken-append true b c d = assoc b c d
 taken-append false b c d = refl
 
--- a way is one with other code behind
+-- a way is one with other code after
 extend : {ts : List Top} {f c : Code} {xs : List Bool} {es : List Event} (d : Code) → Way ts f c xs es → Way ts f (c ⧺ d) xs es
 extend d stop = stop
 extend d (w-gap w) = w-gap (extend d w)
@@ -50,7 +50,7 @@ extend d (w-entry m p w) = w-entry m p w
 extend d w-default = w-default
 extend d (w-past w) = w-past (extend d w)
 
--- a place behind other code
+-- a place after other code
 past : {k : ℕ} (c d e : Code) → LabelAt k d e → LabelAt k (c ⧺ d) e
 past end d e p = p
 past (s ⨾ c) d e p = later (past c d e p)

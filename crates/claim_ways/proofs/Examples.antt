@@ -1,4 +1,4 @@
--- Ways: round a loop twice, up to where the chain gate says so, at any wished size; through a shell; behind the guard's yes and its no; to a goto without its
+-- Ways: round a loop twice, up to where the chain gate says so, at any wished size; through a shell; after the guard's yes and its no; to a goto without its
 -- label, and to a condition without an answer.
 use Prim.Native.Nat.{ℕ}
 use mathlib.Core.Path.{_≡_, refl}

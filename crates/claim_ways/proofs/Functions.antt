@@ -74,16 +74,16 @@ module _ (max : ℕ) (closed : List Top) (apart : Foreign closed) (t : Top) (own
       front (inl k) = inl k
       front (inr k) = inr (g, List·Memᴰ·head refl, k)
 
-      behind : InGroup t gs → InGroup t (g ∷ gs)
-      behind h = (h .0, List·Memᴰ·tail (h .1), h .2)
+      later : InGroup t gs → InGroup t (g ∷ gs)
+      later h = (h .0, List·Memᴰ·tail (h .1), h .2)
 
       next : List·Memᴰ t (ts ++ emitGroup g) ⊎ InGroup t gs → List·Memᴰ t ts ⊎ InGroup t (g ∷ gs)
       next (inl k) = front (List·Memᴰ·append-cases ts k)
-      next (inr h) = inr (behind h)
+      next (inr h) = inr (later h)
 
       fresh : List·Memᴰ t unitHead ⊎ InGroup t gs → List·Memᴰ t ts ⊎ InGroup t (g ∷ gs)
       fresh (inl k) = absurd (head-foreign t own k)
-      fresh (inr h) = inr (behind h)
+      fresh (inr h) = inr (later h)
 
       handed : (us : List TranslationUnit) → (List·Memᴰ t (trees us) → List·Memᴰ t unitHead ⊎ InGroup t gs)
           → List·Memᴰ t (ts ++ emitGroup g) ⊎ List·Memᴰ t (trees us) → List·Memᴰ t ts ⊎ InGroup t (g ∷ gs)

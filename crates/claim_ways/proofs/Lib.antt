@@ -6,7 +6,7 @@ pub mod Bare
 pub mod Followed
 pub mod Bounded
 pub mod Once
-pub mod Behind
+pub mod Guarded
 pub mod Places
 pub mod File
 pub mod Functions

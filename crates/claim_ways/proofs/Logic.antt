@@ -63,7 +63,7 @@ module _ (L : Logic) where
   At (retInterp b p) c K = Unit {0}
   At (switch ks) c K = Unit {0}
 
-  -- the text behind each label is checked from each state that is owed there
+  -- the text after each label is checked from each state that is owed there
   abbrev pub Labels : Code → (S → Type 0) → Type 0
   Labels end K = Unit {0}
   Labels (x ⨾ c) K = At x c K × Labels c K

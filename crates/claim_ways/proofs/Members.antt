@@ -17,7 +17,7 @@ use Rattle.lower_units.specs.Block.{bodyKey}
 use Rattle.lower_units.specs.Units.{defaultBody, bodiesOf}
 use Rattle.claim_ways.proofs.Faithful.{Faithful}
 use Rattle.claim_ways.proofs.Bounded.{Member, total}
-use Rattle.claim_ways.proofs.Behind.{Apart}
+use Rattle.claim_ways.proofs.Guarded.{Apart}
 use Rattle.claim_ways.proofs.Places.{at-member, place-of}
 use Rattle.claim_ways.proofs.File.{block-even, block-filled, one-key}
 use Rattle.claim_ways.proofs.Functions.{Many}

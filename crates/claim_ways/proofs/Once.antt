@@ -1,4 +1,4 @@
--- A lone block carries out no instruction twice. The state is the index behind the last one carried out.
+-- A lone block carries out no instruction twice. The state is the index after the last one carried out.
 use Prim.Native.Nat.{ℕ, _+_, _≤_, _<_}
 use mathlib.Core.Path.{_≡_}
 use mathlib.Core.Bool.{Bool, true, false, cond, _&&_}

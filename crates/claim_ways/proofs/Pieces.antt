@@ -25,7 +25,7 @@ pub record Part (x : List Top) (us : List TranslationUnit) : Type 0 where
 later : (x : List Top) (u : TranslationUnit) (us : List TranslationUnit) → Part x us → Part x (u ∷ us)
 later x u us p = record { unit = p .unit; made = List·Memᴰ·tail (p .made); before = p .before; after = p .after; piece = p .piece }
 
--- what stands behind a piece changes nothing of it
+-- what stands after a piece changes nothing of it
 longer : (ts x before after more : List Top) → ts ≡ before ++ (x ++ after) → ts ++ more ≡ before ++ (x ++ (after ++ more))
 longer ts x before after more e =
     ap (λ (l : List Top). l ++ more) e ∙ append-assoc before (x ++ after) more ∙ ap (λ (l : List Top). before ++ l) (append-assoc x after more)

@@ -25,7 +25,7 @@ use Rattle.claim_ways.proofs.Logic.{Follow}
 use Rattle.claim_ways.proofs.Followed.{group-follows}
 use Rattle.claim_ways.proofs.Bounded.{total, Spent, at-most-total, spent-rules, parts}
 use Rattle.claim_ways.proofs.Once.{lone-rises, once-of}
-use Rattle.claim_ways.proofs.Behind.{Allowed, Apart, History, history-rules, lone-seen, behind-of}
+use Rattle.claim_ways.proofs.Guarded.{Allowed, Apart, History, history-rules, lone-seen, guarded-of}
 use Rattle.claim_ways.proofs.Places.{found-at}
 use Rattle.claim_ways.proofs.Functions.{Own, head-foreign, end-foreign, InGroup, from-cut, Many, forwarder, Alone, Among, block-stands, group-stands}
 use Rattle.claim_ways.proofs.Members.{Good, File, bodies, key-of, member-of, several, one, good, same-place, apart}
@@ -103,7 +103,7 @@ module _ (F : File) (max : ℕ) where
       → Passed hashOf b us
   seen es us vs e p h b m n t =
       passed b us
-      (behind-of (bodies F) us vs e (subst (λ es′. Follow (History (bodies F)) es′ []) p h) (bodyOf b) (Memᴰ·map bodyOf m)
+      (guarded-of (bodies F) us vs e (subst (λ es′. Follow (History (bodies F)) es′ []) p h) (bodyOf b) (Memᴰ·map bodyOf m)
       (subst (λ k. AtNative k e) (sym (key-of F b)) n) (is-guarded b t))
 
   -- block i stands in the group of its function
@@ -126,7 +126,7 @@ module _ (F : File) (max : ℕ) where
               let same : v .0 ≡ g = group-same limit bs (v .0) g (v .1) m i (v .2) mine in
               absurd (let z : length (v .0) ≡ length g = ap length same in omega (arith, v .3));
           once = λ v k j. once-of k j es (lone-rises b w);
-          behind = λ us vs e′ p. seen es us vs e′ p (lone-seen (bodies F) (apart F) b (good F g m .inside b there) w);
+          guarded = λ us vs e′ p. seen es us vs e′ p (lone-seen (bodies F) (apart F) b (good F g m .inside b there) w);
         }
 
     kept-several : Many (bodiesOf (bodies F) g) → (b : Body) → List·Memᴰ b (bodiesOf (bodies F) g) → bodyKey b ≡ blockKey (getD bs i nowhere)
@@ -138,7 +138,7 @@ module _ (F : File) (max : ℕ) where
           once = λ s k j.
               let same : (i ∷ []) ≡ g = group-same limit bs (i ∷ []) g s m i (List·Memᴰ·head refl) mine in
               absurd (let z : 1 ≡ length g = ap length same in omega (arith, several F g v));
-          behind = λ us vs e p. seen es us vs e p (q .1);
+          guarded = λ us vs e p. seen es us vs e p (q .1);
         }
 
     kept : (c : Code) → Alone (blockKey (getD bs i nowhere)) c (bodiesOf (bodies F) g) ⊎ Among (blockKey (getD bs i nowhere)) c (bodiesOf (bodies F) g)

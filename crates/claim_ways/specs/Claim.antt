@@ -81,7 +81,7 @@ module _ (toHash : Block → Option ℕ) where
     -- a lone block
     pub once : Lone limit bs i → (h j : ℕ) → timesCarried h j es ≤ 1
     -- native statements
-    pub behind : (us vs : List Event) (e : Event) → es ≡ us ++ (e ∷ vs) → (b : Block) → List·Memᴰ b bs → AtNative (blockKey b) e → T (outsideRomBios (b .addr)) → Passed b us
+    pub guarded : (us vs : List Event) (e : Event) → es ≡ us ++ (e ∷ vs) → (b : Block) → List·Memᴰ b bs → AtNative (blockKey b) e → T (outsideRomBios (b .addr)) → Passed b us
 
 module _ (toHash : Block → Option ℕ) (toBody : Block → Body) where
   -- a file at a limit and a wished size, if it is accepted: every block and its function in the units; every list of answers and every way

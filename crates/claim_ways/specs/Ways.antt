@@ -26,7 +26,7 @@ abbrev pub negated : Bool → Bool → Bool
 negated false x = x
 negated true x = not x
 
--- the code behind a condition that holds or not
+-- the code after a condition that holds or not
 abbrev pub taken : Bool → Code → Code → Code
 taken true b c = b ⧺ c
 taken false b c = c
@@ -35,13 +35,13 @@ taken false b c = c
 pub data Way (ts : List Top) : Code → Code → List Bool → List Event → Type 0 where
   -- each beginning of a way is one
   stop : {f c : Code} {xs : List Bool} → Way ts f c xs []
-  -- white space: the way goes on behind it, without an event
+  -- white space: the way goes on after it, without an event
   w-gap : {f c : Code} {xs : List Bool} {es : List Event} {l : Bool} {n : ℕ} → Way ts f c xs es → Way ts f (gap l n ⨾ c) xs es
   -- the mark at the start of the text of native records: that start is reached, and the way goes on
   w-record : {f c : Code} {xs : List Bool} {es : List Event} {k i n : ℕ} → Way ts f c xs es → Way ts f (recordMark k i n ⨾ c) xs (nativeStart k i n ∷ es)
-  -- a plain statement is reached, and the way goes on behind it
+  -- a plain statement is reached, and the way goes on after it
   w-plain : {f c : Code} {xs : List Bool} {es : List Event} {o : Owner} {p : Plain} → Way ts f c xs es → Way ts f (plain o p ⨾ c) xs (reach o ∷ es)
-  -- a label: the way goes on behind it, without an event
+  -- a label: the way goes on after it, without an event
   w-label : {f c : Code} {xs : List Bool} {es : List Event} {k : ℕ} → Way ts f c xs es → Way ts f (label k ⨾ c) xs es
   -- a goto leads to any place in its function with that label; without one it ends the way (with one, ending there is a beginning of a way)
   w-goto : {f c d : Code} {xs : List Bool} {es : List Event} {o : Owner} {k : ℕ} → LabelAt k f d → Way ts f d xs es → Way ts f (goto o k ⨾ c) xs (reach o ∷ es)
@@ -60,7 +60,7 @@ pub data Way (ts : List Top) : Code → Code → List Bool → List Event → Ty
   -- any other call returns
   w-interp : {f c : Code} {xs : List Bool} {es : List Event} {k i : ℕ} → Way ts f c xs es → Way ts f (interp k i ⨾ c) xs (interpreted k i ∷ es)
   w-retInterp : {f c : Code} {xs : List Bool} {k i : ℕ} → Way ts f (retInterp k i ⨾ c) xs (interpreted k i ∷ [])
-  -- a switch takes any entry or none: its default, or the code behind it
+  -- a switch takes any entry or none: its default, or the code after it
   w-entry : {f c d : Code} {xs : List Bool} {es : List Event} {ks : List ℕ} {k : ℕ} → List·Memᴰ k ks → LabelAt k f d → Way ts f d xs es → Way ts f (switch ks ⨾ c) xs es
   w-default : {f c : Code} {xs : List Bool} {ks : List ℕ} → Way ts f (switch ks ⨾ c) xs (reach common ∷ [])
   w-past : {f c : Code} {xs : List Bool} {es : List Event} {ks : List ℕ} → Way ts f c xs es → Way ts f (switch ks ⨾ c) xs es

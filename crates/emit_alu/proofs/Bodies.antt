@@ -20,13 +20,13 @@ use Rattle.lower_forms.specs.InlineBody.{apart, alu, aluBody, mulBody, opBody}
 use Rattle.lower_units.specs.Block.{lines}
 use Rattle.emit_operands.specs.Operands.{isSome}
 use Rattle.emit_operands.proofs.Operands.{operand-of}
-use Rattle.emit_operands.proofs.Lines.{lines-owner, lines-behind}
+use Rattle.emit_operands.proofs.Lines.{lines-owner, lines-after}
 use Rattle.emit_alu.specs.Rows.{statementsText}
 
--- statementsText, and code behind them, are the lines of any owner with that code behind them
-pub rows-behind : (o : Owner) (ps : List Plain) (c : Code) (k : List ℕ)
+-- statementsText, and code after them, are the lines of any owner with that code after them
+pub rows-after : (o : Owner) (ps : List Plain) (c : Code) (k : List ℕ)
     → flat (statementsText ps ▸ codeText c) k ≡ flat (codeText (lines o 8 (apart ps) c)) k
-rows-behind o ps c k = sym (lines-behind common 8 (apart ps) c k) ∙ lines-owner common o 8 (apart ps) c k
+rows-after o ps c k = sym (lines-after common 8 (apart ps) c k) ∙ lines-owner common o 8 (apart ps) c k
 
 -- Alu, if it has lines
 pub alu-lines : (thumb : Bool) (i : Instr) (op : AluOp) (s : Bool) (rd rn : ℕ) (op2 : Operand2) (ls : Lines)

@@ -14,9 +14,9 @@ use Rattle.c_tree.specs.Preamble.{v32}
 use Rattle.c_tree.specs.Print.{exprText, plainText, spaces}
 use Rattle.lower_forms.specs.InlineBody.{only, let32, setReg, result, logicalC, sum, mulBody, wide, r64, mulLongBody}
 use Rattle.emit_operands.specs.Operands.{carryText, isSome}
-use Rattle.emit_alu.specs.Rows.{statementsText, before, between, behind}
+use Rattle.emit_alu.specs.Rows.{statementsText, before, between, after}
 
--- lines behind lines
+-- lines after lines
 pub rows-append : (ps qs : List Plain) (k : List ℕ) → flat (statementsText ps ▸ statementsText qs) k ≡ flat (statementsText (ps ++ qs)) k
 rows-append [] qs k = refl
 rows-append (p ∷ ps) qs k = ap (flat (spaces 8 ▸ plainText p ▸ text ";\n")) (rows-append ps qs k)
@@ -42,7 +42,7 @@ without-carry (some e) p k = absurd (let q : _≡_ {A = ℕ} 0 1 = cc in omega a
 
 -- a sum, flags or not
 sum-text : (op : AluOp) (s : Bool) (rd : ℕ) (x y z : Expr) (k : List ℕ)
-    → flat (before s ▸ exprText x ▸ between s ▸ exprText y ▸ between s ▸ exprText z ▸ behind s ▸ statementsText (result op rd ∷ [])) k
+    → flat (before s ▸ exprText x ▸ between s ▸ exprText y ▸ between s ▸ exprText z ▸ after s ▸ statementsText (result op rd ∷ [])) k
     ≡ flat (statementsText (sum op s rd x y z)) k
 sum-text op true rd x y z k = refl
 sum-text op false rd x y z k = refl
@@ -50,10 +50,10 @@ sum-text op false rd x y z k = refl
 -- the same with terms that are put together otherwise
 pub sum-of : (op : AluOp) (s : Bool) (rd : ℕ) (x y z : Expr) (d e : Doc) → ((k : List ℕ) → flat d k ≡ flat (exprText y) k)
     → ((k : List ℕ) → flat e k ≡ flat (exprText z) k) → (k : List ℕ)
-    → flat (before s ▸ exprText x ▸ between s ▸ d ▸ between s ▸ e ▸ behind s ▸ statementsText (result op rd ∷ [])) k ≡ flat (statementsText (sum op s rd x y z)) k
+    → flat (before s ▸ exprText x ▸ between s ▸ d ▸ between s ▸ e ▸ after s ▸ statementsText (result op rd ∷ [])) k ≡ flat (statementsText (sum op s rd x y z)) k
 sum-of op s rd x y z d e p q k =
-    ap (flat (before s ▸ exprText x ▸ between s)) (p (flat (between s ▸ e ▸ behind s ▸ statementsText (result op rd ∷ [])) k))
-    ∙ ap (flat (before s ▸ exprText x ▸ between s ▸ exprText y ▸ between s)) (q (flat (behind s ▸ statementsText (result op rd ∷ [])) k))
+    ap (flat (before s ▸ exprText x ▸ between s)) (p (flat (between s ▸ e ▸ after s ▸ statementsText (result op rd ∷ [])) k))
+    ∙ ap (flat (before s ▸ exprText x ▸ between s ▸ exprText y ▸ between s)) (q (flat (after s ▸ statementsText (result op rd ∷ [])) k))
     ∙ sum-text op s rd x y z k
 
 -- the halves of a long multiplication, and what it adds

@@ -18,6 +18,6 @@ before s = text (cond s "        uint32_t r = op_adds(c, " "        uint32_t r =
 abbrev pub between : Bool → Doc
 between s = text (cond s ", " " + ")
 
--- what stands behind the last term
-abbrev pub behind : Bool → Doc
-behind s = text (cond s ");\n" ";\n")
+-- what stands after the last term
+abbrev pub after : Bool → Doc
+after s = text (cond s ");\n" ";\n")

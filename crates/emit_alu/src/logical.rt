@@ -52,7 +52,7 @@ fn put_flags(out: &mut [u8], at: usize, s: bool, op2: Operand2, pc: u32) -> usiz
     at
 }
 
-// The lines behind the first.
+// The lines after the first.
 fn put_logical_rest(
     out: &mut [u8],
     at: usize,
@@ -90,7 +90,7 @@ pub(crate) fn put_two(
     put_logical_rest(out, x, op, s, rd, op2, pc)
 }
 
-// The lines of an operation with one operand: t stands before it, u behind it.
+// The lines of an operation with one operand: t stands before it, u after it.
 pub(crate) fn put_one(
     out: &mut [u8],
     at: usize,

@@ -14,7 +14,7 @@ ghost use Rattle.c_tree.specs.Expr.{compl, Expr, un};
 ghost use Rattle.c_tree.specs.Print.{exprText};
 ghost use Rattle.lower_forms.specs.InlineBody.{result, sum};
 ghost use Rattle.lower_forms.specs.Operands.{regOf, operandOf};
-ghost use Rattle.emit_alu.specs.Rows.{statementsText, before, between, behind};
+ghost use Rattle.emit_alu.specs.Rows.{statementsText, before, between, after};
 
 // What stands before the terms of a sum: with s the call of op_adds, which sets the flags.
 fn put_before(out: &mut [u8], at: usize, s: bool) -> usize
@@ -38,9 +38,9 @@ fn put_between(out: &mut [u8], at: usize, s: bool) -> usize
     }
 }
 
-// What stands behind the last term.
-fn put_behind(out: &mut [u8], at: usize, s: bool) -> usize
-    ensures { λ r. ⌜ Wrote (now (out .entry)) at (behind s) (now (out .exit)) r ⌝ }
+// What stands after the last term.
+fn put_after(out: &mut [u8], at: usize, s: bool) -> usize
+    ensures { λ r. ⌜ Wrote (now (out .entry)) at (after s) (now (out .exit)) r ⌝ }
 {
     if s {
         base_text::put(out, at, b");\n")
@@ -49,13 +49,13 @@ fn put_behind(out: &mut [u8], at: usize, s: bool) -> usize
     }
 }
 
-// The third term, and the lines behind the first.
+// The third term, and the lines after the first.
 fn put_sum_rest(out: &mut [u8], at: usize, op: AluOp, s: bool, rd: Reg, carry: &[u8]) -> usize
-    ensures { λ r. ⌜ Wrote (now (out .entry)) at (between s ▸ raw (now (carry .entry)) ▸ behind s ▸ statementsText (result op rd ∷ [])) (now (out .exit)) r ⌝ }
+    ensures { λ r. ⌜ Wrote (now (out .entry)) at (between s ▸ raw (now (carry .entry)) ▸ after s ▸ statementsText (result op rd ∷ [])) (now (out .exit)) r ⌝ }
 {
     let p = put_between(out, at, s);
     let q = base_text::put(out, p, carry);
-    let v = put_behind(out, q, s);
+    let v = put_after(out, q, s);
     put_result(out, v, op, rd)
 }
 

@@ -27,7 +27,7 @@ use Rattle.lower_units.specs.Block.{bodyLength, nl, sp, codeFrom, defer, underG
 use Rattle.file_blocks.specs.Address.{outsideRomBios}
 use Rattle.lower_units.specs.Units.{defaultBody}
 use Rattle.lower_units.specs.Measured.{hashIf, hashedIf}
-use Rattle.emit_flow.proofs.Blocks.{guard-behind}
+use Rattle.emit_flow.proofs.Blocks.{guard-after}
 use Rattle.plan_members.specs.Prepared.{Ready}
 use Rattle.emit_block.specs.declared.member.Member.{Member}
 use Rattle.emit_block.specs.Walk.{IsBody, IsMember}
@@ -104,11 +104,11 @@ module _ {o o₁ : List ℕ} {at p : ℕ} (ks : List ℕ) (b : Body) where
   pub code-deferred : outsideRomBios (b .addr) ≡ true → b .hash ≡ none → Wrote o at (codeText (underGuard ks b none)) o₁ p → Wrote o at (codeText (blockCode ks b)) o₁ p
   code-deferred e h w = subst (λ (c : Code). Wrote o at (codeText c) o₁ p) (sym (guarded-code ks b e none h)) w
 
-  -- the guard, and the records behind it
+  -- the guard, and the records after it
   pub code-guarded : {o₂ : List ℕ} {q : ℕ} (n h : ℕ) → outsideRomBios (b .addr) ≡ true → bodyLength b ≡ n → b .hash ≡ some h
       → Wrote o at (codeText (sp 4 ⨾ when common true (guard (b .addr) n h) (sp 1 ⨾ defer b (sp 1 ⨾ end)) (nl ⨾ end))) o₁ p
       → Wrote o₁ p (codeText (codeFrom ks b 0 (b .forms))) o₂ q
       → Wrote o at (codeText (blockCode ks b)) o₂ q
   code-guarded {o₂} {q} n h e l s v w =
       let before = subst (λ (m : ℕ). Wrote o at (codeText (sp 4 ⨾ when common true (guard (b .addr) m h) (sp 1 ⨾ defer b (sp 1 ⨾ end)) (nl ⨾ end))) o₁ p) (sym l) v in
-      subst (λ (c : Code). Wrote o at (codeText c) o₂ q) (sym (guarded-code ks b e (some h) s)) (said (seq before w) (sym (guard-behind ks b h [])))
+      subst (λ (c : Code). Wrote o at (codeText c) o₂ q) (sym (guarded-code ks b e (some h) s)) (said (seq before w) (sym (guard-after ks b h [])))

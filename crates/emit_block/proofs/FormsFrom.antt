@@ -1,4 +1,4 @@
--- The forms of a block's instructions one by one: an instruction alone, or a fused pair, and those behind it.
+-- The forms of a block's instructions one by one: an instruction alone, or a fused pair, and those after it.
 -- Assumes nothing.
 use Prim.Native.Nat.{ℕ, zero, suc, _+_, _<_}
 use mathlib.Core.Path.{_≡_, refl, sym, ap, _∙_}
@@ -21,7 +21,7 @@ use Rattle.emit_block.specs.declared.instrs.Next.{Next}
 use Rattle.plan_groups.specs.Plan.{isEmpty}
 use Rattle.emit_block.specs.Walk.{fusedNext, nextOf}
 
--- instruction j of a block, and those behind it
+-- instruction j of a block, and those after it
 pub drop-instr : (f : List ℕ) (thumb : Bool) (n k addr j : ℕ) → j < n
     → drop j (instrsFrom f n k addr thumb) ≡ instrAt f k addr thumb j ∷ drop (suc j) (instrsFrom f n k addr thumb)
 drop-instr f thumb zero k addr j h = absurd (not-suc-le-zero h)
@@ -30,7 +30,7 @@ drop-instr f thumb (suc n) k addr (suc j) h =
     drop-instr f thumb n (suc k) (addr + sizeOf thumb) j (le-of-suc-le-suc h)
     ∙ ap (λ (x : TimedInstr). x ∷ drop (suc j) (instrsFrom f n (suc k) (addr + sizeOf thumb) thumb)) (later f thumb k addr j)
 
--- behind the last one there is none
+-- after the last one there is none
 pub drop-all : (f : List ℕ) (thumb : Bool) (n k addr : ℕ) → drop n (instrsFrom f n k addr thumb) ≡ []
 drop-all f thumb zero k addr = refl
 drop-all f thumb (suc n) k addr = drop-all f thumb n (suc k) (addr + sizeOf thumb)
@@ -50,7 +50,7 @@ module _ (thumb : Bool) (region cycles : ℕ) (x : TimedInstr) where
       by Fused.Nothing e = refl
       by (Fused.Pair target ret) e = absurd (let z : _≡_ {A = ℕ} 0 1 = cc in omega arith)
 
-  -- a fused pair, whatever stands behind it
+  -- a fused pair, whatever stands after it
   pub instrs-pair : (ys : List TimedInstr) (target ret cost : ℕ) → nextOf (x .instr) ys ≡ Next.Pair target ret cost
       → (fs : List Form) × (emitInstrs thumb region cycles (x ∷ ys) .0 ≡ Form.native (emitPair (cycles + (x .cost + cost)) target ret) ∷ fs)
   unfolding emitInstrs
@@ -76,11 +76,11 @@ empty-forms thumb region cycles x (y ∷ ys) = by (fuse (x .instr) (y .instr))
     by Fused.Nothing = refl
     by (Fused.Pair t r) = refl
 
--- an instruction is the last exactly if there is no form behind it
-pub empty-behind : (f : List ℕ) (thumb : Bool) (n k addr j region cycles : ℕ) → j < n
+-- an instruction is the last exactly if there is no form after it
+pub empty-after : (f : List ℕ) (thumb : Bool) (n k addr j region cycles : ℕ) → j < n
     → eqb (j + 1) n ≡ isEmpty (emitInstrs thumb region cycles (drop (suc j) (instrsFrom f n k addr thumb)) .0)
 unfolding emitInstrs
-empty-behind f thumb n k addr j region cycles h = by (eqb (j + 1) n) refl
+empty-after f thumb n k addr j region cycles h = by (eqb (j + 1) n) refl
   where
     by : (b : Bool) → eqb (j + 1) n ≡ b → eqb (j + 1) n ≡ isEmpty (emitInstrs thumb region cycles (drop (suc j) (instrsFrom f n k addr thumb)) .0)
     by true e =

@@ -17,7 +17,7 @@ use Rattle.emit_block.specs.Walk.{instrsOf, nextOf}
 use Rattle.emit_block.proofs.FormsFrom.{drop-instr, drop-all}
 
 module _ {f : List ℕ} {i : ℕ} {r : BlockRecord} {first : ℕ} (is : IsBlock f i r first) (j : ℕ) (inside : j < r .count) where
-  -- the instruction that was read, and those behind it
+  -- the instruction that was read, and those after it
   pub here-read : (q : FoundInstr) (x : TimedInstr) → q ≡ readInstr f r first j → q ≡ FoundInstr.At x
       → drop j (instrsOf f r first) ≡ x ∷ drop (suc j) (instrsOf f r first)
   here-read q x e g =
@@ -30,7 +30,7 @@ module _ {f : List ℕ} {i : ℕ} {r : BlockRecord} {first : ℕ} (is : IsBlock 
       let all : suc j ≡ r .count = omega arith in
       ap (nextOf x) (sym (drop-all f (r .thumb) (r .count) first (r .addr)) ∙ ap (λ (n : ℕ). drop n (instrsOf f r first)) (sym all))
 
-  -- what another makes with the one behind it
+  -- what another makes with the one after it
   pub next-read : (x : Instr) (q : FoundInstr) (y : TimedInstr) → (j + 1 ≡ r .count → ⊥) → q ≡ readInstr f r first (j + 1) → q ≡ FoundInstr.At y
       → nextOf x (y ∷ []) ≡ nextOf x (drop (suc j) (instrsOf f r first))
   next-read x q y more e g =

@@ -26,7 +26,7 @@ own-most : (r : Form) (n : ℕ) → own r n ≤ n
 own-most (native r) n = omega arith
 own-most (shell h t k) n = omega arith
 
--- the cycles pending behind an instruction are at most those before it with its cost
+-- the cycles pending after an instruction are at most those before it with its cost
 pub pending-most : (thumb : Bool) (region cycles : ℕ) (x : TimedInstr) → emitInstr thumb region cycles x .1 ≤ cycles + x .cost
 pending-most thumb region cycles x = omega (arith, instr-cycles thumb region cycles x, own-most (emitInstr thumb region cycles x .0) (x .cost))
 
@@ -59,7 +59,7 @@ module _ (f : List ℕ) (r : BlockRecord) (first : ℕ) (ks : List ℕ) (b : Bod
         few = omega (arith, pending-most (r .thumb) (region (r .addr)) cycles x, pending, small);
       }
 
-  -- a fused pair: nothing stands behind it
+  -- a fused pair: nothing stands after it
   pub pair-recorded : (target ret cost : ℕ) → nextOf (x .instr) (drop (suc j) (instrsOf f r first)) ≡ Next.Pair target ret cost → s .done ≡ true → s .cycles ≡ 0
       → ((fs : List Form) → Onward out at (codeFrom ks b j (Form.native (emitPair (cycles + (x .cost + cost)) target ret) ∷ fs)) end out′ (s .at))
       → Recorded f r first ks b j cycles out at out′ s

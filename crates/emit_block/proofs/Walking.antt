@@ -47,7 +47,7 @@ module _ {f : List ℕ} {r : BlockRecord} {first : ℕ} {ks : List ℕ} {b : Bod
         record { onward = then (walked .onward) next; same = sym (recorded .same goes) ∙ walked .same; few = omega (arith, recorded .few, walked .few) } in
         subst (λ (n : ℕ). Walked f r first ks b out at n (s .cycles) out₂ (s .at)) (sym (add-one j)) all
 
-    -- a record behind which nothing stands
+    -- a record after which nothing stands
     pub walked-done : {out₂ : List ℕ} {s : Step} → Recorded f r first ks b j cycles out₁ p out₂ s → s .done ≡ true
         → Wrote out at (codeText (codeFrom ks b 0 (b .forms))) out₂ (s .at)
     walked-done {out₂} {s} recorded done =
@@ -75,7 +75,7 @@ module _ {f : List ℕ} {i : ℕ} {r : BlockRecord} {first : ℕ} {b : Body} (is
   end-address true addr count = omega arith
   end-address false addr count = omega arith
 
-  -- the lines before it set PC to the address behind the block
+  -- the lines before it set PC to the address after the block
   pub end-lines : (cycles next : ℕ) → cycles ≡ formsFrom f r first 0 0 .1 → next ≡ (r .addr + sizeOf (r .thumb) * r .count) % 2 ^ 32
       → closingLines b ≡ flushTicks cycles ++ pcLine next
   end-lines cycles next pending e =

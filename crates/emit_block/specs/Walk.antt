@@ -27,7 +27,7 @@ use Rattle.emit_instr.specs.Onward.{Onward}
 abbrev pub instrsOf : List ℕ → BlockRecord → ℕ → List TimedInstr
 instrsOf f r first = instrsFrom f (r .count) first (r .addr) (r .thumb)
 
--- the forms of its instructions from index j on with cycles pending before them, and the cycles pending behind them
+-- the forms of its instructions from index j on with cycles pending before them, and the cycles pending after them
 abbrev pub formsFrom : List ℕ → BlockRecord → ℕ → ℕ → ℕ → List Form × ℕ
 formsFrom f r first j cycles = emitInstrs (r .thumb) (region (r .addr)) cycles (drop j (instrsOf f r first))
 
@@ -58,7 +58,7 @@ abbrev pub fusedNext : Fused → ℕ → Next
 fusedNext Fused.Nothing cost = Next.Alone
 fusedNext (Fused.Pair target ret) cost = Next.Pair target ret cost
 
--- what an instruction makes with the first of those behind it
+-- what an instruction makes with the first of those after it
 abbrev pub nextOf : Instr → List TimedInstr → Next
 nextOf x [] = Next.Alone
 nextOf x (y ∷ ys) = fusedNext (fuse x (y .instr)) (y .cost)

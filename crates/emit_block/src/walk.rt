@@ -18,7 +18,7 @@ ghost use Rattle.emit_instr.specs.Onward.{Onward};
 ghost use Rattle.emit_block.specs.Walk.{formsFrom, IsMemberBlock};
 ghost use Rattle.plan_groups.specs.Groups.{HasRoom};
 
-// The closing transfer, to the key behind the block.
+// The closing transfer, to the key after the block.
 fn emit_end(
     out: &mut [u8],
     at: usize,
@@ -37,7 +37,7 @@ fn emit_end(
     emit_closing(out, at, cycles, next, inside, block.addr, key)
 }
 
-// The code of a block behind its guard: record after record, until one leaves nothing to write behind it.
+// The code of a block after its guard: record after record, until one leaves nothing to write after it.
 pub(crate) fn emit_records(
     out: &mut [u8],
     at: usize,

@@ -12,8 +12,8 @@ use Rattle.lower_forms.specs.Forms.{Lines, Native, straight, straightIf, branch
 use Rattle.lower_forms.specs.Block.{flushTicks, pcLine}
 use Rattle.file_records.specs.BlockRecord.{keyPlus}
 use Rattle.lower_units.specs.Block.{bodyKey, bodyLength, bodyEnd, nl, sp, line, lines, transfer, closing, conditional, leave, nativeText, shellCode, codeFrom, defer, underGuard, exitCode, linesText, closingLines}
-use Rattle.emit_flow.specs.Pieces.{straightOpen, straightEnd, beforeCondition, behindCondition, behindConditional, straightIfOpen, straightIfEnd}
-use Rattle.emit_flow.proofs.Pieces.{lines-behind}
+use Rattle.emit_flow.specs.Pieces.{straightOpen, straightEnd, beforeCondition, afterCondition, afterConditional, straightIfOpen, straightIfEnd}
+use Rattle.emit_flow.proofs.Pieces.{lines-after}
 
 -- lines in braces
 pub straight-text : (ks : List ℕ) (a : ℕ) (o : Owner) (t l : Lines) (c : Code) (k : List ℕ)
@@ -21,25 +21,25 @@ pub straight-text : (ks : List ℕ) (a : ℕ) (o : Owner) (t l : Lines) (c : Cod
     ≡ flat (linesText 4 t ▸ straightOpen ▸ linesText 8 l ▸ straightEnd ▸ codeText c) k
 unfolding nativeText
 straight-text ks a o t l c k =
-    lines-behind o common 4 t (sp 4 ⨾ braces (nl ⨾ lines o 8 l (sp 4 ⨾ end)) (nl ⨾ c)) k
-    ∙ ap (flat (linesText 4 t ▸ straightOpen)) (lines-behind o common 8 l (sp 4 ⨾ end) (flat (text "}" ▸ codeText (nl ⨾ c)) k))
+    lines-after o common 4 t (sp 4 ⨾ braces (nl ⨾ lines o 8 l (sp 4 ⨾ end)) (nl ⨾ c)) k
+    ∙ ap (flat (linesText 4 t ▸ straightOpen)) (lines-after o common 8 l (sp 4 ⨾ end) (flat (text "}" ▸ codeText (nl ⨾ c)) k))
 
--- lines behind a condition
+-- lines after a condition
 pub straight-if-text : (ks : List ℕ) (a : ℕ) (o : Owner) (t : Lines) (e : Expr) (l : Lines) (c : Code) (k : List ℕ)
     → flat (codeText (nativeText ks a o (straightIf t e l) c)) k
     ≡ flat (linesText 4 t ▸ beforeCondition ▸ exprText e ▸ straightIfOpen ▸ linesText 8 l ▸ straightIfEnd ▸ codeText c) k
 unfolding nativeText
 straight-if-text ks a o t e l c k =
-    lines-behind o common 4 t (conditional o e (nl ⨾ lines o 8 l (sp 6 ⨾ end)) c) k
+    lines-after o common 4 t (conditional o e (nl ⨾ lines o 8 l (sp 6 ⨾ end)) c) k
     ∙ ap (flat (linesText 4 t ▸ beforeCondition ▸ exprText e ▸ straightIfOpen))
-    (lines-behind o common 8 l (sp 6 ⨾ end) (flat (behindConditional ▸ codeText c) k))
+    (lines-after o common 8 l (sp 6 ⨾ end) (flat (afterConditional ▸ codeText c) k))
 
--- a branch behind a condition
+-- a branch after a condition
 pub branch-text : (ks : List ℕ) (a : ℕ) (o : Owner) (t : Lines) (e : Expr) (l : List Plain) (key : ℕ) (c : Code) (k : List ℕ)
     → flat (codeText (nativeText ks a o (branchIf t e l key) c)) k
-    ≡ flat (linesText 4 t ▸ beforeCondition ▸ exprText e ▸ (behindCondition ▸ codeText (sp 1 ⨾ line o l (nl ⨾ transfer ks a o 8 key (sp 6 ⨾ end))) ▸ behindConditional) ▸ codeText c) k
+    ≡ flat (linesText 4 t ▸ beforeCondition ▸ exprText e ▸ (afterCondition ▸ codeText (sp 1 ⨾ line o l (nl ⨾ transfer ks a o 8 key (sp 6 ⨾ end))) ▸ afterConditional) ▸ codeText c) k
 unfolding nativeText
-branch-text ks a o t e l key c k = lines-behind o common 4 t (conditional o e (sp 1 ⨾ line o l (nl ⨾ transfer ks a o 8 key (sp 6 ⨾ end))) c) k
+branch-text ks a o t e l key c k = lines-after o common 4 t (conditional o e (sp 1 ⨾ line o l (nl ⨾ transfer ks a o 8 key (sp 6 ⨾ end))) c) k
 
 -- a pop of PC
 pub pop-text : (ks : List ℕ) (a : ℕ) (o : Owner) (t : Lines) (p : Plain) (l : Lines) (q : Plain) (e : Expr) (c : Code) (k : List ℕ)
@@ -47,21 +47,21 @@ pub pop-text : (ks : List ℕ) (a : ℕ) (o : Owner) (t : Lines) (p : Plain) (l 
     ≡ flat (linesText 4 t ▸ text "    { " ▸ plainText p ▸ text ";\n" ▸ codeText (lines common 6 l end) ▸ text "      " ▸ plainText q ▸ text "; return " ▸ exprText e ▸ text "; }\n") k
 unfolding nativeText
 pop-text ks a o t p l q e c k =
-    lines-behind o common 4 t (sp 4 ⨾ braces (sp 1 ⨾ plain o p ⨾ nl ⨾ lines o 6 l (sp 6 ⨾ plain o q ⨾ leave o e)) (nl ⨾ end)) k
-    ∙ ap (flat (linesText 4 t ▸ text "    { " ▸ plainText p ▸ text ";\n")) (lines-behind o common 6 l (sp 6 ⨾ plain o q ⨾ leave o e) (flat (text "}\n") k))
+    lines-after o common 4 t (sp 4 ⨾ braces (sp 1 ⨾ plain o p ⨾ nl ⨾ lines o 6 l (sp 6 ⨾ plain o q ⨾ leave o e)) (nl ⨾ end)) k
+    ∙ ap (flat (linesText 4 t ▸ text "    { " ▸ plainText p ▸ text ";\n")) (lines-after o common 6 l (sp 6 ⨾ plain o q ⨾ leave o e) (flat (text "}\n") k))
 
--- a shell, and the code behind it
-pub shell-behind : (b : Body) (i key : ℕ) (t : Lines) (c : Code) (k : List ℕ)
+-- a shell, and the code after it
+pub shell-after : (b : Body) (i key : ℕ) (t : Lines) (c : Code) (k : List ℕ)
     → flat (codeText (lines common 4 t (shellCode b i key c))) k ≡ flat (codeText (lines common 4 t (shellCode b i key end)) ▸ codeText c) k
-shell-behind b i key t c k =
-    lines-behind common common 4 t (shellCode b i key c) k ∙ sym (lines-behind common common 4 t (shellCode b i key end) (flat (codeText c) k))
+shell-after b i key t c k =
+    lines-after common common 4 t (shellCode b i key c) k ∙ sym (lines-after common common 4 t (shellCode b i key end) (flat (codeText c) k))
 
--- the guard, and the code behind it
-pub guard-behind : (ks : List ℕ) (b : Body) (h : ℕ) (k : List ℕ)
+-- the guard, and the code after it
+pub guard-after : (ks : List ℕ) (b : Body) (h : ℕ) (k : List ℕ)
     → flat (codeText (underGuard ks b (some h))) k
     ≡ flat (codeText (sp 4 ⨾ when common true (guard (b .addr) (bodyLength b) h) (sp 1 ⨾ defer b (sp 1 ⨾ end)) (nl ⨾ end)) ▸ codeText (codeFrom ks b 0 (b .forms))) k
 unfolding underGuard
-guard-behind ks b h k = refl
+guard-after ks b h k = refl
 
 -- the text from a native record on: its mark prints nothing
 pub code-native : (ks : List ℕ) (b : Body) (i : ℕ) (r : Native) (rs : List Form) (k : List ℕ)
@@ -70,12 +70,12 @@ pub code-native : (ks : List ℕ) (b : Body) (i : ℕ) (r : Native) (rs : List F
 unfolding codeFrom
 code-native ks b i r rs k = refl
 
--- from a shell on that has others behind it
+-- from a shell on that has others after it
 pub code-shell : (ks : List ℕ) (b : Body) (i : ℕ) (h : Bool) (t : Lines) (key : ℕ) (r : Form) (rs : List Form) (k : List ℕ)
     → flat (codeText (codeFrom ks b i (shell h t key ∷ r ∷ rs))) k
     ≡ flat (codeText (lines common 4 t (shellCode b i key end)) ▸ codeText (codeFrom ks b (i + 1) (r ∷ rs))) k
 unfolding codeFrom
-code-shell ks b i h t key r rs k = shell-behind b i key t (codeFrom ks b (i + 1) (r ∷ rs)) k
+code-shell ks b i h t key r rs k = shell-after b i key t (codeFrom ks b (i + 1) (r ∷ rs)) k
 
 -- the last shell, and the closing transfer where it is an unfused half
 pub code-last : (ks : List ℕ) (b : Body) (i : ℕ) (h : Bool) (t : Lines) (key : ℕ) (k : List ℕ)
@@ -83,8 +83,8 @@ pub code-last : (ks : List ℕ) (b : Body) (i : ℕ) (h : Bool) (t : Lines) (key
     ≡ flat (codeText (lines common 4 t (sp 4 ⨾ retInterp (bodyKey b) i ⨾ nl ⨾ end)) ▸ codeText (cond h (closing ks b) end)) k
 unfolding codeFrom
 code-last ks b i h t key k =
-    lines-behind common common 4 t (sp 4 ⨾ retInterp (bodyKey b) i ⨾ nl ⨾ cond h (closing ks b) end) k
-    ∙ sym (lines-behind common common 4 t (sp 4 ⨾ retInterp (bodyKey b) i ⨾ nl ⨾ end) (flat (codeText (cond h (closing ks b) end)) k))
+    lines-after common common 4 t (sp 4 ⨾ retInterp (bodyKey b) i ⨾ nl ⨾ cond h (closing ks b) end) k
+    ∙ sym (lines-after common common 4 t (sp 4 ⨾ retInterp (bodyKey b) i ⨾ nl ⨾ end) (flat (codeText (cond h (closing ks b) end)) k))
 
 -- the end of a block, by the cycles pending there and where it goes on
 pub closing-text : (ks : List ℕ) (b : Body) (cycles next key : ℕ) (k : List ℕ) → closingLines b ≡ flushTicks cycles ++ pcLine next

@@ -1,4 +1,4 @@
--- The text of the trees of `lowering`, piece by piece: what a function writes, and what is written behind it.
+-- The text of the trees of `lowering`, piece by piece: what a function writes, and what is written after it.
 use mathlib.Core.Path.{_≡_, refl, sym, ap, _∙_}
 use Prim.Native.Nat.{ℕ, zero, suc}
 use mathlib.Core.Bool.{Bool, true, false, cond}
@@ -21,34 +21,34 @@ use Rattle.lower_forms.specs.Block.{flushTicks, setWord, emitPair, branchRegs, 
 use Rattle.lower_units.specs.Block.{nl, sp, line, lines, gotoCode, transfer, conditional, nativeText, defer, underGuard, linesText}
 use Rattle.file_blocks.specs.Address.{among}
 use Rattle.lower_units.specs.Units.{unitHead}
-use Rattle.emit_flow.specs.Pieces.{beforeCondition, behindCondition, behindConditional}
-use Rattle.lower_units.proofs.LinesBehind.{lines-append}
+use Rattle.emit_flow.specs.Pieces.{beforeCondition, afterCondition, afterConditional}
+use Rattle.lower_units.proofs.LinesAfter.{lines-append}
 
--- a line, and the code behind it
-pub line-behind : (o p : Owner) (l : List Plain) (c : Code) (k : List ℕ)
+-- a line, and the code after it
+pub line-after : (o p : Owner) (l : List Plain) (c : Code) (k : List ℕ)
     → flat (codeText (line o l c)) k ≡ flat (codeText (line p l end)) (flat (codeText c) k)
-line-behind o p [] c k = refl
-line-behind o p (x ∷ []) c k = refl
-line-behind o p (x ∷ y ∷ l) c k = ap (flat (codeText (plain p x ⨾ sp 1 ⨾ end))) (line-behind o p (y ∷ l) c k)
+line-after o p [] c k = refl
+line-after o p (x ∷ []) c k = refl
+line-after o p (x ∷ y ∷ l) c k = ap (flat (codeText (plain p x ⨾ sp 1 ⨾ end))) (line-after o p (y ∷ l) c k)
 
--- lines, and the code behind them
-pub lines-behind : (o p : Owner) (n : ℕ) (ls : Lines) (c : Code) (k : List ℕ)
+-- lines, and the code after them
+pub lines-after : (o p : Owner) (n : ℕ) (ls : Lines) (c : Code) (k : List ℕ)
     → flat (codeText (lines o n ls c)) k ≡ flat (codeText (lines p n ls end)) (flat (codeText c) k)
-lines-behind o p n [] c k = refl
-lines-behind o p n (l ∷ ls) c k =
+lines-after o p n [] c k = refl
+lines-after o p n (l ∷ ls) c k =
     ap (flat (codeText (sp n ⨾ end)))
-    (line-behind o p l (nl ⨾ lines o n ls c) k
-    ∙ ap (λ (t : List ℕ). flat (codeText (line p l end)) (flat (codeText (nl ⨾ end)) t)) (lines-behind o p n ls c k)
-    ∙ sym (line-behind p p l (nl ⨾ lines p n ls end) (flat (codeText c) k)))
+    (line-after o p l (nl ⨾ lines o n ls c) k
+    ∙ ap (λ (t : List ℕ). flat (codeText (line p l end)) (flat (codeText (nl ⨾ end)) t)) (lines-after o p n ls c k)
+    ∙ sym (line-after p p l (nl ⨾ lines p n ls end) (flat (codeText c) k)))
 
--- cycles, and the lines behind them
+-- cycles, and the lines after them
 pub ticked : (o : Owner) (cycles : ℕ) (ms : Lines) (c : Code)
     → flat (linesText 4 (flushTicks cycles) ▸ codeText (lines o 4 ms c)) []
     ≡ flat (codeText (lines o 4 (flushTicks cycles ++ ms) c)) []
 ticked o cycles ms c =
-    sym (ap (λ (d : Code). flat (codeText d) []) (lines-append o 4 (flushTicks cycles) ms c) ∙ lines-behind o common 4 (flushTicks cycles) (lines o 4 ms c) [])
+    sym (ap (λ (d : Code). flat (codeText d) []) (lines-append o 4 (flushTicks cycles) ms c) ∙ lines-after o common 4 (flushTicks cycles) (lines o 4 ms c) [])
 
--- a transfer by what decides it, and the code behind it
+-- a transfer by what decides it, and the code after it
 transfer-by : (inside up : Bool) (o p : Owner) (n key : ℕ) (c : Code) (k : List ℕ)
     → flat (codeText (cond inside (gotoCode up o n key c) (sp n ⨾ ret o (lit word key) ⨾ nl ⨾ c))) k
     ≡ flat (codeText (cond inside (gotoCode up p n key end) (sp n ⨾ ret p (lit word key) ⨾ nl ⨾ end))) (flat (codeText c) k)
@@ -57,11 +57,11 @@ transfer-by false up o p n key c k = refl
 transfer-by true false o p n key c k = refl
 transfer-by true true o p n key c k = refl
 
--- a transfer, and the code behind it
-pub transfer-behind : (ks : List ℕ) (a : ℕ) (o p : Owner) (n key : ℕ) (c : Code) (k : List ℕ)
+-- a transfer, and the code after it
+pub transfer-after : (ks : List ℕ) (a : ℕ) (o p : Owner) (n key : ℕ) (c : Code) (k : List ℕ)
     → flat (codeText (transfer ks a o n key c)) k ≡ flat (codeText (transfer ks a p n key end)) (flat (codeText c) k)
 unfolding transfer
-transfer-behind ks a o p n key c k = transfer-by (among key ks) (leb (clearBit0 key) a) o p n key c k
+transfer-after ks a o p n key c k = transfer-by (among key ks) (leb (clearBit0 key) a) o p n key c k
 
 -- the three transfers: out of the group, gated, and not gated
 pub returned : (ks : List ℕ) (a : ℕ) (o : Owner) (n key : ℕ) → among key ks ≡ false
@@ -94,7 +94,7 @@ pub pc-set : (n : ℕ) → flat (text "    c[15] = 0x" ▸ hex8 n ▸ text "u;\n
 unfolding decimal numeral
 pc-set n = refl
 
--- the lines of a branch that is always taken, and the code behind them
+-- the lines of a branch that is always taken, and the code after them
 pub linked : (link : Bool) (back target : ℕ) (o : Owner) (c : Code) (k : List ℕ)
     → flat (linesText 4 (apart (only link (setWord 14 back))) ▸ linesText 4 (pcLine target) ▸ codeText c) k
     ≡ flat (codeText (lines o 4 (apart (branchRegs link back target)) c)) k
@@ -110,22 +110,22 @@ jumped ks a o cycles link back target key c =
     ap (flat (linesText 4 (flushTicks cycles))) (linked link back target o (transfer ks a o 4 key end) [])
     ∙ ticked o cycles (apart (branchRegs link back target)) (transfer ks a o 4 key end)
 
--- what is conditional, between what stands before and behind it
+-- what is conditional, between what stands before and after it
 pub conditional-text : (o : Owner) (e : Expr) (b c : Code) (k : List ℕ)
     → flat (codeText (conditional o e b c)) k
-    ≡ flat (beforeCondition ▸ exprText e ▸ behindCondition ▸ codeText b ▸ behindConditional ▸ codeText c) k
+    ≡ flat (beforeCondition ▸ exprText e ▸ afterCondition ▸ codeText b ▸ afterConditional ▸ codeText c) k
 conditional-text o e b c k = refl
 
--- a branch behind its condition
+-- a branch after its condition
 pub taken : (ks : List ℕ) (a : ℕ) (o : Owner) (l : List Plain) (key : ℕ)
-    → flat ((behindCondition ▸ codeText (sp 1 ⨾ line common l (nl ⨾ end))) ▸ codeText (transfer ks a o 8 key end) ▸ text "      } }\n") []
-    ≡ flat (behindCondition ▸ codeText (sp 1 ⨾ line o l (nl ⨾ transfer ks a o 8 key (sp 6 ⨾ end))) ▸ behindConditional) []
+    → flat ((afterCondition ▸ codeText (sp 1 ⨾ line common l (nl ⨾ end))) ▸ codeText (transfer ks a o 8 key end) ▸ text "      } }\n") []
+    ≡ flat (afterCondition ▸ codeText (sp 1 ⨾ line o l (nl ⨾ transfer ks a o 8 key (sp 6 ⨾ end))) ▸ afterConditional) []
 taken ks a o l key =
-    ap (flat (behindCondition ▸ codeText (sp 1 ⨾ end)))
-    (line-behind common common l (nl ⨾ end) (flat (codeText (transfer ks a o 8 key end) ▸ text "      } }\n") [])
+    ap (flat (afterCondition ▸ codeText (sp 1 ⨾ end)))
+    (line-after common common l (nl ⨾ end) (flat (codeText (transfer ks a o 8 key end) ▸ text "      } }\n") [])
     ∙ ap (λ (t : List ℕ). flat (codeText (line common l end)) (flat (codeText (nl ⨾ end)) t))
-    (sym (transfer-behind ks a o o 8 key (sp 6 ⨾ end) (flat behindConditional [])))
-    ∙ sym (line-behind o common l (nl ⨾ transfer ks a o 8 key (sp 6 ⨾ end)) (flat behindConditional [])))
+    (sym (transfer-after ks a o o 8 key (sp 6 ⨾ end) (flat afterConditional [])))
+    ∙ sym (line-after o common l (nl ⨾ transfer ks a o 8 key (sp 6 ⨾ end)) (flat afterConditional [])))
 
 -- a fused pair
 pub paired : (ks : List ℕ) (a : ℕ) (o : Owner) (cycles target back : ℕ) (c : Code) (to key : ℕ) → to ≡ clearBit0 target → key ≡ setBit0 target
@@ -140,7 +140,7 @@ pub bx-text : (ks : List ℕ) (a : ℕ) (o : Owner) (cycles : ℕ) (e : Expr) (c
     → flat (linesText 4 (flushTicks cycles) ▸ text "    { uint32_t t = " ▸ exprText e ▸ text ";\n      if (t & 1u) { c[16] |= 0x20u; c[15] = t & ~1u; return (t & ~1u) | 1u; }\n      c[16] &= ~0x20u; c[15] = t & ~3u; return t & ~3u; }\n") []
     ≡ flat (codeText (nativeText ks a o (bx (flushTicks cycles) e) c)) []
 unfolding nativeText decimal hexadecimal numeral
-bx-text ks a o cycles e c = sym (lines-behind o common 4 (flushTicks cycles) _ [])
+bx-text ks a o cycles e c = sym (lines-after o common 4 (flushTicks cycles) _ [])
 
 -- the interpreter in the block's place, in front of any other text
 pub deferred : (b : Body) (a : ℕ) (k : List ℕ) → b .addr ≡ a

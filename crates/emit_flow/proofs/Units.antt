@@ -26,21 +26,21 @@ pub group-text : (b c : Body) (bs : List Body) (k : List ℕ)
 unfolding emitGroup groupCode withLocals
 group-text b c bs k = refl
 
--- cases, and those behind them
+-- cases, and those after them
 pub cases-append : (n : ℕ) (ks js : List ℕ) (k : List ℕ) → flat (casesText n (ks ++ js)) k ≡ flat (casesText n ks ▸ casesText (n + length ks) js) k
 cases-append n [] js k = ap (λ (m : ℕ). flat (casesText m js) k) (omega arith)
 cases-append n (l ∷ ks) js k =
     ap (flat (text "    case " ▸ dec n ▸ text "u: goto L_" ▸ keyText l ▸ text ";\n"))
     (cases-append (suc n) ks js k ∙ ap (λ (m : ℕ). flat (casesText (suc n) ks ▸ casesText m js) k) (omega arith))
 
--- a member, and those behind it
+-- a member, and those after it
 pub member-text : (ks : List ℕ) (b : Body) (bs : List Body) (k : List ℕ)
     → flat (codeText (labelled ks (b ∷ bs))) k
     ≡ flat (codeText (label (bodyKey b) ⨾ nl ⨾ end) ▸ codeText (blockCode ks b) ▸ codeText (nl ⨾ end) ▸ codeText (labelled ks bs)) k
 unfolding labelled
 member-text ks b bs k = ap (flat (codeText (label (bodyKey b) ⨾ nl ⨾ end))) (flat-append (blockCode ks b) (nl ⨾ labelled ks bs) k)
 
--- members, and those behind them
+-- members, and those after them
 pub members-append : (ks : List ℕ) (bs cs : List Body) (k : List ℕ)
     → flat (codeText (labelled ks (bs ++ cs))) k ≡ flat (codeText (labelled ks bs) ▸ codeText (labelled ks cs)) k
 unfolding labelled
@@ -50,12 +50,12 @@ members-append ks (b ∷ bs) cs k =
     ∙ ap (flat (codeText (label (bodyKey b) ⨾ nl ⨾ end) ▸ codeText (blockCode ks b) ▸ codeText (nl ⨾ end))) (members-append ks bs cs k)
     ∙ sym (member-text ks b bs (flat (codeText (labelled ks cs)) k))
 
--- the functions that enter a group, counted from n, without the line end behind them
+-- the functions that enter a group, counted from n, without the line end after them
 unfoldable pub entries : ℕ → ℕ → List Body → Doc
 entries g n [] = nothing
 entries g n (b ∷ bs) = topText (function (block (bodyKey b)) (sp 1 ⨾ call g n ⨾ sp 1 ⨾ end)) ▸ entries g (suc n) bs
 
--- functions that enter a group, and those behind them
+-- functions that enter a group, and those after them
 pub entries-append : (g n : ℕ) (bs cs : List Body) (k : List ℕ) → flat (entries g n (bs ++ cs)) k ≡ flat (entries g n bs ▸ entries g (n + length bs) cs) k
 unfolding entries
 entries-append g n [] cs k = ap (λ (m : ℕ). flat (entries g m cs) k) (omega arith)

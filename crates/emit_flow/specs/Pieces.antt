@@ -1,4 +1,4 @@
--- Parts of a tree's text that no tree prints alone: what stands before and behind what another function writes.
+-- Parts of a tree's text that no tree prints alone: what stands before and after what another function writes.
 use Prim.Native.Nat.{ℕ}
 use mathlib.Core.Bool.{Bool, true, cond}
 use mathlib.Core.List.{[]}
@@ -17,7 +17,7 @@ indent deep = cond deep 8 4
 abbrev pub straightOpen : Doc
 straightOpen = codeText (sp 4 ⨾ end) ▸ text "{" ▸ codeText (nl ⨾ end)
 
--- the brace behind them
+-- the brace after them
 abbrev pub straightEnd : Doc
 straightEnd = codeText (sp 4 ⨾ end) ▸ text "}" ▸ codeText (nl ⨾ end)
 
@@ -25,21 +25,21 @@ straightEnd = codeText (sp 4 ⨾ end) ▸ text "}" ▸ codeText (nl ⨾ end)
 abbrev pub beforeCondition : Doc
 beforeCondition = codeText (sp 4 ⨾ end) ▸ text "{" ▸ codeText (sp 1 ⨾ line common flags (gap true 6 ⨾ end)) ▸ text "if ("
 
--- ) {, behind the condition
-abbrev pub behindCondition : Doc
-behindCondition = text ") {"
+-- ) {, after the condition
+abbrev pub afterCondition : Doc
+afterCondition = text ") {"
 
--- the two braces behind what is conditional
-abbrev pub behindConditional : Doc
-behindConditional = text "}" ▸ codeText (sp 1 ⨾ end) ▸ text "}" ▸ codeText (nl ⨾ end)
+-- the two braces after what is conditional
+abbrev pub afterConditional : Doc
+afterConditional = text "}" ▸ codeText (sp 1 ⨾ end) ▸ text "}" ▸ codeText (nl ⨾ end)
 
--- `) {` and a line end, behind the condition of lines
+-- `) {` and a line end, after the condition of lines
 abbrev pub straightIfOpen : Doc
-straightIfOpen = behindCondition ▸ codeText (nl ⨾ end)
+straightIfOpen = afterCondition ▸ codeText (nl ⨾ end)
 
--- the braces behind such lines
+-- the braces after such lines
 abbrev pub straightIfEnd : Doc
-straightIfEnd = codeText (sp 6 ⨾ end) ▸ behindConditional
+straightIfEnd = codeText (sp 6 ⨾ end) ▸ afterConditional
 
 -- the head of a block's function, with c and pc
 abbrev pub blockOpen : ℕ → Doc

@@ -9,7 +9,7 @@ pub fn open_straight(out: &mut [u8], at: usize) -> usize
     base_text::put(out, at, b"    {\n")
 }
 
-// Behind them.
+// After them.
 pub fn close_straight(out: &mut [u8], at: usize) -> usize
     ensures { λ r. ⌜ Wrote (now (out .entry)) at straightEnd (now (out .exit)) r ⌝ }
 {
@@ -34,7 +34,7 @@ pub fn open_straight_if(out: &mut [u8], at: usize) -> usize
     base_text::put(out, at, b") {\n")
 }
 
-// Behind those lines.
+// After those lines.
 pub fn close_straight_if(out: &mut [u8], at: usize) -> usize
     ensures { λ r. ⌜ Wrote (now (out .entry)) at straightIfEnd (now (out .exit)) r ⌝ }
 {

@@ -18,11 +18,11 @@ ghost use Rattle.lower_forms.specs.InlineBody.{only, apart};
 ghost use Rattle.lower_forms.specs.Block.{flushTicks, setWord, pcLine, emitPair, branchRegs};
 ghost use Rattle.lower_units.specs.Block.{nl, sp, line, transfer as Block·transfer, exitCode, nativeText, linesText};
 ghost use Rattle.file_blocks.specs.Address.{among};
-ghost use Rattle.emit_flow.specs.Pieces.{behindCondition, behindConditional};
+ghost use Rattle.emit_flow.specs.Pieces.{afterCondition, afterConditional};
 
-// The registers of a branch, behind its condition.
+// The registers of a branch, after its condition.
 fn put_taken(out: &mut [u8], at: usize, link: bool, ret: u32, target: u32) -> usize
-    ensures { λ r. ⌜ Wrote (now (out .entry)) at (behindCondition ▸ codeText (sp 1 ⨾ line common (branchRegs link ret target) (nl ⨾ end))) (now (out .exit)) r ⌝ }
+    ensures { λ r. ⌜ Wrote (now (out .entry)) at (afterCondition ▸ codeText (sp 1 ⨾ line common (branchRegs link ret target) (nl ⨾ end))) (now (out .exit)) r ⌝ }
 {
     if link {
         let p = base_text::put_then_hex8(out, at, b") { c[14] = 0x", ret);
@@ -34,7 +34,7 @@ fn put_taken(out: &mut [u8], at: usize, link: bool, ret: u32, target: u32) -> us
     }
 }
 
-// A conditional branch, behind its condition.
+// A conditional branch, after its condition.
 pub fn branch_taken(
     out: &mut [u8],
     at: usize,
@@ -45,7 +45,7 @@ pub fn branch_taken(
     src: u32,
     key: u32,
 ) -> usize
-    ensures { λ r. ⌜ ((ks : List ℕ) (o : Owner) → among key ks ≡ inside → Wrote (now (out .entry)) at (behindCondition ▸ codeText (sp 1 ⨾ line o (branchRegs link ret target) (nl ⨾ Block·transfer ks src o 8 key (sp 6 ⨾ end))) ▸ behindConditional) (now (out .exit)) r) ⌝ }
+    ensures { λ r. ⌜ ((ks : List ℕ) (o : Owner) → among key ks ≡ inside → Wrote (now (out .entry)) at (afterCondition ▸ codeText (sp 1 ⨾ line o (branchRegs link ret target) (nl ⨾ Block·transfer ks src o 8 key (sp 6 ⨾ end))) ▸ afterConditional) (now (out .exit)) r) ⌝ }
 {
     let p = put_taken(out, at, link, ret, target);
     let q = transfer(out, p, inside, src, key, true);
@@ -97,7 +97,7 @@ pub fn emit_pair(
     transfer(out, s, inside, src, set_bit0(target), false)
 }
 
-// The end of a block that goes on at address next, whose key is given too, behind its ticks.
+// The end of a block that goes on at address next, whose key is given too, after its ticks.
 pub fn put_closing(out: &mut [u8], at: usize, next: u32, inside: bool, src: u32, key: u32) -> usize
     ensures { λ r. ⌜ ((ks : List ℕ) → among key ks ≡ inside → Wrote (now (out .entry)) at (codeText (exitCode ks src common (pcLine next) key)) (now (out .exit)) r) ⌝ }
 {

@@ -10,7 +10,7 @@ ghost use Rattle.lower_forms.specs.Forms.{Body};
 ghost use Rattle.lower_forms.specs.Block.{flushTicks, pcLine};
 ghost use Rattle.lower_units.specs.Block.{nl, sp, lines, shellCode};
 
-// One that has others behind it: on to them if the interpreter comes to their key.
+// One that has others after it: on to them if the interpreter comes to their key.
 pub fn emit_shell(out: &mut [u8], at: usize, cycles: u64, addr: u32, expect: u32) -> usize
     ensures { λ r. ⌜ ((b : Body) (i : ℕ) → Wrote (now (out .entry)) at (codeText (lines common 4 (flushTicks cycles ++ pcLine addr) (shellCode b i expect end))) (now (out .exit)) r) ⌝ }
 {

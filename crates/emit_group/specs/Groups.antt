@@ -22,7 +22,7 @@ fileBodies f = map (bodyOf hashMultiplier) (blocksOf f)
 abbrev pub memberText : Bool → List ℕ → List ℕ → ℕ → Doc
 memberText written f ks i = codeText (blockCode ks (hashedIf written (getD (fileBodies f) i defaultBody)))
 
--- the same with its label before it and a line end behind
+-- the same with its label before it and a line end after
 abbrev pub labelledText : Bool → List ℕ → List ℕ → ℕ → Doc
 labelledText written f ks i =
     codeText (label (bodyKey (getD (fileBodies f) i defaultBody)) ⨾ nl ⨾ end) ▸ memberText written f ks i ▸ codeText (nl ⨾ end)

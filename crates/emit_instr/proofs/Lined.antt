@@ -30,7 +30,7 @@ pub known-body : (thumb : Bool) (i : Instr) (op : Op) (body : Lines) → i .op �
 unfolding inlineBody
 known-body thumb i op body p e = sym (ap (opBody thumb i) p) ∙ e
 
--- lines that are there behind a test
+-- lines that are there after a test
 pub tested : (b : Bool) (ls : Option Lines) (body : Lines) → cond b none ls ≡ some body → ls ≡ some body
 tested true ls body e = absurd (Option·none-ne-some _ e)
 tested false ls body e = e

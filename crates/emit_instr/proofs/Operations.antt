@@ -1,4 +1,4 @@
--- The operations that have no lines, and those behind which a block goes on and that do not touch memory.
+-- The operations that have no lines, and those after which a block goes on and that do not touch memory.
 use Prim.Native.Nat.{ℕ}
 use mathlib.Core.Bool.{Bool, false}
 use mathlib.Core.List.{List, [], _∷_}

@@ -15,7 +15,7 @@ module _ {o o′ ks : List ℕ} {at j : ℕ} {b : Body} {fs : List Form} {r : St
   pub same-form : (f g : Form × ℕ) → f ≡ g → FormWritten o at ks b j f fs o′ r → FormWritten o at ks b j g fs o′ r
   same-form f g e s = subst (λ (x : Form × ℕ). FormWritten o at ks b j x fs o′ r) e s
 
-  -- the forms behind it are still to be written
+  -- the forms after it are still to be written
   pub goes-on : {f : Form × ℕ} → r .done ≡ false → FormWritten o at ks b j f fs o′ r → Onward o at (codeFrom ks b j (f .0 ∷ fs)) (codeFrom ks b (j + 1) fs) o′ (r .at)
   goes-on {f} e s = subst (λ (d : Bool). Onward o at (codeFrom ks b j (f .0 ∷ fs)) (cond d end (codeFrom ks b (j + 1) fs)) o′ (r .at)) e (s .onward)
 

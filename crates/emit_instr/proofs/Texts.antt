@@ -17,7 +17,7 @@ use Rattle.lower_forms.specs.InlineBody.{apart}
 use Rattle.lower_forms.specs.Block.{flushTicks, emitBranch, branchRegs, pcLine}
 use Rattle.file_records.specs.BlockRecord.{keyPlus}
 use Rattle.lower_units.specs.Block.{bodyKey, bodyEnd, nl, sp, line, lines, transfer, nativeText, shellCode, codeFrom, exitCode, linesText, closingLines}
-use Rattle.emit_flow.specs.Pieces.{beforeCondition, behindCondition, behindConditional}
+use Rattle.emit_flow.specs.Pieces.{beforeCondition, afterCondition, afterConditional}
 use Rattle.emit_flow.proofs.Blocks.{straight-text, straight-if-text, branch-text, code-native, code-shell, code-last, closing-text}
 use Rattle.emit_instr.specs.Onward.{Onward}
 use Rattle.emit_instr.specs.Steps.{lowered}
@@ -25,7 +25,7 @@ use Rattle.plan_groups.specs.Plan.{isEmpty}
 use Rattle.emit_instr.proofs.Onward.{by}
 
 module _ {o o′ : List ℕ} {at r : ℕ} (ks : List ℕ) (b : Body) (j : ℕ) where
-  -- an exit, whose text has nothing behind it, from the block's address
+  -- an exit, whose text has nothing after it, from the block's address
   pub exit-step : (n : Native) (src : ℕ) (fs : List Form) → b .addr ≡ src
       → Wrote o at (codeText (nativeText ks src (Owner.native (bodyKey b)) n (codeFrom ks b (j + records n) fs))) o′ r
       → Onward o at (codeFrom ks b j (Form.native n ∷ fs)) end o′ r
@@ -34,7 +34,7 @@ module _ {o o′ : List ℕ} {at r : ℕ} (ks : List ℕ) (b : Body) (j : ℕ) w
       (λ k. code-native ks b j n fs k
       ∙ ap (λ (a : ℕ). flat (codeText (nativeText ks a (Owner.native (bodyKey b)) n (codeFrom ks b (j + records n) fs))) k) q)
 
-  -- lines in braces, behind a condition or not
+  -- lines in braces, after a condition or not
   pub lowered-step : (al : Bool) (t : Lines) (e : Expr) (l : Lines) (fs : List Form)
       → Wrote o at (linesText 4 t ▸ lowered al e l) o′ r
       → Onward o at (codeFrom ks b j (Form.native (cond al (straight t l) (straightIf t e l)) ∷ fs)) (codeFrom ks b (j + 1) fs) o′ r
@@ -52,17 +52,17 @@ module _ {o o′ : List ℕ} {at r : ℕ} (ks : List ℕ) (b : Body) (j : ℕ) w
   jump-step true t u e l key src fs p q w = exit-step (jump t key) src fs q w
   jump-step false t u e l key src fs p q w = absurd (true≢false (sym p))
 
-  -- a branch behind a condition
+  -- a branch after a condition
   pub branch-step : (al : Bool) (t u : Lines) (e : Expr) (l : List Plain) (key src : ℕ) (fs : List Form) → al ≡ false → b .addr ≡ src
-      → Wrote o at ((linesText 4 u ▸ beforeCondition ▸ exprText e) ▸ behindCondition ▸ codeText (sp 1 ⨾ line (Owner.native (bodyKey b)) l (nl ⨾ transfer ks src (Owner.native (bodyKey b)) 8 key (sp 6 ⨾ end))) ▸ behindConditional) o′ r
+      → Wrote o at ((linesText 4 u ▸ beforeCondition ▸ exprText e) ▸ afterCondition ▸ codeText (sp 1 ⨾ line (Owner.native (bodyKey b)) l (nl ⨾ transfer ks src (Owner.native (bodyKey b)) 8 key (sp 6 ⨾ end))) ▸ afterConditional) o′ r
       → Onward o at (codeFrom ks b j (Form.native (cond al (jump t key) (branchIf u e l key)) ∷ fs)) (codeFrom ks b (j + 1) fs) o′ r
   branch-step true t u e l key src fs p q w = absurd (true≢false p)
   branch-step false t u e l key src fs p q w =
       by _ _ w
       (λ k. code-native ks b j (branchIf u e l key) fs k ∙ branch-text ks (b .addr) (Owner.native (bodyKey b)) u e l key (codeFrom ks b (j + 1) fs) k
-      ∙ ap (λ (n : ℕ). flat (((linesText 4 u ▸ beforeCondition ▸ exprText e) ▸ behindCondition ▸ codeText (sp 1 ⨾ line (Owner.native (bodyKey b)) l (nl ⨾ transfer ks n (Owner.native (bodyKey b)) 8 key (sp 6 ⨾ end))) ▸ behindConditional) ▸ codeText (codeFrom ks b (j + 1) fs)) k) q)
+      ∙ ap (λ (n : ℕ). flat (((linesText 4 u ▸ beforeCondition ▸ exprText e) ▸ afterCondition ▸ codeText (sp 1 ⨾ line (Owner.native (bodyKey b)) l (nl ⨾ transfer ks n (Owner.native (bodyKey b)) 8 key (sp 6 ⨾ end))) ▸ afterConditional) ▸ codeText (codeFrom ks b (j + 1) fs)) k) q)
 
-  -- a shell that has others behind it
+  -- a shell that has others after it
   pub shell-step : (high last : Bool) (t : Lines) (key : ℕ) (fs : List Form) → last ≡ isEmpty fs → last ≡ false
       → Wrote o at (codeText (lines common 4 t (shellCode b j key end))) o′ r
       → Onward o at (codeFrom ks b j (shell high t key ∷ fs)) (cond (not high && last) end (codeFrom ks b (j + 1) fs)) o′ r
@@ -71,7 +71,7 @@ module _ {o o′ : List ℕ} {at r : ℕ} (ks : List ℕ) (b : Body) (j : ℕ) w
   shell-step true false t key (f ∷ fs) p q w = by _ _ w (λ k. code-shell ks b j true t key f fs k)
   shell-step false false t key (f ∷ fs) p q w = by _ _ w (λ k. code-shell ks b j false t key f fs k)
 
-  -- the last shell; behind an unfused half stands the closing transfer
+  -- the last shell; after an unfused half stands the closing transfer
   pub last-step : (high last : Bool) (t : Lines) (key : ℕ) (fs : List Form) → last ≡ isEmpty fs → last ≡ true
       → Wrote o at (codeText (lines common 4 t (sp 4 ⨾ retInterp (bodyKey b) j ⨾ nl ⨾ end))) o′ r
       → Onward o at (codeFrom ks b j (shell high t key ∷ fs)) (cond (not high && last) end (codeFrom ks b (j + 1) fs)) o′ r
@@ -92,7 +92,7 @@ module _ {o o′ : List ℕ} {at r : ℕ} (ks : List ℕ) (b : Body) (j : ℕ) w
       (λ k. closing-text ks b cycles next key k p q
       ∙ ap (λ (a : ℕ). flat (codeText (exitCode ks a common (flushTicks cycles ++ pcLine next) key)) k) e)
 
--- a branch by its key and the address behind it
+-- a branch by its key and the address after it
 pub branch-form : (thumb : Bool) (cycles : ℕ) (i : Instr) (link : Bool) (target back key : ℕ) → back ≡ (i .addr + 4) % 2 ^ 32
     → key ≡ keyOf target thumb
     → cond (isAl (i .cond)) (jump (flushTicks cycles ++ apart (branchRegs link back target)) key) (branchIf (flushTicks cycles) (condExpr (i .cond)) (branchRegs link back target) key)

@@ -1,4 +1,4 @@
--- What the contract of a function says that writes one form of a block: the text, the cycles pending behind it, and what it asks of a branch's target.
+-- What the contract of a function says that writes one form of a block: the text, the cycles pending after it, and what it asks of a branch's target.
 use mathlib.Core.Path.{_≡_}
 use Prim.Native.Nat.{ℕ, _+_}
 use mathlib.Core.Bool.{Bool, true, false, cond}
@@ -17,7 +17,7 @@ use Rattle.emit_flow.specs.Pieces.{straightOpen, straightEnd, beforeCondition, 
 use Rattle.emit_instr.specs.declared.step.Step.{Step}
 use Rattle.emit_instr.specs.Onward.{Onward}
 
--- A form was written, behind which others stand, and the cycles pending behind it are as said; done: nothing is left to write, not even the others
+-- A form was written, after which others stand, and the cycles pending after it are as said; done: nothing is left to write, not even the others
 pub record FormWritten (out : List ℕ) (at : ℕ) (ks : List ℕ) (b : Body) (j : ℕ) (f : Form × ℕ) (fs : List Form) (out′ : List ℕ) (r : Step) : Type 0 where
   pub onward : Onward out at (codeFrom ks b j (f .0 ∷ fs)) (cond (r .done) end (codeFrom ks b (j + 1) fs)) out′ (r .at)
   pub cycles : r .cycles ≡ f .1
@@ -40,7 +40,7 @@ BranchInside ks thumb inside (MsrImm spsr fields value) = Unit
 BranchInside ks thumb inside (Swi imm) = Unit
 BranchInside ks thumb inside (Undefined raw) = Unit
 
--- the text of lines in braces, behind the condition e unless it always holds (true)
+-- the text of lines in braces, after the condition e unless it always holds (true)
 abbrev pub lowered : Bool → Expr → Lines → Doc
 lowered true e l = straightOpen ▸ linesText 8 l ▸ straightEnd
 lowered false e l = beforeCondition ▸ exprText e ▸ straightIfOpen ▸ linesText 8 l ▸ straightIfEnd

@@ -10,7 +10,7 @@ pub(crate) fn with_cost(cycles: u64, cost: u16) -> u64
     std::num::wrapping_add_u64(cycles, cost as u64)
 }
 
-// The cycles pending behind an instruction; those before it are ticked already if it touches memory (touches_bus).
+// The cycles pending after an instruction; those before it are ticked already if it touches memory (touches_bus).
 pub(crate) fn pending(touches_bus: bool, cycles: u64, cost: u16) -> u64
     ensures { λ r. ⌜ (cycles + cost < 2 ^ 64 → r ≡ cond «touches_bus» 0 cycles + cost) ⌝ }
 {

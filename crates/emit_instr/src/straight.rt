@@ -48,7 +48,7 @@ fn put_straight(out: &mut [u8], at: usize, thumb: bool, i: Instr) -> usize
     close_straight(out, q)
 }
 
-// The same behind its condition.
+// The same after its condition.
 fn put_straight_if(out: &mut [u8], at: usize, thumb: bool, i: Instr) -> usize
     ensures { λ r. ⌜ ((body : Lines) → inlineBody thumb i ≡ some body → Wrote (now (out .entry)) at (lowered false (condExpr (i .cond)) body) (now (out .exit)) r) ⌝ }
 {
@@ -60,7 +60,7 @@ fn put_straight_if(out: &mut [u8], at: usize, thumb: bool, i: Instr) -> usize
     close_straight_if(out, t)
 }
 
-// The lines of an instruction, behind its condition unless it always holds.
+// The lines of an instruction, after its condition unless it always holds.
 fn put_lowered(out: &mut [u8], at: usize, thumb: bool, i: Instr) -> usize
     ensures { λ r. ⌜ ((body : Lines) → inlineBody thumb i ≡ some body → Wrote (now (out .entry)) at (lowered (isAl (i .cond)) (condExpr (i .cond)) body) (now (out .exit)) r) ⌝ }
 {
@@ -93,7 +93,7 @@ fn emit_lowered(
     }
 }
 
-// An instruction of a block that goes on behind it; touches_bus: it touches memory. last: it is the block's last.
+// An instruction of a block that goes on after it; touches_bus: it touches memory. last: it is the block's last.
 pub(crate) fn emit_straight(
     out: &mut [u8],
     at: usize,

@@ -1,4 +1,4 @@
--- The text of lines put together: lines behind lines, and what stands behind them.
+-- The text of lines put together: lines after lines, and what stands after them.
 use Prim.Native.Nat.{ℕ, _+_}
 use mathlib.Core.Path.{_≡_, refl, sym, ap, _∙_}
 use mathlib.Core.List.{List, [], _∷_, _++_}
@@ -6,20 +6,20 @@ use Rattle.base_text.specs.Doc.{_▸_, flat}
 use Rattle.c_tree.specs.Expr.{w32, Expr, read}
 use Rattle.c_tree.specs.Stmt.{Plain, write, common, Code, end}
 use Rattle.c_tree.specs.Print.{codeText}
-use Rattle.emit_operands.proofs.Lines.{lines-behind}
+use Rattle.emit_operands.proofs.Lines.{lines-after}
 use Rattle.lower_forms.specs.Forms.{Lines}
 use Rattle.emit_mem.proofs.Listed.{listed-suc}
 use Rattle.lower_forms.specs.InlineBody.{only, apart, setReg, aligned, listed, advance, loads, stores}
 use Rattle.armv4t.specs.RegisterList.{isListed}
 use Rattle.lower_units.specs.Block.{lines}
-use Rattle.lower_units.proofs.LinesBehind.{lines-append}
+use Rattle.lower_units.proofs.LinesAfter.{lines-append}
 
 pub lines-both : (n : ℕ) (ls ms : Lines) (c : Code) (k : List ℕ)
     → flat (codeText (lines common n ls end) ▸ codeText (lines common n ms c)) k ≡ flat (codeText (lines common n (ls ++ ms) c)) k
 lines-both n ls ms c k =
-    sym (ap (λ (d : Code). flat (codeText d) k) (lines-append common n ls ms c) ∙ lines-behind common n ls (lines common n ms c) k)
+    sym (ap (λ (d : Code). flat (codeText d) k) (lines-append common n ls ms c) ∙ lines-after common n ls (lines common n ms c) k)
 
--- statements behind statements, each in a line of its own
+-- statements after statements, each in a line of its own
 apart-append : (ps qs : List Plain) → apart (ps ++ qs) ≡ apart ps ++ apart qs
 apart-append [] qs = refl
 apart-append (p ∷ ps) qs = ap (_∷_ (p ∷ [])) (apart-append ps qs)

@@ -13,7 +13,7 @@ use Rattle.lower_forms.specs.Forms.{Lines}
 use Rattle.lower_forms.specs.InlineBody.{apart, let32, setReg, aligned, loads}
 use Rattle.lower_forms.specs.Block.{flushTicks, emitPop}
 use Rattle.lower_units.specs.Block.{nl, sp, lines, leave, nativeText, linesText}
-use Rattle.emit_operands.proofs.Lines.{lines-owner, lines-behind}
+use Rattle.emit_operands.proofs.Lines.{lines-owner, lines-after}
 use Rattle.emit_mem.proofs.Lines.{lines-both}
 
 -- the statement that writes the base back
@@ -61,15 +61,15 @@ code-owner o thumb rn regs k =
     let ls : Lines = loads regs ++ apart (popBase rn regs ∷ []) in
     let k′ : List ℕ = flat (text "}" ▸ codeText (nl ⨾ end)) k in
     ap (λ (s : List ℕ). flat (text "    { " ▸ codeText (plain common (let32 x-addr (get (reg rn))) ⨾ nl ⨾ end)) s)
-    (lines-owner o common 6 ls (popTail o thumb) k′ ∙ lines-behind common 6 ls (popTail o thumb) k′
-    ∙ sym (lines-behind common 6 ls (popTail common thumb) k′))
+    (lines-owner o common 6 ls (popTail o thumb) k′ ∙ lines-after common 6 ls (popTail o thumb) k′
+    ∙ sym (lines-after common 6 ls (popTail common thumb) k′))
 
--- the ticks stand before a pop, and neither its owner nor what would stand behind it shows
+-- the ticks stand before a pop, and neither its owner nor what would stand after it shows
 pub ticks-then-pop : (ks : List ℕ) (a : ℕ) (o : Owner) (thumb : Bool) (cycles rn : ℕ) (regs : List ℕ) (c : Code) (k : List ℕ)
     → flat (codeText (nativeText ks a o (emitPop thumb cycles rn regs) c)) k
     ≡ flat (linesText 4 (flushTicks cycles) ▸ codeText (nativeText [] 0 common (emitPop thumb 0 rn regs) end)) k
 unfolding nativeText
 ticks-then-pop ks a o thumb cycles rn regs c k =
     lines-owner o common 4 (flushTicks cycles) (popCode o thumb rn regs) k
-    ∙ lines-behind common 4 (flushTicks cycles) (popCode o thumb rn regs) k
+    ∙ lines-after common 4 (flushTicks cycles) (popCode o thumb rn regs) k
     ∙ ap (flat (linesText 4 (flushTicks cycles))) (code-owner o thumb rn regs k)

@@ -126,7 +126,7 @@ fn put_store_ob(out: &mut [u8], at: usize, rn: u8, wb: bool) -> usize
     at
 }
 
-// The lines of a load behind its address: the write-back of the base, then the load.
+// The lines of a load after its address: the write-back of the base, then the load.
 fn put_mem_load(
     out: &mut [u8],
     at: usize,
@@ -142,7 +142,7 @@ fn put_mem_load(
     put_load_line(out, p, width, signed, rd)
 }
 
-// The lines of a store behind its address: the store, then the write-back of the base.
+// The lines of a store after its address: the store, then the write-back of the base.
 fn put_mem_store(
     out: &mut [u8],
     at: usize,
@@ -158,7 +158,7 @@ fn put_mem_store(
     put_store_ob(out, p, rn, wb)
 }
 
-// The lines of a Mem behind its address.
+// The lines of a Mem after its address.
 pub(crate) fn put_access(
     out: &mut [u8],
     at: usize,

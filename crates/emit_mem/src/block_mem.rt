@@ -86,7 +86,7 @@ fn put_store_back(out: &mut [u8], at: usize, rn: u8, writeback: bool, up: bool, 
     at
 }
 
-// The lines of a load behind its start.
+// The lines of a load after its start.
 fn put_block_loads(
     out: &mut [u8],
     at: usize,
@@ -104,7 +104,7 @@ fn put_block_loads(
     put_loads(out, p, false, rlist, 16)
 }
 
-// The lines of a store behind its start.
+// The lines of a store after its start.
 fn put_block_stores(
     out: &mut [u8],
     at: usize,
@@ -132,7 +132,7 @@ fn put_block_base(out: &mut [u8], at: usize, rn: u8, pre: bool, up: bool, total:
     put(out, s, b";\n")
 }
 
-// The lines behind the base, by the bytes that the registers take.
+// The lines after the base, by the bytes that the registers take.
 fn put_transfers(
     out: &mut [u8],
     at: usize,

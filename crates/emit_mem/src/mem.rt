@@ -127,7 +127,7 @@ fn put_address(
     put_addr_line(out, q, pre)
 }
 
-// Whether the base is written back: always behind an access that does not count the offset.
+// Whether the base is written back: always after an access that does not count the offset.
 fn writes_back(pre: bool, writeback: bool) -> bool
     ensures { λ b. ⌜ b ≡ (not pre || writeback) ⌝ }
 {

@@ -44,7 +44,7 @@ fn put_pop_base(out: &mut [u8], at: usize, rn: u8, rlist: u16) -> usize
     put(out, s, b"u;\n")
 }
 
-// The text of a pop behind its ticks.
+// The text of a pop after its ticks.
 pub fn put_pop(out: &mut [u8], at: usize, thumb: bool, rn: u8, rlist: u16) -> usize
     ensures { λ n. ⌜ Wrote (now (out .entry)) at (codeText (nativeText [] 0 common (emitPop thumb 0 rn (listed rlist 15)) end)) (now (out .exit)) n ⌝ }
 {

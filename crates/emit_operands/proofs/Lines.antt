@@ -1,4 +1,4 @@
--- Lines of plain statements: whose they are does not show in their text, and the text of code behind them stands behind theirs.
+-- Lines of plain statements: whose they are does not show in their text, and the text of code after them stands after theirs.
 use mathlib.Core.Path.{_≡_, refl, ap}
 use Prim.Native.Nat.{ℕ}
 use mathlib.Core.List.{List, [], _∷_}
@@ -8,7 +8,7 @@ use Rattle.c_tree.specs.Print.{plainText, spaces, simpleText, codeText}
 use Rattle.lower_forms.specs.Forms.{Lines}
 use Rattle.lower_units.specs.Block.{nl, line, lines}
 
--- a line, and code behind it
+-- a line, and code after it
 line-owner : (o q : Owner) (l : List Plain) (c d : Code) → ((k : List ℕ) → flat (codeText c) k ≡ flat (codeText d) k) → (k : List ℕ)
     → flat (codeText (line o l c)) k ≡ flat (codeText (line q l d)) k
 line-owner o q [] c d same k = same k
@@ -25,19 +25,19 @@ lines-owner o q n (l ∷ ls) c k =
     (line-owner o q l (nl ⨾ lines o n ls c) (nl ⨾ lines q n ls c)
     (λ (j : List ℕ). ap (flat (simpleText nl)) (lines-owner o q n ls c j)) k)
 
--- code behind a line
-line-behind : (o : Owner) (l : List Plain) (c d e : Code) → ((k : List ℕ) → flat (codeText c) k ≡ flat (codeText d ▸ codeText e) k)
+-- code after a line
+line-after : (o : Owner) (l : List Plain) (c d e : Code) → ((k : List ℕ) → flat (codeText c) k ≡ flat (codeText d ▸ codeText e) k)
     → (k : List ℕ) → flat (codeText (line o l c)) k ≡ flat (codeText (line o l d) ▸ codeText e) k
-line-behind o [] c d e same k = same k
-line-behind o (p ∷ []) c d e same k = ap (flat (plainText p ▸ text ";")) (same k)
-line-behind o (p ∷ p′ ∷ ps) c d e same k =
-    ap (λ (s : List ℕ). flat (plainText p ▸ text "; ") s) (line-behind o (p′ ∷ ps) c d e same k)
+line-after o [] c d e same k = same k
+line-after o (p ∷ []) c d e same k = ap (flat (plainText p ▸ text ";")) (same k)
+line-after o (p ∷ p′ ∷ ps) c d e same k =
+    ap (λ (s : List ℕ). flat (plainText p ▸ text "; ") s) (line-after o (p′ ∷ ps) c d e same k)
 
--- code behind lines
-pub lines-behind : (o : Owner) (n : ℕ) (ls : Lines) (c : Code) (k : List ℕ)
+-- code after lines
+pub lines-after : (o : Owner) (n : ℕ) (ls : Lines) (c : Code) (k : List ℕ)
     → flat (codeText (lines o n ls c)) k ≡ flat (codeText (lines o n ls end) ▸ codeText c) k
-lines-behind o n [] c k = refl
-lines-behind o n (l ∷ ls) c k =
+lines-after o n [] c k = refl
+lines-after o n (l ∷ ls) c k =
     ap (flat (spaces n))
-    (line-behind o l (nl ⨾ lines o n ls c) (nl ⨾ lines o n ls end) c
-    (λ (j : List ℕ). ap (flat (simpleText nl)) (lines-behind o n ls c j)) k)
+    (line-after o l (nl ⨾ lines o n ls c) (nl ⨾ lines o n ls end) c
+    (λ (j : List ℕ). ap (flat (simpleText nl)) (lines-after o n ls c j)) k)

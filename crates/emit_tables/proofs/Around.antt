@@ -97,7 +97,7 @@ cases-keys bs ks i k e all =
 abbrev pub entry : ℕ → ℕ → ℕ → Doc
 entry g n key = topText (function (block key) (sp 1 ⨾ call g n ⨾ sp 1 ⨾ end))
 
--- and so are the functions that enter a group, but for the line end behind them
+-- and so are the functions that enter a group, but for the line end after them
 entries-numbered : (g n : ℕ) (bs : List Body) (k : List ℕ) → flat (numbered (entry g) n (map bodyKey bs) ▸ text "\n") k ≡ flat (unitText (forwarders g n bs)) k
 unfolding forwarders
 entries-numbered g n [] k = refl

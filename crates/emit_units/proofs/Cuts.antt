@@ -25,7 +25,7 @@ use Rattle.emit_units.specs.declared.extents.Extent.{Extent}
 use Rattle.emit_group.specs.Groups.{fileBodies}
 use Rattle.emit_units.specs.Units.{after, grown, unitGroups, unitTree, unitsWith, unitsFrom, FirstUnit, IsUnit}
 
--- a group behind some
+-- a group after some
 pub grown-last : (bs : List Body) (ts : List Top) (gs : List (List ℕ)) (is : List ℕ) → grown bs ts (gs ++ (is ∷ [])) ≡ grown bs ts gs ++ emitGroup (bodiesOf bs is)
 unfolding grown
 grown-last bs ts [] is = refl
@@ -81,7 +81,7 @@ module _ (f : List ℕ) (limit max : ℕ) where
       cut-group ts j h
       ∙ ap (λ (x : Bool). cond x (handed ts j ∷ unitsFrom f limit max (suc j)) (unitsWith f limit max (ts ++ groupTree j) (suc j))) (lt-leb _ _ short)
 
-  -- behind the last group
+  -- after the last group
   pub cut-end : (ts : List Top) (j : ℕ) → j ≡ length (groups limit (blocksOf f))
       → unitsWith f limit max ts j ≡ record { tree = ts ++ lastUnitEnd (fileBodies f); done = startOf (groups limit (blocksOf f)) j; last = true } ∷ []
   unfolding cut
@@ -93,7 +93,7 @@ module _ (f : List ℕ) (limit max : ℕ) where
   unfolding unitsFor unitsOf startOf
   units-all = refl
 
--- the length of a tree and another behind it
+-- the length of a tree and another after it
 after-both : (ts us : List Top) → after (after 0 ts) us ≡ after 0 (ts ++ us)
 after-both ts us = omega (arith, text-append ts us)
 
@@ -223,10 +223,10 @@ module _ {f : List ℕ} {limit max i p : ℕ} (r : Reached f limit max i p) {e :
   abbrev here : TranslationUnit
   here = record { tree = unitTree f limit (r .group) (u .size) (e .last); done = e .end; last = e .last }
 
-  abbrev behind : List TranslationUnit
-  behind = cond (e .last) [] (unitsFrom f limit max (r .group + u .size))
+  abbrev after : List TranslationUnit
+  after = cond (e .last) [] (unitsFrom f limit max (r .group + u .size))
 
-  units-at : (j : ℕ) → getElem? (fileUnits hashMultiplier limit max (blocksOf f)) (i + j) ≡ getElem? (here ∷ behind) j
+  units-at : (j : ℕ) → getElem? (fileUnits hashMultiplier limit max (blocksOf f)) (i + j) ≡ getElem? (here ∷ after) j
   units-at j = r .units j ∙ ap (λ (us : List TranslationUnit). getElem? us j) (u .units)
 
   -- a unit that is not the last
@@ -242,7 +242,7 @@ module _ {f : List ℕ} {limit max i p : ℕ} (r : Reached f limit max i p) {e :
             ∙ ap (λ (x : Bool). getElem? (cond x [] (unitsFrom f limit max (r .group + u .size))) j) on;
       }
 
-  -- none behind the last
+  -- none after the last
   pub reached-past : e .last ≡ true → (k : ℕ) → i < k → getElem? (fileUnits hashMultiplier limit max (blocksOf f)) k ≡ none
   reached-past over k later =
       ap (getElem? (fileUnits hashMultiplier limit max (blocksOf f))) (let same : k ≡ i + suc (k - suc i) = omega arith in same)

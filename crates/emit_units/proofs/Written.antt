@@ -30,7 +30,7 @@ all-written : (bs : List Body) → map (hashedIf true) bs ≡ bs
 all-written [] = refl
 all-written (b ∷ bs) = ap₂ (λ (c : Body) (cs : List Body). c ∷ cs) (hashed-written b) (all-written bs)
 
--- a tree with some groups behind it
+-- a tree with some groups after it
 grown-text : (f : List ℕ) (ts : List Top) (gs : List (List ℕ)) (k : List ℕ)
     → flat (unitText ts ▸ each (groupText true f) gs) k ≡ flat (unitText (grown (fileBodies f) ts gs)) k
 unfolding grown

@@ -21,7 +21,7 @@ use Rattle.emit_group.specs.Groups.{fileBodies}
 abbrev pub after : ℕ → List Top → ℕ
 after at ts = min (at + length (textOf ts)) maxUsize
 
--- a tree with some groups behind it
+-- a tree with some groups after it
 unfoldable pub grown : List Body → List Top → List (List ℕ) → List Top
 grown bs ts [] = ts
 grown bs ts (is ∷ gs) = grown bs (ts ++ emitGroup (bodiesOf bs is)) gs

@@ -1,4 +1,4 @@
--- What a writer is behind a flush.
+-- What a writer is after a flush.
 use Prim.Native.Nat.{ℕ}
 use denote.Ref.{now, at-last}
 use Rattle.base_text.specs.Doc.{Doc, print}
@@ -11,7 +11,7 @@ use Rattle.emit_writer.specs.declared.writer.Writer.{Writer}
 abbrev pub ticks : ℕ → Doc
 ticks cycles = linesText 4 (flushTicks cycles)
 
--- the writer behind a flush: the same borrow with the ticks laid over its bytes at the place reached, the place behind them as `Wrote` has it, and no cycles
+-- the writer after a flush: the same borrow with the ticks laid over its bytes at the place reached, the place after them as `Wrote` has it, and no cycles
 -- pending. `at-last x l` is the reference x at the list l
 abbrev pub flushed : Writer → Writer
 flushed w =

@@ -31,7 +31,7 @@ pub fn new<'a>(text: &'a mut [u8], at: usize, cycles: u64) -> Writer<'a>
     }
 }
 
-// The line for the cycles pending, if there are any; behind it none are.
+// The line for the cycles pending, if there are any; after it none are.
 pub fn flush<'a>(w: Writer<'a>) -> Writer<'a>
     ensures { λ r. ⌜ r ≡ flushed (w .entry) ⌝ }
 {
@@ -45,7 +45,7 @@ pub fn flush<'a>(w: Writer<'a>) -> Writer<'a>
     }
 }
 
-// What stands behind the ticks at the end of a block that goes on at address next, whose key is given too.
+// What stands after the ticks at the end of a block that goes on at address next, whose key is given too.
 pub fn close<'a>(w: Writer<'a>, next: u32, inside: bool, src: u32, key: u32) -> usize
     ensures { λ r. ⌜ ((ks : List ℕ) → among key ks ≡ inside → Wrote (now (w .entry .text)) (w .entry .at) (codeText (exitCode ks src common (pcLine next) key)) (now (w .exit .0)) r) ⌝ }
 {

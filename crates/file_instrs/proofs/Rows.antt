@@ -87,7 +87,7 @@ row-there : (n : ℕ) → n < 30 → take 16 (drop (16 * n) (rowsTo 30)) ≡ lar
 unfolding stands rowsTo largest
 row-there n h = alike→eq _ _ (below stands 30 tt h)
 
--- the row of one number more, put in two parts behind those before it
+-- the row of one number more, put in two parts after those before it
 pub rows-next : (rows row : List ℕ) (n : ℕ) → length row ≡ 12 → length rows ≡ 480 → n < 30
     → take (16 * n) rows ≡ rowsTo n → row ≡ fields (n % 10) (n / 10)
     → take (16 * (n + 1)) (paste (paste rows (16 * n) (14 ∷ 15 ∷ maxByte ∷ maxByte ∷ []) 4) (16 * n + 4) row (length row)) ≡ rowsTo (n + 1)

@@ -27,7 +27,7 @@ fn put_refusal(out: &mut [u8], number: u32, at: u64) -> usize
 }
 
 // Writes what is printed for a file that is not too long, and answers how many bytes that is; the
-// bytes behind them may change. Such a file has no more than 4,094 block records, so the work
+// bytes after them may change. Such a file has no more than 4,094 block records, so the work
 // numbers and the text always suffice.
 fn put_answer(file: &[u8], out: &mut [u8]) -> usize
     requires { ⌜ (length (now file) ≤ longest) × (room ≤ length (now out)) ⌝ }

@@ -46,7 +46,7 @@ module _ (n z c v : Bool) (low : ℕ) (h : low < 2 ^ 28) where
       go : (n z c v : ℕ) → v < 2 → ((n * 8 + z * 4 + c * 2 + v) * 268435456 + low) / 268435456 % 2 ≡ v
       go n z c v hv = omega arith
 
--- the scope behind the declarations of the flags; x is c[16]
+-- the scope after the declarations of the flags; x is c[16]
 abbrev pub flagScope : Bool → Bool → Bool → Bool → ℕ → Scope
 flagScope n z c v x = given x-cv (oneIf v) (given x-cc (oneIf c) (given x-cz (oneIf z) (given x-cn (oneIf n) (given x-s x empty))))
 
@@ -102,7 +102,7 @@ test-ok Al n z c v x nv fs s m = refl
 test-ok Nv n z c v x nv fs s m = absurd (subst T nv tt)
 
 module _ {z : State} {m : Machine} (s : Sound m) (a : Agrees z m) where
-  -- the state behind the declarations, by the values of the locals
+  -- the state after the declarations, by the values of the locals
   abbrev flagState : ℕ → ℕ → ℕ → ℕ → ℕ → State
   flagState x n zf c v = within (given x-cv v (given x-cc c (given x-cz zf (given x-cn n (given x-s x empty))))) (z .scopes) z
 

@@ -1,4 +1,4 @@
--- No cycle is lost or counted twice: the ticks of a block's forms, with the cycles pending behind them, are the costs of its native records. A record that
+-- No cycle is lost or counted twice: the ticks of a block's forms, with the cycles pending after them, are the costs of its native records. A record that
 -- is left to the interpreter adds none.
 use mathlib.Core.Path.{_≡_, refl, ap}
 use Prim.Native.Nat.{ℕ, zero, suc, _+_, _%_, _^_}
@@ -85,7 +85,7 @@ ticks-alone : (n : ℕ) → linesTicks (flushTicks n) ≡ n
 ticks-alone zero = refl
 ticks-alone (suc n) = omega arith
 
--- a form for an instruction of some cost, with cycles pending before and behind it
+-- a form for an instruction of some cost, with cycles pending before and after it
 record Kept (cycles cost : ℕ) (s : Form × ℕ) : Type 0 where
   kept : formTicks (s .0) + s .1 ≡ cycles + own (s .0) cost
 
@@ -148,7 +148,7 @@ charged-one r rs x xs h = rw h (ap (λ n. n + charged rs xs) (own-one r (x .cost
 pair-ticks : (cycles target ret : ℕ) → formTicks (native (emitPair cycles target ret)) ≡ cycles
 pair-ticks cycles target ret = omega (arith, ticks-all cycles (apart (setWord 14 ret ∷ setWord 15 (clearBit0 target) ∷ [])))
 
--- forms for some instructions, with cycles pending before and behind them
+-- forms for some instructions, with cycles pending before and after them
 record AllKept (cycles : ℕ) (xs : List TimedInstr) (rs : List Form × ℕ) : Type 0 where
   kept : formsTicks (rs .0) + rs .1 ≡ cycles + charged (rs .0) xs
 

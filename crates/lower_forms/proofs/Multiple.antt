@@ -161,7 +161,7 @@ module _ {z : State} {m : Machine} (s : Sound m) (a : Agrees z m) (i : Instr) (r
       go true false p false r d t = held p
       go false false p false r d t = held p
 
-  -- a->write32(m, addr & ~3u, e); addr += 4u; for each register, e giving v of it, and what stands behind
+  -- a->write32(m, addr & ~3u, e); addr += 4u; for each register, e giving v of it, and what stands after
   stores-ok : (e : ℕ → Expr) (v : ℕ → ℕ) (tail : Lines) {m1 : Machine} (js : List ℕ) (f : Scope) (fs : List Scope) (u : State) (g : ℕ → ℕ) (k : ℕ)
       → All (λ j. (y : State) → Regs y m → value (var (u32, x-base)) y ≡ some (m .r rn) → Reads (e j) y (v j)) js
       → Agrees u (M.setMem g m) → f (index x-base) ≡ some (u32, some (m .r rn)) → f (index x-addr) ≡ some (u32, some k) → k < 4294967296

@@ -81,7 +81,7 @@ eights false = lit< tt
 
 -- x: the base, b its expression; y: the offset, off its expression
 module _ {z : State} {m : Machine} (s : Sound m) (a : Agrees z m) (b : Expr) (x : ℕ) (p : Always b m x) (pre up : Bool) (off : Expr) (y : ℕ) (o : Always off m y) where
-  -- behind the three declarations
+  -- after the three declarations
   unfoldable pub placed : State
   placed = within (given x-addr (address pre up x y) (given x-ob (moved up x y) (given x-base x empty))) (z .scopes) z
 

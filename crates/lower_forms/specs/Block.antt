@@ -74,7 +74,7 @@ emitPop thumb cycles rn regs =
     (setReg 15 (bin band (read w32 (aligned 3)) (un compl (lit udec (cond thumb 1 3)))))
     (bin bor (get (reg 15)) (lit udec (cond thumb 1 0)))
 
--- an instruction with the lines that it is lowered to, or none, and the cycles pending behind it; touchesBus: it touches memory, so what is pending is flushed
+-- an instruction with the lines that it is lowered to, or none, and the cycles pending after it; touchesBus: it touches memory, so what is pending is flushed
 -- before its own cost is added
 abbrev pub emitLines : Bool → Bool → ℕ → TimedInstr → Option Lines → Form × ℕ
 emitLines thumb touchesBus cycles x none = (emitShell thumb false cycles (x .instr), 0)
@@ -86,7 +86,7 @@ emitLines thumb touchesBus cycles x (some body) =
 abbrev pub emitStraight : Bool → Bool → ℕ → TimedInstr → Form × ℕ
 emitStraight thumb touchesBus cycles x = emitLines thumb touchesBus cycles x (inlineBody thumb (x .instr))
 
--- an instruction that is not fused, by its operation, and the cycles pending behind it
+-- an instruction that is not fused, by its operation, and the cycles pending after it
 abbrev pub emitOp : Bool → ℕ → ℕ → TimedInstr → Op → Form × ℕ
 emitOp thumb region cycles x (Alu op s rd rn op2) = emitStraight thumb false cycles x
 emitOp thumb region cycles x (Mul acc s rd rn rs rm) = emitStraight thumb false cycles x
@@ -117,11 +117,11 @@ abbrev pub fusedOr : {A : Type 0} → Fused → A → (ℕ → ℕ → A) → A
 fusedOr Nothing unfused f = unfused
 fusedOr (Pair target ret) unfused f = f target ret
 
--- a form before those of the instructions behind, and the cycles pending behind them
+-- a form before those of the instructions after, and the cycles pending after them
 abbrev pub consForm : Form → List Form × ℕ → List Form × ℕ
 consForm r rs = (r ∷ rs .0, rs .1)
 
--- the loop: the forms of instructions, with cycles pending before them, and the cycles pending behind them
+-- the loop: the forms of instructions, with cycles pending before them, and the cycles pending after them
 unfoldable pub emitInstrs : Bool → ℕ → ℕ → List TimedInstr → List Form × ℕ
 emitInstrs thumb region cycles [] = ([], cycles)
 emitInstrs thumb region cycles (x ∷ []) = let s : Form × ℕ = emitInstr thumb region cycles x in consForm (s .0) ([], s .1)

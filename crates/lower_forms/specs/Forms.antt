@@ -24,7 +24,7 @@ pub data Native : Type 0 where
 -- what emit_block makes of a record, or of a fused pair
 pub data Form : Type 0 where
   native : Native → Form
-  shell : Bool → Lines → ℕ → Form  -- a shell (document 01), which calls interp_one: whether it is an unfused ThumbBlHigh, behind which, where it is the block's last, the closing transfer is printed too; the lines before; the key behind it
+  shell : Bool → Lines → ℕ → Form  -- a shell (document 01), which calls interp_one: whether it is an unfused ThumbBlHigh, after which, where it is the block's last, the closing transfer is printed too; the lines before; the key after it
 
 -- how many records a native form carries out
 abbrev pub records : Native → ℕ
@@ -37,7 +37,7 @@ records (bx t e) = 1
 records (pop t s l u e) = 1
 
 -- a block as it is printed: its address, whether it is Thumb, how many instructions it has, the hash of its code bytes or their absence, the forms of its
--- instructions in their order, and the cycles pending behind the last one
+-- instructions in their order, and the cycles pending after the last one
 pub record Body : Type 0 where
   pub addr : ℕ
   pub thumb : Bool

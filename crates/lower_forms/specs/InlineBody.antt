@@ -52,7 +52,7 @@ abbrev pub logicalC : Option Expr → List Plain
 logicalC none = []
 logicalC (some e) = run f-c e ∷ []
 
--- the statements of an Alu behind its outcome, where it takes the carry from its second operand
+-- the statements of an Alu after its outcome, where it takes the carry from its second operand
 abbrev pub logicalRest : AluOp → Bool → ℕ → Option Expr → List Plain
 logicalRest op s rd carry = cond s (run f-nz (v32 x-r) ∷ logicalC carry) [] ++ (result op rd ∷ [])
 
@@ -160,7 +160,7 @@ stored Byte e = write w8 (v32 x-addr) e
 stored Half e = write w16 (aligned 1) e
 stored Word e = write w32 (aligned 3) e
 
--- a load or a store, behind the lines that both have; wb: the base is written back
+-- a load or a store, after the lines that both have; wb: the base is written back
 abbrev pub access : Bool → MemWidth → Bool → ℕ → ℕ → Bool → List Plain
 access true width signed rd rn wb = only (wb && not (eqb rn rd) && not (eqb rn 15)) (setReg rn (v32 x-ob)) ++ (setReg rd (loaded width signed) ∷ [])
 access false width signed rd rn wb = stored width (get (reg rd)) ∷ only (wb && not (eqb rn 15)) (setReg rn (v32 x-ob))
@@ -210,7 +210,7 @@ abbrev pub stores : (ℕ → Expr) → List ℕ → Lines
 stores value [] = []
 stores value (r ∷ rs) = (write w32 (aligned 3) (value r) ∷ advance ∷ []) ∷ stores value rs
 
--- the lines of a BlockMem behind its start: load or store, the base register, whether it is written back and is listed, the base after, the registers
+-- the lines of a BlockMem after its start: load or store, the base register, whether it is written back and is listed, the base after, the registers
 abbrev pub loadsOrStores : Bool → Instr → ℕ → Bool → Bool → Expr → List ℕ → Lines
 loadsOrStores true i rn writeback inList moved regs = apart (only (writeback && not inList) (setReg rn moved)) ++ loads regs
 loadsOrStores false i rn writeback inList moved regs =

@@ -44,11 +44,11 @@ state =
 abbrev arm : Op → Instr
 arm op = record { addr = 0x08000000; cond = Al; op = op; thumb = false }
 
--- register k, the status register and the word at 0x3c, behind the lines of an operation
+-- register k, the status register and the word at 0x3c, after the lines of an operation
 abbrev text-has : ℕ → Op → Option (ℕ × ℕ × ℕ)
 text-has k op = bind (opBody false (arm op) op) λ ls. bind (perform (statements ls) (enter state)) λ z. some (z .c k, z .c 16, load w32 (z .mem) 0x3c)
 
--- the same behind the operation, by the manual
+-- the same after the operation, by the manual
 abbrev manual-has : ℕ → Op → Option (ℕ × ℕ × ℕ)
 manual-has k op = bind (operation (arm op) op machine) λ q. some (q .0 .r k, cpsr (q .0), Memory4 (q .0 .mem) 0x3c)
 

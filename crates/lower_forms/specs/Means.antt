@@ -15,7 +15,7 @@ use Rattle.c_meaning.specs.State.{State, enter}
 use Rattle.armv4t_manual.specs.Machine.{Machine, Sound}
 use Rattle.armv4t_manual.specs.Multiple.{lowest}
 use Rattle.armv4t_manual.specs.Unsaid.{unpredictable}
-use Rattle.armv4t_manual.specs.Execute.{keyBehind, addsToPc, operation}
+use Rattle.armv4t_manual.specs.Execute.{keyAfter, addsToPc, operation}
 use Rattle.lower_forms.specs.Forms.{Lines}
 use Rattle.lower_forms.specs.InlineBody.{opBody}
 use Rattle.lower_forms.specs.Agree.{Agrees, Makes}
@@ -44,9 +44,9 @@ abbrev pub statements : Lines → List Plain
 statements [] = []
 statements (l ∷ ls) = l ++ statements ls
 
--- lines, run in braces of their own from z, end defined in a state that agrees with a machine, and its key is that of the instruction behind i
+-- lines, run in braces of their own from z, end defined in a state that agrees with a machine, and its key is that of the instruction after i
 abbrev pub Leads : Instr → Lines → State → Machine × ℕ → Type 0
-Leads i ls z next = Makes (statements ls) (enter z) (next .0) × (next .1 ≡ keyBehind i)
+Leads i ls z next = Makes (statements ls) (enter z) (next .0) × (next .1 ≡ keyAfter i)
 
 -- where an operation of an instruction, in a block of its own set, is lowered to lines, the manual says what it makes of the machine m, and it is no named
 -- difference, then the lines lead from a state that agrees with m to that

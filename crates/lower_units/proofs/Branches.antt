@@ -26,7 +26,7 @@ use Rattle.armv4t_manual.specs.Machine.{Machine, setReg, Sound}
 use Rattle.armv4t.specs.InRange.{InRange}
 use Rattle.armv4t_manual.specs.Conditions.{passed}
 use Rattle.armv4t_manual.specs.Unsaid.{noInstructionOf, isNv}
-use Rattle.armv4t_manual.specs.Execute.{key, operation, execute, branch, keyBehind}
+use Rattle.armv4t_manual.specs.Execute.{key, operation, execute, branch, keyAfter}
 use Rattle.lower_forms.specs.Agree.{Agrees}
 use Rattle.lower_units.specs.Text.{Continues, Leaves, Acts, continues, leaves}
 use Rattle.lower_units.specs.Records.{isTaken, isNamedDifference}
@@ -42,7 +42,7 @@ key-address : (t : Bool) (target : ℕ) → target % 2 ≡ 0 → target ≡ clea
 key-address true target e = omega arith
 key-address false target e = omega arith
 
--- what the text does is the manual's branch: only ARM links, where 4 bytes lead to the instruction behind
+-- what the text does is the manual's branch: only ARM links, where 4 bytes lead to the instruction after
 same-branch : (addr : ℕ) (m : Machine) (target : ℕ) → target % 2 ≡ 0 → (t l : Bool) → (t && l) ≡ false
     → _≡_ {A = Machine × ℕ} (cond l (setReg 14 ((addr + 4) % 4294967296) m) m, keyOf target t) (cond l (setReg 14 ((addr + sizeOf t) % 4294967296) m) m, key t target)
 same-branch addr m target e true true q = absurd (true≢false q)
@@ -98,14 +98,14 @@ module _ (i : Instr) (link : Bool) (target : ℕ) (r : InRange (Branch link targ
 pub branch-means : (i : Instr) (link : Bool) (target : ℕ) → i .op ≡ Branch link target → InRange (Branch link target)
     → (cycles : ℕ) (ks : List ℕ) (a : ℕ) (o : Owner) {z : State} {m : Machine} → Sound m → Agrees z m → isNamedDifference i m ≡ false
     → (next : Machine × ℕ) → execute i m ≡ some next
-    → Acts (nativeText ks a o (emitBranch (i .thumb) cycles i link target)) (isTaken i m) z next (keyBehind i)
+    → Acts (nativeText ks a o (emitBranch (i .thumb) cycles i link target)) (isTaken i m) z next (keyAfter i)
 branch-means i link target q r n ks a o {z} {m} s g d next e = let w = outcome i m next e in go (subst (λ (op : Op). noInstructionOf (i .thumb) (i .cond) op ≡ false) q (w .0)) (w .1)
   where
     nv : isNv (i .cond) ≡ false
     nv = not-nv i m d
 
     Result : Machine × ℕ → Type 0
-    Result next = Acts (nativeText ks a o (emitBranch (i .thumb) n i link target)) (isTaken i m) z next (keyBehind i)
+    Result next = Acts (nativeText ks a o (emitBranch (i .thumb) n i link target)) (isTaken i m) z next (keyAfter i)
 
     go : (i .thumb && link) ≡ false → Outcome i m next → Result next
     go h (done p u f) = subst Result (some-same (subst (λ (op : Op). operation i op m ≡ some next) q f)) (leaves (rw (p, q)) (taken i link target r n ks a o s g nv h p))

@@ -31,7 +31,7 @@ use Rattle.lower_forms.proofs.Gives.{Reads, to, r-udec, r-uhex, r-par, r-and, r
 use Rattle.lower_forms.proofs.Memory.{r-even, r-aligned}
 use Rattle.lower_forms.proofs.Operands.{operand-reads}
 use Rattle.lower_units.proofs.Lines.{run-plain, run-line}
-use Rattle.lower_units.proofs.Wrapped.{behind-ticks}
+use Rattle.lower_units.proofs.Wrapped.{after-ticks}
 use Rattle.lower_units.proofs.Exits.{with-pc, closed-out}
 use Rattle.lower_forms.proofs.Steps.{ne, exec1, opened, given, within, do-declare, do-reg, with-scopes}
 use Rattle.lower_forms.proofs.Flags.{nib}
@@ -195,7 +195,7 @@ module _ (i : Instr) (rm : ℕ) (hm : rm ≤ 15) (ks : List ℕ) (a : ℕ) (o : 
       → (c : Code) → run (nativeText ks a o (bx (flushTicks n) (regExpr i rm)) c) z ≡ some (leave y, back k)
   unfolding nativeText run runs step
   around {y} {k} e c =
-      behind-ticks o 4 n (sp 4 ⨾ braces (sp 1 ⨾ plain o (declare (u32, x-t) (regExpr i rm) []) ⨾ rest) (nl ⨾ end)) z
+      after-ticks o 4 n (sp 4 ⨾ braces (sp 1 ⨾ plain o (declare (u32, x-t) (regExpr i rm) []) ⨾ rest) (nl ⨾ end)) z
       ∙ closed-out (sp 1 ⨾ plain o (declare (u32, x-t) (regExpr i rm) []) ⨾ rest) (nl ⨾ end) z (back k) refl
       (run-plain o (declare (u32, x-t) (regExpr i rm) []) rest (enter z)
       ∙ ap (λ (q : Option State). bind q (run rest))

@@ -29,7 +29,7 @@ use Rattle.lower_forms.proofs.Gives.{lt-true}
 use Rattle.lower_units.proofs.Lines.{run-line, run-lines}
 use Rattle.lower_forms.proofs.Body.{not-none, all-of}
 use Rattle.lower_forms.proofs.Conditions.{declared}
-use Rattle.lower_units.proofs.Wrapped.{behind-ticks, when-false, flagged, test, framed}
+use Rattle.lower_units.proofs.Wrapped.{after-ticks, when-false, flagged, test, framed}
 use Rattle.lower_forms.proofs.Steps.{ne, with-scopes, with-reg}
 
 -- a transfer to a key leads there, and touches neither registers nor memory
@@ -52,7 +52,7 @@ transfers ks a o n k z h = go (among k ks) refl (leb (clearBit0 k) a) refl (eqb 
     go true p true q true r = record { end = answered z; exit = to k; ends = λ c. rw (p, q, r); leads = refl; regs = refl; memory = refl }
     go true p true q false r = record { end = answered z; exit = back k; ends = λ c. rw (p, q, r, lt-true h); leads = refl; regs = refl; memory = refl }
 
--- the state behind what a branch sets: R14 if it links, and c[15]
+-- the state after what a branch sets: R14 if it links, and c[15]
 abbrev branched : Bool → ℕ → ℕ → State → State
 branched link ret target z = setC 15 target (cond link (setC 14 ret z) z)
 
@@ -104,7 +104,7 @@ module _ (ks : List ℕ) (a : ℕ) (o : Owner) (n : ℕ) (link : Bool) (ret targ
       ps : List Plain
       ps = only link (setWord 14 ret) ++ (setWord 15 target ∷ [])
 
--- what leads away leads past what stands behind
+-- what leads away leads past what stands after
 away : (w : Goes) (z : State) (f : State → Outcome) {k : ℕ} → destination w ≡ some k → next w z f ≡ some (z, w)
 away on z f e = absurd (not-none e)
 away (to l) z f e = refl
@@ -133,7 +133,7 @@ module _ (ks : List ℕ) (a : ℕ) (o : Owner) (n : ℕ) (link : Bool) (ret targ
         end = leave (leave (t .end));
         exit = t .exit;
         ends = λ d.
-            behind-ticks o 4 n (conditional o (condExpr c) b d) z
+            after-ticks o 4 n (conditional o (condExpr c) b d) z
             ∙ closed-out (sp 1 ⨾ line o flags (gap true 6 ⨾ when o false (other (condExpr c)) b (sp 1 ⨾ end))) (nl ⨾ d) z (t .exit) (t .leads)
             (run-line o flags (gap true 6 ⨾ when o false (other (condExpr c)) b (sp 1 ⨾ end)) (enter z)
             ∙ ap (λ (q : Option State). bind q (run (gap true 6 ⨾ when o false (other (condExpr c)) b (sp 1 ⨾ end)))) (declared s g)
@@ -159,7 +159,7 @@ module _ (ks : List ℕ) (a : ℕ) (o : Owner) (n : ℕ) (link : Bool) (ret targ
   branch-continues fail =
       record {
         end = leave (flagged s g c nv);
-        goes = λ d. behind-ticks o 4 n (conditional o (condExpr c) b d) z ∙ framed s g c nv o b (when-false o (condExpr c) b (flagged s g c nv) (test s g c nv false fail)) d;
+        goes = λ d. after-ticks o 4 n (conditional o (condExpr c) b d) z ∙ framed s g c nv o b (when-false o (condExpr c) b (flagged s g c nv) (test s g c nv false fail)) d;
         same = with-scopes g _;
       }
     where

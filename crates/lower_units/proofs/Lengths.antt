@@ -71,7 +71,7 @@ transfer-most ks a o n k c h =
 conditional-most : (o : Owner) (e : Expr) (b c : Code) → codeMost (conditional o e b c) ≤ 300 + most (exprText e) + codeMost b + codeMost c
 conditional-most o e b c = omega arith
 
--- the text of a native record is 400 bytes longer than what varies in it, without what stands behind
+-- the text of a native record is 400 bytes longer than what varies in it, without what stands after
 native-most : (ks : List ℕ) (a : ℕ) (o : Owner) (r : Native) (c : Code) → codeMost (nativeText ks a o r c) ≤ 400 + nativeMost r + codeMost c
 unfolding nativeText
 native-most ks a o (straight t l) c =
@@ -254,7 +254,7 @@ abbrev groupsMost : List (List Body) → ℕ
 groupsMost [] = 0
 groupsMost (g ∷ gs) = membersMost g + groupsMost gs
 
--- a text and another behind it
+-- a text and another after it
 pub text-append : (ts us : List Top) → length (textOf (ts ++ us)) ≡ length (textOf ts) + length (textOf us)
 unfolding textOf
 text-append ts us = length-unit ts us

@@ -7,7 +7,7 @@ pub mod Starred
 pub mod Statements
 pub mod Units
 pub mod Whole
-pub mod LinesBehind
+pub mod LinesAfter
 pub mod Lines
 pub mod Wrapped
 pub mod Straight

@@ -38,7 +38,7 @@ length-size (hex8 n) = refl
 length-size (hex16 n) = length-fixed 16 16 n
 length-size (a ▸ b) = omega (arith, length-append (print a) (print b), length-size a, length-size b)
 
--- code behind code
+-- code after code
 size-append : (c d : Code) → size (codeText (c ⧺ d)) ≡ size (codeText c) + size (codeText d)
 size-append end d = omega arith
 size-append (s ⨾ c) d = omega (arith, size-append c d)
@@ -54,7 +54,7 @@ hashed-written b = ap (λ (h : Option ℕ). record { addr = b .addr; thumb = b .
     go (some h) = refl
 
 module _ (written : Bool) where
-  -- nothing behind the guard shows a hash
+  -- nothing after the guard shows a hash
   code-hashed : (ks : List ℕ) (b : Body) (i : ℕ) (rs : List Form) → codeFrom ks (hashedIf written b) i rs ≡ codeFrom ks b i rs
   unfolding codeFrom closing
   code-hashed ks b i [] = refl

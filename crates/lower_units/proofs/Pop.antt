@@ -25,7 +25,7 @@ use Rattle.lower_units.specs.Block as L
 use Rattle.armv4t_manual.specs.Machine.{Machine, update, setRegs, Sound}
 use Rattle.armv4t_manual.specs.Machine as M
 use Rattle.armv4t_manual.specs.Transfer.{Memory4}
-use Rattle.armv4t_manual.specs.Multiple.{loadAll, behind}
+use Rattle.armv4t_manual.specs.Multiple.{loadAll, addressAfter}
 use Rattle.armv4t_manual.specs.Multiple as MM
 use Rattle.armv4t_manual.specs.Execute.{key, loadMultiplePc}
 use Rattle.lower_forms.specs.Agree.{Agrees}
@@ -38,7 +38,7 @@ use Rattle.lower_forms.proofs.Listed.{listed-same, Named, listed-named}
 use Rattle.lower_forms.proofs.Multiple.{in-scope}
 use Rattle.lower_forms.proofs.BodyMultiple.{append-length, listed-length}
 use Rattle.lower_units.proofs.Lines.{run-plain, run-lines}
-use Rattle.lower_units.proofs.Wrapped.{behind-ticks}
+use Rattle.lower_units.proofs.Wrapped.{after-ticks}
 use Rattle.lower_units.proofs.Exits.{with-pc, closed-out}
 use Rattle.lower_units.proofs.Exchange.{leave-back}
 use Rattle.lower_forms.proofs.Steps.{exec1, opened, given, within, do-declare, do-plus, do-reg, with-scopes, with-reg}
@@ -60,10 +60,10 @@ arrive : {z : State} {P : State → Type 0} → P z → Reaches [] z P
 unfolding perform execs
 arrive {z} h = record { end = z; ends = refl; holds = h }
 
--- the loads, and then what stands behind them
+-- the loads, and then what stands after them
 loads-reach : (is : List ℕ) (f : Scope) (fs : List Scope) (u : State) (m : Machine) (k : ℕ) (tail : Lines) {P : State → Type 0} → All (λ i. i < 15) is
     → ((a : ℕ) → m .mem a < 256) → Agrees u m → f (index x-addr) ≡ some (u32, some k) → k < 4294967296
-    → ((h : Scope) (y : State) → Agrees y (setRegs (loadAll is k (m .mem) (m .r)) m) → h (index x-addr) ≡ some (u32, some (behind is k)) → behind is k < 4294967296
+    → ((h : Scope) (y : State) → Agrees y (setRegs (loadAll is k (m .mem) (m .r)) m) → h (index x-addr) ≡ some (u32, some (addressAfter is k)) → addressAfter is k < 4294967296
     → Reaches (statements tail) (within h fs y) P)
     → Reaches (statements (loads is ++ tail)) (within f fs u) P
 loads-reach [] f fs u m k tail h b a q l next = next f u (record { regs = a .regs; flags = a .flags; memory = a .memory }) q l
@@ -95,7 +95,7 @@ module _ {z : State} {m : Machine} (s : Sound m) (a : Agrees z m) (rn : ℕ) (hn
   moved = (regs rn + (length is + 1) * 4) % 4294967296
 
   abbrev loaded : ℕ
-  loaded = Memory4 (m .mem) (behind is (m .r rn))
+  loaded = Memory4 (m .mem) (addressAfter is (m .r rn))
 
   abbrev popped : Machine
   popped = setRegs (update rn moved regs) m
@@ -103,9 +103,9 @@ module _ {z : State} {m : Machine} (s : Sound m) (a : Agrees z m) (rn : ℕ) (hn
   few : (k : ℕ) → k ≤ 15 → (k + 1) * 4 < 4294967296
   few k h = omega arith
 
-  -- what the state behind the lines has
+  -- what the state after the lines has
   Ready : State → Type 0
-  Ready y = Agrees y popped × (value (var (u32, x-addr)) y ≡ some (behind is (m .r rn))) × (behind is (m .r rn) < 4294967296)
+  Ready y = Agrees y popped × (value (var (u32, x-addr)) y ≡ some (addressAfter is (m .r rn))) × (addressAfter is (m .r rn) < 4294967296)
 
   lines-reach : Reaches (statements (loads is ++ apart (setReg rn (bin add (get (reg rn)) (lit udec ((length is + 1) * 4))) ∷ []))) (within (given x-addr (m .r rn) empty) (z .scopes) z) Ready
   unfolding Ready
@@ -122,7 +122,7 @@ module _ {z : State} {m : Machine} (s : Sound m) (a : Agrees z m) (rn : ℕ) (hn
   word-reads : (y : State) → Ready y → Reads (read w32 (aligned 3)) y loaded
   unfolding Ready
   word-reads y r =
-      to (ap (λ (f : ℕ → ℕ). load w32 f (behind is (m .r rn) / 4 * 4)) (r .0 .memory))
+      to (ap (λ (f : ℕ → ℕ). load w32 f (addressAfter is (m .r rn) / 4 * 4)) (r .0 .memory))
       (r-read (r-aligned (r-var (u32, x-addr) refl (r .1) (r .2))) (λ j. subst (λ (f : ℕ → ℕ). f j < 256) (sym (r .0 .memory)) (s .bytes j)))
 
   module _ (ks : List ℕ) (at : ℕ) (o : Owner) (n : ℕ) where
@@ -138,7 +138,7 @@ module _ {z : State} {m : Machine} (s : Sound m) (a : Agrees z m) (rn : ℕ) (hn
           end = leave y;
           exit = back k;
           ends = λ c.
-              behind-ticks o 4 n (sp 4 ⨾ braces (sp 1 ⨾ plain o (let32 x-addr (get (reg rn))) ⨾ rest) (nl ⨾ end)) z
+              after-ticks o 4 n (sp 4 ⨾ braces (sp 1 ⨾ plain o (let32 x-addr (get (reg rn))) ⨾ rest) (nl ⨾ end)) z
               ∙ closed-out (sp 1 ⨾ plain o (let32 x-addr (get (reg rn))) ⨾ rest) (nl ⨾ end) z (back k) refl
               (run-plain o (let32 x-addr (get (reg rn))) rest (enter z)
               ∙ ap (λ (q : Option State). bind q (run rest))
@@ -183,7 +183,7 @@ pop-leaves i rn rlist hn h15 n ks a o {z} {m} s g =
     is = MM.listed rlist 15
 
     x : ℕ
-    x = Memory4 (m .mem) (behind is (m .r rn))
+    x = Memory4 (m .mem) (addressAfter is (m .r rn))
 
     r1 : ℕ → ℕ
     r1 = loadAll is (m .r rn) (m .mem) (m .r)
@@ -192,7 +192,7 @@ pop-leaves i rn rlist hn h15 n ks a o {z} {m} s g =
     made k = (setRegs (update rn ((r1 rn + k * 4) % 4294967296) r1) m, key (i .thumb) (cond (i .thumb) (x / 2 * 2) (x / 4 * 4)))
 
     lt : x < 4294967296
-    lt = load-small (m .mem) (s .bytes) (behind is (m .r rn) / 4 * 4)
+    lt = load-small (m .mem) (s .bytes) (addressAfter is (m .r rn) / 4 * 4)
 
     hi : All (λ j. j < 15) is
     hi = all-map (Named rlist 15) (λ j. j < 15) (λ j h. h .0) is (listed-named rlist 15)

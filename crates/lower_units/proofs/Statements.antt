@@ -41,7 +41,7 @@ module _ (P : Simple → Type 0) (gaps : (l : Bool) (n : ℕ) → P (gap l n)) (
   unfolding closing
   closing-each ks b = lines-each common 4 (closingLines b) _ (transfer-each ks (b .addr) common 4 _ end tt)
 
-  -- braces after spaces, and what stands behind them
+  -- braces after spaces, and what stands after them
   braces-each : (b c : Code) → EachStatement P b → EachStatement P c → EachStatement P (sp 4 ⨾ braces b (nl ⨾ c))
   braces-each b c p q = (gaps false 4, (p, (gaps true 0, q)))
 

@@ -16,7 +16,7 @@ use Rattle.lower_forms.specs.Block.{flushTicks, emitLines, emitStraight}
 use Rattle.lower_units.specs.Block.{nativeText}
 use Rattle.armv4t_manual.specs.Machine.{Machine, Sound}
 use Rattle.armv4t_manual.specs.Conditions.{passed}
-use Rattle.armv4t_manual.specs.Execute.{execute, keyBehind}
+use Rattle.armv4t_manual.specs.Execute.{execute, keyAfter}
 use Rattle.lower_forms.specs.Agree.{Agrees}
 use Rattle.lower_forms.specs.Means.{OpMeans}
 use Rattle.lower_units.specs.Text.{Continues}
@@ -58,7 +58,7 @@ module _ (x : TimedInstr) (p : OpMeans (x .instr) (x .instr .op)) (ks : List ℕ
 
   -- a text that leads on as the manual does
   Result : Native → Type 0
-  Result r = Continues (nativeText ks a o r) z (next .0) × (next .1 ≡ keyBehind i)
+  Result r = Continues (nativeText ks a o r) z (next .0) × (next .1 ≡ keyAfter i)
 
   module _ (ls : Lines) (l : inlineBody (i .thumb) i ≡ some ls) (n : ℕ) where
     -- under Al
@@ -78,14 +78,14 @@ module _ (x : TimedInstr) (p : OpMeans (x .instr) (x .instr .op)) (ks : List ℕ
         text : Machine → Type 0
         text = Continues (nativeText ks a o (straightIf (flushTicks n) (condExpr (i .cond)) ls)) z
 
-        go : Outcome i m next → text (next .0) × (next .1 ≡ keyBehind i)
+        go : Outcome i m next → text (next .0) × (next .1 ≡ keyAfter i)
         go (done t u q) = (
           subst (λ (b : Bool). text (cond b (next .0) m)) t
               (straight-if-text s g (i .cond) (not-nv i m d) ks a o n ls (λ t v h. p ls l v m s h u (not-different i m d t) next q .0)),
           p ls l z m s g u (not-different i m d t) next q .1,
         )
         go (skipped t q) =
-            subst (λ (n : Machine × ℕ). text (n .0) × (n .1 ≡ keyBehind i)) q
+            subst (λ (n : Machine × ℕ). text (n .0) × (n .1 ≡ keyAfter i)) q
             (subst (λ (b : Bool). text (cond b m m)) t (straight-if-text s g (i .cond) (not-nv i m d) ks a o n ls (λ y u h. absurd (true≢false (sym y ∙ t)))), refl)
 
     by-cond : (b : Bool) → isAl (i .cond) ≡ b → Result (cond b (straight (flushTicks n) ls) (straightIf (flushTicks n) (condExpr (i .cond)) ls))
@@ -99,6 +99,6 @@ module _ (x : TimedInstr) (p : OpMeans (x .instr) (x .instr .op)) (ks : List ℕ
 
   -- a straight-line instruction that is native, where its operation means what it should
   pub straight-means : (touchesBus : Bool) (cycles : ℕ) (r : Native) → emitStraight (i .thumb) touchesBus cycles x .0 ≡ native r
-      → Continues (nativeText ks a o r) z (next .0) × (next .1 ≡ keyBehind i)
+      → Continues (nativeText ks a o r) z (next .0) × (next .1 ≡ keyAfter i)
   unfolding Result
   straight-means touchesBus cycles r q = let w = lowered (i .thumb) touchesBus cycles x r q in subst Result (native-same (w .2)) (by-bus (w .0) (w .1) cycles touchesBus)

@@ -22,7 +22,7 @@ use Rattle.lower_units.specs.Block.{nativeText}
 use Rattle.armv4t_manual.specs.Machine.{Machine, Sound}
 use Rattle.armv4t.specs.InRange.{InRange}
 use Rattle.armv4t_manual.specs.Conditions.{passed}
-use Rattle.armv4t_manual.specs.Execute.{operation, execute, loadMultiplePc, keyBehind}
+use Rattle.armv4t_manual.specs.Execute.{operation, execute, loadMultiplePc, keyAfter}
 use Rattle.armv4t_manual.proofs.Kept.{WrittenOut, execute-said}
 use Rattle.lower_forms.proofs.Operands.{ne-of, under}
 use Rattle.lower_forms.proofs.Body.{some-same, not-none, or-l, or-r}
@@ -144,7 +144,7 @@ module _ (region : ℕ) (x : TimedInstr) (cycles : ℕ) (r : Native) where
   module _ (ks : List ℕ) (at : ℕ) (range : InRange (i .op)) (o : Owner) {z : State} {m : Machine} (s : Sound m) (g : Agrees z m)
       (d : isNamedDifference i m ≡ false) (next : Machine × ℕ) (ex : execute i m ≡ some next) where
     Result : Native → Type 0
-    Result r = Acts (nativeText ks at o r) (isTaken i m) z next (keyBehind i)
+    Result r = Acts (nativeText ks at o r) (isTaken i m) z next (keyAfter i)
 
     in-range : (op : Op) → i .op ≡ op → InRange op
     in-range op q = subst InRange q range

@@ -30,7 +30,7 @@ use Rattle.lower_units.specs.Records.{isNamedDifference, RecordMeans, Th
 use Rattle.lower_units.proofs.Theorem.{record-means}
 use Rattle.lower_units.proofs.Pairs.{pair-means}
 
--- neither of two, the second behind a test
+-- neither of two, the second after a test
 neither : (x y z : Bool) → x ≡ false → z ≡ false → (x || (y && z)) ≡ false
 neither x true z p q = ap (λ (b : Bool). b || z) p ∙ q
 neither x false z p q = ap (λ (b : Bool). b || false) p

@@ -32,16 +32,16 @@ unfolding perform execs exec
 ticks zero z = refl
 ticks (suc k) z = refl
 
--- what stands behind ticks
-pub behind-ticks : (o : Owner) (n k : ℕ) (c : Code) (z : State) → run (lines o n (flushTicks k) c) z ≡ run c z
-behind-ticks o n k c z = run-lines o n (flushTicks k) c z ∙ ap (λ (q : Option State). bind q (run c)) (ticks k z)
+-- what stands after ticks
+pub after-ticks : (o : Owner) (n k : ℕ) (c : Code) (z : State) → run (lines o n (flushTicks k) c) z ≡ run c z
+after-ticks o n k c z = run-lines o n (flushTicks k) c z ∙ ap (λ (q : Option State). bind q (run c)) (ticks k z)
 
 -- lines between braces
 inside : (o : Owner) (n k : ℕ) (ls : Lines) (z : State) {y : State} → perform (statements ls) z ≡ some y → run (nl ⨾ lines o n ls (sp k ⨾ end)) z ≡ some (y, on)
 unfolding run runs step
 inside o n k ls z e = run-lines o n ls (sp k ⨾ end) z ∙ ap (λ (q : Option State). bind q (run (sp k ⨾ end))) e
 
--- behind a closing brace
+-- after a closing brace
 closed : (b c : Code) (z : State) {y : State} → run b (enter z) ≡ some (y, on) → run (braces b c) z ≡ run c (leave y)
 unfolding run runs
 closed b c z e = ap (λ (q : Outcome). bind q (λ r. next (r .1) (leave (r .0)) (run c))) e
@@ -54,7 +54,7 @@ straight-text ks a o k ls {z} p =
     record {
       end = leave (p .end);
       goes = λ c.
-          behind-ticks o 4 k (sp 4 ⨾ braces (nl ⨾ lines o 8 ls (sp 4 ⨾ end)) (nl ⨾ c)) z
+          after-ticks o 4 k (sp 4 ⨾ braces (nl ⨾ lines o 8 ls (sp 4 ⨾ end)) (nl ⨾ c)) z
           ∙ closed (nl ⨾ lines o 8 ls (sp 4 ⨾ end)) (nl ⨾ c) z (inside o 8 4 ls (enter z) (p .ends));
       same = with-scopes (p .same) _;
     }
@@ -70,7 +70,7 @@ unfolding run runs step asks
 when-false o e b u q = rw q
 
 module _ {z : State} {m : Machine} (s : Sound m) (g : Agrees z m) (k : Cond) (nv : isNv k ≡ false) where
-  -- the state behind the declarations of the flags
+  -- the state after the declarations of the flags
   abbrev pub flagged : State
   flagged = within (flagScope (m .n) (m .z) (m .c) (m .v) (pack (m .n) (m .z) (m .c) (m .v) (m .otherBits))) (z .scopes) z
 
@@ -101,12 +101,12 @@ module _ {z : State} {m : Machine} (s : Sound m) (g : Agrees z m) (k : Cond) (nv
           let r = p q flagged (with-scopes g _) in
           record {
             end = leave (leave (r .end));
-            goes = λ c. behind-ticks o 4 n (conditional o (condExpr k) b c) z ∙ framed o b (when-true o (condExpr k) ls flagged (test true q) (r .ends)) c;
+            goes = λ c. after-ticks o 4 n (conditional o (condExpr k) b c) z ∙ framed o b (when-true o (condExpr k) ls flagged (test true q) (r .ends)) c;
             same = with-scopes (r .same) _;
           }
       go false q =
           record {
             end = leave flagged;
-            goes = λ c. behind-ticks o 4 n (conditional o (condExpr k) b c) z ∙ framed o b (when-false o (condExpr k) b flagged (test false q)) c;
+            goes = λ c. after-ticks o 4 n (conditional o (condExpr k) b c) z ∙ framed o b (when-false o (condExpr k) b flagged (test false q)) c;
             same = with-scopes g _;
           }

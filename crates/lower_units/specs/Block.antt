@@ -1,4 +1,4 @@
--- The tree of a block's text: transfer, emit_shell and emit_block. Code is made with what stands behind it as its last argument.
+-- The tree of a block's text: transfer, emit_shell and emit_block. Code is made with what stands after it as its last argument.
 use Prim.Native.Nat.{ℕ, _+_, _%_, _^_}
 use mathlib.Core.Bool.{Bool, true, false, cond}
 use mathlib.Core.List.{List, [], _∷_, _++_}
@@ -24,7 +24,7 @@ bodyKey b = keyPlus (b .addr) (b .thumb)
 abbrev pub bodyLength : Body → ℕ
 bodyLength b = lengthOf (b .count) (b .thumb)
 
--- the address behind it, wrapping at 2^32
+-- the address after it, wrapping at 2^32
 abbrev pub bodyEnd : Body → ℕ
 bodyEnd b = (b .addr + bodyLength b) % 2 ^ 32
 
@@ -61,15 +61,15 @@ gotoCode false o n k c = sp n ⨾ goto o k ⨾ nl ⨾ c
 unfoldable pub transfer : List ℕ → ℕ → Owner → ℕ → ℕ → Code → Code
 transfer ks a o n k c = cond (among k ks) (gotoCode (leb (clearBit0 k) a) o n k c) (sp n ⨾ ret o (lit word k) ⨾ nl ⨾ c)
 
--- an exit from the block at address a that nothing stands behind: lines, and the transfer to a key
+-- an exit from the block at address a that nothing stands after: lines, and the transfer to a key
 abbrev pub exitCode : List ℕ → ℕ → Owner → Lines → ℕ → Code
 exitCode ks a o ls k = lines o 4 ls (transfer ks a o 4 k end)
 
--- the lines before the closing transfer: what is pending, and PC at the address behind the block; in an accepted file that is the one behind its last instruction
+-- the lines before the closing transfer: what is pending, and PC at the address after the block; in an accepted file that is the one after its last instruction
 abbrev pub closingLines : Body → Lines
 closingLines b = flushTicks (b .pending) ++ pcLine (bodyEnd b)
 
--- the closing transfer (document 01), to the key behind the block, with the lines before it
+-- the closing transfer (document 01), to the key after the block, with the lines before it
 unfoldable pub closing : List ℕ → Body → Code
 closing ks b = exitCode ks (b .addr) common (closingLines b) (keyPlus (bodyEnd b) (b .thumb))
 
@@ -91,11 +91,11 @@ toThumb o =
 abbrev pub toArm : Owner → Code
 toArm o = gap true 6 ⨾ line o (set (reg 16) and (un compl (lit uhex 0x20)) ∷ set (reg 15) is (masked 3) ∷ []) (leave o (masked 3))
 
--- { flags; if (e) { b } }, and c behind it
+-- { flags; if (e) { b } }, and c after it
 abbrev pub conditional : Owner → Expr → Code → Code → Code
 conditional o e b c = sp 4 ⨾ braces (sp 1 ⨾ line o flags (gap true 6 ⨾ when o false (other e) b (sp 1 ⨾ end))) (nl ⨾ c)
 
--- the text of a native record, every statement with its owner; an unconditional exit drops what would stand behind it
+-- the text of a native record, every statement with its owner; an unconditional exit drops what would stand after it
 unfoldable pub nativeText : List ℕ → ℕ → Owner → Native → Code → Code
 nativeText ks a o (straight t l) c = lines o 4 t (sp 4 ⨾ braces (nl ⨾ lines o 8 l (sp 4 ⨾ end)) (nl ⨾ c))
 nativeText ks a o (straightIf t e l) c = lines o 4 t (conditional o e (nl ⨾ lines o 8 l (sp 6 ⨾ end)) c)
@@ -111,11 +111,11 @@ nativeText ks a o (bx t e) c =
 nativeText ks a o (pop t p l q e) c =
     lines o 4 t (sp 4 ⨾ braces (sp 1 ⨾ plain o p ⨾ nl ⨾ lines o 6 l (sp 6 ⨾ plain o q ⨾ leave o e)) (nl ⨾ end))
 
--- emit_shell behind its lines, for the record with index i that has others behind it: the interpreter, and a return where its answer is not k, the next record's key
+-- emit_shell after its lines, for the record with index i that has others after it: the interpreter, and a return where its answer is not k, the next record's key
 abbrev pub shellCode : Body → ℕ → ℕ → Code → Code
 shellCode b i k c = sp 4 ⨾ interp (bodyKey b) i ⨾ sp 1 ⨾ retIf common (other (bin ne (v32 x-pc) (lit word k))) (v32 x-pc) ⨾ nl ⨾ c
 
--- the text of a block from the record with index i on. A shell that is the block's last record returns; behind an unfused half that is last stands the closing
+-- the text of a block from the record with index i on. A shell that is the block's last record returns; after an unfused half that is last stands the closing
 -- transfer
 unfoldable pub codeFrom : List ℕ → Body → ℕ → List Form → Code
 codeFrom ks b i [] = closing ks b
@@ -127,7 +127,7 @@ codeFrom ks b i (shell h t k ∷ r ∷ rs) = lines common 4 t (shellCode b i k (
 abbrev pub defer : Body → Code → Code
 defer b c = plain common (set (reg 15) is (lit word (b .addr))) ⨾ sp 1 ⨾ retInterp (bodyKey b) 0 ⨾ c
 
--- a block outside regions 0 and 8: behind the guard, or without code bytes the interpreter alone
+-- a block outside regions 0 and 8: after the guard, or without code bytes the interpreter alone
 unfoldable pub underGuard : List ℕ → Body → Option ℕ → Code
 underGuard ks b none = sp 4 ⨾ defer b (nl ⨾ end)
 underGuard ks b (some h) = sp 4 ⨾ when common true (guard (b .addr) (bodyLength b) h) (sp 1 ⨾ defer b (sp 1 ⨾ end)) (nl ⨾ codeFrom ks b 0 (b .forms))

@@ -47,11 +47,11 @@ abbrev does : Form → Outcome
 does (native r) = run (nativeText [] 0 common r end) state
 does (shell high t k) = none
 
--- c[0] and the word at 4 behind the text of a record, in a block of region 8 and with no cycles pending
+-- c[0] and the word at 4 after the text of a record, in a block of region 8 and with no cycles pending
 abbrev text-has : TimedInstr → Option (ℕ × ℕ)
 text-has x = bind (does (emitInstr (x .instr .thumb) 8 0 x .0)) λ q. some (q .0 .c 0, load w32 (q .0 .mem) 4)
 
--- register 0 and the word at 4 behind the record's instruction, by the manual
+-- register 0 and the word at 4 after the record's instruction, by the manual
 abbrev manual-has : TimedInstr → Option (ℕ × ℕ)
 manual-has x = bind (execute (x .instr) machine) λ q. some (q .0 .r 0, Memory4 (q .0 .mem) 4)
 

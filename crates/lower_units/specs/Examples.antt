@@ -17,7 +17,7 @@ use Rattle.lower_units.specs.Block.{gotoCode, transfer, closing, nativeT
 use Rattle.file_blocks.specs.Address.{outsideRomBios}
 use Rattle.lower_units.specs.Units.{TranslationUnit, withLocals, emitBlock, labelled, groupCode, forwarders, emitGroup, textOf, cut, bodiesOf, unitsOf}
 
--- c[15] = a, and that behind a tick
+-- c[15] = a, and that after a tick
 abbrev to : ℕ → Lines
 to a = (set (reg 15) is (lit word a) ∷ []) ∷ []
 
@@ -213,7 +213,7 @@ loop-owners : owners (blockCode (0x08000100 ∷ 0x08000104 ∷ []) loop) ≡ rep
 unfolding blockCode outsideRomBios codeFrom nativeText transfer gotoCode
 loop-owners = refl
 
--- behind the guard's no the first record, then the records in their order
+-- after the guard's no the first record, then the records in their order
 ram-marks : marks (blockCode [] ram)
     ≡ (0x02000000, 0, 1) ∷ (0x02000000, 0, 1) ∷ (0x02000000, 1, 1) ∷ (0x02000000, 2, 1) ∷ (0x02000000, 3, 1) ∷ []
 unfolding blockCode outsideRomBios underGuard codeFrom nativeText transfer closing
@@ -224,7 +224,7 @@ fused-marks : marks (blockCode [] fused) ≡ (0x08000221, 0, 2) ∷ []
 unfolding blockCode outsideRomBios codeFrom nativeText transfer
 fused-marks = refl
 
--- an unconditional native exit drops what would stand behind it
+-- an unconditional native exit drops what would stand after it
 dropped : (c : Code) → nativeText [] 0x08000000 common (jump (to 8) 8) c ≡ nativeText [] 0x08000000 common (jump (to 8) 8) end
 unfolding nativeText
 dropped c = refl

@@ -16,7 +16,7 @@ use Rattle.c_meaning.specs.State.{State}
 use Rattle.armv4t_manual.specs.Machine.{Machine, Sound}
 use Rattle.armv4t_manual.specs.Conditions.{passed}
 use Rattle.armv4t_manual.specs.Unsaid.{noInstruction, unpredictable, isNv}
-use Rattle.armv4t_manual.specs.Execute.{keyBehind, execute}
+use Rattle.armv4t_manual.specs.Execute.{keyAfter, execute}
 use Rattle.armv4t_manual.specs.Thumb.{Thumb, format-19-high, format-19-low, Fits, decoded, thumbOperation}
 use Rattle.lower_forms.specs.Forms.{Native, native, Body}
 use Rattle.lower_forms.specs.Block.{emitPair, emitInstr}
@@ -61,7 +61,7 @@ pub record RecordMeans (ks : List ℕ) (at region : ℕ) (x : TimedInstr) : Type
   pub acts : (cycles : ℕ) (r : Native) → emitInstr (x .instr .thumb) region cycles x .0 ≡ native r
       → (o : Owner) (z : State) (m : Machine) → Sound m → Agrees z m → isNamedDifference (x .instr) m ≡ false
       → (next : Machine × ℕ) → execute (x .instr) m ≡ some next
-      → Acts (nativeText ks at o r) (isTaken (x .instr) m) z next (keyBehind (x .instr))
+      → Acts (nativeText ks at o r) (isTaken (x .instr) m) z next (keyAfter (x .instr))
 
 -- a record that decodes a Thumb instruction: where it is native, the manual says by A7.1 what it does, and its text acts so, without exception
 abbrev pub ThumbMeans : List ℕ → ℕ → ℕ → TimedInstr → Type 0
@@ -70,7 +70,7 @@ ThumbMeans ks at region x =
     → (cycles : ℕ) (r : Native) → emitInstr true region cycles x .0 ≡ native r
     → (o : Owner) (z : State) (m : Machine) → Sound m → Agrees z m
     → (next : Machine × ℕ) × (thumbOperation (x .instr .addr) t m ≡ some next)
-    × Acts (nativeText ks at o r) (isTaken (x .instr) m) z next (keyBehind (x .instr))
+    × Acts (nativeText ks at o r) (isTaken (x .instr) m) z next (keyAfter (x .instr))
 
 -- two records that fuse: the text of the pair leaves as the manual's two instructions do, one after the other
 abbrev pub PairMeans : List ℕ → ℕ → TimedInstr → TimedInstr → Type 0
@@ -91,6 +91,6 @@ ThumbPairMeans ks at x y =
     → (half next : Machine × ℕ) × (thumbOperation (x .instr .addr) (format-19-high h) m ≡ some half)
     × (thumbOperation (y .instr .addr) (format-19-low l) (half .0) ≡ some next) × Leaves (nativeText ks at o (emitPair cycles target ret)) z next)
 
--- the closing transfer (document 01) of a block with a last instruction: it leaves to the key behind that, with the machine as it was
+-- the closing transfer (document 01) of a block with a last instruction: it leaves to the key after that, with the machine as it was
 abbrev pub ClosingMeans : List ℕ → Body → Instr → Type 0
-ClosingMeans ks b i = (z : State) (m : Machine) → Agrees z m → Leaves (λ c. closing ks b) z (m, keyBehind i)
+ClosingMeans ks b i = (z : State) (m : Machine) → Agrees z m → Leaves (λ c. closing ks b) z (m, keyAfter i)

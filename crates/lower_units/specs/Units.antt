@@ -47,7 +47,7 @@ unfoldable pub forwarders : ℕ → ℕ → List Body → List Top
 forwarders k n [] = blank ∷ []
 forwarders k n (b ∷ bs) = function (block (bodyKey b)) (sp 1 ⨾ call k n ⨾ sp 1 ⨾ end) ∷ forwarders k (suc n) bs
 
--- emit_group, or emit_block where the group has one member; each with an empty line behind it
+-- emit_group, or emit_block where the group has one member; each with an empty line after it
 unfoldable pub emitGroup : List Body → List Top
 emitGroup [] = []
 emitGroup (b ∷ []) = emitBlock b

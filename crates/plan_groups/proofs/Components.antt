@@ -22,9 +22,9 @@ count-front : (b : Bool) (k : ℕ) (xs : List ℕ) → count k xs ≡ 0 → coun
 count-front true k xs e = count-here k xs ∙ ap (λ (n : ℕ). 1 + n) e
 count-front false k xs e = e
 
-count-behind : (b : Bool) (i k : ℕ) (xs : List ℕ) → (i ≡ k → ⊥) → count i (cond b (k ∷ xs) xs) ≡ count i xs
-count-behind true i k xs ne = count-other i k xs ne
-count-behind false i k xs ne = refl
+count-after : (b : Bool) (i k : ℕ) (xs : List ℕ) → (i ≡ k → ⊥) → count i (cond b (k ∷ xs) xs) ≡ count i xs
+count-after true i k xs ne = count-other i k xs ne
+count-after false i k xs ne = refl
 
 -- the members of a component before they are sorted
 
@@ -70,7 +70,7 @@ module _ (p : List ℕ) (r : ℕ) where
   members-count (suc n) k i l h =
       elim (ℕ-discrete i k) [
         | yes e ↦ rw e (count-front (eqb (root p k) r) k (withRoot (root p) r n (suc k)) (members-before n (suc k) k (le-refl _)))
-        | no ne ↦ count-behind (eqb (root p k) r) i k (withRoot (root p) r n (suc k)) ne ∙ members-count n (suc k) i (omega arith) (omega arith)
+        | no ne ↦ count-after (eqb (root p k) r) i k (withRoot (root p) r n (suc k)) ne ∙ members-count n (suc k) i (omega arith) (omega arith)
       ]
 
 -- the blocks with root r, in the order of their keys

@@ -50,14 +50,14 @@ module _ (keys : List ℕ) where
       front h y (inl e) = rw e h
       front h y (inr m) = le-trans h (o .0 y m)
 
-      behind : NoFall keys j i → (y : ℕ) → (y ≡ i) ⊎ List·Memᴰ y js → NoFall keys j y
-      behind h y (inl e) = rw e h
-      behind h y (inr m) = o .0 y m
+      later : NoFall keys j i → (y : ℕ) → (y ≡ i) ⊎ List·Memᴰ y js → NoFall keys j y
+      later h y (inl e) = rw e h
+      later h y (inr m) = o .0 y m
 
       go : (b : Bool) → leb (getD keys i 0) (getD keys j 0) ≡ b → InOrder (NoFall keys) (insert keys i js)
           → InOrder (NoFall keys) (cond b (i ∷ j ∷ js) (j ∷ insert keys i js))
       go true e ih = (λ y m. front (leb-true _ _ e) y (List·Memᴰ·cases-cons m), o)
-      go false e ih = (λ y m. behind (le-of-lt (leb-false _ _ e)) y (insert-member js m), ih)
+      go false e ih = (λ y m. later (le-of-lt (leb-false _ _ e)) y (insert-member js m), ih)
 
   -- keys do not fall along a sorted list
   pub sort-order : (is : List ℕ) → InOrder (NoFall keys) (sortByKey keys is)

@@ -23,7 +23,7 @@ interleave-last [] (b ∷ ys) x y e = absurd (omega arith)
 interleave-last (a ∷ xs) [] x y e = absurd (omega arith)
 interleave-last (a ∷ xs) (b ∷ ys) x y e = ap (λ (l : List ℕ). a ∷ b ∷ l) (interleave-last xs ys x y (omega arith))
 
--- two stores behind a front
+-- two stores after a front
 two-stores : (a l : List ℕ) (k x y : ℕ) → length a ≡ k → k + 2 ≤ k + length l → set (set (a ++ l) k x) (k + 1) y ≡ a ++ (x ∷ y ∷ drop 2 l)
 two-stores a [] k x y e h = absurd (omega arith)
 two-stores a (u ∷ []) k x y e h = absurd (omega arith)

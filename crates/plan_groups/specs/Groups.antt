@@ -27,7 +27,7 @@ rowsIn n work = interleave (take n (drop (2 * n) work)) (take n work)
 abbrev pub quarter1 : ℕ → List ℕ → List ℕ
 quarter1 n work = take n (drop n work)
 
--- quarter 2 has the root of block i, its other numbers and those behind it are as they were, and no root changed; quarter 0 is not spoken of
+-- quarter 2 has the root of block i, its other numbers and those after it are as they were, and no root changed; quarter 0 is not spoken of
 pub record Rooted (n i : ℕ) (work work′ : List ℕ) : Type 0 where
   pub same : length work′ ≡ length work
   pub flatter : Flatter (quarter1 n work) (quarter1 n work′)
@@ -35,7 +35,7 @@ pub record Rooted (n i : ℕ) (work work′ : List ℕ) : Type 0 where
   pub small : getD work′ (2 * n + i) 0 < n
   pub other : (k : ℕ) → 2 * n ≤ k → (k ≡ 2 * n + i → ⊥) → getD work′ k 0 ≡ getD work k 0
 
--- quarter 2 has the roots of the first m blocks, the numbers behind it are as they were, and no root changed; quarter 0, and quarter 2 from block m on, are not
+-- quarter 2 has the roots of the first m blocks, the numbers after it are as they were, and no root changed; quarter 0, and quarter 2 from block m on, are not
 -- spoken of
 pub record AllRooted (n m : ℕ) (work work′ : List ℕ) : Type 0 where
   pub same : length work′ ≡ length work
@@ -67,7 +67,7 @@ pub record Firsts (f : List ℕ) (n : ℕ) (work work′ : List ℕ) : Type 0 wh
 abbrev pub joinRecord : List ℕ → ℕ → List ℕ → List ℕ
 joinRecord f i q = joinBlock (blocksOf f) i (blockAt f (blockStart f i) (countSum f i)) q
 
--- quarter 1 has parents, in an accepted file with the roots of the definition, and the numbers behind it are as they were; quarter 0 is not spoken of
+-- quarter 1 has parents, in an accepted file with the roots of the definition, and the numbers after it are as they were; quarter 0 is not spoken of
 pub record AllJoined (f : List ℕ) (n : ℕ) (work work′ : List ℕ) : Type 0 where
   pub same : length work′ ≡ length work
   pub after : (k : ℕ) → 2 * n ≤ k → getD work′ k 0 ≡ getD work k 0

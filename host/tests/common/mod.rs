@@ -133,7 +133,7 @@ pub fn lone(address: u32, record: Record) -> Block {
     }
 }
 
-/// So many ARM blocks, one behind the other, that lead nowhere: each is a group of its own.
+/// So many ARM blocks, one after the other, that lead nowhere: each is a group of its own.
 pub fn lone_blocks(count: u32) -> File {
     let blocks: Vec<_> = (0..count)
         .map(|n| lone(0x0800_0000 + 4 * n, Record::bx(14)))

@@ -96,7 +96,7 @@ const STARTS: [u32; 8] = [
     0x0000_0000,
 ];
 
-/// Ends a little behind a page of ROM or at the end of addresses.
+/// Ends a little after a page of ROM or at the end of addresses.
 const ENDS: [Option<u32>; 8] = [
     None,
     None,

@@ -153,7 +153,7 @@ fn named() -> Vec<File> {
     let mut files = named_files();
     files.extend([
         build(&[lone(0x0800_0000), lone(0x0800_0100)]),
-        // A goto ahead though the branch stands behind its target, and one back through the gate.
+        // A goto ahead though the branch stands after its target, and one back through the gate.
         build(&[
             arm(0x0800_0100, &[mrs, mrs, Record::branch(false, 0x0800_0104)]),
             arm(0x0800_0104, &[Record::branch(true, 0x0800_0100)]),

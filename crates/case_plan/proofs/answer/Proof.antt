@@ -1,4 +1,4 @@
--- `replay_plan::answer` meets its contract: the three numbers are those of the answer, and behind them stands what the call left in the lent numbers.
+-- `replay_plan::answer` meets its contract: the three numbers are those of the answer, and after them stands what the call left in the lent numbers.
 use Prim.Native.Nat.{ℕ, _+_}
 use mathlib.Core.List.{List, _∷_, _++_}
 use mathlib.Core.Path.{_≡_, ap, _∙_}

@@ -1,4 +1,4 @@
--- `replay_units::is_right` meets its contract: what the three comparisons say, and that what is compared is what the call left, with what was not lent behind it. The arrays lent are `t7` and `t8`, those expected `t5` and `t6`.
+-- `replay_units::is_right` meets its contract: what the three comparisons say, and that what is compared is what the call left, with what was not lent after it. The arrays lent are `t7` and `t8`, those expected `t5` and `t6`.
 use mathlib.Core.Path.{refl, sym, _∙_}
 use denote.Ref.{now}
 use lib.ListN.{take, drop}

@@ -11,7 +11,7 @@ returns c =
     let c3 = c4 .before .before .before .before in
     let c2 = c3 .before .before .before .before in
     let c1 = c2 .before .before .before .before in
-    said (seq (c1 .put-between .ensures) (seq (c2 .put .ensures) (seq (c3 .put-behind .ensures) (c4 .put-result .ensures)))) refl
+    said (seq (c1 .put-between .ensures) (seq (c2 .put .ensures) (seq (c3 .put-after .ensures) (c4 .put-result .ensures)))) refl
 
 pub put-sum-rest-spec : {M : Type 1} → statement M
 put-sum-rest-spec =

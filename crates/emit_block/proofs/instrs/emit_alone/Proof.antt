@@ -10,7 +10,7 @@ use Rattle.lower_forms.specs.Block.{emitInstr}
 use Rattle.file_blocks.specs.Address.{region}
 use Rattle.emit_instr.proofs.Steps.{same-form}
 use Rattle.emit_block.specs.Walk.{formsFrom}
-use Rattle.emit_block.proofs.FormsFrom.{empty-behind}
+use Rattle.emit_block.proofs.FormsFrom.{empty-after}
 use Rattle.emit_block.proofs.Recording.{alone-recorded}
 use borrow.Author.Needs.{needs}
 use Rattle.emit_block.proofs.instrs.emit_alone.Statement.{statement}
@@ -28,7 +28,7 @@ returns c =
     let fs : List Form = formsFrom (now (v .file)) (v .block) first (suc (v .j)) (s .cycles) .0 in
     let step =
     same-form _ (emitInstr (v .block .thumb) (region (v .block .addr)) (v .cycles) (v .x)) (ap (λ (n : ℕ). emitInstr (v .block .thumb) n (v .cycles) (v .x)) (c1 .region-of .ensures))
-    (c2 .emit-instr .ensures ks b (v .j) fs (empty-behind (now (v .file)) (v .block .thumb) (v .block .count) first (v .block .addr) (v .j) (region (v .block .addr)) (s .cycles) (at-start .pre .2)) (here .body .addr) (omega arith) (c0 .branch-inside .ensures ks (here .stands))) in
+    (c2 .emit-instr .ensures ks b (v .j) fs (empty-after (now (v .file)) (v .block .thumb) (v .block .count) first (v .block .addr) (v .j) (region (v .block .addr)) (s .cycles) (at-start .pre .2)) (here .body .addr) (omega arith) (c0 .branch-inside .ensures ks (here .stands))) in
     alone-recorded (now (v .file)) (v .block) first ks b (v .j) (v .cycles) (v .x) (now (v .out)) (v .at) (c2 .emit-instr .last .0) s at alone small (step .cycles) (step .onward)
 
 pub emit-alone-spec : {M : Type 1} → statement M

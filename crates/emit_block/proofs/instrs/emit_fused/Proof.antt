@@ -1,4 +1,4 @@
--- `emit_fused` writes a pair, and drops what would stand behind it.
+-- `emit_fused` writes a pair, and drops what would stand after it.
 -- Assumes nothing.
 use Prim.Native.Nat.{ℕ, _+_}
 use mathlib.Core.Path.{sym, ap, _∙_, subst}

@@ -1,4 +1,4 @@
--- `next_of` reads the instruction behind a ThumbBlHigh. Of an accepted file each instruction is found.
+-- `next_of` reads the instruction after a ThumbBlHigh. Of an accepted file each instruction is found.
 -- Assumes nothing.
 use Prim.Native.Nat.{suc}
 use denote.Ref.{now}

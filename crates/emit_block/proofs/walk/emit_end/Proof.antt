@@ -1,4 +1,4 @@
--- `emit_end` writes the closing transfer to the address behind the block.
+-- `emit_end` writes the closing transfer to the address after the block.
 -- Assumes nothing.
 use Rattle.emit_instr.proofs.Texts.{closing-step}
 use Rattle.emit_block.proofs.Walking.{end-lines, end-key}

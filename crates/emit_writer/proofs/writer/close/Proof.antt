@@ -100,7 +100,7 @@ module _ {M : Type 1} (𝓤 : URA M) (H : Heap 𝓤) (A : Atoms 𝓤) (W : Given
   abbrev Post : Val → SProp 𝓤
   Post = walkOf 𝓤 H A close.ended stayed (close.clauses 𝓤 H A mem run) .post (((κ, tt), (q, tt), tt, a, vals), tt)
 
-  -- what is written, with the list zs and the answer r behind it
+  -- what is written, with the list zs and the answer r after it
   abbrev Closed : List ℕ → ℕ → Type 0
   Closed zs r = (ks : List ℕ) → among key ks ≡ inside → Wrote ys n (codeText (exitCode ks src common (pcLine next) key)) zs r
 

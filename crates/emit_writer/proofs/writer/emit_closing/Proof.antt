@@ -112,7 +112,7 @@ module _ {M : Type 1} (𝓤 : URA M) (H : Heap 𝓤) (A : Atoms 𝓤) (W : Given
   abbrev h₁ : Writer
   h₁ = flushed h₀
 
-  -- what `flush` has written, and what `close` writes behind it
+  -- what `flush` has written, and what `close` writes after it
   ticked-first : Wrote ys n (ticks c) (h₁ .text .now) (h₁ .at)
   ticked-first = let few : length ys < 2 ^ 64 = room .0 in record { bytes = refl; next = refl; small = omega (arith, few) }
 

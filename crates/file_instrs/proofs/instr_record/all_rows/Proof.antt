@@ -1,4 +1,4 @@
--- `instr_records::instr_record::all_rows` meets its contract: each turn puts the row of one number more behind those before it.
+-- `instr_records::instr_record::all_rows` meets its contract: each turn puts the row of one number more after those before it.
 -- Assumes nothing.
 use mathlib.Core.Path.{_≡_, refl, sym, ap, _∙_}
 use Prim.Native.Nat.{ℕ, _+_, _*_, _-_, _≤_}

@@ -1,9 +1,9 @@
--- `emit_alu::sum::put_behind` meets its contract: what its calls write, one after another. Assumes nothing.
+-- `emit_alu::sum::put_after` meets its contract: what its calls write, one after another. Assumes nothing.
 use mathlib.Core.Path.{refl}
 use borrow.Author.Needs.{needs}
 use Rattle.base_text.proofs.Laws.{said, kept}
-use Rattle.emit_alu.proofs.sum.put_behind.Statement.{statement}
-use Rattle.emit_alu.proofs.sum.put_behind.Tie as tie
+use Rattle.emit_alu.proofs.sum.put_after.Statement.{statement}
+use Rattle.emit_alu.proofs.sum.put_after.Tie as tie
 
 returns : tie.Need-returns
 returns c =
@@ -17,8 +17,8 @@ returns-2 c =
     let c1 = c2 .before .before .before in
     rw (c1 .if1 .left) (said (c2 .put2 .ensures) refl)
 
-pub put-behind-spec : {M : Type 1} → statement M
-put-behind-spec =
+pub put-after-spec : {M : Type 1} → statement M
+put-after-spec =
     tie.close
     (tie.spec (search needs) (search needs) (search needs) (search needs) (λ c. kept (returns c)) returns
     (λ c. kept (returns-2 c)) returns-2)

@@ -1,4 +1,4 @@
--- Native statements of a guarded block are reached only behind the guard's yes. The state is what happened, the last first.
+-- Native statements of a guarded block are reached only after the guard's yes. The state is what happened, the last first.
 use Prim.Native.Nat.{ℕ}
 use mathlib.Core.Path.{_≡_, refl, subst}
 use mathlib.Core.Logic.{_⊎_, inl, inr}
@@ -67,7 +67,7 @@ module _ (bs : List Body) (apart : Apart bs) (b : Body) (m : List·Memᴰ b bs) 
       lone-follows (History bs) b (history-rules []) []
       (record { first = λ c n a. absurd a; second = λ c n a. absurd a; third = λ c n a. absurd a; fourth = λ c n a. absurd a }) tt w
 
--- the events, the last first, and others behind
+-- the events, the last first, and others after
 rev : List Event → List Event → List Event
 rev [] s = s
 rev (u ∷ us) s = rev us (u ∷ s)
@@ -90,9 +90,9 @@ among {a} (u ∷ us) s m = go (among us (u ∷ s) m)
     go (inl n) = inl (List·Memᴰ·tail n)
     go (inr n) = down n
 
-pub behind-of : (bs : List Body) (us vs : List Event) (e : Event) → Follow (History bs) (us ++ (e ∷ vs)) []
+pub guarded-of : (bs : List Body) (us vs : List Event) (e : Event) → Follow (History bs) (us ++ (e ∷ vs)) []
     → (b : Body) → List·Memᴰ b bs → AtNative (bodyKey b) e → T (outsideRomBios (b .addr)) → Allowed b us
-behind-of bs us vs e f b m n t = let p = at bs us vs e [] f b m n t in (p .0, p .1, go (among us [] (p .2)))
+guarded-of bs us vs e f b m n t = let p = at bs us vs e [] f b m n t in (p .0, p .1, go (among us [] (p .2)))
   where
     go : {a : Event} → List·Memᴰ a us ⊎ List·Memᴰ a [] → List·Memᴰ a us
     go (inl m) = m
