@@ -1,5 +1,5 @@
--- An arm of a `match` on an enum that several variants share: what is to be shown there is shown at each of them.
--- Assumes nothing.
+-- An arm of a `match` on an enum that several variants share: what is to be shown there is shown at
+-- each of them. Assumes nothing.
 use Prim.Native.Nat.{ℕ, zero, suc}
 use mathlib.Core.Bool.{cond}
 use mathlib.Core.List.{List, [], _∷_}
@@ -25,7 +25,8 @@ module _ (N : Record) (P : N .D → Type 0) where
   Each [] = Unit {0}
   Each (k ∷ ks) = ((v : ValuesAt (N .parts) k) → P (at N k v)) × Each ks
 
-  one : (k : ℕ) (x : N .D) → tagOf (declared N) x ≡ k → ((v : ValuesAt (N .parts) k) → P (at N k v)) → P x
+  one : (k : ℕ) (x : N .D) → tagOf (declared N) x ≡ k → ((v : ValuesAt (N .parts) k) → P (at N k v))
+      → P x
   one k x e h = subst⁻¹ P (lives-at N x k e .1) (h (lives-at N x k e .0))
 
   -- so P holds of a value whose variant is one of them

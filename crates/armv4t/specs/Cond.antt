@@ -4,7 +4,8 @@ use mathlib.Core.Bool.{Bool, true, false}
 use mathlib.Core.List.{List, [], _∷_}
 use lib.ListN.{getD}
 use Rattle.armv4t.specs.declared.Cond.{Cond}
-use Rattle.armv4t.specs.declared.Cond.the-variants.{Eq, Ne, Cs, Cc, Mi, Pl, Vs, Vc, Hi, Ls, Ge, Lt, Gt, Le, Al, Nv}
+use Rattle.armv4t.specs.declared.Cond.the-variants.{Eq, Ne, Cs, Cc, Mi, Pl, Vs, Vc, Hi, Ls}
+use Rattle.armv4t.specs.declared.Cond.the-variants.{Ge, Lt, Gt, Le, Al, Nv}
 
 -- all conditions, in encoding order
 abbrev pub conds : List Cond

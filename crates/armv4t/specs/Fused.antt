@@ -3,7 +3,9 @@ use Prim.Native.Nat.{ℕ, _+_, _*_, _%_, _^_}
 use mathlib.Core.Path.{_≡_, refl}
 use Rattle.armv4t.specs.declared.Instr.{Instr}
 use Rattle.armv4t.specs.declared.Op.{Op}
-use Rattle.armv4t.specs.declared.Op.the-variants.{Alu, Mul, MulLong, Swap, Bx, Branch, ThumbBlHigh, ThumbBlLow, Mem, BlockMem, Mrs, MsrReg, MsrImm, Swi, Undefined}
+use Rattle.armv4t.specs.declared.Op.the-variants.{Alu, Mul, MulLong, Swap, Bx, Branch}
+use Rattle.armv4t.specs.declared.Op.the-variants.{ThumbBlHigh, ThumbBlLow, Mem, BlockMem, Mrs}
+use Rattle.armv4t.specs.declared.Op.the-variants.{MsrReg, MsrImm, Swi, Undefined}
 use Rattle.armv4t.specs.declared.Fused.{Fused}
 use Rattle.armv4t.specs.declared.Fused.the-variants.{Pair, Nothing}
 use Rattle.armv4t.specs.Bit0.{setBit0}
@@ -48,6 +50,7 @@ fuseOps (Undefined _) low addr = Nothing
 unfoldable pub fuse : Instr → Instr → Fused
 fuse high low = fuseOps (high .op) (low .op) (low .addr)
 
--- the target is twice the offset from the partial address; the return address is the one after the second half, with bit 0 set
+-- the target is twice the offset from the partial address; the return address is the one after the
+-- second half, with bit 0 set
 a-pair : fuseOps (ThumbBlHigh 0x0800_0104) (ThumbBlLow 3) 0x0800_0102 ≡ Pair 0x0800_010a 0x0800_0105
 a-pair = refl

@@ -1,11 +1,14 @@
--- The ranges of an operation's fields, as document 01 has them for instruction records; the rotation of a value, which shows in the flag C alone, may be any.
+-- The ranges of an operation's fields, as document 01 has them for instruction records; the
+-- rotation of a value, which shows in the flag C alone, may be any.
 use Prim.Native.Nat.{_%_, _≤_, _<_, _^_}
 use mathlib.Core.Path.{_≡_}
 use Rattle.armv4t.specs.declared.Shift.{Shift}
 use Rattle.armv4t.specs.declared.Operand2.{Operand2}
 use Rattle.armv4t.specs.declared.MemOffset.{MemOffset}
 use Rattle.armv4t.specs.declared.Op.{Op}
-use Rattle.armv4t.specs.declared.Op.the-variants.{Alu, Mul, MulLong, Swap, Bx, Branch, ThumbBlHigh, ThumbBlLow, Mem, BlockMem, Mrs, MsrReg, MsrImm, Swi, Undefined}
+use Rattle.armv4t.specs.declared.Op.the-variants.{Alu, Mul, MulLong, Swap, Bx, Branch}
+use Rattle.armv4t.specs.declared.Op.the-variants.{ThumbBlHigh, ThumbBlLow, Mem, BlockMem, Mrs}
+use Rattle.armv4t.specs.declared.Op.the-variants.{MsrReg, MsrImm, Swi, Undefined}
 
 -- an amount below 32, or a register
 abbrev pub ShiftInRange : Shift → Type 0
@@ -32,7 +35,8 @@ InRange (Bx rm) = rm ≤ 15
 InRange (Branch link target) = (target < 2 ^ 32) × (target % 2 ≡ 0)
 InRange (ThumbBlHigh lr) = lr < 2 ^ 32
 InRange (ThumbBlLow off) = off < 2 ^ 16
-InRange (Mem ld width signed rd rn offset pre up writeback) = (rd ≤ 15) × (rn ≤ 15) × OffsetInRange offset
+InRange (Mem ld width signed rd rn offset pre up writeback) =
+    (rd ≤ 15) × (rn ≤ 15) × OffsetInRange offset
 InRange (BlockMem ld rn rlist pre up s-bit writeback) = (rn ≤ 15) × (rlist < 2 ^ 16)
 InRange (Mrs spsr rd) = Unit {0}
 InRange (MsrReg spsr fields rm) = Unit {0}

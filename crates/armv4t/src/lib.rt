@@ -179,7 +179,8 @@ impl ShiftKind {
     }
 }
 
-// A shift applied to a register operand, as encoded: Lsr and Asr with amount 0 mean a shift by 32, Ror with amount 0 means RRX.
+// A shift applied to a register operand, as encoded: Lsr and Asr with amount 0 mean a shift by 32,
+// Ror with amount 0 means RRX.
 pub enum Shift {
     Imm { kind: ShiftKind, amount: u8 },
     Reg { kind: ShiftKind, rs: Reg },
@@ -195,7 +196,8 @@ impl Shift {
 
 // Second operand of a data-processing instruction.
 pub enum Operand2 {
-    // A value, already rotated. `ror` is the rotate amount (0, 2, .., 30); where it is not 0 the shifter's carry is bit 31 of `value`.
+    // A value, already rotated. `ror` is the rotate amount (0, 2, .., 30); where it is not 0 the
+    // shifter's carry is bit 31 of `value`.
     Imm { value: u32, ror: u8 },
     Reg { rm: Reg, shift: Shift },
 }
@@ -362,8 +364,9 @@ impl Instr {
         if self.thumb { 2 } else { 4 }
     }
 
-    // The value read when this instruction reads PC as an operand: its address plus 8 (ARM) or plus 4 (Thumb).
-    // Shifts by a register and stores of PC read 4 more in ARM; whoever needs that adds it.
+    // The value read when this instruction reads PC as an operand: its address plus 8 (ARM) or plus
+    // 4 (Thumb). Shifts by a register and stores of PC read 4 more in ARM; whoever needs that adds
+    // it.
     pub fn pc_value(self) -> u32
         ensures { λ r. ⌜ r ≡ pcValue self ⌝ }
     {

@@ -2,7 +2,8 @@
 use mathlib.Core.Path.{_≡_, refl}
 use mathlib.Core.Bool.{Bool, true, false, not, _&&_, _||_, Bool·beq}
 use Rattle.armv4t.specs.declared.Cond.{Cond}
-use Rattle.armv4t.specs.declared.Cond.the-variants.{Eq, Ne, Cs, Cc, Mi, Pl, Vs, Vc, Hi, Ls, Ge, Lt, Gt, Le, Al, Nv}
+use Rattle.armv4t.specs.declared.Cond.the-variants.{Eq, Ne, Cs, Cc, Mi, Pl, Vs, Vc, Hi, Ls, Ge, Lt}
+use Rattle.armv4t.specs.declared.Cond.the-variants.{Gt, Le, Al, Nv}
 use Rattle.armv4t_manual.specs.Machine.{Machine, setFlags}
 
 -- ConditionPassed (table A3-1). NV is unpredictable in ARMv4 (A3.2.1): here it never passes

@@ -1,15 +1,18 @@
--- A4.1 Data processing: ADC, ADD, AND, BIC, CMN, CMP, EOR, MOV, MVN, ORR, RSB, RSC, SBC, SUB, TEQ, TST.
+-- A4.1 Data processing: ADC, ADD, AND, BIC, CMN, CMP, EOR, MOV, MVN, ORR, RSB, RSC, SBC, SUB, TEQ,
+-- TST.
 use Prim.Native.Nat.{ℕ, _+_, _%_}
 use mathlib.Core.Path.{_≡_, refl}
 use mathlib.Core.Bool.{Bool, true, false, not, cond}
 use lib.Dec.{eqb}
 use Rattle.base_words.specs.Word.{AND, OR, EOR, bit, oneIf}
 use Rattle.armv4t.specs.declared.AluOp.{AluOp}
-use Rattle.armv4t.specs.declared.AluOp.the-variants.{And, Eor, Sub, Rsb, Add, Adc, Sbc, Rsc, Tst, Teq, Cmp, Cmn, Orr, Mov, Bic, Mvn}
+use Rattle.armv4t.specs.declared.AluOp.the-variants.{And, Eor, Sub, Rsb, Add, Adc, Sbc, Rsc, Tst}
+use Rattle.armv4t.specs.declared.AluOp.the-variants.{Teq, Cmp, Cmn, Orr, Mov, Bic, Mvn}
 use Rattle.armv4t.specs.declared.Operand2.{Operand2}
 use Rattle.armv4t.specs.AluOp.{isCompare}
 use Rattle.armv4t_manual.specs.Machine.{two32, Machine, R, setReg, setFlags}
-use Rattle.armv4t_manual.specs.Operators.{NOT, CarryFrom, minus, BorrowFrom, OverflowFromAdd, OverflowFromSub}
+use Rattle.armv4t_manual.specs.Operators.{NOT, CarryFrom, minus, BorrowFrom, OverflowFromAdd}
+use Rattle.armv4t_manual.specs.Operators.{OverflowFromSub}
 use Rattle.armv4t_manual.specs.Shifter.{shifter}
 
 -- a logical outcome: C from the shifter, V as it was
@@ -18,7 +21,8 @@ logical s co v = (s, co, v)
 
 -- x + y + i with C and V
 abbrev pub addWithCarry : ℕ → ℕ → ℕ → ℕ × Bool × Bool
-addWithCarry x y i = ((x + y + i) % two32, CarryFrom (x + y + i), OverflowFromAdd x y ((x + y + i) % two32))
+addWithCarry x y i =
+    ((x + y + i) % two32, CarryFrom (x + y + i), OverflowFromAdd x y ((x + y + i) % two32))
 
 -- x - y - i with C, which is the borrow inverted, and V
 abbrev pub subWithBorrow : ℕ → ℕ → ℕ → ℕ × Bool × Bool
@@ -67,13 +71,15 @@ abbrev pub isWordOffset : Operand2 → Bool
 isWordOffset (Operand2.Imm value rot) = eqb (value % 4) 0
 isWordOffset (Operand2.Reg rm s) = false
 
--- the machine after an outcome: N and Z from it where S is set, and Rd where the operation is no comparison
+-- the machine after an outcome: N and Z from it where S is set, and Rd where the operation is no
+-- comparison
 abbrev pub settle : AluOp → Bool → ℕ → ℕ × Bool × Bool → Machine → Machine
 settle op s rd a m =
     let m1 : Machine = cond s (setFlags (bit (a .0) 31) (eqb (a .0) 0) (a .1) (a .2) m) m in
     cond (isCompare op) m1 (setReg rd (a .0) m1)
 
--- Rd not R15. R15 in an instruction that shifts by a register is open (A5.1.6, A5.1.8, A5.1.10, A5.1.12): no such shift is native
+-- Rd not R15. R15 in an instruction that shifts by a register is open (A5.1.6, A5.1.8, A5.1.10,
+-- A5.1.12): no such shift is native
 abbrev pub dataProcessing : AluOp → Bool → ℕ → ℕ → Operand2 → ℕ → Machine → Machine
 dataProcessing op s rd rn op2 pc m =
     let q : ℕ × Bool = shifter m pc op2 in

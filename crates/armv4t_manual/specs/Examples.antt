@@ -12,15 +12,27 @@ use Rattle.armv4t.specs.declared.MemOffset.{MemOffset}
 use Rattle.armv4t.specs.declared.Cond.{Cond}
 use Rattle.armv4t.specs.declared.Cond.the-variants.{Eq, Al}
 use Rattle.armv4t.specs.declared.Op.{Op}
-use Rattle.armv4t.specs.declared.Op.the-variants.{Alu, Mul, Bx, Branch, ThumbBlHigh, ThumbBlLow, Mem, BlockMem, Swi}
+use Rattle.armv4t.specs.declared.Op.the-variants.{Alu, Mul, Bx, Branch, ThumbBlHigh, ThumbBlLow}
+use Rattle.armv4t.specs.declared.Op.the-variants.{Mem, BlockMem, Swi}
 use Rattle.armv4t.specs.declared.Instr.{Instr}
 use Rattle.armv4t_manual.specs.Machine.{Machine, cpsr}
 use Rattle.armv4t_manual.specs.Multiple.{listed}
 use Rattle.armv4t_manual.specs.Execute.{execute}
 
--- register k holds 16 * k, flags are clear, and each byte of memory is the low half of its address's low byte
+-- register k holds 16 * k, flags are clear, and each byte of memory is the low half of its
+-- address's low byte
 abbrev begin : Machine
-begin = record { r = λ k. 16 * k; n = false; z = false; c = false; v = false; otherBits = 0; mem = λ a. a % 16 }
+begin =
+    record {
+      r = λ k. 16 * k;
+      n = false;
+      z = false;
+      c = false;
+      v = false;
+      otherBits = 0;
+      mem =
+          λ a. a % 16;
+    }
 
 -- an ARM instruction at 0x08000000
 abbrev at : Cond → Op → Instr
@@ -44,35 +56,43 @@ seen k none = none
 seen k (some p) = some (p .0 .r k, cpsr (p .0), p .1)
 
 -- subs r0, r1, r1: Z and C
-subs : seen 0 (execute (at Al (Alu Sub true 0 1 (Operand2.Reg 1 (Shift.Imm Lsl 0)))) begin) ≡ some (0, 0x60000000, 0x08000004)
+subs : seen 0 (execute (at Al (Alu Sub true 0 1 (Operand2.Reg 1 (Shift.Imm Lsl 0)))) begin)
+    ≡ some (0, 0x60000000, 0x08000004)
 unfolding execute
 subs = refl
 
 -- mov r0, r1, rrx; add r0, pc, #4
-rrx : seen 0 (execute (at Al (Alu Mov false 0 0 (Operand2.Reg 1 (Shift.Imm Ror 0)))) begin) ≡ some (8, 0, 0x08000004)
+rrx : seen 0 (execute (at Al (Alu Mov false 0 0 (Operand2.Reg 1 (Shift.Imm Ror 0)))) begin)
+    ≡ some (8, 0, 0x08000004)
 unfolding execute
 rrx = refl
 
-adr : seen 0 (execute (at Al (Alu Add false 0 15 (Operand2.Imm 4 0))) begin) ≡ some (0x0800000c, 0, 0x08000004)
+adr : seen 0 (execute (at Al (Alu Add false 0 15 (Operand2.Imm 4 0))) begin)
+    ≡ some (0x0800000c, 0, 0x08000004)
 unfolding execute
 adr = refl
 
 -- moveq r0, #1 with Z clear leaves r0
-not-passed : seen 0 (execute (at Eq (Alu Mov false 0 0 (Operand2.Imm 1 0))) begin) ≡ some (0, 0, 0x08000004)
+not-passed : seen 0 (execute (at Eq (Alu Mov false 0 0 (Operand2.Imm 1 0))) begin)
+    ≡ some (0, 0, 0x08000004)
 unfolding execute
 not-passed = refl
 
 -- ldr r0, [r1, #1]!: the word at 0x10, rotated right by 8, and r1
-loads : seen 0 (execute (at Al (Mem true Word false 0 1 (MemOffset.Imm 1) true true true)) begin) ≡ some (0x00030201, 0, 0x08000004)
+loads : seen 0 (execute (at Al (Mem true Word false 0 1 (MemOffset.Imm 1) true true true)) begin)
+    ≡ some (0x00030201, 0, 0x08000004)
 unfolding execute
 loads = refl
 
-writes-back : seen 1 (execute (at Al (Mem true Word false 0 1 (MemOffset.Imm 1) true true true)) begin) ≡ some (0x11, 0, 0x08000004)
+writes-back : seen 1
+    (execute (at Al (Mem true Word false 0 1 (MemOffset.Imm 1) true true true)) begin)
+    ≡ some (0x11, 0, 0x08000004)
 unfolding execute
 writes-back = refl
 
 -- ldmia r13!, {r0, pc}
-pops : seen 13 (execute (at Al (BlockMem true 13 0x8001 false true false true)) begin) ≡ some (0xd8, 0, 0x07060504)
+pops : seen 13 (execute (at Al (BlockMem true 13 0x8001 false true false true)) begin)
+    ≡ some (0xd8, 0, 0x07060504)
 unfolding execute listed
 pops = refl
 
@@ -86,16 +106,21 @@ unfolding execute
 exchanges = refl
 
 -- both halves of a Thumb BL, one after the other
-pair : seen 14 (both (thumb 0x08000100 (ThumbBlHigh 0x08000104)) (thumb 0x08000102 (ThumbBlLow 3)) begin) ≡ some (0x08000105, 0, 0x0800010b)
+pair : seen 14
+    (both (thumb 0x08000100 (ThumbBlHigh 0x08000104)) (thumb 0x08000102 (ThumbBlLow 3)) begin)
+    ≡ some (0x08000105, 0, 0x0800010b)
 unfolding execute
 pair = refl
 
--- ADD (5) of Thumb at an address whose PC has bit 1: add r0, pc, #8, with the value as it is and with the bit taken off
-add-pc : seen 0 (execute (thumb 0x08000002 (Alu Add false 0 15 (Operand2.Imm 8 0))) begin) ≡ some (0x0800000c, 0, 0x08000005)
+-- ADD (5) of Thumb at an address whose PC has bit 1: add r0, pc, #8, with the value as it is and
+-- with the bit taken off
+add-pc : seen 0 (execute (thumb 0x08000002 (Alu Add false 0 15 (Operand2.Imm 8 0))) begin)
+    ≡ some (0x0800000c, 0, 0x08000005)
 unfolding execute
 add-pc = refl
 
-add-pc-folded : seen 0 (execute (thumb 0x08000002 (Alu Add false 0 15 (Operand2.Imm 6 0))) begin) ≡ some (0x0800000c, 0, 0x08000005)
+add-pc-folded : seen 0 (execute (thumb 0x08000002 (Alu Add false 0 15 (Operand2.Imm 6 0))) begin)
+    ≡ some (0x0800000c, 0, 0x08000005)
 unfolding execute
 add-pc-folded = refl
 

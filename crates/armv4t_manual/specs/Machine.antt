@@ -1,4 +1,5 @@
--- What the instructions act on: registers, flags and memory (A2.3, A2.5, A2.7). A word is a number below 2^32.
+-- What the instructions act on: registers, flags and memory (A2.3, A2.5, A2.7). A word is a number
+-- below 2^32.
 use Prim.Native.Nat.{ℕ, _+_, _*_, _/_, _%_, _^_, _<_}
 use mathlib.Core.Path.{_≡_, refl}
 use mathlib.Core.Bool.{Bool, true, false, cond}
@@ -9,7 +10,8 @@ use Rattle.base_words.specs.Word.{oneIf}
 abbrev pub two32 : ℕ
 two32 = 4294967296
 
--- registers 0 to 14, the flags, the other 28 bits of the status register (T is bit 5), and the bytes of memory
+-- registers 0 to 14, the flags, the other 28 bits of the status register (T is bit 5), and the
+-- bytes of memory
 pub record Machine : Type 0 where
   pub r : ℕ → ℕ
   pub n : Bool
@@ -37,25 +39,49 @@ update k x f i = cond (eqb i k) x (f i)
 
 -- the machine with x in register rd
 abbrev pub setReg : ℕ → ℕ → Machine → Machine
-setReg rd x m = record { r = update rd x (m .r); n = m .n; z = m .z; c = m .c; v = m .v; otherBits = m .otherBits; mem = m .mem }
+setReg rd x m =
+    record {
+      r = update rd x (m .r);
+      n = m .n;
+      z = m .z;
+      c = m .c;
+      v = m .v;
+      otherBits =
+          m .otherBits;
+      mem = m .mem;
+    }
 
 -- the machine with other registers
 abbrev pub setRegs : (ℕ → ℕ) → Machine → Machine
-setRegs f m = record { r = f; n = m .n; z = m .z; c = m .c; v = m .v; otherBits = m .otherBits; mem = m .mem }
+setRegs f m =
+    record { r = f; n = m .n; z = m .z; c = m .c; v = m .v; otherBits = m .otherBits; mem = m .mem }
 
 -- the machine with other flags
 abbrev pub setFlags : Bool → Bool → Bool → Bool → Machine → Machine
-setFlags n z c v m = record { r = m .r; n = n; z = z; c = c; v = v; otherBits = m .otherBits; mem = m .mem }
+setFlags n z c v m =
+    record { r = m .r; n = n; z = z; c = c; v = v; otherBits = m .otherBits; mem = m .mem }
 
 -- the machine with other bytes of memory
 abbrev pub setMem : (ℕ → ℕ) → Machine → Machine
-setMem f m = record { r = m .r; n = m .n; z = m .z; c = m .c; v = m .v; otherBits = m .otherBits; mem = f }
+setMem f m =
+    record { r = m .r; n = m .n; z = m .z; c = m .c; v = m .v; otherBits = m .otherBits; mem = f }
 
 -- T, bit 5 of the status register
 abbrev pub setT : Bool → Machine → Machine
-setT t m = record { r = m .r; n = m .n; z = m .z; c = m .c; v = m .v; otherBits = m .otherBits / 64 * 64 + oneIf t * 32 + m .otherBits % 32; mem = m .mem }
+setT t m =
+    record {
+      r = m .r;
+      n = m .n;
+      z = m .z;
+      c = m .c;
+      v = m .v;
+      otherBits =
+          m .otherBits / 64 * 64 + oneIf t * 32 + m .otherBits % 32;
+      mem = m .mem;
+    }
 
--- what a machine holds is in range: words below 2^32, the status register's other bits below 2^28, bytes below 256
+-- what a machine holds is in range: words below 2^32, the status register's other bits below 2^28,
+-- bytes below 256
 pub record Sound (m : Machine) : Type 0 where
   pub words : (i : ℕ) → i < 15 → m .r i < two32
   pub otherBits : m .otherBits < 2 ^ 28

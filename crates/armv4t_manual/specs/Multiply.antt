@@ -1,5 +1,6 @@
--- A4.1 Multiplies: MLA, MUL, SMLAL, SMULL, UMLAL, UMULL; A7.1 MUL. Open: C after MULS and MLAS, C and V after long multiplies, which here stay; and the outcome
--- where Rd is Rm, or two of RdHi, RdLo and Rm are one, which here is the one computed.
+-- A4.1 Multiplies: MLA, MUL, SMLAL, SMULL, UMLAL, UMULL; A7.1 MUL. Open: C after MULS and MLAS, C
+-- and V after long multiplies, which here stay; and the outcome where Rd is Rm, or two of RdHi,
+-- RdLo and Rm are one, which here is the one computed.
 use Prim.Native.Nat.{ℕ, _+_, _-_, _*_, _/_, _%_}
 use mathlib.Core.Path.{_≡_, refl}
 use mathlib.Core.Bool.{Bool, true, false, cond, _&&_, Bool·beq}
@@ -25,14 +26,18 @@ absolute x = cond (bit x 31) (two32 - x) x
 -- a product of 64 bits, of signed words by two's complement
 abbrev pub product : Bool → ℕ → ℕ → ℕ
 product false x y = x * y
-product true x y = cond (Bool·beq (bit x 31) (bit y 31)) (absolute x * absolute y) ((two64 - absolute x * absolute y) % two64)
+product true x y =
+    cond (Bool·beq (bit x 31) (bit y 31)) (absolute x * absolute y)
+    ((two64 - absolute x * absolute y) % two64)
 
 -- UMULL, UMLAL, SMULL, SMLAL
 abbrev pub multiplyLong : Bool → Bool → Bool → ℕ → ℕ → ℕ → ℕ → Machine → Machine
 multiplyLong signed acc s hi lo rs rm m =
     let p : ℕ = product signed (m .r rm) (m .r rs) in
     let l : ℕ = (p % two32 + cond acc (m .r lo) 0) % two32 in
-    let h : ℕ = (p / two32 + cond acc (m .r hi) 0 + oneIf (CarryFrom (p % two32 + cond acc (m .r lo) 0))) % two32 in
+    let h : ℕ =
+    (p / two32 + cond acc (m .r hi) 0 + oneIf (CarryFrom (p % two32 + cond acc (m .r lo) 0))) %
+    two32 in
     setReg hi h (setReg lo l (cond s (setFlags (bit h 31) (eqb h 0 && eqb l 0) (m .c) (m .v) m) m))
 
 -- -2 times 3

@@ -42,7 +42,8 @@ BorrowFrom x y i = ltb x (y + i)
 abbrev pub OverflowFromAdd : ℕ → ℕ → ℕ → Bool
 OverflowFromAdd x y s = Bool·beq (bit x 31) (bit y 31) && not (Bool·beq (bit x 31) (bit s 31))
 
--- a subtraction overflows where the operands' signs differ and the sign of the outcome s is not the first's
+-- a subtraction overflows where the operands' signs differ and the sign of the outcome s is not the
+-- first's
 abbrev pub OverflowFromSub : ℕ → ℕ → ℕ → Bool
 OverflowFromSub x y s = not (Bool·beq (bit x 31) (bit y 31)) && not (Bool·beq (bit x 31) (bit s 31))
 

@@ -1,5 +1,6 @@
--- The Thumb instructions: their formats, the record that each decodes to, and what A7.1 says that it does. Formats bear the numbers of thumb.rs, and opcodes the
--- names of A7.1: add-1 is ADD (1). Left out are halfwords that no format has, which thumb.rs makes Undefined.
+-- The Thumb instructions: their formats, the record that each decodes to, and what A7.1 says that
+-- it does. Formats bear the numbers of thumb.rs, and opcodes the names of A7.1: add-1 is ADD (1).
+-- Left out are halfwords that no format has, which thumb.rs makes Undefined.
 use Prim.Native.Nat.{ℕ, zero, suc, _+_, _-_, _*_, _/_, _%_, _^_, _<_}
 use mathlib.Core.Path.{_≡_}
 use mathlib.Core.Bool.{Bool, true, false, not, cond, _&&_}
@@ -8,7 +9,8 @@ use mathlib.Core.Option.{Option, none, some}
 use lib.Dec.{eqb}
 use lib.ListN.{length}
 use Rattle.base_words.specs.Word.{AND, OR, EOR, bit, oneIf}
-use Rattle.armv4t.specs.declared.AluOp.the-variants.{And, Eor, Sub, Rsb, Add, Adc, Sbc, Tst, Cmp, Cmn, Orr, Mov, Bic, Mvn}
+use Rattle.armv4t.specs.declared.AluOp.the-variants.{And, Eor, Sub, Rsb, Add, Adc, Sbc, Tst, Cmp}
+use Rattle.armv4t.specs.declared.AluOp.the-variants.{Cmn, Orr, Mov, Bic, Mvn}
 use Rattle.armv4t.specs.declared.ShiftKind.{ShiftKind}
 use Rattle.armv4t.specs.declared.ShiftKind.the-variants.{Lsl, Lsr, Asr, Ror}
 use Rattle.armv4t.specs.declared.Shift.{Shift}
@@ -19,12 +21,14 @@ use Rattle.armv4t.specs.declared.MemOffset.{MemOffset}
 use Rattle.armv4t.specs.declared.Cond.{Cond}
 use Rattle.armv4t.specs.declared.Cond.the-variants.{Al}
 use Rattle.armv4t.specs.declared.Op.{Op}
-use Rattle.armv4t.specs.declared.Op.the-variants.{Alu, Mul, Bx, Branch, ThumbBlHigh, ThumbBlLow, Mem, BlockMem, Swi}
+use Rattle.armv4t.specs.declared.Op.the-variants.{Alu, Mul, Bx, Branch, ThumbBlHigh, ThumbBlLow}
+use Rattle.armv4t.specs.declared.Op.the-variants.{Mem, BlockMem, Swi}
 use Rattle.armv4t.specs.declared.Instr.{Instr}
 use Rattle.armv4t.specs.Shift.{noShift}
 use Rattle.armv4t.specs.Bit0.{clearBit0, setBit0}
 use Rattle.armv4t.specs.Cond.{isAl}
-use Rattle.armv4t_manual.specs.Machine.{two32, Machine, R, update, setReg, setRegs, setFlags, setMem}
+use Rattle.armv4t_manual.specs.Machine.{two32, Machine, R, update, setReg, setRegs, setFlags}
+use Rattle.armv4t_manual.specs.Machine.{setMem}
 use Rattle.armv4t_manual.specs.Operators.{Logical-Shift-Left, NOT, minus, SignExtend8}
 use Rattle.armv4t_manual.specs.Conditions.{passed}
 use Rattle.armv4t_manual.specs.Shifter.{shift, shiftBy}
@@ -58,7 +62,8 @@ pub data Opcode5 : Type 0 where
 pub data Opcode7 : Type 0 where
   str-2 strb-2 ldr-2 ldrb-2 : Opcode7
 
--- the opcodes of format 8: transfers of halfwords and loads of signed bytes, with a register as the offset
+-- the opcodes of format 8: transfers of halfwords and loads of signed bytes, with a register as the
+-- offset
 pub data Opcode8 : Type 0 where
   strh-2 ldrsb ldrh-2 ldrsh : Opcode8
 
@@ -90,8 +95,10 @@ pub data Opcode14 : Type 0 where
 pub data Opcode15 : Type 0 where
   stmia ldmia : Opcode15
 
--- an instruction with its fields. Format 2 has immed_3 in the place of Rm where its opcode is add-1 or sub-1, format 4 Rs in the place of Rm where it is a shift,
--- and BX in format 5 does not use Rd, whose bits should be 0: with others it is open, and here the same. Format 6 is LDR (3), format 16 B (1), format 17 SWI, format 18 B (2), and format 19 BL in two halves, H of 10 and H of 11
+-- an instruction with its fields. Format 2 has immed_3 in the place of Rm where its opcode is add-1
+-- or sub-1, format 4 Rs in the place of Rm where it is a shift, and BX in format 5 does not use Rd,
+-- whose bits should be 0: with others it is open, and here the same. Format 6 is LDR (3), format 16
+-- B (1), format 17 SWI, format 18 B (2), and format 19 BL in two halves, H of 10 and H of 11
 pub data Thumb : Type 0 where
   format-1 : Opcode1 → (immed rm rd : ℕ) → Thumb
   format-2 : Opcode2 → (rm rn rd : ℕ) → Thumb
@@ -161,7 +168,8 @@ decoded3 cmp-1 rd immed = Alu Cmp true rd rd (Operand2.Imm immed 0)
 decoded3 add-2 rd immed = Alu Add true rd rd (Operand2.Imm immed 0)
 decoded3 sub-2 rd immed = Alu Sub true rd rd (Operand2.Imm immed 0)
 
--- the operation that format 4 decodes to: a shift is a MOV of Rd, shifted by Rs, and NEG is an RSB of Rm with the value 0
+-- the operation that format 4 decodes to: a shift is a MOV of Rd, shifted by Rs, and NEG is an RSB
+-- of Rm with the value 0
 abbrev pub decoded4 : Opcode4 → ℕ → ℕ → Op
 decoded4 and rm rd = Alu And true rd rd (Operand2.Reg rm noShift)
 decoded4 eor rm rd = Alu Eor true rd rd (Operand2.Reg rm noShift)
@@ -236,7 +244,8 @@ abbrev pub decoded13 : Opcode13 → ℕ → Op
 decoded13 add-7 immed = Alu Add false 13 13 (Operand2.Imm (immed * 4) 0)
 decoded13 sub-4 immed = Alu Sub false 13 13 (Operand2.Imm (immed * 4) 0)
 
--- the operation that format 14 decodes to: R adds LR to the list of PUSH, which is STMDB SP!, and PC to that of POP, which is LDMIA SP!
+-- the operation that format 14 decodes to: R adds LR to the list of PUSH, which is STMDB SP!, and
+-- PC to that of POP, which is LDMIA SP!
 abbrev pub decoded14 : Opcode14 → Bool → ℕ → Op
 decoded14 push r list = BlockMem false 13 (list + oneIf r * 2 ^ 14) true false false true
 decoded14 pop r list = BlockMem true 13 (list + oneIf r * 2 ^ 15) false true false true
@@ -252,7 +261,8 @@ ahead a offset = ((a + 4) % two32 + offset) % two32
 
 -- decode_op of thumb.rs, at an address: the condition and the operation
 abbrev pub decodedOp : ℕ → Thumb → Cond × Op
-decodedOp a (format-1 op immed rm rd) = (Al, Alu Mov true rd 0 (Operand2.Reg rm (Shift.Imm (shiftOf op) immed)))
+decodedOp a (format-1 op immed rm rd) =
+    (Al, Alu Mov true rd 0 (Operand2.Reg rm (Shift.Imm (shiftOf op) immed)))
 decodedOp a (format-2 op rm rn rd) = (Al, decoded2 op rm rn rd)
 decodedOp a (format-3 op rd immed) = (Al, decoded3 op rd immed)
 decodedOp a (format-4 op rm rd) = (Al, decoded4 op rm rd)
@@ -270,7 +280,8 @@ decodedOp a (format-15 op rn list) = (Al, decoded15 op rn list)
 decodedOp a (format-16 c immed) = (c, Branch false (ahead a (SignExtend8 immed * 2 % two32)))
 decodedOp a (format-17 immed) = (Al, Swi immed)
 decodedOp a (format-18 immed) = (Al, Branch false (ahead a (SignExtend11 immed * 2 % two32)))
-decodedOp a (format-19-high offset) = (Al, ThumbBlHigh (ahead a (SignExtend11 offset * 2 ^ 12 % two32)))
+decodedOp a (format-19-high offset) =
+    (Al, ThumbBlHigh (ahead a (SignExtend11 offset * 2 ^ 12 % two32)))
 decodedOp a (format-19-low offset) = (Al, ThumbBlLow offset)
 
 -- decode_thumb: the record
@@ -301,7 +312,8 @@ sets rd x m = setReg rd (x .0) (flagged x m)
 abbrev pub shifts : ℕ → ℕ × Bool → Machine → Machine
 shifts rd q m = sets rd (logical (q .0) (q .1) (m .v)) m
 
--- LSL (1), LSR (1), ASR (1): by immed_5, where 0 stands for 32 in LSR and ASR; the cases are those of A5.1.5, A5.1.7 and A5.1.9
+-- LSL (1), LSR (1), ASR (1): by immed_5, where 0 stands for 32 in LSR and ASR; the cases are those
+-- of A5.1.5, A5.1.7 and A5.1.9
 abbrev pub does1 : Opcode1 → ℕ → ℕ → ℕ → Machine → Machine
 does1 lsl-1 immed rm rd m = shifts rd (shift Lsl (m .r rm) immed (m .c)) m
 does1 lsr-1 immed rm rd m = shifts rd (shift Lsr (m .r rm) immed (m .c)) m
@@ -322,8 +334,9 @@ does3 cmp-1 rd immed m = flagged (subWithBorrow (m .r rd) immed 0) m
 does3 add-2 rd immed m = sets rd (addWithCarry (m .r rd) immed 0) m
 does3 sub-2 rd immed m = sets rd (subWithBorrow (m .r rd) immed 0) m
 
--- AND, EOR, LSL (2), LSR (2), ASR (2), ADC, SBC, ROR, TST, NEG, CMP (2), CMN, ORR, MUL, BIC, MVN. The shifts are by Rs[7:0], with the cases of A5.1.6, A5.1.8,
--- A5.1.10 and A5.1.12. Open: C after MUL, which here stays, and its outcome where Rd is Rm
+-- AND, EOR, LSL (2), LSR (2), ASR (2), ADC, SBC, ROR, TST, NEG, CMP (2), CMN, ORR, MUL, BIC, MVN.
+-- The shifts are by Rs[7:0], with the cases of A5.1.6, A5.1.8, A5.1.10 and A5.1.12. Open: C after
+-- MUL, which here stays, and its outcome where Rd is Rm
 abbrev pub does4 : Opcode4 → ℕ → ℕ → Machine → Machine
 does4 and rm rd m = sets rd (logical (AND (m .r rd) (m .r rm)) (m .c) (m .v)) m
 does4 eor rm rd m = sets rd (logical (EOR (m .r rd) (m .r rm)) (m .c) (m .v)) m
@@ -342,15 +355,18 @@ does4 mul rm rd m = sets rd (logical (m .r rm * m .r rd % two32) (m .c) (m .v)) 
 does4 bic rm rd m = sets rd (logical (AND (m .r rd) (NOT (m .r rm))) (m .c) (m .v)) m
 does4 mvn rm rd m = sets rd (logical (NOT (m .r rm)) (m .c) (m .v)) m
 
--- ADD (4), CMP (3), MOV (3), BX, where R15 reads as PC. Not written out: ADD (4) and MOV (3) with R15 as Rd. Open: the first three with both registers below 8,
--- and CMP (3) with R15 as Rn, which are here as otherwise
+-- ADD (4), CMP (3), MOV (3), BX, where R15 reads as PC. Not written out: ADD (4) and MOV (3) with
+-- R15 as Rd. Open: the first three with both registers below 8, and CMP (3) with R15 as Rn, which
+-- are here as otherwise
 abbrev pub does5 : ℕ → Opcode5 → ℕ → ℕ → Machine → Option (Machine × ℕ)
-does5 a add-4 rm rd m = cond (eqb rd 15) none (onto a (setReg rd ((m .r rd + R m (PC a) rm) % two32) m))
+does5 a add-4 rm rd m =
+    cond (eqb rd 15) none (onto a (setReg rd ((m .r rd + R m (PC a) rm) % two32) m))
 does5 a cmp-3 rm rd m = onto a (flagged (subWithBorrow (R m (PC a) rd) (R m (PC a) rm) 0) m)
 does5 a mov-3 rm rd m = cond (eqb rd 15) none (onto a (setReg rd (R m (PC a) rm) m))
 does5 a bx rm rd m = some (branchExchange (R m (PC a) rm) m)
 
--- Rd from memory. Open where a word's address is no multiple of 4, or a halfword's is odd: here LDR and the loads of halfwords are as in ARM
+-- Rd from memory. Open where a word's address is no multiple of 4, or a halfword's is odd: here LDR
+-- and the loads of halfwords are as in ARM
 abbrev pub loads : MemWidth → Bool → ℕ → ℕ → Machine → Machine
 loads width signed rd address m = setReg rd (loaded width signed (m .mem) address) m
 
@@ -399,25 +415,37 @@ abbrev pub does13 : Opcode13 → ℕ → Machine → Machine
 does13 add-7 immed m = setReg 13 ((m .r 13 + immed * 4) % two32) m
 does13 sub-4 immed m = setReg 13 (minus (m .r 13) (immed * 4) 0) m
 
--- PUSH: the registers of the list, and LR where R is set, at rising addresses from SP - 4 * (R + their number), which becomes SP. Open: no register, which is
--- here as otherwise
+-- PUSH: the registers of the list, and LR where R is set, at rising addresses from SP - 4 * (R +
+-- their number), which becomes SP. Open: no register, which is here as otherwise
 abbrev pub pushes : Bool → ℕ → Machine → Machine
 pushes r list m =
     let start : ℕ = minus (m .r 13) (4 * (oneIf r + length (listed list 8))) 0 in
-    setReg 13 start (setMem (storeAll (m .r) (listed list 8 ++ cond r (14 ∷ []) []) start (m .mem)) m)
+    setReg 13 start
+    (setMem (storeAll (m .r) (listed list 8 ++ cond r (14 ∷ []) []) start (m .mem)) m)
 
--- POP: the registers of the list from rising addresses from SP; SP + 4 * (R + their number) becomes SP. Open: no register, which is here as otherwise
+-- POP: the registers of the list from rising addresses from SP; SP + 4 * (R + their number) becomes
+-- SP. Open: no register, which is here as otherwise
 abbrev pub pops : Bool → ℕ → Machine → Machine
-pops r list m = setReg 13 ((m .r 13 + 4 * (oneIf r + length (listed list 8))) % two32) (setRegs (loadAll (listed list 8) (m .r 13) (m .mem) (m .r)) m)
+pops r list m =
+    setReg 13 ((m .r 13 + 4 * (oneIf r + length (listed list 8))) % two32)
+    (setRegs (loadAll (listed list 8) (m .r 13) (m .mem) (m .r)) m)
 
--- PUSH, POP: where R is set, POP makes PC the word after those of the list AND 0xFFFFFFFE, and ARMv4 keeps T
+-- PUSH, POP: where R is set, POP makes PC the word after those of the list AND 0xFFFFFFFE, and
+-- ARMv4 keeps T
 abbrev pub does14 : ℕ → Opcode14 → Bool → ℕ → Machine → Option (Machine × ℕ)
 does14 a push r list m = onto a (pushes r list m)
 does14 a pop false list m = onto a (pops false list m)
-does14 a pop true list m = some (pops true list m, key true (clearBit0 (Memory4 (m .mem) (addressAfter (listed list 8) (m .r 13)))))
+does14 a pop true list m =
+    some (
+      pops true list m,
+      key true
+          (clearBit0 (Memory4 (m .mem) (addressAfter (listed list 8) (m .r 13)))),
+    )
 
--- STMIA, LDMIA: Rn plus 4 times the number of registers becomes Rn. Where LDMIA names Rn, Rn is the value loaded. Where STMIA names Rn as the lowest register,
--- the old value is stored. Open: STMIA with Rn listed and not lowest, where the new value is stored here; an empty list, which is here as otherwise
+-- STMIA, LDMIA: Rn plus 4 times the number of registers becomes Rn. Where LDMIA names Rn, Rn is the
+-- value loaded. Where STMIA names Rn as the lowest register, the old value is stored. Open: STMIA
+-- with Rn listed and not lowest, where the new value is stored here; an empty list, which is here
+-- as otherwise
 abbrev pub does15 : Opcode15 → ℕ → ℕ → Machine → Machine
 does15 stmia rn list m =
     let new : ℕ = (m .r rn + length (listed list 8) * 4) % two32 in
@@ -431,7 +459,8 @@ does15 ldmia rn list m =
 abbrev pub branches : ℕ → ℕ → Machine → Option (Machine × ℕ)
 branches a offset m = some (m, key true ((PC a + offset) % two32))
 
--- what A7.1 says of an instruction at an address: the machine and the key after it. Not written out: SWI
+-- what A7.1 says of an instruction at an address: the machine and the key after it. Not written
+-- out: SWI
 unfoldable pub thumbOperation : ℕ → Thumb → Machine → Option (Machine × ℕ)
 thumbOperation a (format-1 op immed rm rd) m = onto a (does1 op immed rm rd m)
 thumbOperation a (format-2 op rm rn rd) m = onto a (does2 op rm rn rd m)
@@ -439,7 +468,8 @@ thumbOperation a (format-3 op rd immed) m = onto a (does3 op rd immed m)
 thumbOperation a (format-4 op rm rd) m = onto a (does4 op rm rd m)
 thumbOperation a (format-5 op rm rd) m = does5 a op rm rd m
 -- LDR (3): (PC[31:2] << 2) plus immed_8 * 4
-thumbOperation a (format-6 rd immed) m = onto a (loads Word false rd ((PC a / 4 * 4 + immed * 4) % two32) m)
+thumbOperation a (format-6 rd immed) m =
+    onto a (loads Word false rd ((PC a / 4 * 4 + immed * 4) % two32) m)
 thumbOperation a (format-7 op rm rn rd) m = onto a (does7 op rm rn rd m)
 thumbOperation a (format-8 op rm rn rd) m = onto a (does8 op rm rn rd m)
 thumbOperation a (format-9 op immed rn rd) m = onto a (does9 op immed rn rd m)
@@ -450,11 +480,19 @@ thumbOperation a (format-13 op immed) m = onto a (does13 op immed m)
 thumbOperation a (format-14 op r list) m = does14 a op r list m
 thumbOperation a (format-15 op rn list) m = onto a (does15 op rn list m)
 -- B (1): if the condition passes, PC plus (SignExtend(signed_immed_8) << 1)
-thumbOperation a (format-16 c immed) m = cond (passed c m) (branches a (Logical-Shift-Left (SignExtend8 immed) 1) m) (onto a m)
+thumbOperation a (format-16 c immed) m =
+    cond (passed c m) (branches a (Logical-Shift-Left (SignExtend8 immed) 1) m) (onto a m)
 thumbOperation a (format-17 immed) m = none
 -- B (2): PC plus (SignExtend(signed_immed_11) << 1)
 thumbOperation a (format-18 immed) m = branches a (Logical-Shift-Left (SignExtend11 immed) 1) m
 -- BL, H of 10: LR = PC + (SignExtend(offset_11) << 12)
-thumbOperation a (format-19-high offset) m = onto a (setReg 14 ((PC a + Logical-Shift-Left (SignExtend11 offset) 12) % two32) m)
--- BL, H of 11: PC = LR + (offset_11 << 1), and LR = (address of next instruction) | 1. Open: an odd LR, which no H of 10 makes; here PC is without bit 0
-thumbOperation a (format-19-low offset) m = some (setReg 14 (setBit0 (next a)) m, key true (clearBit0 ((m .r 14 + Logical-Shift-Left offset 1) % two32)))
+thumbOperation a (format-19-high offset) m =
+    onto a (setReg 14 ((PC a + Logical-Shift-Left (SignExtend11 offset) 12) % two32) m)
+-- BL, H of 11: PC = LR + (offset_11 << 1), and LR = (address of next instruction) | 1. Open: an odd
+-- LR, which no H of 10 makes; here PC is without bit 0
+thumbOperation a (format-19-low offset) m =
+    some (
+      setReg 14 (setBit0 (next a)) m,
+      key true
+          (clearBit0 ((m .r 14 + Logical-Shift-Left offset 1) % two32)),
+    )

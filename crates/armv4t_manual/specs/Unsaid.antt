@@ -1,19 +1,23 @@
--- What is left out of the manual's account here: of the records that decode no instruction those whose text does what no instruction of the set does, and the
--- instructions that the manual leaves unpredictable and whose text uses c[15], of which agreement says nothing. What else the manual leaves open is fixed where the
--- operation is written out, and marked by the word "open".
+-- What is left out of the manual's account here: of the records that decode no instruction those
+-- whose text does what no instruction of the set does, and the instructions that the manual leaves
+-- unpredictable and whose text uses c[15], of which agreement says nothing. What else the manual
+-- leaves open is fixed where the operation is written out, and marked by the word "open".
 use Prim.Native.Nat.{ℕ}
 use mathlib.Core.Path.{_≡_, refl}
 use mathlib.Core.Bool.{Bool, true, false, not, _&&_, _||_}
 use lib.Dec.{eqb}
 use Rattle.armv4t.specs.declared.Cond.{Cond}
-use Rattle.armv4t.specs.declared.Cond.the-variants.{Eq, Ne, Cs, Cc, Mi, Pl, Vs, Vc, Hi, Ls, Ge, Lt, Gt, Le, Al, Nv}
+use Rattle.armv4t.specs.declared.Cond.the-variants.{Eq, Ne, Cs, Cc, Mi, Pl, Vs, Vc, Hi, Ls, Ge, Lt}
+use Rattle.armv4t.specs.declared.Cond.the-variants.{Gt, Le, Al, Nv}
 use Rattle.armv4t.specs.Cond.{isAl}
 use Rattle.armv4t.specs.declared.Op.{Op}
-use Rattle.armv4t.specs.declared.Op.the-variants.{Alu, Mul, MulLong, Swap, Bx, Branch, ThumbBlHigh, ThumbBlLow, Mem, BlockMem, Mrs, MsrReg, MsrImm, Swi, Undefined}
+use Rattle.armv4t.specs.declared.Op.the-variants.{Alu, Mul, MulLong, Swap, Bx, Branch, ThumbBlHigh}
+use Rattle.armv4t.specs.declared.Op.the-variants.{ThumbBlLow, Mem, BlockMem, Mrs, MsrReg, MsrImm}
+use Rattle.armv4t.specs.declared.Op.the-variants.{Swi, Undefined}
 use Rattle.armv4t.specs.declared.Instr.{Instr}
 
--- whether a record with a condition is left out as no instruction of its set: a Branch of Thumb (A7.1 B (1), B (2)) does not link, and the halves of BL (A7.1) are Thumb's,
--- without a condition
+-- whether a record with a condition is left out as no instruction of its set: a Branch of Thumb
+-- (A7.1 B (1), B (2)) does not link, and the halves of BL (A7.1) are Thumb's, without a condition
 abbrev pub noInstructionOf : Bool → Cond → Op → Bool
 noInstructionOf thumb c (Alu op s rd rn op2) = false
 noInstructionOf thumb c (Mul acc s rd rn rs rm) = false

@@ -1,1 +1,2 @@
-// The ARM Architecture Reference Manual's account of the instructions, for ARMv4T: definitions only.
+// The ARM Architecture Reference Manual's account of the instructions, for ARMv4T: definitions
+// only.

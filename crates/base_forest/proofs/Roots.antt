@@ -7,8 +7,10 @@ use native.Mathlib.Nat.{zero-add}
 use native.Mathlib.Numerals.{add-one}
 use native.Mathlib.Omega.{arith}
 use lib.ListN.{length, length-set}
-use Rattle.base_forest.specs.Forest.{range, parent, follow, root, hang, Forest, Flatter, RootFound, SameRoots}
-use Rattle.base_forest.proofs.Ways.{Leads, longer, end-inside, end-own, follow-own, follow-of, way, forest, moved, hung}
+use Rattle.base_forest.specs.Forest.{range, parent, follow, root, hang, Forest, Flatter}
+use Rattle.base_forest.specs.Forest.{RootFound, SameRoots}
+use Rattle.base_forest.proofs.Ways.{Leads, longer, end-inside, end-own, follow-own}
+use Rattle.base_forest.proofs.Ways.{follow-of, way, forest, moved, hung}
 
 -- the root is the end of a way that is short enough
 pub root-of : {p : List ℕ} {i r d : ℕ} → Leads p i r d → d ≤ 2 * length p → root p i ≡ r
@@ -50,9 +52,14 @@ module _ (n : ℕ) where
 
 -- an edge hangs the root of i under that of j, and moves the numbers whose root that was
 
-module _ {p : List ℕ} (full : Forest (2 * length p) p) {i j : ℕ} (inside-i : i < length p) (inside-j : j < length p) where
-  way-hang : {k r d : ℕ} → Leads p k r d → Leads (hang p i j) k (moved (root p i) (root p j) r) (d + 1)
-  way-hang {d = d} w = rw (add-one d) (hung p (root p i) (root p j) (root-inside full inside-i) (root-own full inside-i) (root-inside full inside-j) (root-own full inside-j) w)
+module _ {p : List ℕ} (full : Forest (2 * length p) p) {i j : ℕ} (inside-i : i < length p)
+    (inside-j : j < length p) where
+  way-hang : {k r d : ℕ} → Leads p k r d
+      → Leads (hang p i j) k (moved (root p i) (root p j) r) (d + 1)
+  way-hang {d = d} w =
+      rw (add-one d)
+      (hung p (root p i) (root p j) (root-inside full inside-i) (root-own full inside-i)
+      (root-inside full inside-j) (root-own full inside-j) w)
 
   pub forest-hang : {d : ℕ} → Forest d p → Forest (d + 1) (hang p i j)
   forest-hang {d} f = forest (λ k h. (_, way-hang (way f k (rw length-set at h))))
@@ -75,13 +82,15 @@ flatter-trans first second =
       depth = λ d f. second .depth d (first .depth d f);
     }
 
-module _ {p : List ℕ} (full : Forest (2 * length p) p) {i r : ℕ} {p′ : List ℕ} (inside : i < length p) (found : RootFound p i r p′) where
+module _ {p : List ℕ} (full : Forest (2 * length p) p) {i r : ℕ} {p′ : List ℕ}
+    (inside : i < length p) (found : RootFound p i r p′) where
   -- the root that was found is the root now
   pub found-root : r ≡ root p′ i
   found-root = found .is ∙ sym (found .kept .roots i inside)
 
   pub found-own : parent p′ r ≡ r
-  found-own = rw found-root (root-own (flatter-full (found .kept) full) (rw (found .kept .lengths) inside))
+  found-own =
+      rw found-root (root-own (flatter-full (found .kept) full) (rw (found .kept .lengths) inside))
 
 -- parents with the same roots
 
@@ -103,15 +112,18 @@ same-flatter {d} flat same =
       lengths = flat .lengths ∙ same .lengths;
       left = flat .depth d (same .left);
       right = same .right;
-      roots = λ k h. let inside = rw (flat .lengths) at h in flat .roots k inside ∙ same .roots k inside;
+      roots = λ k h. let inside = rw (flat .lengths) at h in
+          flat .roots k inside ∙ same .roots k inside;
     }
 
 -- what a search asks of the parents
-pub same-full : {d : ℕ} {p q : List ℕ} → SameRoots d p q → d ≤ 2 * length p → Forest (2 * length p) p
+pub same-full : {d : ℕ} {p q : List ℕ} → SameRoots d p q → d ≤ 2 * length p
+    → Forest (2 * length p) p
 same-full same small = deeper (same .left) _ small
 
 -- an edge in both keeps the roots the same, where every way has a step to spare
-module _ {d : ℕ} {p q : List ℕ} (same : SameRoots d p q) (small : d + 1 ≤ 2 * length p) {i j : ℕ} (inside-i : i < length p) (inside-j : j < length p) where
+module _ {d : ℕ} {p q : List ℕ} (same : SameRoots d p q) (small : d + 1 ≤ 2 * length p) {i j : ℕ}
+    (inside-i : i < length p) (inside-j : j < length p) where
   full-left : Forest (2 * length p) p
   full-left = same-full same (omega arith)
 
@@ -130,5 +142,6 @@ module _ {d : ℕ} {p q : List ℕ} (same : SameRoots d p q) (small : d + 1 ≤ 
         roots = λ k h. let inside : k < length p = rw length-set at h in
             root-hang full-left inside-i inside-j (same .left) small k inside
             ∙ rw (same .roots i inside-i, same .roots j inside-j, same .roots k inside)
-            (sym (root-hang full-right (in-q inside-i) (in-q inside-j) (same .right) (rw (← same .lengths) small) k (in-q inside)));
+            (sym (root-hang full-right (in-q inside-i) (in-q inside-j) (same .right)
+            (rw (← same .lengths) small) k (in-q inside)));
       }

@@ -56,7 +56,11 @@ follow-own (suc n) p i s = rw (eq-eqb _ _ s)
 follow-up : (n : ℕ) (p : List ℕ) (i : ℕ) → follow (suc n) p i ≡ follow n p (parent p i)
 unfolding follow
 follow-up n p i =
-    elim (ℕ-discrete (parent p i) i) [ yes s ↦ follow-own (suc n) p i s ∙ sym (rw s (follow-own n p i s)) | no s ↦ rw (ne-eqb _ _ s) ]
+    elim (ℕ-discrete (parent p i) i) [
+      | yes s ↦ follow-own (suc n) p i s
+          ∙ sym (rw s (follow-own n p i s))
+      | no s ↦ rw (ne-eqb _ _ s)
+    ]
 
 pub follow-of : {p : List ℕ} {i r d : ℕ} → Leads p i r d → follow d p i ≡ r
 follow-of {p} (own {r = r} {d = d} h s) = follow-own d p r s
@@ -70,7 +74,8 @@ way-of : (n : ℕ) (p : List ℕ) (i : ℕ) → ((k : ℕ) → k < length p → 
     → i < length p → parent p (follow n p i) ≡ follow n p i → Leads p i (follow n p i) n
 unfolding follow
 way-of zero p i inside h s = own h s
-way-of (suc n) p i inside h s = rw follow-up (up h refl (way-of n p (parent p i) inside (inside i h) (rw follow-up at s)))
+way-of (suc n) p i inside h s =
+    rw follow-up (up h refl (way-of n p (parent p i) inside (inside i h) (rw follow-up at s)))
 
 pub way : {d : ℕ} {p : List ℕ} → Forest d p → (i : ℕ) → i < length p → Leads p i (follow d p i) d
 way {d} {p} f i h = way-of d p i (f .inside) h (f .ends i h)
@@ -98,7 +103,8 @@ module _ (p : List ℕ) (at v : ℕ) where
       ])
 
   -- a step from i, which is at or keeps its parent
-  up-set : {i r d : ℕ} → i < length p → (i ≡ at → Leads (set p at v) v r d) → ((i ≡ at → ⊥) → Leads (set p at v) (parent p i) r d)
+  up-set : {i r d : ℕ} → i < length p → (i ≡ at → Leads (set p at v) v r d)
+      → ((i ≡ at → ⊥) → Leads (set p at v) (parent p i) r d)
       → Leads (set p at v) i r (suc d)
   up-set {i} h here there =
       elim (ℕ-discrete i at) [
@@ -112,13 +118,17 @@ module _ (p : List ℕ) (at v : ℕ) where
 abbrev pub halved : List ℕ → ℕ → List ℕ
 halved p at = set p at (parent p (parent p at))
 
-halve-both : (at : ℕ) {p : List ℕ} {i r d : ℕ} → Leads p i r d → Leads (halved p at) i r d × Leads (halved p at) (parent p i) r d
+halve-both : (at : ℕ) {p : List ℕ} {i r d : ℕ} → Leads p i r d
+    → Leads (halved p at) i r d × Leads (halved p at) (parent p i) r d
 halve-both at {p} (own {r = r} h s) =
     let w : Leads (halved p at) r r _ = own-set p at _ h s (λ e. rw (← e) (ap (parent p) s ∙ s)) in
     (w, rw s w)
 halve-both at {p} (up {i = i} h s w) =
-    let both = halve-both at w in
-    (up-set p at _ h (λ e. rw (← s, e) at (both .1)) (λ n. rw s (both .0)), rw s (one-more (both .0)))
+    let both = halve-both at w in (
+      up-set p at _ h (λ e. rw (← s, e) at (both .1)) (λ n. rw s (both .0)),
+      rw s
+          (one-more (both .0)),
+    )
 
 -- halving keeps the root, and makes no way longer
 pub halve : (at : ℕ) {p : List ℕ} {i r d : ℕ} → Leads p i r d → Leads (halved p at) i r d
@@ -134,7 +144,8 @@ unfolding steps
 steps-own zero p i s = refl
 steps-own (suc n) p i s = rw (eq-eqb _ _ s)
 
-steps-up : (n : ℕ) (p : List ℕ) (i : ℕ) → (parent p i ≡ i → ⊥) → steps (suc n) p i ≡ suc (steps n p (parent p i))
+steps-up : (n : ℕ) (p : List ℕ) (i : ℕ) → (parent p i ≡ i → ⊥)
+    → steps (suc n) p i ≡ suc (steps n p (parent p i))
 unfolding steps
 steps-up n p i s = rw (ne-eqb _ _ s)
 
@@ -161,7 +172,8 @@ pub nearer : (m : ℕ) {p : List ℕ} {at r n : ℕ} → Leads p at r n → (par
     → steps m (halved p at) (parent p (parent p at)) < steps n p at
 nearer m (own h s) no-root = absurd (no-root s)
 nearer m {p} {at} (up {d = d} h s w) no-root =
-    rw (steps-up d p at no-root) (suc-le-suc (steps-least m (halve at (above (steps-reach (rw (← s) at w))))))
+    rw (steps-up d p at no-root)
+    (suc-le-suc (steps-least m (halve at (above (steps-reach (rw (← s) at w))))))
 
 -- hanging
 
@@ -169,15 +181,19 @@ nearer m {p} {at} (up {d = d} h s w) no-root =
 abbrev pub moved : ℕ → ℕ → ℕ → ℕ
 moved i j r = cond (eqb r i) j r
 
-module _ (p : List ℕ) (i j : ℕ) (inside-i : i < length p) (own-i : parent p i ≡ i) (inside-j : j < length p) (own-j : parent p j ≡ j) where
+module _ (p : List ℕ) (i j : ℕ) (inside-i : i < length p) (own-i : parent p i ≡ i)
+    (inside-j : j < length p) (own-j : parent p j ≡ j) where
   pub hung : {k r d : ℕ} → Leads p k r d → Leads (set p i j) k (moved i j r) (suc d)
   hung (own {r = r} h s) =
       elim (ℕ-discrete r i) [
-        | yes e ↦ rw (eq-eqb r i e) (up-set p i j h (λ _. own-set p i j inside-j own-j (λ _. refl)) (λ n. absurd (n e)))
+        | yes e ↦ rw (eq-eqb r i e)
+            (up-set p i j h (λ _. own-set p i j inside-j own-j (λ _. refl)) (λ n. absurd (n e)))
         | no n ↦ rw (ne-eqb r i n) (own-set p i j h s (λ e. absurd (n e)))
       ]
   hung (up {i = k} {j = above-k} h s w) =
       elim (ℕ-discrete k i) [
-        | yes e ↦ (let stays : k ≡ above-k = e ∙ sym own-i ∙ ap (parent p) (sym e) ∙ s in rw stays (one-more (hung w)))
+        | yes e ↦
+            (let stays : k ≡ above-k = e ∙ sym own-i ∙ ap (parent p) (sym e) ∙ s in
+            rw stays (one-more (hung w)))
         | no n ↦ up-set p i j h (λ e. absurd (n e)) (λ _. rw s (hung w))
       ]

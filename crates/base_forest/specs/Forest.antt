@@ -20,7 +20,8 @@ unfoldable pub follow : ℕ → List ℕ → ℕ → ℕ
 follow zero p i = i
 follow (suc n) p i = cond (eqb (parent p i) i) i (follow n p (parent p i))
 
--- the root of i (document 01). An edge makes the path to a root at most one step longer, and a block has at most two edges, so two steps for each block suffice
+-- the root of i (document 01). An edge makes the path to a root at most one step longer, and a
+-- block has at most two edges, so two steps for each block suffice
 abbrev pub root : List ℕ → ℕ → ℕ
 root p i = follow (2 * length p) p i
 
@@ -52,8 +53,10 @@ pub record SameRoots (d : ℕ) (p q : List ℕ) : Type 0 where
   pub right : Forest d q
   pub roots : (k : ℕ) → k < length p → root p k ≡ root q k
 
--- what hanging the root of i under that of j makes of the parents p: where they had the roots of q, they now have those of hang q i j
+-- what hanging the root of i under that of j makes of the parents p: where they had the roots of q,
+-- they now have those of hang q i j
 pub record Hung (p : List ℕ) (i j : ℕ) (p′ : List ℕ) : Type 0 where
   pub lengths : length p′ ≡ length p
   pub depth : (d : ℕ) → Forest d p → Forest (d + 1) p′
-  pub roots : (d : ℕ) (q : List ℕ) → d + 1 ≤ 2 * length p → SameRoots d p q → SameRoots (d + 1) p′ (hang q i j)
+  pub roots : (d : ℕ) (q : List ℕ) → d + 1 ≤ 2 * length p → SameRoots d p q
+      → SameRoots (d + 1) p′ (hang q i j)

@@ -1,4 +1,5 @@
-// Parents in lent numbers: element i is the parent of i, and a number that is its own parent is a root.
+// Parents in lent numbers: element i is the parent of i, and a number that is its own parent is a
+// root.
 ghost use Prim.Native.Nat.{_*_, _≤_, _<_, _^_};
 ghost use mathlib.Core.Path.{_≡_};
 ghost use lib.ListN.{length, set};
@@ -14,7 +15,8 @@ pub fn own_roots(p: &mut [u32])
     }
 }
 
-// The root of i. A number that the search comes to is hung under its parent's parent, where the search goes on, so that later searches are shorter.
+// The root of i. A number that the search comes to is hung under its parent's parent, where the
+// search goes on, so that later searches are shorter.
 pub fn find(p: &mut [u32], i: usize) -> usize
     requires { ⌜ Forest (2 * length (now p)) (now p) ⌝ }
     requires { ⌜ i < length (now p) ⌝ }

@@ -22,11 +22,14 @@ parts : (h l g m : ℕ) → (h * K + l) * (g * K + m) ≡ h * g * K * K + h * m 
 parts h l g m =
     add-mul (h * K) l (g * K + m)
     ∙ ap₂ (λ (x y : ℕ). x + y)
-    (mul-add (h * K) (g * K) m ∙ ap₂ (λ (x y : ℕ). x + y) (swap h (g * K) ∙ ap (λ (z : ℕ). z * K) (sym (mul-assoc h g K))) (swap h m))
+    (mul-add (h * K) (g * K) m
+    ∙ ap₂ (λ (x y : ℕ). x + y) (swap h (g * K) ∙ ap (λ (z : ℕ). z * K) (sym (mul-assoc h g K)))
+    (swap h m))
     (mul-add l (g * K) m ∙ ap (λ (z : ℕ). z + l * m) (sym (mul-assoc l g K)))
 
 pub product : (a b mixed : ℕ) → mixed ≡ (a / K * (b % K) + a % K * (b / K)) % 18446744073709551616
     → (a % K * (b % K) + mixed % K * K) % 18446744073709551616 ≡ a * b % 18446744073709551616
 product a b mixed is =
-    let whole : a * b ≡ (a / K * K + a % K) * (b / K * K + b % K) = ap₂ (λ (x y : ℕ). x * y) (omega arith) (omega arith) in
+    let whole : a * b ≡ (a / K * K + a % K) * (b / K * K + b % K) =
+    ap₂ (λ (x y : ℕ). x * y) (omega arith) (omega arith) in
     omega (arith, whole, parts (a / K) (a % K) (b / K) (b % K), is)

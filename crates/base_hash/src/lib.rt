@@ -10,7 +10,8 @@ fn low(a: u64) -> u64
     a % 4294967296
 }
 
-// a times b modulo 2^64, for all factors: the product of the high halves is past the 64 bits, and of the mixed products only the low 32 bits stay.
+// a times b modulo 2^64, for all factors: the product of the high halves is past the 64 bits, and
+// of the mixed products only the low 32 bits stay.
 pub fn wrapping_mul(a: u64, b: u64) -> u64
     ensures { λ r. ⌜ r ≡ a * b % 2 ^ 64 ⌝ }
 {

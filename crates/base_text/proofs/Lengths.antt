@@ -1,5 +1,5 @@
--- The most bytes that a text can take, by its pieces: a bound that computes where numbers stay unknown.
--- Assumes nothing.
+-- The most bytes that a text can take, by its pieces: a bound that computes where numbers stay
+-- unknown. Assumes nothing.
 use Prim.Native.Nat.{ℕ, zero, suc, zero-le, _+_, _*_, _/_, _%_, _≤_}
 use mathlib.Core.Bool.{Bool, true, false, cond}
 use mathlib.Core.List.{List, [], _∷_, _++_}
@@ -8,7 +8,9 @@ use native.Mathlib.Nat.{le-refl, suc-mul}
 use lib.Dec.{ltb}
 use lib.ListN.{length, length-append}
 use Rattle.base_text.specs.Digits.{numeral, glyph}
-use Rattle.base_text.specs.Doc.{Doc, nothing, raw, text, dec, hex, hex8, hex16, _▸_, chars, print, decimal, hexadecimal, hexadecimal8, hexadecimal16, each}
+use Rattle.base_text.specs.Doc.{Doc, nothing, raw, text, dec, hex, hex8, hex16, _▸_, chars}
+use Rattle.base_text.specs.Doc.{print, decimal, hexadecimal, hexadecimal8, hexadecimal16}
+use Rattle.base_text.specs.Doc.{each}
 use Rattle.base_text.proofs.Numerals.{length-fixed}
 
 numeral-length : (b most n : ℕ) → length (numeral b most n) ≤ most
@@ -16,7 +18,8 @@ unfolding numeral
 numeral-length b zero n = zero-le
 numeral-length b (suc most) n = go (ltb n b) (numeral-length b most (n / b))
   where
-    go : (t : Bool) → length (numeral b most (n / b)) ≤ most → length (cond t (glyph n ∷ []) (numeral b most (n / b) ++ (glyph (n % b) ∷ []))) ≤ suc most
+    go : (t : Bool) → length (numeral b most (n / b)) ≤ most
+        → length (cond t (glyph n ∷ []) (numeral b most (n / b) ++ (glyph (n % b) ∷ []))) ≤ suc most
     go true h = omega arith
     go false h = omega (arith, length-append (numeral b most (n / b)) (glyph (n % b) ∷ []))
 
@@ -44,6 +47,7 @@ length-most (hex16 n) = omega (arith, length-fixed 16 16 n)
 length-most (a ▸ b) = omega (arith, length-append (print a) (print b), length-most a, length-most b)
 
 -- a list of texts that have at most m bytes each
-pub most-each : {A : Type 0} (f : A → Doc) (m : ℕ) → ((x : A) → most (f x) ≤ m) → (xs : List A) → most (each f xs) ≤ length xs * m
+pub most-each : {A : Type 0} (f : A → Doc) (m : ℕ) → ((x : A) → most (f x) ≤ m) → (xs : List A)
+    → most (each f xs) ≤ length xs * m
 most-each f m h [] = omega arith
 most-each f m h (x ∷ xs) = omega (arith, h x, most-each f m h xs, suc-mul (length xs) m)

@@ -32,7 +32,8 @@ unfolding numeral
 numeral-one b most n h = rw (lt-ltb n b h)
 
 -- another has its last digit after the digits of n / b
-pub numeral-more : (b most n : ℕ) → b ≤ n → numeral b (suc most) n ≡ numeral b most (n / b) ++ (glyph (n % b) ∷ [])
+pub numeral-more : (b most n : ℕ) → b ≤ n
+    → numeral b (suc most) n ≡ numeral b most (n / b) ++ (glyph (n % b) ∷ [])
 unfolding numeral
 numeral-more b most n h = rw (le-ltb n b h)
 
@@ -42,7 +43,8 @@ length-snoc s x = length-append s (x ∷ []) ∙ add-one (length s)
 pub length-fixed : (b k n : ℕ) → length (lastDigits b k n) ≡ k
 unfolding lastDigits
 length-fixed b zero n = refl
-length-fixed b (suc k) n = length-snoc (lastDigits b k (n / b)) (glyph (n % b)) ∙ ap suc (length-fixed b k (n / b))
+length-fixed b (suc k) n =
+    length-snoc (lastDigits b k (n / b)) (glyph (n % b)) ∙ ap suc (length-fixed b k (n / b))
 
 -- a number without zeros in front is as many of its last digits as it has
 pub numeral-fixed : (b most n : ℕ) → numeral b most n ≡ lastDigits b (length (numeral b most n)) n
@@ -64,13 +66,15 @@ pub count-more : (b most k n : ℕ) → 1 < b → b ≤ n → n < b ^ (most - k)
 count-more b most k n hb h l = go (most - k) refl
   where
     go : (f : ℕ) → most - k ≡ f → (k + 1 < most) × (n / b < b ^ (most - (k + 1)))
-        × (k + length (numeral b (most - k) n) ≡ k + 1 + length (numeral b (most - (k + 1)) (n / b)))
+        × (k + length (numeral b (most - k) n)
+        ≡ k + 1 + length (numeral b (most - (k + 1)) (n / b)))
     go zero e = absurd (omega (arith, rw (e, pow-zero) at l))
     go (suc zero) e = absurd (omega (arith, rw (e, pow-suc, pow-zero) at l))
     go (suc (suc m)) e =
         let p : most - (k + 1) ≡ suc m = omega arith in (
           omega arith,
-          rw p (div-lt-iff-lt-mul {k = b} {x = n} {y = b ^ suc m} (omega arith) .1 (rw (e, pow-suc) at l)),
+          rw p (div-lt-iff-lt-mul {k = b} {x = n} {y = b ^ suc m} (omega arith) .1
+              (rw (e, pow-suc) at l)),
           rw (e, p, numeral-more b (suc m) n h, length-snoc) (omega arith),
         )
 
@@ -96,6 +100,7 @@ store-end b zero n d t h e = sym (overlay-none d 0) ∙ e
 store-end b (suc at) n d t h e = absurd (not-suc-le-zero h)
 
 -- a call that stores the last hexadecimal digit
-pub digit-more : (at n : ℕ) (d : List ℕ) {d′ t : List ℕ} {r : ℕ} → 0 < at → (d′ ≡ set d (at - 1) (glyph (n % 16))) × (r ≡ n / 16)
+pub digit-more : (at n : ℕ) (d : List ℕ) {d′ t : List ℕ} {r : ℕ} → 0 < at
+    → (d′ ≡ set d (at - 1) (glyph (n % 16))) × (r ≡ n / 16)
     → overlay d 0 (lastDigits 16 at n) ≡ t → overlay d′ 0 (lastDigits 16 (at - 1) r) ≡ t
 digit-more at n d {d′} {t} {r} h p e = rw (p .0, p .1) (store-more 16 at n d t h e)

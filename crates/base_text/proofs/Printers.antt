@@ -1,4 +1,5 @@
--- The laws of `Printed`, by which the proof of a printer goes, and the one by which a printer that is lent a part writes to the whole.
+-- The laws of `Printed`, by which the proof of a printer goes, and the one by which a printer that
+-- is lent a part writes to the whole.
 use mathlib.Core.Path.{_≡_, refl, sym, ap, _∙_}
 use Prim.Native.Nat.{ℕ, _+_, _-_, _≤_, _<_, min}
 use native.Mathlib.Nat.{zero-add}
@@ -18,7 +19,8 @@ pub copy-more : (o d s : List ℕ) (i : ℕ) → i < length s → d ≡ overlay 
     → set d i (getD s i 0) ≡ overlay o 0 (take (i + 1) s)
 copy-more o d s i h e = rw (e, add-one) (rw zero-add at (overlay-more o 0 s i h))
 
-pub copy-end : (o d s : List ℕ) (i : ℕ) → length s ≤ i → d ≡ overlay o 0 (take i s) → d ≡ overlay o 0 s
+pub copy-end : (o d s : List ℕ) (i : ℕ) → length s ≤ i → d ≡ overlay o 0 (take i s)
+    → d ≡ overlay o 0 s
 copy-end o d s i h e = e ∙ ap (overlay o 0) (take-all i s h)
 
 -- s was copied
@@ -27,22 +29,33 @@ unfolding print
 copied e = record { bytes = e; size = refl }
 
 -- a piece for an empty part is measured
-pub measured : {o : List ℕ} {d : Doc} {n : ℕ} → length o ≡ 0 → n ≡ length (print d) → Printed o d o n
-measured {o} {d} {n} h e = record { bytes = sym (overlay-past o 0 (print d) (omega arith)); size = e }
+pub measured : {o : List ℕ} {d : Doc} {n : ℕ} → length o ≡ 0 → n ≡ length (print d)
+    → Printed o d o n
+measured {o} {d} {n} h e =
+    record { bytes = sym (overlay-past o 0 (print d) (omega arith)); size = e }
 
 -- the last k digits of a number were stored
-pub spelt : (b k n : ℕ) {o o′ : List ℕ} {d : Doc} → print d ≡ lastDigits b k n → o′ ≡ overlay o 0 (lastDigits b k n) → Printed o d o′ k
+pub spelt : (b k n : ℕ) {o o′ : List ℕ} {d : Doc} → print d ≡ lastDigits b k n
+    → o′ ≡ overlay o 0 (lastDigits b k n) → Printed o d o′ k
 spelt b k n {o} {o′} {d} p q =
-    record { bytes = q ∙ ap (overlay o 0) (sym p); size = sym (length-fixed b k n) ∙ ap length (sym p) }
+    record {
+      bytes = q ∙ ap (overlay o 0) (sym p);
+      size = sym (length-fixed b k n)
+          ∙ ap length (sym p);
+    }
 
 -- all digits of a number were stored
-pub stored : (b most n : ℕ) {k : ℕ} {o o′ : List ℕ} {d : Doc} → print d ≡ numeral b most n → k ≡ length (print d)
+pub stored : (b most n : ℕ) {k : ℕ} {o o′ : List ℕ} {d : Doc} → print d ≡ numeral b most n
+    → k ≡ length (print d)
     → o′ ≡ overlay o 0 (lastDigits b k n) → Printed o d o′ k
 stored b most n {k} {o} {o′} {d} p e q =
-    spelt b k n (p ∙ numeral-fixed b most n ∙ ap (λ (j : ℕ). lastDigits b j n) (sym (e ∙ ap length p))) q
+    spelt b k n
+    (p ∙ numeral-fixed b most n ∙ ap (λ (j : ℕ). lastDigits b j n) (sym (e ∙ ap length p))) q
 
--- the part of o from index at, or an empty one where at is past the end, was lent to a printer and came back
-pub lent : {o part′ : List ℕ} {at from n r : ℕ} {d : Doc} → length o ≤ maxUsize → from ≡ min at (length o)
+-- the part of o from index at, or an empty one where at is past the end, was lent to a printer and
+-- came back
+pub lent : {o part′ : List ℕ} {at from n r : ℕ} {d : Doc} → length o ≤ maxUsize
+    → from ≡ min at (length o)
     → Printed (take (length o - from) (drop from o)) d part′ n → r ≡ min (at + n) maxUsize
     → Wrote o at d (take from o ++ (part′ ++ drop (length o - from) (drop from o))) r
 lent {o} {part′} {at} {from} {n} {r} {d} h e w q =
@@ -51,7 +64,9 @@ lent {o} {part′} {at} {from} {n} {r} {d} h e w q =
       bytes =
           rw (drop-of-length-le (drop from o) l, append-nil)
           (ap (λ (s : List ℕ). take from o ++ s)
-          (w .bytes ∙ ap (λ (s : List ℕ). overlay s 0 (print d)) (take-all (length o - from) (drop from o) l))
+          (w .bytes
+          ∙ ap (λ (s : List ℕ). overlay s 0 (print d))
+          (take-all (length o - from) (drop from o) l))
           ∙ sym (overlay-part o from (print d))
           ∙ ap (λ (k : ℕ). overlay o k (print d)) e
           ∙ overlay-stop o at (length o) (print d) (omega arith));

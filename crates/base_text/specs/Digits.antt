@@ -1,4 +1,5 @@
--- A number as text: its digits in a base, the most significant first, with no zeros in front or with a fixed number of digits.
+-- A number as text: its digits in a base, the most significant first, with no zeros in front or
+-- with a fixed number of digits.
 use Prim.Native.Nat.{ℕ, zero, suc, _+_, _/_, _%_}
 use mathlib.Core.Bool.{cond}
 use mathlib.Core.List.{List, [], _∷_, _++_}
@@ -8,10 +9,12 @@ use lib.Dec.{ltb}
 abbrev pub glyph : ℕ → ℕ
 glyph d = cond (ltb d 10) (48 + d) (87 + d)
 
--- n in base b with no zeros in front, where `most` digits hold it: the digits of n / b, if it has any, and then the last digit
+-- n in base b with no zeros in front, where `most` digits hold it: the digits of n / b, if it has
+-- any, and then the last digit
 unfoldable pub numeral : ℕ → ℕ → ℕ → List ℕ
 numeral b zero n = []
-numeral b (suc most) n = cond (ltb n b) (glyph n ∷ []) (numeral b most (n / b) ++ (glyph (n % b) ∷ []))
+numeral b (suc most) n =
+    cond (ltb n b) (glyph n ∷ []) (numeral b most (n / b) ++ (glyph (n % b) ∷ []))
 
 -- the last k digits of n in base b
 unfoldable pub lastDigits : ℕ → ℕ → ℕ → List ℕ

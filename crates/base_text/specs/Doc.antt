@@ -29,15 +29,16 @@ utf8 n =
     cond (ltb n 0x80) (n ∷ [])
     (cond (ltb n 0x800) ((0xc0 + n / 0x40) ∷ (0x80 + n % 0x40) ∷ [])
     (cond (ltb n 0x10000) ((0xe0 + n / 0x1000) ∷ (0x80 + n / 0x40 % 0x40) ∷ (0x80 + n % 0x40) ∷ [])
-    ((0xf0 + n / 0x40000) ∷ (0x80 + n / 0x1000 % 0x40) ∷ (0x80 + n / 0x40 % 0x40) ∷ (0x80 + n % 0x40) ∷ [])))
+    ((0xf0 + n / 0x40000) ∷ (0x80 + n / 0x1000 % 0x40) ∷ (0x80 + n / 0x40 % 0x40)
+    ∷ (0x80 + n % 0x40) ∷ [])))
 
 -- the bytes of a text in UTF-8
 abbrev pub chars : String → List ℕ
 chars ε = []
 chars (c ∷ˢ s) = utf8 (code c) ++ chars s
 
--- a number in decimal, without zeros in front; 20 digits hold a u64. It and the next three do not unfold by themselves, so that a proof about a text carries a
--- number on as one piece
+-- a number in decimal, without zeros in front; 20 digits hold a u64. It and the next three do not
+-- unfold by themselves, so that a proof about a text carries a number on as one piece
 unfoldable pub decimal : ℕ → List ℕ
 decimal n = numeral 10 20 n
 
@@ -64,8 +65,8 @@ print (hex8 n) = hexadecimal8 n
 print (hex16 n) = hexadecimal16 n
 print (a ▸ b) = print a ++ print b
 
--- the bytes of a doc in front of k, `print d ++ k` with the brackets to the right. Where two docs are put together otherwise from the same bytes,
--- their flat forms compute to one term
+-- the bytes of a doc in front of k, `print d ++ k` with the brackets to the right. Where two docs
+-- are put together otherwise from the same bytes, their flat forms compute to one term
 abbrev pub flat : Doc → List ℕ → List ℕ
 flat nothing k = k
 flat (raw s) k = s ++ k

@@ -2,7 +2,8 @@
 use mathlib.Core.Path.{_≡_, refl}
 use mathlib.Core.List.{[], _∷_}
 use Rattle.base_text.specs.Digits.{numeral, lastDigits}
-use Rattle.base_text.specs.Doc.{text, dec, hex, hex8, hex16, _▸_, decimal, hexadecimal, hexadecimal8, hexadecimal16, print, each}
+use Rattle.base_text.specs.Doc.{text, dec, hex, hex8, hex16, _▸_, decimal, hexadecimal}
+use Rattle.base_text.specs.Doc.{hexadecimal8, hexadecimal16, print, each}
 
 -- zero is one digit, and the largest u64 has twenty
 zero-is-one-digit : print (dec 0) ≡ print (text "0")

@@ -5,7 +5,8 @@ ghost use lib.ListN.{length};
 ghost use Rattle.base_text.specs.Digits.{glyph};
 ghost use Rattle.base_text.specs.Doc.{decimal, hexadecimal};
 
-// The ASCII code of a digit. The compiler makes a table of such a match, which is quicker than a test for each digit.
+// The ASCII code of a digit. The compiler makes a table of such a match, which is quicker than a
+// test for each digit.
 pub fn glyph(d: u64) -> u8
     requires { ⌜ d < 16 ⌝ }
     ensures { λ r. ⌜ r ≡ glyph d ⌝ }

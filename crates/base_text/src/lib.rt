@@ -1,4 +1,5 @@
-// Text put piece by piece into a lent buffer. What does not fit is dropped and still counted, so that an empty buffer measures.
+// Text put piece by piece into a lent buffer. What does not fit is dropped and still counted, so
+// that an empty buffer measures.
 mod digits;
 
 ghost use mathlib.Core.Path.{_≡_};
@@ -38,7 +39,8 @@ fn store(part: &mut [u8], at: usize, b: u8)
     }
 }
 
-// Copies s to the front of part. The compiler turns the loop into one copy, of a known size where s is a literal.
+// Copies s to the front of part. The compiler turns the loop into one copy, of a known size where s
+// is a literal.
 fn copy(part: &mut [u8], s: &[u8])
     requires { ⌜ length (now s) ≤ length (now part) ⌝ }
     ensures { λ _. ⌜ now (part .exit) ≡ overlay (now (part .entry)) 0 (now (s .entry)) ⌝ }
@@ -50,7 +52,8 @@ fn copy(part: &mut [u8], s: &[u8])
     }
 }
 
-// Copies what fits of s to the front of part. It is another loop than copy's on purpose: of two alike the compiler makes one, of an unknown size.
+// Copies what fits of s to the front of part. It is another loop than copy's on purpose: of two
+// alike the compiler makes one, of an unknown size.
 fn clip(part: &mut [u8], s: &[u8])
     ensures { λ _. ⌜ now (part .exit) ≡ overlay (now (part .entry)) 0 (now (s .entry)) ⌝ }
 {
@@ -61,7 +64,8 @@ fn clip(part: &mut [u8], s: &[u8])
     }
 }
 
-// Stores the last hexadecimal digit of n at index at of part, if part has that index, and answers n without it.
+// Stores the last hexadecimal digit of n at index at of part, if part has that index, and answers n
+// without it.
 fn digit(part: &mut [u8], at: usize, n: u64) -> u64
     ensures { λ r. ⌜ (now (part .exit) ≡ set (now (part .entry)) at (glyph (n % 16))) × (r ≡ n / 16) ⌝ }
 {
@@ -81,8 +85,8 @@ fn last_digits(part: &mut [u8], n: u64, k: usize)
     }
 }
 
-// Printers that are lent the part of a buffer from the place reached. Each writes to the front of the part what fits of its piece, and answers the
-// length of the whole piece.
+// Printers that are lent the part of a buffer from the place reached. Each writes to the front of
+// the part what fits of its piece, and answers the length of the whole piece.
 
 // The bytes of s.
 pub fn line(part: &mut [u8], s: &[u8]) -> usize
@@ -139,7 +143,8 @@ pub fn hex(part: &mut [u8], n: u64) -> usize
     k
 }
 
-// n in decimal, with no zeros in front. The digits are counted first, and then stored from the last.
+// n in decimal, with no zeros in front. The digits are counted first, and then stored from the
+// last.
 pub fn dec(part: &mut [u8], n: u64) -> usize
     ensures { λ r. ⌜ Printed (now (part .entry)) (dec n) (now (part .exit)) r ⌝ }
 {
@@ -157,8 +162,8 @@ pub fn dec(part: &mut [u8], n: u64) -> usize
     k
 }
 
-// The same at index at of a buffer: each lends a printer the part from there, an empty one where at is past the end, and answers the index after the
-// piece, or the largest usize where that is less.
+// The same at index at of a buffer: each lends a printer the part from there, an empty one where at
+// is past the end, and answers the index after the piece, or the largest usize where that is less.
 
 // The bytes of s.
 pub fn put(out: &mut [u8], at: usize, s: &[u8]) -> usize
@@ -205,7 +210,8 @@ pub fn put_dec(out: &mut [u8], at: usize, n: u64) -> usize
     after(at, k)
 }
 
-// s and then n in decimal. A literal and the number after it in one call halve the calls, and with them the cost of a caller's check.
+// s and then n in decimal. A literal and the number after it in one call halve the calls, and with
+// them the cost of a caller's check.
 pub fn put_then_dec(out: &mut [u8], at: usize, s: &[u8], n: u64) -> usize
     ensures { λ r. ⌜ Wrote (now (out .entry)) at (raw (now (s .entry)) ▸ dec n) (now (out .exit)) r ⌝ }
 {

@@ -1,4 +1,5 @@
--- The laws of operations on bits: those of lib.Bits under the names that do not unfold, the four top bits of a word, and turns.
+-- The laws of operations on bits: those of lib.Bits under the names that do not unfold, the four
+-- top bits of a word, and turns.
 use mathlib.Core.Path.{_≡_, refl, sym, ap, ap₂, _∙_, subst}
 use mathlib.Core.Bool.{Bool, true, false, _&&_}
 use Prim.Native.Nat.{ℕ, zero, suc, _+_, _-_, _*_, _/_, _%_, _^_, _≤_, _<_}
@@ -23,11 +24,13 @@ bit-num x i = bit-at (x / 2 ^ i % 2) (mod-lt (x / 2 ^ i) (lit< tt))
 
 -- the laws of lib.Bits
 
-pub and-block : (k a b r s : ℕ) → r < 2 ^ k → s < 2 ^ k → AND (a * 2 ^ k + r) (b * 2 ^ k + s) ≡ AND a b * 2 ^ k + AND r s
+pub and-block : (k a b r s : ℕ) → r < 2 ^ k → s < 2 ^ k
+    → AND (a * 2 ^ k + r) (b * 2 ^ k + s) ≡ AND a b * 2 ^ k + AND r s
 unfolding AND
 and-block = B.and-block
 
-pub or-block : (k a b r s : ℕ) → r < 2 ^ k → s < 2 ^ k → OR (a * 2 ^ k + r) (b * 2 ^ k + s) ≡ OR a b * 2 ^ k + OR r s
+pub or-block : (k a b r s : ℕ) → r < 2 ^ k → s < 2 ^ k
+    → OR (a * 2 ^ k + r) (b * 2 ^ k + s) ≡ OR a b * 2 ^ k + OR r s
 unfolding OR
 or-block = B.or-block
 
@@ -81,11 +84,14 @@ xor-lt = B.xor-lt
 
 -- the four flags over the other 28 bits
 
-pub and-top : (f m low : ℕ) → low < 2 ^ 28 → AND (f * 2 ^ 28 + low) (m * 2 ^ 28 + (2 ^ 28 - 1)) ≡ AND f m * 2 ^ 28 + low
+pub and-top : (f m low : ℕ) → low < 2 ^ 28
+    → AND (f * 2 ^ 28 + low) (m * 2 ^ 28 + (2 ^ 28 - 1)) ≡ AND f m * 2 ^ 28 + low
 and-top f m low h =
-    and-block 28 f m low (2 ^ 28 - 1) h (lit< tt) ∙ ap (λ (x : ℕ). AND f m * 2 ^ 28 + x) (and-mask low 28 ∙ mod-eq-of-lt h)
+    and-block 28 f m low (2 ^ 28 - 1) h (lit< tt)
+    ∙ ap (λ (x : ℕ). AND f m * 2 ^ 28 + x) (and-mask low 28 ∙ mod-eq-of-lt h)
 
-pub or-top : (f g low : ℕ) → low < 2 ^ 28 → OR (f * 2 ^ 28 + low) (g * 2 ^ 28) ≡ OR f g * 2 ^ 28 + low
+pub or-top : (f g low : ℕ) → low < 2 ^ 28
+    → OR (f * 2 ^ 28 + low) (g * 2 ^ 28) ≡ OR f g * 2 ^ 28 + low
 or-top f g low h =
     ap (OR (f * 2 ^ 28 + low)) (sym (add-zero (g * 2 ^ 28)))
     ∙ or-block 28 f g low 0 h (lit< tt) ∙ ap (λ (x : ℕ). OR f g * 2 ^ 28 + x) (or-zero-r low)
@@ -142,10 +148,13 @@ shl-mod x k j =
     ∙ add-zero (x % 2 ^ j * 2 ^ k)
 
 -- (x >> k) | (x << (32 - k))
-pub turn : (x k : ℕ) → x < 4294967296 → k ≤ 32 → OR (x / 2 ^ k) (x * 2 ^ (32 - k) % 4294967296) ≡ x / 2 ^ k + x % 2 ^ k * 2 ^ (32 - k)
+pub turn : (x k : ℕ) → x < 4294967296 → k ≤ 32
+    → OR (x / 2 ^ k) (x * 2 ^ (32 - k) % 4294967296) ≡ x / 2 ^ k + x % 2 ^ k * 2 ^ (32 - k)
 turn x k h l =
-    ap (λ (p : ℕ). OR (x / 2 ^ k) p) (ap (λ (p : ℕ). x * 2 ^ (32 - k) % 2 ^ p) (sym (sub-l k l)) ∙ shl-mod x (32 - k) k)
-    ∙ or-shifted-r (x % 2 ^ k) (32 - k) (x / 2 ^ k) (shr-lt (32 - k) k (subst (λ (p : ℕ). x < 2 ^ p) (sym (sub-r k l)) h))
+    ap (λ (p : ℕ). OR (x / 2 ^ k) p)
+    (ap (λ (p : ℕ). x * 2 ^ (32 - k) % 2 ^ p) (sym (sub-l k l)) ∙ shl-mod x (32 - k) k)
+    ∙ or-shifted-r (x % 2 ^ k) (32 - k) (x / 2 ^ k)
+    (shr-lt (32 - k) k (subst (λ (p : ℕ). x < 2 ^ p) (sym (sub-r k l)) h))
     ∙ add-comm (x % 2 ^ k * 2 ^ (32 - k)) (x / 2 ^ k)
   where
     sub-l : (k : ℕ) → k ≤ 32 → k + (32 - k) ≡ 32

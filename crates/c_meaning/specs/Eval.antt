@@ -1,15 +1,19 @@
--- The value of an expression by C99. The type is static; what C leaves undefined is none. No expression has an effect, so the order in which C evaluates
--- operands, which it leaves open, cannot matter.
+-- The value of an expression by C99. The type is static; what C leaves undefined is none. No
+-- expression has an effect, so the order in which C evaluates operands, which it leaves open,
+-- cannot matter.
 use Prim.Native.Nat.{ℕ, _+_, _-_, _*_, _/_, _%_, _^_}
 use mathlib.Core.Bool.{Bool, not, cond, _&&_, _||_, Bool·beq}
 use mathlib.Core.Option.{Option, none, some}
 use lib.Dec.{ltb, leb, eqb}
 use Rattle.base_words.specs.Word.{AND, OR, EOR}
-use Rattle.c_tree.specs.Expr.{Ty, s32, u32, Style, word, caps, uhex, udec, int, Un, compl, lnot, Bin, mul, add, sub, shl, shr, eq, ne, band, bxor, bor, land, lor, Expr, lit, get, par, un, bin, orLine, cast, pick, ror, read}
+use Rattle.c_tree.specs.Expr.{Ty, s32, u32, Style, word, caps, uhex, udec, int, Un, compl, lnot}
+use Rattle.c_tree.specs.Expr.{Bin, mul, add, sub, shl, shr, eq, ne, band, bxor, bor, land, lor}
+use Rattle.c_tree.specs.Expr.{Expr, lit, get, par, un, bin, orLine, cast, pick, ror, read}
 use Rattle.c_meaning.specs.Types.{width, signed, promote, commonType, negative, convert}
 use Rattle.c_meaning.specs.State.{bind, State, value, placeTy, load}
 
--- the type of a constant (6.4.4.1): with u an unsigned int, without it an int; the text has none that either is too narrow for
+-- the type of a constant (6.4.4.1): with u an unsigned int, without it an int; the text has none
+-- that either is too narrow for
 abbrev pub literalTy : Style → Ty
 literalTy word = u32
 literalTy caps = u32
@@ -25,7 +29,8 @@ literal uhex k = cond (ltb k 4294967296) (some k) none
 literal udec k = cond (ltb k 4294967296) (some k) none
 literal int k = cond (ltb k 2147483648) (some k) none
 
--- the type that the left operand is converted to; of a shift the operands are promoted each by itself (6.5.7), and && and || convert neither
+-- the type that the left operand is converted to; of a shift the operands are promoted each by
+-- itself (6.5.7), and && and || convert neither
 abbrev pub leftTy : Bin → Ty → Ty → Ty
 leftTy mul x y = commonType x y
 leftTy add x y = commonType x y
@@ -92,17 +97,21 @@ truth b = cond b 1 0
 abbrev pub unless : Bool → ℕ → Option ℕ
 unless b x = cond b none (some x)
 
--- a signed sum of k bits: it does not fit where both operands have one sign and the outcome the other
+-- a signed sum of k bits: it does not fit where both operands have one sign and the outcome the
+-- other
 abbrev pub signedAdd : ℕ → ℕ → ℕ → Option ℕ
 signedAdd k x y =
     let s : ℕ = (x + y) % 2 ^ k in
-    unless (Bool·beq (negative k x) (negative k y) && not (Bool·beq (negative k x) (negative k s))) s
+    unless (Bool·beq (negative k x) (negative k y) && not (Bool·beq (negative k x) (negative k s)))
+    s
 
--- a signed difference of k bits: it does not fit where the operands' signs differ and the outcome's is not the first's
+-- a signed difference of k bits: it does not fit where the operands' signs differ and the outcome's
+-- is not the first's
 abbrev pub signedSub : ℕ → ℕ → ℕ → Option ℕ
 signedSub k x y =
     let s : ℕ = (x + (2 ^ k - y)) % 2 ^ k in
-    unless (not (Bool·beq (negative k x) (negative k y)) && not (Bool·beq (negative k x) (negative k s))) s
+    unless (not (Bool·beq (negative k x) (negative k y))
+    && not (Bool·beq (negative k x) (negative k s))) s
 
 -- the absolute value of a signed number of k bits
 abbrev pub absolute : ℕ → ℕ → ℕ
@@ -122,14 +131,19 @@ signedShl k x n = unless (negative k x || leb (2 ^ (k - 1)) (x * 2 ^ n)) (x * 2 
 
 -- a shift to the right; of a negative number ones come in
 abbrev pub shiftRight : Ty → ℕ → ℕ → ℕ
-shiftRight y x n = cond (signed y && negative (width y) x) (x / 2 ^ n + (2 ^ width y - 2 ^ (width y - n))) (x / 2 ^ n)
+shiftRight y x n =
+    cond (signed y && negative (width y) x) (x / 2 ^ n + (2 ^ width y - 2 ^ (width y - n)))
+    (x / 2 ^ n)
 
--- an operator on two patterns of the type y, or for a shift a pattern and a count, which is to be below the width. The logical ones are `operate`'s
+-- an operator on two patterns of the type y, or for a shift a pattern and a count, which is to be
+-- below the width. The logical ones are `operate`'s
 abbrev pub arith : Bin → Ty → ℕ → ℕ → Option ℕ
 arith mul y k l = cond (signed y) (signedMul (width y) k l) (some (k * l % 2 ^ width y))
 arith add y k l = cond (signed y) (signedAdd (width y) k l) (some ((k + l) % 2 ^ width y))
-arith sub y k l = cond (signed y) (signedSub (width y) k l) (some ((k + (2 ^ width y - l)) % 2 ^ width y))
-arith shl y k l = cond (ltb l (width y)) (cond (signed y) (signedShl (width y) k l) (some (k * 2 ^ l % 2 ^ width y))) none
+arith sub y k l =
+    cond (signed y) (signedSub (width y) k l) (some ((k + (2 ^ width y - l)) % 2 ^ width y))
+arith shl y k l = cond (ltb l (width y))
+    (cond (signed y) (signedShl (width y) k l) (some (k * 2 ^ l % 2 ^ width y))) none
 arith shr y k l = cond (ltb l (width y)) (some (shiftRight y k l)) none
 arith eq y k l = some (truth (eqb k l))
 arith ne y k l = some (truth (not (eqb k l)))
@@ -141,9 +155,11 @@ arith lor y k l = none
 
 -- an operator on two values of the types x and y, converted
 abbrev pub binValue : Bin → Ty → Ty → ℕ → ℕ → Option ℕ
-binValue o x y k l = arith o (leftTy o x y) (convert x (leftTy o x y) k) (convert y (rightTy o x y) l)
+binValue o x y k l =
+    arith o (leftTy o x y) (convert x (leftTy o x y) k) (convert y (rightTy o x y) l)
 
--- an operator on its operands: && and || look at the second only where the first does not settle the outcome (6.5.13, 6.5.14)
+-- an operator on its operands: && and || look at the second only where the first does not settle
+-- the outcome (6.5.13, 6.5.14)
 abbrev pub operate : Bin → Ty → Ty → Option ℕ → Option ℕ → Option ℕ
 operate mul x y p q = bind p λ k. bind q λ l. binValue mul x y k l
 operate add x y p q = bind p λ k. bind q λ l. binValue add x y k l
@@ -155,7 +171,8 @@ operate ne x y p q = bind p λ k. bind q λ l. binValue ne x y k l
 operate band x y p q = bind p λ k. bind q λ l. binValue band x y k l
 operate bxor x y p q = bind p λ k. bind q λ l. binValue bxor x y k l
 operate bor x y p q = bind p λ k. bind q λ l. binValue bor x y k l
-operate land x y p q = bind p λ k. cond (eqb k 0) (some 0) (bind q λ l. some (truth (not (eqb l 0))))
+operate land x y p q =
+    bind p λ k. cond (eqb k 0) (some 0) (bind q λ l. some (truth (not (eqb l 0))))
 operate lor x y p q = bind p λ k. cond (eqb k 0) (bind q λ l. some (truth (not (eqb l 0)))) (some 1)
 
 -- ~ and !
@@ -177,7 +194,9 @@ module _ (rorAnswer : ℕ → ℕ → Option ℕ) where
   eval (pick c d e) z = bind (eval c z) λ k. cond (eqb k 0)
       (bind (eval e z) λ l. some (convert (ty e) (commonType (ty d) (ty e)) l))
       (bind (eval d z) λ l. some (convert (ty d) (commonType (ty d) (ty e)) l))
-  eval (ror d e) z = bind (eval d z) λ k. bind (eval e z) λ l. rorAnswer (convert (ty d) u32 k) (convert (ty e) u32 l)
+  eval (ror d e) z =
+      bind (eval d z) λ k. bind (eval e z) λ l. rorAnswer (convert (ty d) u32 k)
+      (convert (ty e) u32 l)
   eval (read w e) z = bind (eval e z) λ k. some (load w (z .mem) (convert (ty e) u32 k))
 
   -- the same, converted to a type as in an assignment, an argument or a return

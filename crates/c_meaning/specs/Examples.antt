@@ -5,19 +5,32 @@ use mathlib.Core.Bool.{true, false}
 use mathlib.Core.List.{[], _∷_}
 use mathlib.Core.Option.{Option, none, some}
 use Rattle.base_words.specs.Word.{AND, OR, EOR}
-use Rattle.c_tree.specs.Expr.{s8, s32, u32, s64, word, udec, int, x-r, x-pc, reg, var, mul, add, sub, shl, shr, land, lor, w8, w32, lit, get, par, bin, cast, ror, read}
-use Rattle.c_tree.specs.Stmt.{is, plus, f-nz, f-c, local, declare, adds, set, discard, run, write, gate, other, common, plain, goto, ret, retIf, interp, retInterp, end, _⨾_, when, braces}
+use Rattle.c_tree.specs.Expr.{s8, s32, u32, s64, word, udec, int, x-r, x-pc, reg, var, mul, add}
+use Rattle.c_tree.specs.Expr.{sub, shl, shr, land, lor, w8, w32, lit, get, par, bin, cast, ror}
+use Rattle.c_tree.specs.Expr.{read}
+use Rattle.c_tree.specs.Stmt.{is, plus, f-nz, f-c, local, declare, adds, set, discard, run, write}
+use Rattle.c_tree.specs.Stmt.{gate, other, common, plain, goto, ret, retIf, interp, retInterp, end}
+use Rattle.c_tree.specs.Stmt.{_⨾_, when, braces}
 use Rattle.c_tree.specs.Preamble.{v32}
 use Rattle.c_meaning.specs.State.{bind, update, State, empty}
 use Rattle.c_meaning.specs.Eval.{eval, evalAs}
-use Rattle.c_meaning.specs.Exec.{Goes, to, back, Outcome, exec, others, execs, asks, step, runs}
+use Rattle.c_meaning.specs.Exec.{Goes, to, back, Outcome, exec, others, execs, asks, step}
+use Rattle.c_meaning.specs.Exec.{runs}
 use Rattle.c_meaning.specs.Helpers.{called, rotated, evaluate, perform}
 use Rattle.c_meaning.specs.Helpers as H
 
--- c[k] is k, but for c[16], the flags, which are clear; memory bytes are 0xfe; the runtime says yes, and its interpreter sets
--- c[0] to 9 and answers 8, then to 10 and answers 9, and so on
+-- c[k] is k, but for c[16], the flags, which are clear; memory bytes are 0xfe; the runtime says
+-- yes, and its interpreter sets c[0] to 9 and answers 8, then to 10 and answers 9, and so on
 abbrev begin : State
-begin = record { c = update 16 0 (λ (k : ℕ). k); mem = λ a. 0xfe; scopes = empty ∷ []; answers = λ k. 1; interpreter = λ k c mem. record { c = update 0 (9 + k) c; mem = mem; answer = 8 + k } }
+begin =
+    record {
+      c = update 16 0 (λ (k : ℕ). k);
+      mem = λ a. 0xfe;
+      scopes = empty ∷ [];
+      answers =
+          λ k. 1;
+      interpreter = λ k c mem. record { c = update 0 (9 + k) c; mem = mem; answer = 8 + k };
+    }
 
 -- c[k] after statements
 abbrev after : ℕ → Option State → Option ℕ
@@ -28,7 +41,8 @@ abbrev afterCode : ℕ → Outcome → Option (ℕ × Goes)
 afterCode k o = bind o λ q. some (q .0 .c k, q .1)
 
 -- an int shifted to the right keeps its sign; as unsigned it does not
-asr : evaluate (cast u32 (par (bin shr (cast s32 (lit word 0x80000000)) (lit int 31)))) begin ≡ some 0xffffffff
+asr : evaluate (cast u32 (par (bin shr (cast s32 (lit word 0x80000000)) (lit int 31)))) begin
+    ≡ some 0xffffffff
 unfolding evaluate eval
 asr = refl
 
@@ -45,7 +59,8 @@ too-large : evaluate (bin add (lit int 2147483647) (lit int 1)) begin ≡ none
 unfolding evaluate eval
 too-large = refl
 
-minus-times : evaluate (bin mul (cast s32 (lit word 0xffffffff)) (cast s32 (lit word 0x80000000))) begin ≡ none
+minus-times : evaluate (bin mul (cast s32 (lit word 0xffffffff)) (cast s32 (lit word 0x80000000)))
+    begin ≡ none
 unfolding evaluate eval
 minus-times = refl
 
@@ -59,12 +74,15 @@ unfolding evaluate eval
 wraps = refl
 
 -- -2 times 3, with 64 bits
-signed-product : evaluate (bin mul (cast s64 (cast s32 (lit word 0xfffffffe))) (cast s64 (cast s32 (get (reg 3))))) begin ≡ some 0xfffffffffffffffa
+signed-product : evaluate
+    (bin mul (cast s64 (cast s32 (lit word 0xfffffffe))) (cast s64 (cast s32 (get (reg 3))))) begin
+    ≡ some 0xfffffffffffffffa
 unfolding evaluate eval
 signed-product = refl
 
 -- (uint32_t)(int32_t)(int8_t)a->read8(m, c[1])
-signed-byte : evaluate (cast u32 (cast s32 (cast s8 (read w8 (get (reg 1)))))) begin ≡ some 0xfffffffe
+signed-byte : evaluate (cast u32 (cast s32 (cast s8 (read w8 (get (reg 1)))))) begin
+    ≡ some 0xfffffffe
 unfolding evaluate eval
 signed-byte = refl
 
@@ -92,21 +110,28 @@ unfolding evaluate eval rotated called runs step asks exec evalAs AND OR
 not-turned = refl
 
 -- uint32_t r = op_adds(c, 0xffffffffu, c[1], 0u); c[0] = r; : 0, with Z and C
-adds-flags : after 16 (perform (adds x-r (lit word 0xffffffff) (get (reg 1)) (lit udec 0) ∷ set (reg 0) is (v32 x-r) ∷ []) begin) ≡ some 0x60000000
+adds-flags : after 16
+    (perform
+    (adds x-r (lit word 0xffffffff) (get (reg 1)) (lit udec 0) ∷ set (reg 0) is (v32 x-r) ∷ [])
+    begin) ≡ some 0x60000000
 unfolding perform eval evalAs rotated called runs step asks exec execs others AND OR EOR
 adds-flags = refl
 
 -- 0x7fffffff + 1 has N and V
-adds-overflow : after 16 (perform (adds x-r (lit word 0x7fffffff) (get (reg 1)) (lit udec 0) ∷ []) begin) ≡ some 0x90000000
+adds-overflow : after 16
+    (perform (adds x-r (lit word 0x7fffffff) (get (reg 1)) (lit udec 0) ∷ []) begin)
+    ≡ some 0x90000000
 unfolding perform eval evalAs rotated called runs step asks exec execs others AND OR EOR
 adds-overflow = refl
 
 -- f_c(c, 1u) and f_nz(c, 0u)
-flags : after 16 (perform (run f-c (lit udec 1) ∷ run f-nz (lit udec 0) ∷ []) begin) ≡ some 0x60000000
+flags : after 16 (perform (run f-c (lit udec 1) ∷ run f-nz (lit udec 0) ∷ []) begin)
+    ≡ some 0x60000000
 unfolding perform eval evalAs rotated called runs step asks exec execs others AND OR
 flags = refl
 
--- a local without a value has none, and (void) does not ask for one; a name is not declared twice in a scope, and a local not declared has no value
+-- a local without a value has none, and (void) does not ask for one; a name is not declared twice
+-- in a scope, and a local not declared has no value
 no-value : after 0 (perform (local (u32, x-r) ∷ set (reg 0) is (v32 x-r) ∷ []) begin) ≡ none
 unfolding perform eval evalAs exec execs others
 no-value = refl
@@ -128,36 +153,52 @@ unfolding perform eval evalAs exec execs others
 not-declared = refl
 
 -- uint32_t r = c[1]; r += 4u; c[0] = r;
-counted : after 0 (perform (declare (u32, x-r) (get (reg 1)) [] ∷ set (var (u32, x-r)) plus (lit udec 4) ∷ set (reg 0) is (v32 x-r) ∷ []) begin) ≡ some 5
+counted : after 0
+    (perform
+    (declare (u32, x-r) (get (reg 1)) [] ∷ set (var (u32, x-r)) plus (lit udec 4)
+    ∷ set (reg 0) is (v32 x-r) ∷ []) begin) ≡ some 5
 unfolding perform eval evalAs exec execs others
 counted = refl
 
 -- a->write32(m, c[4], c[5]); c[0] = a->read32(m, c[4]);
-stored : after 0 (perform (write w32 (get (reg 4)) (get (reg 5)) ∷ set (reg 0) is (read w32 (get (reg 4))) ∷ []) begin) ≡ some 5
+stored : after 0
+    (perform (write w32 (get (reg 4)) (get (reg 5)) ∷ set (reg 0) is (read w32 (get (reg 4))) ∷ [])
+    begin) ≡ some 5
 unfolding perform eval evalAs exec execs others
 stored = refl
 
 -- { uint32_t r = c[1]; if (r) { c[0] = 7u; } } return c[0];
-taken : afterCode 0 (H.run (braces (plain common (declare (u32, x-r) (get (reg 1)) []) ⨾ when common false (other (v32 x-r)) (plain common (set (reg 0) is (lit udec 7)) ⨾ end) end) (ret common (get (reg 0)) ⨾ end)) begin) ≡ some (7, back 7)
+taken : afterCode 0
+    (H.run (braces
+    (plain common (declare (u32, x-r) (get (reg 1)) [])
+    ⨾ when common false (other (v32 x-r)) (plain common (set (reg 0) is (lit udec 7)) ⨾ end) end)
+    (ret common (get (reg 0)) ⨾ end)) begin) ≡ some (7, back 7)
 unfolding H.run eval evalAs exec execs others runs step asks
 taken = refl
 
 -- after its braces a local is gone
-gone : afterCode 0 (H.run (braces (plain common (declare (u32, x-r) (get (reg 1)) []) ⨾ end) (ret common (v32 x-r) ⨾ end)) begin) ≡ none
+gone : afterCode 0
+    (H.run (braces (plain common (declare (u32, x-r) (get (reg 1)) []) ⨾ end)
+    (ret common (v32 x-r) ⨾ end)) begin) ≡ none
 unfolding H.run eval evalAs exec execs others runs step asks
 gone = refl
 
 -- if (a->chain_gate(m)) return 8u; goto L_..: the gate says yes; a test with a ! before it fails
-gated : afterCode 0 (H.run (retIf common gate (lit udec 8) ⨾ goto common 9 ⨾ end) begin) ≡ some (0, back 8)
+gated : afterCode 0 (H.run (retIf common gate (lit udec 8) ⨾ goto common 9 ⨾ end) begin)
+    ≡ some (0, back 8)
 unfolding H.run eval evalAs exec execs others runs step asks
 gated = refl
 
-denied : afterCode 0 (H.run (when common true gate (ret common (lit udec 8) ⨾ end) (goto common 9 ⨾ end)) begin) ≡ some (0, to 9)
+denied : afterCode 0
+    (H.run (when common true gate (ret common (lit udec 8) ⨾ end) (goto common 9 ⨾ end)) begin)
+    ≡ some (0, to 9)
 unfolding H.run eval evalAs exec execs others runs step asks
 denied = refl
 
 -- uint32_t pc; pc = a->interp_one(m); return pc;, and return a->interp_one(m);
-interprets : afterCode 0 (H.run (plain common (local (u32, x-pc)) ⨾ interp 0 0 ⨾ ret common (v32 x-pc) ⨾ end) begin) ≡ some (9, back 8)
+interprets : afterCode 0
+    (H.run (plain common (local (u32, x-pc)) ⨾ interp 0 0 ⨾ ret common (v32 x-pc) ⨾ end) begin)
+    ≡ some (9, back 8)
 unfolding H.run eval evalAs exec execs others runs step asks
 interprets = refl
 
@@ -166,6 +207,8 @@ unfolding H.run eval evalAs exec execs others runs step asks
 interprets-last = refl
 
 -- the second call is not the first again
-interprets-twice : afterCode 0 (H.run (plain common (local (u32, x-pc)) ⨾ interp 0 0 ⨾ retInterp 0 0 ⨾ end) begin) ≡ some (10, back 9)
+interprets-twice : afterCode 0
+    (H.run (plain common (local (u32, x-pc)) ⨾ interp 0 0 ⨾ retInterp 0 0 ⨾ end) begin)
+    ≡ some (10, back 9)
 unfolding H.run eval evalAs exec execs others runs step asks
 interprets-twice = refl

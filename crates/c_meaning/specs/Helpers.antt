@@ -1,4 +1,5 @@
--- PREAMBLE's functions: a call does what the function's tree does, and the text's statements with these calls.
+-- PREAMBLE's functions: a call does what the function's tree does, and the text's statements with
+-- these calls.
 use Prim.Native.Nat.{ℕ}
 use mathlib.Core.List.{List, [], _∷_}
 use mathlib.Core.Option.{Option, none, some}
@@ -31,15 +32,28 @@ noRor x n = none
 abbrev pub noCall : Helper → List ℕ → State → Outcome
 noCall h vs z = none
 
--- a call: the parameters are all the locals that the body starts with, and the caller's come back after it
+-- a call: the parameters are all the locals that the body starts with, and the caller's come back
+-- after it
 unfoldable pub called : Helper → List ℕ → State → Outcome
 unfolding runs
-called h vs z = bind (runs noRor noCall (body h) (setScopes (arguments (params h) vs ∷ []) z)) λ q. some (setScopes (z .scopes) (q .0), q .1)
+called h vs z =
+    bind (runs noRor noCall (body h) (setScopes (arguments (params h) vs ∷ []) z)) λ q. some
+    (setScopes (z .scopes) (q .0), q .1)
 
--- ror32 has neither c nor memory: what it answers is the same from each state, and here that of zeros
+-- ror32 has neither c nor memory: what it answers is the same from each state, and here that of
+-- zeros
 unfoldable pub rotated : ℕ → ℕ → Option ℕ
 unfolding called
-rotated x n = bind (called ror32 (x ∷ n ∷ []) (record { c = λ k. 0; mem = λ a. 0; scopes = []; answers = λ k. 0; interpreter = λ k c mem. record { c = c; mem = mem; answer = 0 } })) λ q. returned (q .1)
+rotated x n =
+    bind (called ror32 (x ∷ n ∷ [])
+    (record {
+      c = λ k. 0;
+      mem = λ a. 0;
+      scopes = [];
+      answers = λ k. 0;
+      interpreter =
+          λ k c mem. record { c = c; mem = mem; answer = 0 };
+    })) λ q. returned (q .1)
 
 -- an expression of the text
 unfoldable pub evaluate : Expr → State → Option ℕ

@@ -1,11 +1,14 @@
--- What C's statements act on: the words c[0] to c[16], the bytes of memory, the locals in their scopes, and the runtime.
+-- What C's statements act on: the words c[0] to c[16], the bytes of memory, the locals in their
+-- scopes, and the runtime.
 use Prim.Native.Nat.{ℕ, suc, _+_, _*_, _/_, _%_, _^_}
 use mathlib.Core.Path.{_≡_, refl}
 use mathlib.Core.Bool.{cond}
 use mathlib.Core.List.{List, [], _∷_}
 use mathlib.Core.Option.{Option, none, some}
 use lib.Dec.{leb, eqb}
-use Rattle.c_tree.specs.Expr.{Ty, u32, Name, x-r, x-base, x-ob, x-addr, x-t, x-s, x-cn, x-cz, x-cc, x-cv, x-pc, x-v, x-n, x-a, x-b, x-cin, x-w, Var, Place, reg, var, Width, w8, w16, w32}
+use Rattle.c_tree.specs.Expr.{Ty, u32, Name, x-r, x-base, x-ob, x-addr, x-t, x-s, x-cn, x-cz, x-cc}
+use Rattle.c_tree.specs.Expr.{x-cv, x-pc, x-v, x-n, x-a, x-b, x-cin, x-w, Var, Place, reg, var}
+use Rattle.c_tree.specs.Expr.{Width, w8, w16, w32}
 use Rattle.c_meaning.specs.Types.{sameTy}
 
 module _ {A B : Type 0} where
@@ -61,8 +64,9 @@ pub record Interpreted : Type 0 where
 abbrev pub Interpreter : Type 0
 Interpreter = (ℕ → ℕ) → (ℕ → ℕ) → Interpreted
 
--- the state: scopes has the innermost first; answers are those that guard and chain_gate will give, in order; interpreter is what the calls of interp_one will
--- make, in order, since it has a state of its own
+-- the state: scopes has the innermost first; answers are those that guard and chain_gate will give,
+-- in order; interpreter is what the calls of interp_one will make, in order, since it has a state
+-- of its own
 pub record State : Type 0 where
   pub c : ℕ → ℕ
   pub mem : ℕ → ℕ
@@ -72,19 +76,51 @@ pub record State : Type 0 where
 
 -- the state with x in c[k]
 abbrev pub setC : ℕ → ℕ → State → State
-setC k x z = record { c = update k x (z .c); mem = z .mem; scopes = z .scopes; answers = z .answers; interpreter = z .interpreter }
+setC k x z =
+    record {
+      c = update k x (z .c);
+      mem = z .mem;
+      scopes = z .scopes;
+      answers =
+          z .answers;
+      interpreter = z .interpreter;
+    }
 
 -- the state with other bytes of memory
 abbrev pub setMem : (ℕ → ℕ) → State → State
-setMem f z = record { c = z .c; mem = f; scopes = z .scopes; answers = z .answers; interpreter = z .interpreter }
+setMem f z =
+    record {
+      c = z .c;
+      mem = f;
+      scopes = z .scopes;
+      answers = z .answers;
+      interpreter =
+          z .interpreter;
+    }
 
 -- the state with other scopes
 abbrev pub setScopes : List Scope → State → State
-setScopes fs z = record { c = z .c; mem = z .mem; scopes = fs; answers = z .answers; interpreter = z .interpreter }
+setScopes fs z =
+    record {
+      c = z .c;
+      mem = z .mem;
+      scopes = fs;
+      answers = z .answers;
+      interpreter =
+          z .interpreter;
+    }
 
 -- the state after an answer of the runtime
 abbrev pub answered : State → State
-answered z = record { c = z .c; mem = z .mem; scopes = z .scopes; answers = λ k. z .answers (suc k); interpreter = z .interpreter }
+answered z =
+    record {
+      c = z .c;
+      mem = z .mem;
+      scopes = z .scopes;
+      answers =
+          λ k. z .answers (suc k);
+      interpreter = z .interpreter;
+    }
 
 -- the answer of the next call of interp_one
 abbrev pub interpAnswer : State → ℕ
@@ -94,7 +130,14 @@ interpAnswer z = z .interpreter 0 (z .c) (z .mem) .answer
 abbrev pub afterInterp : State → State
 afterInterp z =
     let q : Interpreted = z .interpreter 0 (z .c) (z .mem) in
-    record { c = q .c; mem = q .mem; scopes = z .scopes; answers = z .answers; interpreter = λ k. z .interpreter (suc k) }
+    record {
+      c = q .c;
+      mem = q .mem;
+      scopes = z .scopes;
+      answers = z .answers;
+      interpreter =
+          λ k. z .interpreter (suc k);
+    }
 
 -- at {: a scope of its own, in which nothing is declared yet
 abbrev pub enter : State → State
@@ -119,7 +162,8 @@ abbrev pub find : ℕ → List Scope → Option Cell
 find k [] = none
 find k (f ∷ fs) = orElse (f k) (find k fs)
 
--- the value of a local that the tree takes to have the type y: none where it is not declared, declared with another type, or without a value
+-- the value of a local that the tree takes to have the type y: none where it is not declared,
+-- declared with another type, or without a value
 abbrev pub cellValue : Ty → Option Cell → Option ℕ
 cellValue y none = none
 cellValue y (some p) = cond (sameTy y (p .0)) (p .1) none
@@ -129,7 +173,8 @@ abbrev pub value : Place → State → Option ℕ
 value (reg k) z = cond (leb k 16) (some (z .c k)) none
 value (var x) z = cellValue (x .0) (find (index (x .1)) (z .scopes))
 
--- a declaration without a value in the scope f, by what f has of that name; none where it has the name already (6.7)
+-- a declaration without a value in the scope f, by what f has of that name; none where it has the
+-- name already (6.7)
 abbrev pub declareIn : Option Cell → Ty → ℕ → Scope → List Scope → Option (List Scope)
 declareIn none y k f fs = some (update k (some (y, none)) f ∷ fs)
 declareIn (some p) y k f fs = none
@@ -140,11 +185,14 @@ declared x [] = none
 declared x (f ∷ fs) = declareIn (f (index (x .1))) (x .0) (index (x .1)) f fs
 
 -- `assigned` at the scope f, by what f has of that name; rest: the same of the scopes around f
-abbrev pub assignIn : Option Cell → Ty → ℕ → ℕ → Scope → List Scope → Option (List Scope) → Option (List Scope)
+abbrev pub assignIn : Option Cell → Ty → ℕ → ℕ → Scope → List Scope → Option (List Scope)
+    → Option (List Scope)
 assignIn none y k v f fs rest = bind rest λ gs. some (f ∷ gs)
-assignIn (some p) y k v f fs rest = cond (sameTy y (p .0)) (some (update k (some (y, some v)) f ∷ fs)) none
+assignIn (some p) y k v f fs rest =
+    cond (sameTy y (p .0)) (some (update k (some (y, some v)) f ∷ fs)) none
 
--- a value given to a local, in the innermost scope that has it; none where it is not declared, or with another type
+-- a value given to a local, in the innermost scope that has it; none where it is not declared, or
+-- with another type
 abbrev pub assigned : Ty → ℕ → ℕ → List Scope → Option (List Scope)
 assigned y k v [] = none
 assigned y k v (f ∷ fs) = assignIn (f k) y k v f fs (assigned y k v fs)

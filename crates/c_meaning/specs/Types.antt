@@ -1,5 +1,6 @@
--- The integer types of C99 with a 32-bit int, and conversions. A value is its type's bit pattern, a number below 2 to the width: of a signed type by two's
--- complement. int is s32, and unsigned int u32.
+-- The integer types of C99 with a 32-bit int, and conversions. A value is its type's bit pattern, a
+-- number below 2 to the width: of a signed type by two's complement. int is s32, and unsigned int
+-- u32.
 use Prim.Native.Nat.{ℕ, _+_, _-_, _%_, _^_}
 use mathlib.Core.Path.{_≡_, refl}
 use mathlib.Core.Bool.{Bool, true, false, cond, _&&_}
@@ -35,9 +36,11 @@ promote u64 = u64
 
 -- the wider of two types; of equal width the unsigned one
 abbrev pub wider : Ty → Ty → Ty
-wider x y = cond (ltb (width x) (width y)) y (cond (ltb (width y) (width x)) x (cond (signed x) y x))
+wider x y =
+    cond (ltb (width x) (width y)) y (cond (ltb (width y) (width x)) x (cond (signed x) y x))
 
--- the usual arithmetic conversions (6.3.1.8): of the types here a wider signed one has all values of a narrower unsigned one
+-- the usual arithmetic conversions (6.3.1.8): of the types here a wider signed one has all values
+-- of a narrower unsigned one
 abbrev pub commonType : Ty → Ty → Ty
 commonType x y = wider (promote x) (promote y)
 
@@ -45,17 +48,20 @@ commonType x y = wider (promote x) (promote y)
 abbrev pub negative : ℕ → ℕ → Bool
 negative k x = leb (2 ^ (k - 1)) x
 
--- a conversion from x to y (6.3.1.3): to fewer bits the low ones, to more the sign or zeros in front, to as many the same
+-- a conversion from x to y (6.3.1.3): to fewer bits the low ones, to more the sign or zeros in
+-- front, to as many the same
 abbrev pub convert : Ty → Ty → ℕ → ℕ
 convert x y k =
     cond (ltb (width y) (width x)) (k % 2 ^ width y)
-    (cond (signed x && ltb (width x) (width y)) (cond (negative (width x) k) (k + (2 ^ width y - 2 ^ width x)) k) k)
+    (cond (signed x && ltb (width x) (width y))
+    (cond (negative (width x) k) (k + (2 ^ width y - 2 ^ width x)) k) k)
 
 -- whether two types are one: they have the same width, and both or neither have a sign
 abbrev pub sameTy : Ty → Ty → Bool
 sameTy x y = eqb (width x) (width y) && cond (signed x) (signed y) (cond (signed y) false true)
 
--- int with unsigned int is unsigned int, unsigned int with int64_t is int64_t, and int8_t with int16_t is int
+-- int with unsigned int is unsigned int, unsigned int with int64_t is int64_t, and int8_t with
+-- int16_t is int
 int-and-unsigned : commonType s32 u32 ≡ u32
 int-and-unsigned = refl
 
@@ -65,7 +71,8 @@ unsigned-and-long = refl
 small-ones : commonType s8 s16 ≡ s32
 small-ones = refl
 
--- -2 as int8_t is 0xfe, as int 0xfffffffe, as int64_t with more of the sign; an unsigned 0xfffffffe has zeros in front
+-- -2 as int8_t is 0xfe, as int 0xfffffffe, as int64_t with more of the sign; an unsigned 0xfffffffe
+-- has zeros in front
 minus-two : convert s8 s32 0xfe ≡ 0xfffffffe
 minus-two = refl
 

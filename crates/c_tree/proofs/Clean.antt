@@ -1,5 +1,5 @@
--- No expression, condition or plain statement that binds prints `;`, `{`, `}` or a line end: a `;` in the text ends a statement of the tree, and a brace is
--- one of the tree's.
+-- No expression, condition or plain statement that binds prints `;`, `{`, `}` or a line end: a `;`
+-- in the text ends a statement of the tree, and a brace is one of the tree's.
 use mathlib.Core.Path.{_≡_, refl, sym, ap}
 use Prim.Native.Nat.{ℕ, zero, suc, _-_, _/_, _%_, _≤_, _<_}
 use Prim.Native.String.{String}
@@ -11,10 +11,20 @@ use mathlib.Core.List.{List, [], _∷_, _++_}
 use borrow.Author.Tests.{lt-ltb, le-ltb}
 use lib.Dec.{eqb, leb}
 use Rattle.base_text.specs.Digits.{glyph, numeral, lastDigits}
-use Rattle.base_text.specs.Doc.{Doc, nothing, raw, text, dec, hex, hex8, hex16, _▸_, chars, decimal, hexadecimal, hexadecimal8, hexadecimal16, print, each}
-use Rattle.c_tree.specs.Expr.{Ty, s8, s16, s32, u32, s64, u64, Style, word, caps, uhex, udec, int, Name, x-r, x-base, x-ob, x-addr, x-t, x-s, x-cn, x-cz, x-cc, x-cv, x-pc, x-v, x-n, x-a, x-b, x-cin, x-w, Var, Place, reg, var, Un, compl, lnot, Bin, mul, add, sub, shl, shr, eq, ne, band, bxor, bor, land, lor, operator, Width, w8, w16, w32, Expr, lit, get, par, un, bin, orLine, cast, pick, ror, read}
-use Rattle.c_tree.specs.Stmt.{Set, is, plus, and, or, Proc, f-nz, f-c, f-nz64, Plain, registers, local, declare, adds, set, discard, run, write, tick, Test, guard, gate, other}
-use Rattle.c_tree.specs.Print.{tyName, upper, constantText, name, typed, placeText, unText, bits, exprText, setText, procName, declarator, plainText, testText}
+use Rattle.base_text.specs.Doc.{Doc, nothing, raw, text, dec, hex, hex8, hex16, _▸_, chars, decimal}
+use Rattle.base_text.specs.Doc.{hexadecimal, hexadecimal8, hexadecimal16, print, each}
+use Rattle.c_tree.specs.Expr.{Ty, s8, s16, s32, u32, s64, u64, Style, word, caps, uhex, udec}
+use Rattle.c_tree.specs.Expr.{int, Name, x-r, x-base, x-ob, x-addr, x-t, x-s, x-cn, x-cz}
+use Rattle.c_tree.specs.Expr.{x-cc, x-cv, x-pc, x-v, x-n, x-a, x-b, x-cin, x-w, Var, Place}
+use Rattle.c_tree.specs.Expr.{reg, var, Un, compl, lnot, Bin, mul, add, sub, shl, shr, eq, ne}
+use Rattle.c_tree.specs.Expr.{band, bxor, bor, land, lor, operator, Width, w8, w16, w32, Expr}
+use Rattle.c_tree.specs.Expr.{lit, get, par, un, bin, orLine, cast, pick, ror, read}
+use Rattle.c_tree.specs.Stmt.{Set, is, plus, and, or, Proc, f-nz, f-c, f-nz64, Plain}
+use Rattle.c_tree.specs.Stmt.{registers, local, declare, adds, set, discard, run, write, tick}
+use Rattle.c_tree.specs.Stmt.{Test, guard, gate, other}
+use Rattle.c_tree.specs.Print.{tyName, upper, constantText, name, typed, placeText, unText}
+use Rattle.c_tree.specs.Print.{bits, exprText, setText, procName, declarator, plainText}
+use Rattle.c_tree.specs.Print.{testText}
 use Rattle.c_tree.specs.Binds.{level, binds, declaratorsBind, plainBinds, testBinds}
 use Rattle.armv4t.proofs.Bools.{left-true as left, right-true as right, both-true as both}
 
@@ -37,7 +47,8 @@ pub record Clean (d : Doc) : Type 0 where
 clean-append : (xs ys : List ℕ) → clean xs ≡ true → clean ys ≡ true → clean (xs ++ ys) ≡ true
 clean-append [] ys h k = k
 clean-append (x ∷ xs) ys h k =
-    both (cleanByte x) (clean (xs ++ ys)) (left (cleanByte x) (clean xs) h) (clean-append xs ys (right (cleanByte x) (clean xs) h) k)
+    both (cleanByte x) (clean (xs ++ ys)) (left (cleanByte x) (clean xs) h)
+    (clean-append xs ys (right (cleanByte x) (clean xs) h) k)
 
 infixr 60 _&_
 pub _&_ : {a b : Doc} → Clean a → Clean b → Clean (a ▸ b)
@@ -70,7 +81,8 @@ glyph-clean : (d : ℕ) → d < 16 → cleanByte (glyph d) ≡ true
 glyph-clean = below (λ d. cleanByte (glyph d)) 16 refl
 
 last : (xs : List ℕ) (d : ℕ) → clean xs ≡ true → d < 16 → clean (xs ++ (glyph d ∷ [])) ≡ true
-last xs d h l = clean-append xs (glyph d ∷ []) h (both (cleanByte (glyph d)) true (glyph-clean d l) refl)
+last xs d h l =
+    clean-append xs (glyph d ∷ []) h (both (cleanByte (glyph d)) true (glyph-clean d l) refl)
 
 numeral-clean : (b : ℕ) → 0 < b → b ≤ 16 → (most n : ℕ) → clean (numeral b most n) ≡ true
 unfolding numeral
@@ -80,24 +92,29 @@ numeral-clean b z h (suc most) n =
       | yes l ↦ rw (lt-ltb n b l) (last [] n refl (omega arith))
       | no g ↦
           let l : n % b < b = mod-lt n z in
-          rw (le-ltb n b (omega arith)) (last (numeral b most (n / b)) (n % b) (numeral-clean b z h most (n / b)) (omega arith))
+          rw (le-ltb n b (omega arith))
+          (last (numeral b most (n / b)) (n % b) (numeral-clean b z h most (n / b))
+          (omega arith))
     ]
 
 last-digits-clean : (k n : ℕ) → clean (lastDigits 16 k n) ≡ true
 unfolding lastDigits
 last-digits-clean zero n = refl
-last-digits-clean (suc k) n = last (lastDigits 16 k (n / 16)) (n % 16) (last-digits-clean k (n / 16)) (mod-lt n (omega arith))
+last-digits-clean (suc k) n =
+    last (lastDigits 16 k (n / 16)) (n % 16) (last-digits-clean k (n / 16)) (mod-lt n (omega arith))
 
 upper-append : (xs ys : List ℕ) → upper (xs ++ ys) ≡ upper xs ++ upper ys
 upper-append [] ys = refl
-upper-append (x ∷ xs) ys = ap (λ (zs : List ℕ). cond (leb 97 x) (x - 32) x ∷ zs) (upper-append xs ys)
+upper-append (x ∷ xs) ys =
+    ap (λ (zs : List ℕ). cond (leb 97 x) (x - 32) x ∷ zs) (upper-append xs ys)
 
 upper-clean : (k n : ℕ) → clean (upper (lastDigits 16 k n)) ≡ true
 unfolding lastDigits
 upper-clean zero n = refl
 upper-clean (suc k) n =
     rw (upper-append (lastDigits 16 k (n / 16)) (glyph (n % 16) ∷ []))
-    (clean-append (upper (lastDigits 16 k (n / 16))) (upper (glyph (n % 16) ∷ [])) (upper-clean k (n / 16))
+    (clean-append (upper (lastDigits 16 k (n / 16))) (upper (glyph (n % 16) ∷ []))
+    (upper-clean k (n / 16))
     (below (λ d. clean (upper (glyph d ∷ []))) 16 refl (n % 16) (mod-lt n (omega arith))))
 
 pub dec-clean : (n : ℕ) → Clean (dec n)
@@ -210,11 +227,14 @@ expr-clean (bin o d e) h =
     & operator-clean o
     & expr-clean e (right q (binds false e) (right (p && binds false d) (q && binds false e) h))
 expr-clean (orLine d e) h = absurd (true≢false (sym h))
-expr-clean (cast y e) h = ok refl & ty-clean y & ok refl & expr-clean e (right (leb 13 (level e)) (binds false e) h)
+expr-clean (cast y e) h =
+    ok refl & ty-clean y & ok refl & expr-clean e (right (leb 13 (level e)) (binds false e) h)
 expr-clean (pick c d e) h =
     let p : Bool = leb 3 (level c) && binds false c in
     let q : Bool = leb 2 (level e) && binds false e in
-    expr-clean c (right (leb 3 (level c)) (binds false c) (left p (binds false d) (left (p && binds false d) q h)))
+    expr-clean c
+    (right (leb 3 (level c)) (binds false c)
+    (left p (binds false d) (left (p && binds false d) q h)))
     & ok refl
     & expr-clean d (right p (binds false d) (left (p && binds false d) q h))
     & ok refl
@@ -230,16 +250,19 @@ expr-clean (read w e) h = ok refl & bits-clean w & ok refl & expr-clean e h & ok
 -- a condition that binds
 pub test-clean : (n : Bool) (t : Test) → testBinds false n t ≡ true → Clean (testText t)
 unfolding testBinds
-test-clean n (guard a l k) h = ok refl & hex8-clean a & ok refl & dec-clean l & ok refl & hex16-clean k & ok refl
+test-clean n (guard a l k) h =
+    ok refl & hex8-clean a & ok refl & dec-clean l & ok refl & hex16-clean k & ok refl
 test-clean n gate h = ok refl
 test-clean true (other e) h = expr-clean e (right (leb 13 (level e)) (binds false e) h)
 test-clean false (other e) h = expr-clean e h
 
-declarators-clean : (ds : List (Name × Expr)) → declaratorsBind false ds ≡ true → Clean (each declarator ds)
+declarators-clean : (ds : List (Name × Expr)) → declaratorsBind false ds ≡ true
+    → Clean (each declarator ds)
 unfolding declaratorsBind
 declarators-clean [] h = empty
 declarators-clean (d ∷ ds) h =
-    (ok refl & name-clean (d .0) & ok refl & expr-clean (d .1) (left (binds false (d .1)) (declaratorsBind false ds) h))
+    (ok refl & name-clean (d .0) & ok refl & expr-clean (d .1)
+    (left (binds false (d .1)) (declaratorsBind false ds) h))
     & declarators-clean ds (right (binds false (d .1)) (declaratorsBind false ds) h)
 
 -- a plain statement that binds
@@ -253,7 +276,8 @@ plain-clean (declare x e ds) h =
     & expr-clean e (left (binds false e) (declaratorsBind false ds) h)
     & declarators-clean ds (right (binds false e) (declaratorsBind false ds) h)
 plain-clean (adds x d e f) h =
-    let k : (binds false d && binds false e) ≡ true = left (binds false d && binds false e) (binds false f) h in
+    let k : (binds false d && binds false e) ≡ true =
+    left (binds false d && binds false e) (binds false f) h in
     typed-clean (u32, x)
     & ok refl
     & expr-clean d (left (binds false d) (binds false e) k)

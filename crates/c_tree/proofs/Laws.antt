@@ -24,35 +24,49 @@ append-assoc (when o n t b c) d e = ap (when o n t b) (append-assoc c d e)
 append-assoc (braces b c) d e = ap (braces b) (append-assoc c d e)
 
 -- its text in front of any other, which is what `said` asks
-pub flat-append : (c d : Code) (k : List ℕ) → flat (codeText (c ⧺ d)) k ≡ flat (codeText c ▸ codeText d) k
+pub flat-append : (c d : Code) (k : List ℕ)
+    → flat (codeText (c ⧺ d)) k ≡ flat (codeText c ▸ codeText d) k
 flat-append end d k = refl
 flat-append (s ⨾ c) d k = ap (flat (simpleText s)) (flat-append c d k)
-flat-append (when o n t b c) d k = ap (λ (l : List ℕ). flat (codeText (when o n t b end)) l) (flat-append c d k)
-flat-append (braces b c) d k = ap (λ (l : List ℕ). flat (codeText (braces b end)) l) (flat-append c d k)
+flat-append (when o n t b c) d k =
+    ap (λ (l : List ℕ). flat (codeText (when o n t b end)) l) (flat-append c d k)
+flat-append (braces b c) d k =
+    ap (λ (l : List ℕ). flat (codeText (braces b end)) l) (flat-append c d k)
 
-pub print-append : (c d : Code) → print (codeText (c ⧺ d)) ≡ print (codeText c) ++ print (codeText d)
+pub print-append : (c d : Code)
+    → print (codeText (c ⧺ d)) ≡ print (codeText c) ++ print (codeText d)
 unfolding print
 print-append c d = same-bytes (codeText (c ⧺ d)) (codeText c ▸ codeText d) (flat-append c d [])
 
-pub length-code : (c d : Code) → length (print (codeText (c ⧺ d))) ≡ length (print (codeText c)) + length (print (codeText d))
-length-code c d = ap length (print-append c d) ∙ length-append (print (codeText c)) (print (codeText d))
+pub length-code : (c d : Code)
+    → length (print (codeText (c ⧺ d))) ≡ length (print (codeText c)) + length (print (codeText d))
+length-code c d =
+    ap length (print-append c d) ∙ length-append (print (codeText c)) (print (codeText d))
 
 -- code after code binds if both do
 pub binds-append : (l : Bool) (c d : Code) → codeBinds l (c ⧺ d) ≡ (codeBinds l c && codeBinds l d)
 unfolding codeBinds
 binds-append l end d = refl
 binds-append l (s ⨾ c) d =
-    ap (λ (x : Bool). simpleBinds l s && x) (binds-append l c d) ∙ sym (and-assoc (simpleBinds l s) (codeBinds l c) (codeBinds l d))
+    ap (λ (x : Bool). simpleBinds l s && x) (binds-append l c d)
+    ∙ sym (and-assoc (simpleBinds l s) (codeBinds l c) (codeBinds l d))
 binds-append l (when o n t b c) d =
     let p : Bool = testBinds l n t && codeBinds l b in
-    ap (λ (x : Bool). p && x) (binds-append l c d) ∙ sym (and-assoc p (codeBinds l c) (codeBinds l d))
+    ap (λ (x : Bool). p && x) (binds-append l c d)
+    ∙ sym (and-assoc p (codeBinds l c) (codeBinds l d))
 binds-append l (braces b c) d =
-    ap (λ (x : Bool). codeBinds l b && x) (binds-append l c d) ∙ sym (and-assoc (codeBinds l b) (codeBinds l c) (codeBinds l d))
+    ap (λ (x : Bool). codeBinds l b && x) (binds-append l c d)
+    ∙ sym (and-assoc (codeBinds l b) (codeBinds l c) (codeBinds l d))
 
 -- tops after tops
-pub print-unit : (ts us : List Top) → print (unitText (ts ++ us)) ≡ print (unitText ts) ++ print (unitText us)
+pub print-unit : (ts us : List Top)
+    → print (unitText (ts ++ us)) ≡ print (unitText ts) ++ print (unitText us)
 unfolding print
-print-unit ts us = sym (same-bytes (unitText ts ▸ unitText us) (unitText (ts ++ us)) (each-append _ ts us []))
+print-unit ts us =
+    sym (same-bytes (unitText ts ▸ unitText us) (unitText (ts ++ us)) (each-append _ ts us []))
 
-pub length-unit : (ts us : List Top) → length (print (unitText (ts ++ us))) ≡ length (print (unitText ts)) + length (print (unitText us))
-length-unit ts us = ap length (print-unit ts us) ∙ length-append (print (unitText ts)) (print (unitText us))
+pub length-unit : (ts us : List Top)
+    → length (print (unitText (ts ++ us)))
+    ≡ length (print (unitText ts)) + length (print (unitText us))
+length-unit ts us =
+    ap length (print-unit ts us) ∙ length-append (print (unitText ts)) (print (unitText us))

@@ -1,4 +1,5 @@
--- The text of PREAMBLE's functions as emit.rs has it, a line for each line, and that their trees print it.
+-- The text of PREAMBLE's functions as emit.rs has it, a line for each line, and that their trees
+-- print it.
 use mathlib.Core.Path.{_≡_, refl}
 use mathlib.Core.Bool.{true, _&&_}
 use Prim.Native.Nat.{ℕ}
@@ -8,7 +9,8 @@ use Rattle.base_text.specs.Digits.{numeral, lastDigits}
 use Rattle.base_text.specs.Doc.{Doc, text, _▸_, decimal, hexadecimal8, print, flat}
 use Rattle.c_tree.specs.Opening.{openingText}
 use Rattle.c_tree.specs.Print.{unitText}
-use Rattle.c_tree.specs.Binds.{level, binds, declaratorsBind, plainBinds, testBinds, simpleBinds, codeBinds}
+use Rattle.c_tree.specs.Binds.{level, binds, declaratorsBind, plainBinds, testBinds}
+use Rattle.c_tree.specs.Binds.{simpleBinds, codeBinds}
 use Rattle.c_tree.specs.Preamble.{rorBody, nzBody, cBody, addsBody, nz64Body, preamble}
 
 -- the functions as emit.rs has them
@@ -19,7 +21,8 @@ helpersText =
     ▸ text "    return n ? (v >> n) | (v << (32u - n)) : v;\n"
     ▸ text "}\n"
     ▸ text "static inline void f_nz(uint32_t* c, uint32_t r) {\n"
-    ▸ text "    c[16] = (c[16] & 0x3FFFFFFFu) | (r & 0x80000000u) | ((r == 0u) ? 0x40000000u : 0u);\n"
+    ▸ text
+    "    c[16] = (c[16] & 0x3FFFFFFFu) | (r & 0x80000000u) | ((r == 0u) ? 0x40000000u : 0u);\n"
     ▸ text "}\n"
     ▸ text "static inline void f_c(uint32_t* c, uint32_t v) {\n"
     ▸ text "    c[16] = (c[16] & ~0x20000000u) | (v ? 0x20000000u : 0u);\n"
@@ -49,6 +52,8 @@ unfolding print decimal numeral hexadecimal8 lastDigits
 preamble-length = refl
 
 -- C's grammar reads the functions as their trees
-pub preamble-binds : (codeBinds true rorBody && codeBinds true nzBody && codeBinds true cBody && codeBinds true addsBody && codeBinds true nz64Body) ≡ true
+pub preamble-binds :
+    (codeBinds true rorBody && codeBinds true nzBody && codeBinds true cBody
+    && codeBinds true addsBody && codeBinds true nz64Body) ≡ true
 unfolding level binds declaratorsBind plainBinds testBinds simpleBinds codeBinds
 preamble-binds = refl

@@ -1,4 +1,5 @@
--- The statements that a compiler sees are the tree's: in the text of code that binds, the bytes `;`, `{` and `}` are those that the tree says, in its order.
+-- The statements that a compiler sees are the tree's: in the text of code that binds, the bytes
+-- `;`, `{` and `}` are those that the tree says, in its order.
 use mathlib.Core.Path.{_≡_, refl, sym, ap}
 use Prim.Native.Nat.{ℕ, zero, suc, _%_}
 use Prim.Native.String.{String}
@@ -7,10 +8,12 @@ use mathlib.Core.List.{List, [], _∷_, _++_}
 use lib.Dec.{eqb}
 use Rattle.armv4t.specs.Bit0.{clearBit0}
 use Rattle.base_text.specs.Doc.{Doc, nothing, text, _▸_, chars, print}
-use Rattle.c_tree.specs.Stmt.{Simple, gap, recordMark, plain, label, goto, ret, retIf, interp, retInterp, call, switch, Code, end, _⨾_, when, braces}
+use Rattle.c_tree.specs.Stmt.{Simple, gap, recordMark, plain, label, goto, ret, retIf, interp}
+use Rattle.c_tree.specs.Stmt.{retInterp, call, switch, Code, end, _⨾_, when, braces}
 use Rattle.c_tree.specs.Print.{keyText, spaces, casesText, simpleText, codeText}
 use Rattle.c_tree.specs.Binds.{binds, testBinds, simpleBinds, codeBinds}
-use Rattle.c_tree.proofs.Clean.{stop, cleanByte, clean, Clean, ok, _&_, dec-clean, hex8-clean, expr-clean, test-clean, plain-clean}
+use Rattle.c_tree.proofs.Clean.{stop, cleanByte, clean, Clean, ok, _&_, dec-clean}
+use Rattle.c_tree.proofs.Clean.{hex8-clean, expr-clean, test-clean, plain-clean}
 use Rattle.armv4t.proofs.Bools.{left-true as left, right-true as right}
 
 -- the bytes `;`, `{` and `}` of a text
@@ -46,13 +49,15 @@ skeleton (braces b c) = 123 ∷ (skeleton b ++ (125 ∷ skeleton c))
 record Has (d : Doc) (s : List ℕ) : Type 0 where
   is : stops (print d) ≡ s
 
-cond-append : (b : Bool) (x : ℕ) (us vs ys : List ℕ) → us ≡ vs ++ ys → cond b (x ∷ us) us ≡ cond b (x ∷ vs) vs ++ ys
+cond-append : (b : Bool) (x : ℕ) (us vs ys : List ℕ) → us ≡ vs ++ ys
+    → cond b (x ∷ us) us ≡ cond b (x ∷ vs) vs ++ ys
 cond-append true x us vs ys e = ap (λ (zs : List ℕ). x ∷ zs) e
 cond-append false x us vs ys e = e
 
 stops-append : (xs ys : List ℕ) → stops (xs ++ ys) ≡ stops xs ++ stops ys
 stops-append [] ys = refl
-stops-append (x ∷ xs) ys = cond-append (stop x) x (stops (xs ++ ys)) (stops xs) (stops ys) (stops-append xs ys)
+stops-append (x ∷ xs) ys =
+    cond-append (stop x) x (stops (xs ++ ys)) (stops xs) (stops ys) (stops-append xs ys)
 
 infixr 60 _⊕_
 _⊕_ : {a b : Doc} {s t : List ℕ} → Has a s → Has b t → Has (a ▸ b) (s ++ t)
@@ -76,7 +81,8 @@ not-stop true b h = sym h
 no-stops : (xs : List ℕ) → clean xs ≡ true → stops xs ≡ []
 no-stops [] h = refl
 no-stops (x ∷ xs) h =
-    rw (not-stop (stop x) (eqb x 10) (left (cleanByte x) (clean xs) h)) (no-stops xs (right (cleanByte x) (clean xs) h))
+    rw (not-stop (stop x) (eqb x 10) (left (cleanByte x) (clean xs) h))
+    (no-stops xs (right (cleanByte x) (clean xs) h))
 
 free : {d : Doc} → Clean d → Has d []
 free {d} c = record { is = no-stops (print d) (c .bytes) }
@@ -102,7 +108,8 @@ not-free false = lit refl
 
 cases-stops : (n : ℕ) (ks : List ℕ) → Has (casesText n ks) (caseSkeleton ks)
 cases-stops n [] = none
-cases-stops n (k ∷ ks) = lit refl ⊕ free (dec-clean n) ⊕ lit refl ⊕ key-free k ⊕ lit refl ⊕ cases-stops (suc n) ks
+cases-stops n (k ∷ ks) =
+    lit refl ⊕ free (dec-clean n) ⊕ lit refl ⊕ key-free k ⊕ lit refl ⊕ cases-stops (suc n) ks
 
 simple-stops : (s : Simple) → simpleBinds false s ≡ true → Has (simpleText s) (simpleSkeleton s)
 unfolding simpleBinds
@@ -120,16 +127,19 @@ simple-stops (retIf o t e) h =
     ⊕ lit refl
 simple-stops (interp k i) h = lit refl
 simple-stops (retInterp k i) h = lit refl
-simple-stops (call k n) h = lit refl ⊕ free (hex8-clean k) ⊕ lit refl ⊕ free (dec-clean n) ⊕ lit refl
+simple-stops (call k n) h =
+    lit refl ⊕ free (hex8-clean k) ⊕ lit refl ⊕ free (dec-clean n) ⊕ lit refl
 simple-stops (switch ks) h = lit refl ⊕ cases-stops 0 ks ⊕ lit refl
 
 code-stops : (c : Code) → codeBinds false c ≡ true → Has (codeText c) (skeleton c)
 unfolding codeBinds
 code-stops end h = none
 code-stops (s ⨾ c) h =
-    simple-stops s (left (simpleBinds false s) (codeBinds false c) h) ⊕ code-stops c (right (simpleBinds false s) (codeBinds false c) h)
+    simple-stops s (left (simpleBinds false s) (codeBinds false c) h) ⊕ code-stops c
+    (right (simpleBinds false s) (codeBinds false c) h)
 code-stops (when o n t b c) h =
-    let p : (testBinds false n t && codeBinds false b) ≡ true = left (testBinds false n t && codeBinds false b) (codeBinds false c) h in
+    let p : (testBinds false n t && codeBinds false b) ≡ true =
+    left (testBinds false n t && codeBinds false b) (codeBinds false c) h in
     lit refl
     ⊕ not-free n
     ⊕ free (test-clean n t (left (testBinds false n t) (codeBinds false b) p))

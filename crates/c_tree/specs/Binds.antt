@@ -1,14 +1,21 @@
--- What C's grammar asks of a tree, so that a compiler reads the tree from its text: each operand binds as tightly as its place asks (C99, 6.5), and no
--- expression has a line end in it. What follows is proved: no expression or plain statement prints `;`, `{`, `}` or a line end (proofs/Clean.antt), and the
--- `;` and braces of code are those of the tree (proofs/Skeleton.antt).
+-- What C's grammar asks of a tree, so that a compiler reads the tree from its text: each operand
+-- binds as tightly as its place asks (C99, 6.5), and no expression has a line end in it. What
+-- follows is proved: no expression or plain statement prints `;`, `{`, `}` or a line end
+-- (proofs/Clean.antt), and the `;` and braces of code are those of the tree (proofs/Skeleton.antt).
 use Prim.Native.Nat.{ℕ, suc}
 use mathlib.Core.Bool.{Bool, true, false, _&&_}
 use mathlib.Core.List.{List, [], _∷_}
 use lib.Dec.{leb}
-use Rattle.c_tree.specs.Expr.{Name, operator, Expr, lit, get, par, un, bin, orLine, cast, pick, ror, read}
-use Rattle.c_tree.specs.Stmt.{Plain, registers, local, declare, adds, set, discard, run, write, tick, Test, guard, gate, other, Simple, gap, recordMark, plain, label, goto, ret, retIf, interp, retInterp, call, switch, Code, end, _⨾_, when, braces, helper, block, group, Top, opening, function, blank, extern, table, count}
+use Rattle.c_tree.specs.Expr.{Name, operator, Expr, lit, get, par, un, bin, orLine, cast}
+use Rattle.c_tree.specs.Expr.{pick, ror, read}
+use Rattle.c_tree.specs.Stmt.{Plain, registers, local, declare, adds, set, discard, run}
+use Rattle.c_tree.specs.Stmt.{write, tick, Test, guard, gate, other, Simple, gap, recordMark}
+use Rattle.c_tree.specs.Stmt.{plain, label, goto, ret, retIf, interp, retInterp, call, switch}
+use Rattle.c_tree.specs.Stmt.{Code, end, _⨾_, when, braces, helper, block, group, Top}
+use Rattle.c_tree.specs.Stmt.{opening, function, blank, extern, table, count}
 
--- the level of an expression in the grammar: 14 primary and postfix, 13 unary and cast, 12 to 3 binary, 2 conditional
+-- the level of an expression in the grammar: 14 primary and postfix, 13 unary and cast, 12 to 3
+-- binary, 2 conditional
 unfoldable pub level : Expr → ℕ
 level (lit s n) = 14
 level (get p) = 14
@@ -21,14 +28,16 @@ level (pick c d e) = 2
 level (ror d e) = 14
 level (read w e) = 14
 
--- operands bind as tightly as they must: a binary operator takes its own level on the left and a higher one on the right. l: line ends are allowed
+-- operands bind as tightly as they must: a binary operator takes its own level on the left and a
+-- higher one on the right. l: line ends are allowed
 unfoldable pub binds : Bool → Expr → Bool
 unfolding level
 binds l (lit s n) = true
 binds l (get p) = true
 binds l (par e) = binds l e
 binds l (un o e) = leb 13 (level e) && binds l e
-binds l (bin o d e) = (leb (operator o .1) (level d) && binds l d) && (leb (suc (operator o .1)) (level e) && binds l e)
+binds l (bin o d e) = (leb (operator o .1) (level d) && binds l d)
+    && (leb (suc (operator o .1)) (level e) && binds l e)
 binds l (orLine d e) = l && (leb 5 (level d) && binds l d) && (leb 6 (level e) && binds l e)
 binds l (cast y e) = leb 13 (level e) && binds l e
 binds l (pick c d e) = (leb 3 (level c) && binds l c) && binds l d && (leb 2 (level e) && binds l e)

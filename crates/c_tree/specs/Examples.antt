@@ -5,10 +5,17 @@ use mathlib.Core.Bool.{true, false}
 use mathlib.Core.List.{List, [], _∷_}
 use Rattle.base_text.specs.Digits.{numeral, lastDigits}
 use Rattle.base_text.specs.Doc.{text, dec, _▸_, decimal, hexadecimal8, hexadecimal16, print, flat}
-use Rattle.c_tree.specs.Expr.{u32, word, udec, int, x-r, x-s, x-cn, x-cz, x-cc, x-cv, x-pc, reg, lnot, shl, shr, band, ne, land, Expr, lit, get, par, un, bin}
-use Rattle.c_tree.specs.Stmt.{is, f-nz, f-c, Plain, registers, local, declare, set, discard, run, tick, guard, gate, other, native, common, gap, recordMark, plain, label, goto, ret, retIf, interp, retInterp, call, switch, Code, end, _⨾_, when, braces, block, group, Top, function, blank, extern, table, count}
+use Rattle.c_tree.specs.Expr.{u32, word, udec, int, x-r, x-s, x-cn, x-cz, x-cc, x-cv, x-pc}
+use Rattle.c_tree.specs.Expr.{reg, lnot, shl, shr, band, ne, land, Expr, lit, get, par, un}
+use Rattle.c_tree.specs.Expr.{bin}
+use Rattle.c_tree.specs.Stmt.{is, f-nz, f-c, Plain, registers, local, declare, set, discard}
+use Rattle.c_tree.specs.Stmt.{run, tick, guard, gate, other, native, common, gap, recordMark}
+use Rattle.c_tree.specs.Stmt.{plain, label, goto, ret, retIf, interp, retInterp, call, switch}
+use Rattle.c_tree.specs.Stmt.{Code, end, _⨾_, when, braces, block, group, Top, function}
+use Rattle.c_tree.specs.Stmt.{blank, extern, table, count}
 use Rattle.c_tree.specs.Print.{exprText, codeText, unitText}
-use Rattle.c_tree.specs.Binds.{level, binds, declaratorsBind, plainBinds, testBinds, simpleBinds, codeBinds}
+use Rattle.c_tree.specs.Binds.{level, binds, declaratorsBind, plainBinds, testBinds}
+use Rattle.c_tree.specs.Binds.{simpleBinds, codeBinds}
 use Rattle.c_tree.specs.Preamble.{v32}
 
 -- a statement for a native record of the block at 0x02000000, in a new line
@@ -29,10 +36,12 @@ ands =
     ⨾ plain (native 0x02000000) (declare (u32, x-s) (get (reg 16)) [])
     ⨾ gap false 1
     ⨾ plain (native 0x02000000)
-    (declare (u32, x-cn) (bin shr (v32 x-s) (lit int 31)) ((x-cz, bit 30) ∷ (x-cc, bit 29) ∷ (x-cv, bit 28) ∷ []))
+    (declare (u32, x-cn) (bin shr (v32 x-s) (lit int 31))
+    ((x-cz, bit 30) ∷ (x-cc, bit 29) ∷ (x-cv, bit 28) ∷ []))
     ⨾ gap true 6
     ⨾ when (native 0x02000000) false (other (bin land (v32 x-cc) (un lnot (v32 x-cz))))
-    (line 8 (declare (u32, x-r) (par (bin band (get (reg 1)) (par (bin shl (get (reg 2)) (lit udec 3))))) [])
+    (line 8 (declare (u32, x-r)
+    (par (bin band (get (reg 1)) (par (bin shl (get (reg 2)) (lit udec 3))))) [])
     (line 8 (run f-nz (v32 x-r))
     (line 8 (run f-c (par (bin band (par (bin shr (get (reg 2)) (lit udec 29))) (lit udec 1))))
     (line 8 (set (reg 0) is (v32 x-r)) (gap true 6 ⨾ end)))))
@@ -51,7 +60,9 @@ unfolding level binds declaratorsBind plainBinds testBinds simpleBinds codeBinds
 ands-binds = refl
 
 -- `    a->tick(m, {}u);` for any number, printed in front of any text
-tick-text : (n : ℕ) (k : List ℕ) → flat (codeText (gap false 4 ⨾ plain common (tick n) ⨾ gap true 0 ⨾ end)) k ≡ flat (text "    a->tick(m, " ▸ dec n ▸ text "u);\n") k
+tick-text : (n : ℕ) (k : List ℕ)
+    → flat (codeText (gap false 4 ⨾ plain common (tick n) ⨾ gap true 0 ⨾ end)) k
+    ≡ flat (text "    a->tick(m, " ▸ dec n ▸ text "u);\n") k
 tick-text n k = refl
 
 -- of two trees with one text, C's grammar reads the one that binds: << binds tighter than &
@@ -73,7 +84,8 @@ shifted-binds-not : binds false shifted ≡ false
 unfolding level binds
 shifted-binds-not = refl
 
--- a guarded block at 0x02000000 with no record but one for the interpreter, and the closing transfer
+-- a guarded block at 0x02000000 with no record but one for the interpreter, and the closing
+-- transfer
 abbrev lone : List Top
 lone =
     function (block 0x02000000)
@@ -85,7 +97,8 @@ lone =
     ⨾ plain common (discard (u32, x-pc))
     ⨾ gap true 4
     ⨾ when common true (guard 0x02000000 4 0x12ab)
-    (gap false 1 ⨾ plain common (set (reg 15) is (lit word 0x02000000)) ⨾ gap false 1 ⨾ retInterp 0x02000000 0 ⨾ gap false 1 ⨾ end)
+    (gap false 1 ⨾ plain common (set (reg 15) is (lit word 0x02000000)) ⨾ gap false 1
+    ⨾ retInterp 0x02000000 0 ⨾ gap false 1 ⨾ end)
     (gap true 4
     ⨾ plain common (set (reg 15) is (lit word 0x02000000))
     ⨾ gap true 4

@@ -1,5 +1,6 @@
--- C's expressions, as many as emit.rs prints. None has an effect, and none holds text: what calls the interpreter, the gate, the guard or a function that
--- writes is a statement. Parentheses are nodes of their own, so the text is the tree's leaves in order.
+-- C's expressions, as many as emit.rs prints. None has an effect, and none holds text: what calls
+-- the interpreter, the gate, the guard or a function that writes is a statement. Parentheses are
+-- nodes of their own, so the text is the tree's leaves in order.
 use Prim.Native.Nat.{ℕ}
 use Prim.Native.String.{String}
 
@@ -36,7 +37,8 @@ pub data Un : Type 0 where
 pub data Bin : Type 0 where
   mul add sub shl shr eq ne band bxor bor land lor : Bin
 
--- a binary operator as printed, and its level in C's grammar (C99, 6.5): 12 multiplicative to 3 logical OR
+-- a binary operator as printed, and its level in C's grammar (C99, 6.5): 12 multiplicative to 3
+-- logical OR
 abbrev pub operator : Bin → String × ℕ
 operator mul = (" * ", 12)
 operator add = (" + ", 11)

@@ -1,4 +1,5 @@
--- The C that emit.rs prints: expressions, statements, their text, and what C's grammar asks of them.
+-- The C that emit.rs prints: expressions, statements, their text, and what C's grammar asks of
+-- them.
 pub mod Expr
 pub mod Stmt
 pub mod Opening

@@ -1,9 +1,14 @@
--- PREAMBLE: its opening, and its functions as trees, whose text is PREAMBLE's byte for byte (proofs/Preamble.antt).
+-- PREAMBLE: its opening, and its functions as trees, whose text is PREAMBLE's byte for byte
+-- (proofs/Preamble.antt).
 use Prim.Native.Nat.{ℕ}
 use mathlib.Core.Bool.{true}
 use mathlib.Core.List.{List, [], _∷_}
-use Rattle.c_tree.specs.Expr.{u32, u64, caps, udec, int, Name, x-r, x-v, x-n, x-a, x-b, x-cin, x-w, reg, var, compl, add, sub, shl, shr, eq, band, bxor, bor, Expr, lit, get, par, un, bin, orLine, cast, pick}
-use Rattle.c_tree.specs.Stmt.{is, and, f-nz, f-c, f-nz64, Plain, declare, set, common, gap, plain, ret, Code, end, _⨾_, ror32, op-adds, proc, helper, Top, opening, function}
+use Rattle.c_tree.specs.Expr.{u32, u64, caps, udec, int, Name, x-r, x-v, x-n, x-a, x-b, x-cin}
+use Rattle.c_tree.specs.Expr.{x-w, reg, var, compl, add, sub, shl, shr, eq, band, bxor, bor}
+use Rattle.c_tree.specs.Expr.{Expr, lit, get, par, un, bin, orLine, cast, pick}
+use Rattle.c_tree.specs.Stmt.{is, and, f-nz, f-c, f-nz64, Plain, declare, set, common, gap}
+use Rattle.c_tree.specs.Stmt.{plain, ret, Code, end, _⨾_, ror32, op-adds, proc, helper, Top}
+use Rattle.c_tree.specs.Stmt.{opening, function}
 
 -- a uint32_t local
 abbrev pub v32 : Name → Expr
@@ -43,34 +48,44 @@ abbrev pub rorBody : Code
 rorBody =
     set (var (u32, x-n)) and (lit udec 31)
     ⨟ return
-    (pick (v32 x-n) (bin bor (par (bin shr (v32 x-v) (v32 x-n))) (par (bin shl (v32 x-v) (par (bin sub (lit udec 32) (v32 x-n)))))) (v32 x-v))
+    (pick (v32 x-n)
+    (bin bor (par (bin shr (v32 x-v) (v32 x-n)))
+    (par (bin shl (v32 x-v) (par (bin sub (lit udec 32) (v32 x-n)))))) (v32 x-v))
     close
 
 -- f_nz: N and Z of a word
 abbrev pub nzBody : Code
-nzBody = set (reg 16) is (bin bor (bin bor (kept (lit caps 0x3FFFFFFF)) (sign (v32 x-r))) (flag (isZero (v32 x-r)) 0x40000000)) ⨟ close
+nzBody =
+    set (reg 16) is
+    (bin bor (bin bor (kept (lit caps 0x3FFFFFFF)) (sign (v32 x-r)))
+    (flag (isZero (v32 x-r)) 0x40000000)) ⨟ close
 
 -- f_c: C
 abbrev pub cBody : Code
-cBody = set (reg 16) is (bin bor (kept (un compl (lit caps 0x20000000))) (flag (v32 x-v) 0x20000000)) ⨟ close
+cBody = set (reg 16) is (bin bor (kept (un compl (lit caps 0x20000000)))
+    (flag (v32 x-v) 0x20000000)) ⨟ close
 
 -- ((((~(a ^ b)) & (a ^ r)) >> 31) & 1u)
 abbrev pub overflow : Expr
 overflow =
     par
     (bin band
-    (par (bin shr (par (bin band (par (un compl (par (bin bxor (v32 x-a) (v32 x-b))))) (par (bin bxor (v32 x-a) (v32 x-r))))) (lit int 31)))
+    (par (bin shr
+    (par (bin band (par (un compl (par (bin bxor (v32 x-a) (v32 x-b)))))
+    (par (bin bxor (v32 x-a) (v32 x-r))))) (lit int 31)))
     (lit udec 1))
 
 -- op_adds: the sum of two words and a carry, with N, Z, C and V
 abbrev pub addsBody : Code
 addsBody =
-    declare (u64, x-w) (bin add (bin add (cast u64 (v32 x-a)) (cast u64 (v32 x-b))) (cast u64 (v32 x-cin))) []
+    declare (u64, x-w)
+    (bin add (bin add (cast u64 (v32 x-a)) (cast u64 (v32 x-b))) (cast u64 (v32 x-cin))) []
     ⨟ declare (u32, x-r) (cast u32 (get (var (u64, x-w)))) []
     ⨟ set (reg 16) is
     (orLine
     (orLine
-    (bin bor (orLine (kept (lit caps 0x0FFFFFFF)) (sign (v32 x-r))) (flag (isZero (v32 x-r)) 0x40000000))
+    (bin bor (orLine (kept (lit caps 0x0FFFFFFF)) (sign (v32 x-r)))
+    (flag (isZero (v32 x-r)) 0x40000000))
     (flag (par (bin shr (get (var (u64, x-w))) (lit int 32))) 0x20000000))
     (flag overflow 0x10000000))
     ⨟ return (v32 x-r) close
@@ -80,7 +95,8 @@ abbrev pub nz64Body : Code
 nz64Body =
     set (reg 16) is
     (orLine
-    (bin bor (kept (lit caps 0x3FFFFFFF)) (sign (cast u32 (par (bin shr (get (var (u64, x-r))) (lit int 32))))))
+    (bin bor (kept (lit caps 0x3FFFFFFF))
+    (sign (cast u32 (par (bin shr (get (var (u64, x-r))) (lit int 32))))))
     (flag (isZero (get (var (u64, x-r)))) 0x40000000))
     ⨟ close
 

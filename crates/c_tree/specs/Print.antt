@@ -5,9 +5,20 @@ use mathlib.Core.Bool.{cond}
 use mathlib.Core.List.{List, [], _∷_}
 use lib.Dec.{eqb, leb}
 use Rattle.armv4t.specs.Bit0.{clearBit0}
-use Rattle.base_text.specs.Doc.{Doc, nothing, raw, text, dec, hex, hex8, hex16, _▸_, hexadecimal8, each}
-use Rattle.c_tree.specs.Expr.{Ty, s8, s16, s32, u32, s64, u64, Style, word, caps, uhex, udec, int, Name, x-r, x-base, x-ob, x-addr, x-t, x-s, x-cn, x-cz, x-cc, x-cv, x-pc, x-v, x-n, x-a, x-b, x-cin, x-w, Var, Place, reg, var, Un, compl, lnot, operator, Width, w8, w16, w32, Expr, lit, get, par, un, bin, orLine, cast, pick, ror, read}
-use Rattle.c_tree.specs.Stmt.{Set, is, plus, and, or, Proc, f-nz, f-c, f-nz64, Plain, registers, local, declare, adds, set, discard, run, write, tick, Test, guard, gate, other, Simple, gap, recordMark, plain, label, goto, ret, retIf, interp, retInterp, call, switch, Code, end, _⨾_, when, braces, Helper, ror32, op-adds, proc, params, Head, helper, block, group, Top, opening, function, blank, extern, table, count}
+use Rattle.base_text.specs.Doc.{Doc, nothing, raw, text, dec, hex, hex8, hex16, _▸_, hexadecimal8}
+use Rattle.base_text.specs.Doc.{each}
+use Rattle.c_tree.specs.Expr.{Ty, s8, s16, s32, u32, s64, u64, Style, word, caps, uhex, udec}
+use Rattle.c_tree.specs.Expr.{int, Name, x-r, x-base, x-ob, x-addr, x-t, x-s, x-cn, x-cz}
+use Rattle.c_tree.specs.Expr.{x-cc, x-cv, x-pc, x-v, x-n, x-a, x-b, x-cin, x-w, Var, Place}
+use Rattle.c_tree.specs.Expr.{reg, var, Un, compl, lnot, operator, Width, w8, w16, w32, Expr}
+use Rattle.c_tree.specs.Expr.{lit, get, par, un, bin, orLine, cast, pick, ror, read}
+use Rattle.c_tree.specs.Stmt.{Set, is, plus, and, or, Proc, f-nz, f-c, f-nz64, Plain}
+use Rattle.c_tree.specs.Stmt.{registers, local, declare, adds, set, discard, run, write, tick}
+use Rattle.c_tree.specs.Stmt.{Test, guard, gate, other, Simple, gap, recordMark, plain, label}
+use Rattle.c_tree.specs.Stmt.{goto, ret, retIf, interp, retInterp, call, switch, Code, end}
+use Rattle.c_tree.specs.Stmt.{_⨾_, when, braces, Helper, ror32, op-adds, proc, params, Head}
+use Rattle.c_tree.specs.Stmt.{helper, block, group, Top, opening, function, blank, extern}
+use Rattle.c_tree.specs.Stmt.{table, count}
 use Rattle.c_tree.specs.Opening.{openingText}
 
 -- the names of the types
@@ -107,11 +118,13 @@ abbrev pub plainText : Plain → Doc
 plainText registers = text "uint32_t* c = (uint32_t*)m"
 plainText (local x) = typed x
 plainText (declare x e ds) = typed x ▸ text " = " ▸ exprText e ▸ each declarator ds
-plainText (adds x d e f) = typed (u32, x) ▸ text " = op_adds(c, " ▸ exprText d ▸ text ", " ▸ exprText e ▸ text ", " ▸ exprText f ▸ text ")"
+plainText (adds x d e f) = typed (u32, x) ▸ text " = op_adds(c, " ▸ exprText d ▸ text ", "
+    ▸ exprText e ▸ text ", " ▸ exprText f ▸ text ")"
 plainText (set p o e) = placeText p ▸ text (setText o) ▸ exprText e
 plainText (discard x) = text "(void)" ▸ text (name (x .1))
 plainText (run p e) = text (procName p) ▸ text "(c, " ▸ exprText e ▸ text ")"
-plainText (write w d e) = text "a->write" ▸ text (bits w) ▸ text "(m, " ▸ exprText d ▸ text ", " ▸ exprText e ▸ text ")"
+plainText (write w d e) =
+    text "a->write" ▸ text (bits w) ▸ text "(m, " ▸ exprText d ▸ text ", " ▸ exprText e ▸ text ")"
 plainText (tick n) = text "a->tick(m, " ▸ dec n ▸ text "u)"
 
 -- address and instruction set of a key: 08000000_a, or _t for Thumb
@@ -120,7 +133,8 @@ keyText k = hex8 (clearBit0 k) ▸ text (cond (eqb (k % 2) 1) "_t" "_a")
 
 -- what a condition tests, without a `!` before it
 abbrev pub testText : Test → Doc
-testText (guard a l h) = text "a->guard(m, 0x" ▸ hex8 a ▸ text "u, " ▸ dec l ▸ text "u, 0x" ▸ hex16 h ▸ text "ull)"
+testText (guard a l h) =
+    text "a->guard(m, 0x" ▸ hex8 a ▸ text "u, " ▸ dec l ▸ text "u, 0x" ▸ hex16 h ▸ text "ull)"
 testText gate = text "a->chain_gate(m)"
 testText (other e) = exprText e
 
@@ -132,7 +146,8 @@ spaces (suc n) = text " " ▸ spaces n
 -- the cases of a switch, counted from n
 abbrev pub casesText : ℕ → List ℕ → Doc
 casesText n [] = nothing
-casesText n (k ∷ ks) = text "    case " ▸ dec n ▸ text "u: goto L_" ▸ keyText k ▸ text ";\n" ▸ casesText (suc n) ks
+casesText n (k ∷ ks) =
+    text "    case " ▸ dec n ▸ text "u: goto L_" ▸ keyText k ▸ text ";\n" ▸ casesText (suc n) ks
 
 -- a statement without braces
 abbrev pub simpleText : Simple → Doc
@@ -146,13 +161,15 @@ simpleText (retIf o t e) = text "if (" ▸ testText t ▸ text ") return " ▸ e
 simpleText (interp k i) = text "pc = a->interp_one(m);"
 simpleText (retInterp k i) = text "return a->interp_one(m);"
 simpleText (call k n) = text "return g_" ▸ hex8 k ▸ text "(a, m, " ▸ dec n ▸ text "u);"
-simpleText (switch ks) = text "switch (entry) {\n" ▸ casesText 0 ks ▸ text "    default: return 0u;\n    }"
+simpleText (switch ks) =
+    text "switch (entry) {\n" ▸ casesText 0 ks ▸ text "    default: return 0u;\n    }"
 
 -- statements one after the other
 abbrev pub codeText : Code → Doc
 codeText end = nothing
 codeText (s ⨾ c) = simpleText s ▸ codeText c
-codeText (when o n t b c) = text "if (" ▸ text (cond n "!" "") ▸ testText t ▸ text ") {" ▸ codeText b ▸ text "}" ▸ codeText c
+codeText (when o n t b c) = text "if (" ▸ text (cond n "!" "") ▸ testText t ▸ text ") {"
+    ▸ codeText b ▸ text "}" ▸ codeText c
 codeText (braces b c) = text "{" ▸ codeText b ▸ text "}" ▸ codeText c
 
 -- parameters
@@ -174,7 +191,8 @@ blockHead k = text "uint32_t b_" ▸ keyText k ▸ text "(const RtApi* a, void* 
 abbrev pub headText : Head → Doc
 headText (helper h) = text "static inline " ▸ helperName h ▸ typedList (params h) ▸ text ")"
 headText (block k) = blockHead k
-headText (group k) = text "static uint32_t g_" ▸ hex8 k ▸ text "(const RtApi* a, void* m, uint32_t entry)"
+headText (group k) =
+    text "static uint32_t g_" ▸ hex8 k ▸ text "(const RtApi* a, void* m, uint32_t entry)"
 
 -- a row of the table
 abbrev pub rowText : ℕ → Doc
@@ -186,7 +204,8 @@ topText opening = openingText
 topText (function h c) = headText h ▸ text " {" ▸ codeText c ▸ text "}\n"
 topText blank = text "\n"
 topText (extern k) = text "extern " ▸ blockHead k ▸ text ";\n"
-topText (table ks) = text "RCG_EXPORT const RcgBlock rcg_blocks[] = {\n" ▸ each rowText ks ▸ text "};\n"
+topText (table ks) =
+    text "RCG_EXPORT const RcgBlock rcg_blocks[] = {\n" ▸ each rowText ks ▸ text "};\n"
 topText (count n) = text "RCG_EXPORT const uint64_t rcg_block_count = " ▸ dec n ▸ text ";\n"
 
 -- a unit, or a part of one

@@ -24,12 +24,21 @@ line-most key group (k ∷ l ∷ m ∷ keys) h = absurd (omega arith)
 lines-most : (rows : List ℕ) (i : ℕ) (bs : List Block) → most (linesFrom rows i bs) ≤ 48 * length bs
 unfolding linesFrom blockLine
 lines-most rows i [] = zero-le
-lines-most rows i (b ∷ bs) = omega (arith, line-most (blockKey b) (groupOf i rows) (exits b) (exits-few b), lines-most rows (suc i) bs)
+lines-most rows i (b ∷ bs) =
+    omega (
+      arith,
+      line-most (blockKey b) (groupOf i rows) (exits b) (exits-few b),
+      lines-most rows
+          (suc i) bs,
+    )
 
 -- a listing: its first line has 16 bytes
-pub listing-most : (limit : ℕ) (bs : List Block) → length (print (listing limit bs)) ≤ 16 + 48 * length bs
+pub listing-most : (limit : ℕ) (bs : List Block)
+    → length (print (listing limit bs)) ≤ 16 + 48 * length bs
 unfolding listing
-listing-most limit bs = omega (arith, length-most (listing limit bs), lines-most (plan limit bs) 0 bs)
+listing-most limit bs =
+    omega (arith, length-most (listing limit bs), lines-most (plan limit bs) 0 bs)
 
-pub listing-short : (limit : ℕ) (bs : List Block) → length bs ≤ 65536 → length (print (listing limit bs)) < maxUsize
+pub listing-short : (limit : ℕ) (bs : List Block) → length bs ≤ 65536
+    → length (print (listing limit bs)) < maxUsize
 listing-short limit bs h = omega (arith, listing-most limit bs)

@@ -17,7 +17,8 @@ listedOf (Listed.Refused n i) = refusal n i
 
 -- what the call for the listing makes: the length of the text, and the text
 abbrev pub madeListing : ℕ → List Block → Option (Made ℕ)
-madeListing limit bs = some (record { values = length (print (listing limit bs)); content = print (listing limit bs) })
+madeListing limit bs =
+    some (record { values = length (print (listing limit bs)); content = print (listing limit bs) })
 
 -- the call for the listing of a file
 abbrev pub listingCall : Parsed → List ℕ → List ℕ → CallOutcome ℕ

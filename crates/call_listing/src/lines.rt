@@ -58,7 +58,8 @@ fn put_block(
     put_line(out, at, key_of(block.addr, block.thumb), group, exits)
 }
 
-// The header, and the lines of the n blocks of an accepted file, whose groups are in quarter 1 of the work numbers.
+// The header, and the lines of the n blocks of an accepted file, whose groups are in quarter 1 of
+// the work numbers.
 pub(crate) fn put_listing(file: &[u8], work: &[u32], n: usize, out: &mut [u8]) -> usize
     requires { ⌜ HasRoom (now file) (now work) n ⌝ }
     requires { ⌜ Accepted (now file) × ((i : ℕ) → i < n → getD (now work) (n + i) 0 ≡ groupOf i (plan partLimit (blocksOf (now file)))) ⌝ }

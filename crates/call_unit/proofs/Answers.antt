@@ -23,12 +23,14 @@ pub bool-byte : (b : Bool) → boolByte b ≡ cond b 1 0
 bool-byte true = refl
 bool-byte false = refl
 
-get-none : {A B : Type 0} (g : A → B) (xs : List A) (k : ℕ) → getElem? xs k ≡ none → getElem? (map g xs) k ≡ none
+get-none : {A B : Type 0} (g : A → B) (xs : List A) (k : ℕ) → getElem? xs k ≡ none
+    → getElem? (map g xs) k ≡ none
 get-none g [] k e = refl
 get-none g (x ∷ xs) zero e = absurd (Option·none-ne-some x (sym e))
 get-none g (x ∷ xs) (suc k) e = get-none g xs k e
 
-get-some : {A B : Type 0} (g : A → B) (xs : List A) (k : ℕ) (a : A) → getElem? xs k ≡ some a → getElem? (map g xs) k ≡ some (g a)
+get-some : {A B : Type 0} (g : A → B) (xs : List A) (k : ℕ) (a : A) → getElem? xs k ≡ some a
+    → getElem? (map g xs) k ≡ some (g a)
 get-some g [] k a e = absurd (Option·none-ne-some a e)
 get-some g (x ∷ xs) zero a e = ap (λ (y : _). some (g y)) (Option·some-injective x a e)
 get-some g (x ∷ xs) (suc k) a e = get-some g xs k a e
@@ -43,16 +45,20 @@ module _ (f : List ℕ) (limit max k : ℕ) (work result : List ℕ) where
 
   -- there is no such unit
   pub unit-none : getElem? (fileUnits hashMultiplier limit max (blocksOf f)) k ≡ none
-      → record { answer = refusal 9 0; work = work; result = result } ≡ handOver (unit hashMultiplier limit max (blocksOf f) k) work result
-  unit-none e = sym (ap over (get-none madeUnit (fileUnits hashMultiplier limit max (blocksOf f)) k e))
+      → record { answer = refusal 9 0; work = work; result = result }
+      ≡ handOver (unit hashMultiplier limit max (blocksOf f) k) work result
+  unit-none e =
+      sym (ap over (get-none madeUnit (fileUnits hashMultiplier limit max (blocksOf f)) k e))
 
   module _ {e : Extent} (is : IsUnit f limit max k e) where
     there : unit hashMultiplier limit max (blocksOf f) k ≡ some (madeUnit (is .unit))
-    there = get-some madeUnit (fileUnits hashMultiplier limit max (blocksOf f)) k (is .unit) (is .found)
+    there =
+        get-some madeUnit (fileUnits hashMultiplier limit max (blocksOf f)) k (is .unit) (is .found)
 
     -- the result is too short for its text
     pub unit-long : length result < e .length
-        → record { answer = refusal 10 0; work = work; result = result } ≡ handOver (unit hashMultiplier limit max (blocksOf f) k) work result
+        → record { answer = refusal 10 0; work = work; result = result }
+        ≡ handOver (unit hashMultiplier limit max (blocksOf f) k) work result
     unit-long h =
         let short : length result < length (textOf (is .unit .tree)) = omega (arith, is .bytes) in
         sym (ap over there ∙ rw (lt-ltb _ _ short) refl)
@@ -60,17 +66,28 @@ module _ (f : List ℕ) (limit max k : ℕ) (work result : List ℕ) where
     -- its text is in the front of the result
     pub unit-made : (result′ : List ℕ) → e .length ≤ length result
         → result′ ≡ textOf (is .unit .tree) ++ drop (length (textOf (is .unit .tree))) result
-        → record { answer = value (record { length = e .length; done = e .end; last = e .last }); work = work; result = result′ }
+        → record {
+          answer = value (record { length = e .length; done = e .end; last = e .last });
+          work =
+              work;
+          result = result′;
+        }
         ≡ handOver (unit hashMultiplier limit max (blocksOf f) k) work result
     unit-made result′ h text =
         let fits : length (textOf (is .unit .tree)) ≤ length result = omega (arith, is .bytes) in
-        let same : valuesOf (e .length) (e .end) (e .last) ≡ valuesOf (length (textOf (is .unit .tree))) (is .unit .done) (is .unit .last) = ap₂ (λ (n d : ℕ). valuesOf n d (e .last)) (is .bytes) (is .done) ∙ ap (valuesOf (length (textOf (is .unit .tree))) (is .unit .done)) (is .last) in
-        ap₂ (λ (v : UnitAnswer) (l : List ℕ). record { answer = value v; work = work; result = l }) same text
+        let same : valuesOf (e .length) (e .end) (e .last)
+        ≡ valuesOf (length (textOf (is .unit .tree))) (is .unit .done) (is .unit .last) =
+        ap₂ (λ (n d : ℕ). valuesOf n d (e .last)) (is .bytes) (is .done)
+        ∙ ap (valuesOf (length (textOf (is .unit .tree))) (is .unit .done)) (is .last) in
+        ap₂ (λ (v : UnitAnswer) (l : List ℕ). record { answer = value v; work = work; result = l })
+        same text
         ∙ sym (ap over there ∙ rw (le-ltb _ _ fits) refl)
 
 -- a call with work numbers enough: they are cleared, and what was made is handed over
-pub cleared-call : {A : Type 0} (make : List Block → Option (Made A)) (f : List ℕ) → Accepted f → (n : ℕ) → n ≡ blockCount f → (work result : List ℕ) → 4 * n ≤ length work
-    → handOver (make (blocksOf f)) (cleared (4 * n) work) result ≡ callOnFile make (Parsed.accepted (blocksOf f)) work result
+pub cleared-call : {A : Type 0} (make : List Block → Option (Made A)) (f : List ℕ) → Accepted f
+    → (n : ℕ) → n ≡ blockCount f → (work result : List ℕ) → 4 * n ≤ length work
+    → handOver (make (blocksOf f)) (cleared (4 * n) work) result
+    ≡ callOnFile make (Parsed.accepted (blocksOf f)) work result
 unfolding callOnFile callOnBlocks
 cleared-call make f ok n all work result room =
     let size : length (blocksOf f) ≡ n = length-of f (blocksOf f) ok ∙ sym all in

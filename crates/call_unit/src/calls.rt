@@ -60,7 +60,8 @@ fn emit_unit(file: &[u8], max: u64, k: u64, work: &mut [u32], out: &mut [u8], n:
     answer
 }
 
-// Unit k of a file, where a unit is handed on once it has max bytes: its text in the front of `out`.
+// Unit k of a file, where a unit is handed on once it has max bytes: its text in the front of
+// `out`.
 pub fn unit_of(file: &[u8], max: u64, k: u64, work: &mut [u32], out: &mut [u8]) -> Translated
     ensures { λ r. ⌜ record { answer = translatedOf r; work = now (work .exit); result = now (out .exit) } ≡ unitCall max k (parse (now (file .entry))) (now (work .entry)) (now (out .entry)) ⌝ }
 {

@@ -20,7 +20,8 @@ lengths-differ (x ∷ xs) (y ∷ ys) h = rw (← lengths-differ xs ys (λ e. h (
 
 module _ (a b : List ℕ) (i : ℕ) (ha : i < length a) (hb : i < length b) where
   -- the lists from a place on: the numbers there, and what comes after them
-  step : sameNumbers (drop i a) (drop i b) ≡ (eqb (getD a i 0) (getD b i 0) && sameNumbers (drop (i + 1) a) (drop (i + 1) b))
+  step : sameNumbers (drop i a) (drop i b)
+      ≡ (eqb (getD a i 0) (getD b i 0) && sameNumbers (drop (i + 1) a) (drop (i + 1) b))
   step = rw (add-one, drop-cons a i 0, drop-cons b i 0)
 
   -- different numbers there decide
@@ -28,7 +29,8 @@ module _ (a b : List ℕ) (i : ℕ) (ha : i < length a) (hb : i < length b) wher
   place-differs h = rw (step, ne-eqb _ _ h)
 
   -- equal numbers there leave it to what comes after them
-  pub place-same : getD a i 0 ≡ getD b i 0 → sameNumbers (drop i a) (drop i b) ≡ sameNumbers (drop (i + 1) a) (drop (i + 1) b)
+  pub place-same : getD a i 0 ≡ getD b i 0
+      → sameNumbers (drop i a) (drop i b) ≡ sameNumbers (drop (i + 1) a) (drop (i + 1) b)
   place-same h = rw (step, eq-eqb _ _ h)
 
 -- from the end on nothing is left
@@ -36,5 +38,6 @@ drop-end : (l : List ℕ) (i : ℕ) → i ≡ length l → drop i l ≡ []
 drop-end l i h = rw h (drop-length l)
 
 -- where nothing is left nothing differs
-pub end-same : (a b : List ℕ) (i : ℕ) → i ≡ length a → i ≡ length b → true ≡ sameNumbers (drop i a) (drop i b)
+pub end-same : (a b : List ℕ) (i : ℕ) → i ≡ length a → i ≡ length b
+    → true ≡ sameNumbers (drop i a) (drop i b)
 end-same a b i ha hb = rw (drop-end a i, drop-end b i)

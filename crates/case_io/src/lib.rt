@@ -1,4 +1,5 @@
-// What the replays of stored vectors share: the reading of vectors, the comparison of answers, the lines printed.
+// What the replays of stored vectors share: the reading of vectors, the comparison of answers, the
+// lines printed.
 pub mod compare;
 pub mod input;
 pub mod report;

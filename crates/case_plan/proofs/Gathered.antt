@@ -1,4 +1,5 @@
--- The list of all numbers that a call for the plan leaves, as it is put together: three numbers stored, and what two buffers hold put after them.
+-- The list of all numbers that a call for the plan leaves, as it is put together: three numbers
+-- stored, and what two buffers hold put after them.
 use Prim.Native.Nat.{ℕ, _+_, _≤_}
 use native.Mathlib.Omega.{arith}
 use mathlib.Core.Path.{_≡_, refl, sym, ap, ap₂, _∙_}
@@ -10,10 +11,12 @@ use Rattle.recomp.specs.Answer.{withAnswer}
 use Rattle.case_plan.specs.PlanCases.{outcomeInOrder, planAnswerNumbers}
 
 -- the numbers of a buffer put after a front, up to the end
-ends : (front g w : List ℕ) (at : ℕ) → take at g ≡ front → length g ≡ at + length w → paste g at w (length w) ≡ front ++ w
+ends : (front g w : List ℕ) (at : ℕ) → take at g ≡ front → length g ≡ at + length w
+    → paste g at w (length w) ≡ front ++ w
 ends front g w at t l =
     let rest : drop (at + length w) g ≡ [] = ap (λ (k : ℕ). drop k g) (sym l) ∙ drop-length g in
-    ap₂ (λ (x y : List ℕ). x ++ y) (ap₂ (λ (x y : List ℕ). x ++ y) t (take-length w)) rest ∙ append-nil (front ++ w)
+    ap₂ (λ (x y : List ℕ). x ++ y) (ap₂ (λ (x y : List ℕ). x ++ y) t (take-length w)) rest
+    ∙ append-nil (front ++ w)
 
 module _ (a b c : ℕ) (g w r : List ℕ) (long : length g ≡ 3 + (length w + length r)) where
   abbrev stored : List ℕ
@@ -37,13 +40,15 @@ module _ (a b c : ℕ) (g w r : List ℕ) (long : length g ≡ 3 + (length w + l
   after-front : take (3 + length w) after ≡ a ∷ b ∷ c ∷ w
   after-front =
       let inside : 3 ≤ length stored = omega (arith, stored-length) in
-      take-paste stored 3 w (length w) inside (omega arith) ∙ ap₂ (λ (x y : List ℕ). x ++ y) stored-front (take-length w)
+      take-paste stored 3 w (length w) inside (omega arith)
+      ∙ ap₂ (λ (x y : List ℕ). x ++ y) stored-front (take-length w)
 
   pub gathered : paste after (3 + length w) r (length r) ≡ a ∷ b ∷ c ∷ (w ++ r)
   gathered = ends (a ∷ b ∷ c ∷ w) after r (3 + length w) after-front after-length
 
 -- the numbers of an answer, with those lent after them
 pub with-lent : (a : Answer ℕ) (w r : List ℕ)
-    → getD (planAnswerNumbers a) 0 0 ∷ getD (planAnswerNumbers a) 1 0 ∷ getD (planAnswerNumbers a) 2 0 ∷ (w ++ r) ≡ outcomeInOrder (withAnswer a w r)
+    → getD (planAnswerNumbers a) 0 0 ∷ getD (planAnswerNumbers a) 1 0
+    ∷ getD (planAnswerNumbers a) 2 0 ∷ (w ++ r) ≡ outcomeInOrder (withAnswer a w r)
 with-lent (refusal n i) w r = refl
 with-lent (value b) w r = refl

@@ -115,7 +115,8 @@ fn clear(list: &mut [u64]) {
     }
 }
 
-// Reads the expected plan of vector `k` into the front of the expected result, and tries the vector.
+// Reads the expected plan of vector `k` into the front of the expected result, and tries the
+// vector.
 fn replay_plan(
     k: u64,
     expected: &mut [u64],

@@ -21,13 +21,25 @@ unitAnswerNumbers a = unitInOrder (withUnit a [] [])
 -- with more work numbers and more text after what was lent
 abbrev pub withRest : UnitNumbers → List ℕ → List ℕ → UnitNumbers
 withRest n work text =
-    record { number = n .number; at = n .at; length = n .length; done = n .done; last = n .last; work = n .work ++ work; text = n .text ++ text }
+    record {
+      number = n .number;
+      at = n .at;
+      length = n .length;
+      done = n .done;
+      last =
+          n .last;
+      work = n .work ++ work;
+      text = n .text ++ text;
+    }
 
--- what a call answers, and what stands afterwards in all work numbers and all text of which it was lent a front
+-- what a call answers, and what stands afterwards in all work numbers and all text of which it was
+-- lent a front
 abbrev pub unitCallLeaves : (max k w t : ℕ) (file work text : List ℕ) → UnitNumbers
 unitCallLeaves max k w t file work text =
-    withRest (unitNumbers (unitCall max k (parse file) (take w work) (take t text))) (drop w work) (drop t text)
+    withRest (unitNumbers (unitCall max k (parse file) (take w work) (take t text))) (drop w work)
+    (drop t text)
 
 -- the expected answer, the expected work numbers and the expected text, all of them
 abbrev pub sameUnit : (answer work text : List ℕ) → UnitNumbers → Bool
-sameUnit answer work text n = sameNumbers answer (unitInOrder n) && (sameNumbers work (n .work) && sameNumbers text (n .text))
+sameUnit answer work text n =
+    sameNumbers answer (unitInOrder n) && (sameNumbers work (n .work) && sameNumbers text (n .text))

@@ -18,7 +18,8 @@ ghost use Rattle.case_units.specs.UnitCases.{unitAnswerNumbers, unitCall
 // The longest file that a vector may hold.
 const LONGEST: usize = 4096;
 
-// How many work numbers there are, of which a vector lends fewer: what stands after those lent must be as it was.
+// How many work numbers there are, of which a vector lends fewer: what stands after those lent must
+// be as it was.
 const WORK: usize = 576;
 
 // How many bytes of text there are, of which a vector lends fewer, likewise.

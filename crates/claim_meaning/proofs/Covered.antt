@@ -23,14 +23,20 @@ not-true false e = refl
 
 said-of : (i : Instr) → isSaid i ≡ true → Said i
 said-of i e =
-    let all = not-true (noInstruction i || unpredictable (i .op) || isNv (i .cond) || differsIn i (i .op)) e in
-    let three = or-l (noInstruction i || unpredictable (i .op) || isNv (i .cond)) (differsIn i (i .op)) all in
+    let all =
+    not-true (noInstruction i || unpredictable (i .op) || isNv (i .cond) || differsIn i (i .op))
+    e in
+    let three =
+    or-l (noInstruction i || unpredictable (i .op) || isNv (i .cond)) (differsIn i (i .op))
+    all in
     let two = or-l (noInstruction i || unpredictable (i .op)) (isNv (i .cond)) three in
     record {
       instruction = or-l (noInstruction i) (unpredictable (i .op)) two;
       predictable = or-r (noInstruction i) (unpredictable (i .op)) two;
       condition = or-r (noInstruction i || unpredictable (i .op)) (isNv (i .cond)) three;
-      same = or-r (noInstruction i || unpredictable (i .op) || isNv (i .cond)) (differsIn i (i .op)) all;
+      same =
+          or-r (noInstruction i || unpredictable (i .op) || isNv (i .cond)) (differsIn i (i .op))
+          all;
     }
 
 native-said : (n h s : Bool) → n ≡ true → ((not n && not h) || s) ≡ true → s ≡ true
@@ -43,13 +49,20 @@ half-said false true s e p = p
 half-said n false s e p = absurd (true≢false (sym e))
 
 -- so the manual says what a covered record does that is native, or half of a BL
-pub covered-native : (region : ℕ) (x : TimedInstr) → isNative (emitInstr (x .instr .thumb) region 0 x .0) ≡ true → isCovered region x ≡ true → Said (x .instr)
+pub covered-native : (region : ℕ) (x : TimedInstr)
+    → isNative (emitInstr (x .instr .thumb) region 0 x .0) ≡ true → isCovered region x ≡ true
+    → Said (x .instr)
 covered-native region x e c =
-    said-of (x .instr) (native-said (isNative (emitInstr (x .instr .thumb) region 0 x .0)) (isHalf (x .instr .op)) (isSaid (x .instr)) e c)
+    said-of (x .instr)
+    (native-said (isNative (emitInstr (x .instr .thumb) region 0 x .0)) (isHalf (x .instr .op))
+    (isSaid (x .instr)) e c)
 
-pub covered-half : (region : ℕ) (x : TimedInstr) → isHalf (x .instr .op) ≡ true → isCovered region x ≡ true → Said (x .instr)
+pub covered-half : (region : ℕ) (x : TimedInstr) → isHalf (x .instr .op) ≡ true
+    → isCovered region x ≡ true → Said (x .instr)
 covered-half region x e c =
-    said-of (x .instr) (half-said (isNative (emitInstr (x .instr .thumb) region 0 x .0)) (isHalf (x .instr .op)) (isSaid (x .instr)) e c)
+    said-of (x .instr)
+    (half-said (isNative (emitInstr (x .instr .thumb) region 0 x .0)) (isHalf (x .instr .op))
+    (isSaid (x .instr)) e c)
 
 -- an instruction without NV that does not differ is no named difference
 pub no-difference : (nv pass d : Bool) → nv ≡ false → d ≡ false → (nv || (pass && d)) ≡ false

@@ -14,7 +14,8 @@ use Rattle.lower_units.proofs.Theorem.{record-means}
 use Rattle.lower_units.proofs.Thumbs.{thumb-means, thumb-pair-means}
 use Rattle.lower_units.proofs.Pairs.{pair-means}
 use Rattle.claim_meaning.specs.Meaning.{MeaningOf}
-use Rattle.claim_meaning.proofs.Ranges.{accepted-ranges, accepted-consecutive, accepted-some, accepted-end, accepted-aligned}
+use Rattle.claim_meaning.proofs.Ranges.{accepted-ranges, accepted-consecutive, accepted-some}
+use Rattle.claim_meaning.proofs.Ranges.{accepted-end, accepted-aligned}
 use Rattle.claim_meaning.proofs.Closing.{closing-means}
 use Rattle.claim_meaning.proofs.Blocks.{Placed, placed, block-means}
 
@@ -29,24 +30,37 @@ meaning-of multiplier f bs accepted b m ks =
     record {
       ownSet = λ x h. stands x h .set;
       even = λ x h. aligned-even (b .thumb) (x .instr .addr) (stands x h .aligned);
-      sound = λ x h n next s e. execute-sound (x .instr) n (accepted-ranges f bs accepted b m x h) s next e;
+      sound =
+          λ x h n next s e. execute-sound (x .instr) n (accepted-ranges f bs accepted b m x h) s
+          next e;
       records = records;
       thumb = λ x h. thumb-means ks (b .addr) (region (b .addr)) x;
       pairs = pairs;
       thumbPairs = λ us vs x y e. thumb-pair-means ks (b .addr) x y;
       closing = closing;
-      whole = block-means multiplier ks b records pairs closing (accepted-ranges f bs accepted b m) (accepted-consecutive f bs accepted b m)
-          (accepted-some f bs accepted b m) (accepted-end f bs accepted b m) (accepted-aligned f bs accepted b m);
+      whole =
+          block-means multiplier ks b records pairs closing (accepted-ranges f bs accepted b m)
+          (accepted-consecutive f bs accepted b m)
+          (accepted-some f bs accepted b m) (accepted-end f bs accepted b m)
+          (accepted-aligned f bs accepted b m);
     }
   where
     stands : (x : TimedInstr) → List·Memᴰ x (b .instrs) → Placed (b .thumb) x
-    stands = placed (b .addr) (b .thumb) (b .instrs) (accepted-consecutive f bs accepted b m) (accepted-aligned f bs accepted b m) (accepted-end f bs accepted b m)
+    stands =
+        placed (b .addr) (b .thumb) (b .instrs) (accepted-consecutive f bs accepted b m)
+        (accepted-aligned f bs accepted b m) (accepted-end f bs accepted b m)
 
-    records : (x : TimedInstr) → List·Memᴰ x (b .instrs) → RecordMeans ks (b .addr) (region (b .addr)) x
-    records x h = record-means ks (b .addr) (region (b .addr)) x (accepted-ranges f bs accepted b m x h)
+    records : (x : TimedInstr) → List·Memᴰ x (b .instrs)
+        → RecordMeans ks (b .addr) (region (b .addr)) x
+    records x h =
+        record-means ks (b .addr) (region (b .addr)) x (accepted-ranges f bs accepted b m x h)
 
-    pairs : (us vs : List TimedInstr) (x y : TimedInstr) → b .instrs ≡ us ++ (x ∷ y ∷ vs) → PairMeans ks (b .addr) x y
+    pairs : (us vs : List TimedInstr) (x y : TimedInstr) → b .instrs ≡ us ++ (x ∷ y ∷ vs)
+        → PairMeans ks (b .addr) x y
     pairs us vs x y e = pair-means ks (b .addr) x y
 
-    closing : (us : List TimedInstr) (x : TimedInstr) → b .instrs ≡ us ++ (x ∷ []) → ClosingMeans ks (bodyOf multiplier b) (x .instr)
-    closing = closing-means multiplier ks b (accepted-consecutive f bs accepted b m) (accepted-aligned f bs accepted b m)
+    closing : (us : List TimedInstr) (x : TimedInstr) → b .instrs ≡ us ++ (x ∷ [])
+        → ClosingMeans ks (bodyOf multiplier b) (x .instr)
+    closing =
+        closing-means multiplier ks b (accepted-consecutive f bs accepted b m)
+        (accepted-aligned f bs accepted b m)

@@ -9,7 +9,11 @@ use Rattle.lower_units.specs.Block.{closing, nativeText}
 use Rattle.lower_units.proofs.Statements.{closing-each, native-each}
 
 pub closing-quiet : (ks : List ℕ) (b : Body) → Quiet (closing ks b)
-closing-quiet ks b = closing-each (Permits false) (λ l n. tt) (λ o p. tt) (λ o k. tt) (λ o e. tt) (λ o t e. tt) ks b
+closing-quiet ks b =
+    closing-each (Permits false) (λ l n. tt) (λ o p. tt) (λ o k. tt) (λ o e. tt) (λ o t e. tt) ks b
 
-pub native-quiet : (ks : List ℕ) (a : ℕ) (o : Owner) (r : Native) (c : Code) → Quiet c → Quiet (nativeText ks a o r c)
-native-quiet ks a o r c q = native-each (Permits false) (λ l n. tt) (λ o p. tt) (λ o k. tt) (λ o e. tt) (λ o t e. tt) ks a o r c q
+pub native-quiet : (ks : List ℕ) (a : ℕ) (o : Owner) (r : Native) (c : Code) → Quiet c
+    → Quiet (nativeText ks a o r c)
+native-quiet ks a o r c q =
+    native-each (Permits false) (λ l n. tt) (λ o p. tt) (λ o k. tt) (λ o e. tt) (λ o t e. tt) ks a o
+    r c q

@@ -6,7 +6,9 @@ use mathlib.Core.List.{List, [], _∷_, List·Memᴰ}
 use mathlib.Core.Option.{none, some}
 use Rattle.armv4t.specs.Bit0.{clearBit0}
 use Rattle.armv4t.specs.declared.Op.{Op}
-use Rattle.armv4t.specs.declared.Op.the-variants.{Alu, Mul, MulLong, Swap, Bx, Branch, ThumbBlHigh, ThumbBlLow, Mem, BlockMem, Mrs, MsrReg, MsrImm, Swi, Undefined}
+use Rattle.armv4t.specs.declared.Op.the-variants.{Alu, Mul, MulLong, Swap, Bx, Branch, ThumbBlHigh}
+use Rattle.armv4t.specs.declared.Op.the-variants.{ThumbBlLow, Mem, BlockMem, Mrs, MsrReg, MsrImm}
+use Rattle.armv4t.specs.declared.Op.the-variants.{Swi, Undefined}
 use Rattle.armv4t.specs.declared.Instr.{Instr}
 use Rattle.armv4t.specs.declared.Fused.the-variants.{Pair, Nothing}
 use Rattle.armv4t.specs.Fused.{fuse}
@@ -26,8 +28,9 @@ use Rattle.lower_units.specs.Block.{blockCode}
 use Rattle.lower_units.specs.Text.{Leaves}
 use Rattle.lower_units.specs.Records.{isTaken}
 
--- the next call of interp_one acts as a step of the machine: step says what becomes of a machine whose next instruction stands at an address, and the key where it
--- goes on; the interpreter finds the address in c[15], and leaves there that of the key which it answers
+-- the next call of interp_one acts as a step of the machine: step says what becomes of a machine
+-- whose next instruction stands at an address, and the key where it goes on; the interpreter finds
+-- the address in c[15], and leaves there that of the key which it answers
 pub record ActsAsStep (step : ℕ → Machine → Machine × ℕ) (z : State) (m : Machine) : Type 0 where
   pub sound : Sound (step (z .c 15) m .0)
   pub same : Agrees (afterInterp z) (step (z .c 15) m .0)
@@ -36,7 +39,8 @@ pub record ActsAsStep (step : ℕ → Machine → Machine × ℕ) (z : State) (m
 
 -- one call of interp_one does so from every state that agrees with a sound machine
 abbrev pub Interprets : (ℕ → Machine → Machine × ℕ) → Interpreter → Type 0
-Interprets step f = (z : State) (m : Machine) → z .interpreter 0 ≡ f → Sound m → Agrees z m → ActsAsStep step z m
+Interprets step f =
+    (z : State) (m : Machine) → z .interpreter 0 ≡ f → Sound m → Agrees z m → ActsAsStep step z m
 
 -- whether a form is native
 abbrev pub isNative : Form → Bool
@@ -65,67 +69,93 @@ isHalf (MsrImm spsr fields value) = false
 isHalf (Swi imm) = false
 isHalf (Undefined raw) = false
 
--- whether an instruction is one of which the manual says what it does, whether or not its condition passes, and no named difference (so not NV)
+-- whether an instruction is one of which the manual says what it does, whether or not its condition
+-- passes, and no named difference (so not NV)
 abbrev pub isSaid : Instr → Bool
 isSaid i = not (noInstruction i || unpredictable (i .op) || isNv (i .cond) || differsIn i (i .op))
 
--- whether a record of a block in a region is covered: the manual says what it does, or the interpreter carries it out; half of a Thumb BL, which may be fused, is
--- covered by the manual alone
+-- whether a record of a block in a region is covered: the manual says what it does, or the
+-- interpreter carries it out; half of a Thumb BL, which may be fused, is covered by the manual
+-- alone
 abbrev pub isCovered : ℕ → TimedInstr → Bool
-isCovered region x = (not (isNativeRecord region x) && not (isHalf (x .instr .op))) || isSaid (x .instr)
+isCovered region x =
+    (not (isNativeRecord region x) && not (isHalf (x .instr .op))) || isSaid (x .instr)
 
 -- a record does not fuse with the one after it
 abbrev pub Alone : TimedInstr → List TimedInstr → Type 0
 Alone x [] = Unit {0}
 Alone x (y ∷ ys) = fuse (x .instr) (y .instr) ≡ Nothing
 
--- whether a record of a block in a region leaves the block, whatever its key: a native transfer whose condition passes
+-- whether a record of a block in a region leaves the block, whatever its key: a native transfer
+-- whose condition passes
 abbrev pub leavesBy : ℕ → TimedInstr → Machine → Bool
 leavesBy region x m = isNativeRecord region x && isTaken (x .instr) m
 
--- a sequence ends with a record that leads from m to next: no record is after it, or the key is not the one after it, or it leaves the block
-pub data Ends (region : ℕ) (x : TimedInstr) (xs : List TimedInstr) (m : Machine) (next : Machine × ℕ) : Type 0 where
+-- a sequence ends with a record that leads from m to next: no record is after it, or the key is not
+-- the one after it, or it leaves the block
+pub data Ends (region : ℕ) (x : TimedInstr) (xs : List TimedInstr) (m : Machine)
+    (next : Machine × ℕ) : Type 0 where
   final : xs ≡ [] → Ends region x xs m next
   away : (next .1 ≡ keyAfter (x .instr) → ⊥) → Ends region x xs m next
   transfers : leavesBy region x m ≡ true → Ends region x xs m next
 
 -- step k is what the call of interp_one with the number k does, from 0 on
 module _ (step : ℕ → ℕ → Machine → Machine × ℕ) (region : ℕ) where
-  -- what becomes of a machine by a record that is not fused, with the number of calls made when it begins and when it is done: a native one (document 01) by the
-  -- manual, another by the interpreter
-  pub data CarriedOut (x : TimedInstr) (m : Machine) (next : Machine × ℕ) : (before after : ℕ) → Type 0 where
-    byManual : (n : ℕ) → isNativeRecord region x ≡ true → execute (x .instr) m ≡ some next → CarriedOut x m next n n
-    byInterpreter : (n : ℕ) → isNativeRecord region x ≡ false → step n (x .instr .addr) m ≡ next → CarriedOut x m next n (suc n)
+  -- what becomes of a machine by a record that is not fused, with the number of calls made when it
+  -- begins and when it is done: a native one (document 01) by the manual, another by the
+  -- interpreter
+  pub data CarriedOut (x : TimedInstr) (m : Machine) (next : Machine × ℕ) : (before after : ℕ)
+      → Type 0 where
+    byManual : (n : ℕ) → isNativeRecord region x ≡ true → execute (x .instr) m ≡ some next
+        → CarriedOut x m next n n
+    byInterpreter : (n : ℕ) → isNativeRecord region x ≡ false → step n (x .instr .addr) m ≡ next
+        → CarriedOut x m next n (suc n)
 
-  -- from a machine to another and a key, by records one after the other from the first on, with the number of calls made when they begin and when they are done
+  -- from a machine to another and a key, by records one after the other from the first on, with the
+  -- number of calls made when they begin and when they are done
   pub data Sequence : (before after : ℕ) → List TimedInstr → Machine → Machine × ℕ → Type 0 where
     -- it ends with a record
-    last : (i j : ℕ) (x : TimedInstr) (xs : List TimedInstr) (m : Machine) (next : Machine × ℕ) → Alone x xs → CarriedOut x m next i j → Ends region x xs m next
+    last : (i j : ℕ) (x : TimedInstr) (xs : List TimedInstr) (m : Machine) (next : Machine × ℕ)
+        → Alone x xs → CarriedOut x m next i j → Ends region x xs m next
         → Sequence i j (x ∷ xs) m next
     -- or with a pair that fuses
-    pair : (n : ℕ) (x y : TimedInstr) (xs : List TimedInstr) (target ret : ℕ) (m : Machine) (half next : Machine × ℕ) → fuse (x .instr) (y .instr) ≡ Pair target ret
-        → execute (x .instr) m ≡ some half → execute (y .instr) (half .0) ≡ some next → Sequence n n (x ∷ y ∷ xs) m next
+    pair : (n : ℕ) (x y : TimedInstr) (xs : List TimedInstr) (target ret : ℕ) (m : Machine)
+        (half next : Machine × ℕ) → fuse (x .instr) (y .instr) ≡ Pair target ret
+        → execute (x .instr) m ≡ some half → execute (y .instr) (half .0) ≡ some next
+        → Sequence n n (x ∷ y ∷ xs) m next
     -- or goes on after a record that leads to the one after it, and does not leave the block
-    more : (i j k : ℕ) (x : TimedInstr) (xs : List TimedInstr) (m : Machine) (next out : Machine × ℕ) → Alone x xs → CarriedOut x m next i j
-        → leavesBy region x m ≡ false → next .1 ≡ keyAfter (x .instr) → Sequence j k xs (next .0) out → Sequence i k (x ∷ xs) m out
+    more : (i j k : ℕ) (x : TimedInstr) (xs : List TimedInstr) (m : Machine)
+        (next out : Machine × ℕ) → Alone x xs → CarriedOut x m next i j
+        → leavesBy region x m ≡ false → next .1 ≡ keyAfter (x .instr)
+        → Sequence j k xs (next .0) out → Sequence i k (x ∷ xs) m out
 
-  -- what becomes of a machine by a block, where z is the state that its text starts in, and how many calls it makes: in ROM or BIOS its records one after the other;
-  -- elsewhere the same where it has code bytes and the guard says yes, and one step of the interpreter where it has none or the guard says no
-  pub data Carries (multiplier : ℕ) (b : Block) (z : State) (m : Machine) (out : Machine × ℕ) : (used : ℕ) → Type 0 where
-    inOrder : (n : ℕ) → outsideRomBios (b .addr) ≡ false → Sequence 0 n (b .instrs) m out → Carries multiplier b z m out n
-    granted : (n hash : ℕ) → outsideRomBios (b .addr) ≡ true → hashOf multiplier b ≡ some hash → (z .answers 0 ≡ 0 → ⊥) → Sequence 0 n (b .instrs) m out
+  -- what becomes of a machine by a block, where z is the state that its text starts in, and how
+  -- many calls it makes: in ROM or BIOS its records one after the other; elsewhere the same where
+  -- it has code bytes and the guard says yes, and one step of the interpreter where it has none or
+  -- the guard says no
+  pub data Carries (multiplier : ℕ) (b : Block) (z : State) (m : Machine) (out : Machine × ℕ) :
+      (used : ℕ) → Type 0 where
+    inOrder : (n : ℕ) → outsideRomBios (b .addr) ≡ false → Sequence 0 n (b .instrs) m out
         → Carries multiplier b z m out n
-    absent : outsideRomBios (b .addr) ≡ true → hashOf multiplier b ≡ none → step 0 (b .addr) m ≡ out → Carries multiplier b z m out 1
-    refused : (hash : ℕ) → outsideRomBios (b .addr) ≡ true → hashOf multiplier b ≡ some hash → z .answers 0 ≡ 0 → step 0 (b .addr) m ≡ out
+    granted : (n hash : ℕ) → outsideRomBios (b .addr) ≡ true → hashOf multiplier b ≡ some hash
+        → (z .answers 0 ≡ 0 → ⊥) → Sequence 0 n (b .instrs) m out
+        → Carries multiplier b z m out n
+    absent : outsideRomBios (b .addr) ≡ true → hashOf multiplier b ≡ none → step 0 (b .addr) m ≡ out
+        → Carries multiplier b z m out 1
+    refused : (hash : ℕ) → outsideRomBios (b .addr) ≡ true
+        → hashOf multiplier b ≡ some hash → z .answers 0 ≡ 0 → step 0 (b .addr) m ≡ out
         → Carries multiplier b z m out 1
 
--- the text of a block whose records are covered, in a function that declares pc, leaves as the manual and the interpreter say; what it asks of a state holds where
--- it ends, of the calls that are left, so the same can be said of the block that a goto leads to
+-- the text of a block whose records are covered, in a function that declares pc, leaves as the
+-- manual and the interpreter say; what it asks of a state holds where it ends, of the calls that
+-- are left, so the same can be said of the block that a goto leads to
 abbrev pub BlockMeans : ℕ → List ℕ → Block → Type 0
 BlockMeans multiplier ks b =
     ((x : TimedInstr) → List·Memᴰ x (b .instrs) → isCovered (region (b .addr)) x ≡ true)
     → (step : ℕ → ℕ → Machine → Machine × ℕ) (z : State) (m : Machine)
-    → ((k : ℕ) → Interprets (step k) (z .interpreter k)) → Declares (z .scopes) (u32, x-pc) → Sound m → Agrees z m
+    → ((k : ℕ) → Interprets (step k) (z .interpreter k)) → Declares (z .scopes) (u32, x-pc)
+    → Sound m → Agrees z m
     → (out : Machine × ℕ) × (used : ℕ) × Carries step (region (b .addr)) multiplier b z m out used
     × Sound (out .0) × (l : Leaves (λ c. blockCode ks (bodyOf multiplier b)) z out)
-    × Declares (l .end .scopes) (u32, x-pc) × ((k : ℕ) → Interprets (step (used + k)) (l .end .interpreter k))
+    × Declares (l .end .scopes) (u32, x-pc)
+    × ((k : ℕ) → Interprets (step (used + k)) (l .end .interpreter k))

@@ -1,1 +1,2 @@
-// What the lowered text means: that C99 reads it as the manual has its instructions. Definitions and laws only.
+// What the lowered text means: that C99 reads it as the manual has its instructions. Definitions
+// and laws only.

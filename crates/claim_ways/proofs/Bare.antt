@@ -3,7 +3,8 @@ use Prim.Native.Nat.{ℕ, _+_}
 use mathlib.Core.Bool.{Bool, true, false, cond}
 use mathlib.Core.List.{List, [], _∷_}
 use mathlib.Core.Option.{Option, none, some}
-use Rattle.c_tree.specs.Stmt.{Owner, Simple, gap, recordMark, plain, label, goto, ret, retIf, interp, retInterp, call, switch, Code, end}
+use Rattle.c_tree.specs.Stmt.{Owner, Simple, gap, recordMark, plain, label, goto, ret, retIf}
+use Rattle.c_tree.specs.Stmt.{interp, retInterp, call, switch, Code, end}
 use Rattle.lower_forms.specs.Forms.{Lines, Native, Form, shell, records, Body}
 use Rattle.lower_units.specs.Block.{lines, closing, nativeText, codeFrom, underGuard, blockCode}
 use Rattle.file_blocks.specs.Address.{outsideRomBios}
@@ -28,7 +29,8 @@ abbrev pub Bare : Code → Type 0
 Bare c = EachStatement NoLabel c
 
 bare-lines : (o : Owner) (n : ℕ) (ls : Lines) (c : Code) → Bare c → Bare (lines o n ls c)
-bare-lines o n ls c h = lines-each NoLabel (λ l n. tt) (λ o p. tt) (λ o k. tt) (λ o e. tt) (λ o t e. tt) o n ls c h
+bare-lines o n ls c h =
+    lines-each NoLabel (λ l n. tt) (λ o p. tt) (λ o k. tt) (λ o e. tt) (λ o t e. tt) o n ls c h
 
 bare-cond : (x : Bool) (c d : Code) → Bare c → Bare d → Bare (cond x c d)
 bare-cond true c d h k = h
@@ -36,17 +38,22 @@ bare-cond false c d h k = k
 
 module _ (ks : List ℕ) (b : Body) where
   bare-closing : Bare (closing ks b)
-  bare-closing = closing-each NoLabel (λ l n. tt) (λ o p. tt) (λ o k. tt) (λ o e. tt) (λ o t e. tt) ks b
+  bare-closing =
+      closing-each NoLabel (λ l n. tt) (λ o p. tt) (λ o k. tt) (λ o e. tt) (λ o t e. tt) ks b
 
   bare-native : (o : Owner) (r : Native) (c : Code) → Bare c → Bare (nativeText ks (b .addr) o r c)
-  bare-native o r c h = native-each NoLabel (λ l n. tt) (λ o p. tt) (λ o k. tt) (λ o e. tt) (λ o t e. tt) ks (b .addr) o r c h
+  bare-native o r c h =
+      native-each NoLabel (λ l n. tt) (λ o p. tt) (λ o k. tt) (λ o e. tt) (λ o t e. tt) ks (b .addr)
+      o r c h
 
   bare-code : (rs : List Form) (p : ℕ) → Bare (codeFrom ks b p rs)
   unfolding codeFrom
   bare-code [] p = bare-closing
   bare-code (Form.native r ∷ rs) p = (tt, bare-native _ r _ (bare-code rs (p + records r)))
-  bare-code (shell h t e ∷ []) p = bare-lines _ 4 t _ (tt, (tt, (tt, bare-cond h (closing ks b) end bare-closing tt)))
-  bare-code (shell h t e ∷ r ∷ rs) p = bare-lines _ 4 t _ (tt, (tt, (tt, (tt, (tt, bare-code (r ∷ rs) (p + 1))))))
+  bare-code (shell h t e ∷ []) p =
+      bare-lines _ 4 t _ (tt, (tt, (tt, bare-cond h (closing ks b) end bare-closing tt)))
+  bare-code (shell h t e ∷ r ∷ rs) p =
+      bare-lines _ 4 t _ (tt, (tt, (tt, (tt, (tt, bare-code (r ∷ rs) (p + 1))))))
 
   bare-guard : (y : Option ℕ) → Bare (underGuard ks b y)
   unfolding underGuard
@@ -55,4 +62,5 @@ module _ (ks : List ℕ) (b : Body) where
 
   pub bare-block : Bare (blockCode ks b)
   unfolding blockCode
-  bare-block = bare-cond (outsideRomBios (b .addr)) _ _ (bare-guard (b .hash)) (bare-code (b .forms) 0)
+  bare-block =
+      bare-cond (outsideRomBios (b .addr)) _ _ (bare-guard (b .hash)) (bare-code (b .forms) 0)

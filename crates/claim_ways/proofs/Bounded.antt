@@ -1,4 +1,5 @@
--- A gateless run carries out at most the limit, in a group of several. The state is what was carried out since the last consultation.
+-- A gateless run carries out at most the limit, in a group of several. The state is what was
+-- carried out since the last consultation.
 use Prim.Native.Nat.{ℕ, suc, _+_, _≤_, _<_, _%_}
 use mathlib.Core.Path.{_≡_, subst}
 use mathlib.Core.Bool.{Bool, true, false, not, cond}
@@ -44,7 +45,14 @@ at-least a (b ∷ bs) = cond (leb a (b .addr)) (b .count) 0 + at-least a bs
 
 -- a goto needs room for all that can be carried out without a gate from there on
 abbrev pub Spent : ℕ → List Body → Logic
-Spent limit g = record { S = ℕ; step = spend; allow = λ s e. spend s e ≤ limit; owed = λ k s. s + at-least (clearBit0 k) g ≤ limit }
+Spent limit g =
+    record {
+      S = ℕ;
+      step = spend;
+      allow = λ s e. spend s e ≤ limit;
+      owed =
+          λ k s. s + at-least (clearBit0 k) g ≤ limit;
+    }
 
 test-mono : (a c n w : ℕ) → a ≤ c → cond (leb c n) w 0 ≤ cond (leb a n) w 0
 test-mono a c n w h = go (leb c n) (leb a n) (leb→le c n) (nleb→lt a n)
@@ -77,12 +85,21 @@ unfolding at-least
 at-most-total a [] = omega arith
 at-most-total a (b ∷ g) = omega (arith, at-most-total a g, test-le (leb a (b .addr)) (b .count))
 
-member : (b : Body) (g : List Body) → List·Memᴰ b g → b .count + at-least (suc (b .addr)) g ≤ at-least (b .addr) g
+member : (b : Body) (g : List Body) → List·Memᴰ b g
+    → b .count + at-least (suc (b .addr)) g ≤ at-least (b .addr) g
 unfolding at-least
 member b (c ∷ g) (List·Memᴰ·head e) =
-    subst (λ x. b .count + (cond (leb (suc (b .addr)) (x .addr)) (x .count) 0 + at-least (suc (b .addr)) g) ≤ cond (leb (b .addr) (x .addr)) (x .count) 0 + at-least (b .addr) g) e
+    subst (λ x. b .count
+    + (cond (leb (suc (b .addr)) (x .addr)) (x .count) 0 + at-least (suc (b .addr)) g)
+    ≤ cond (leb (b .addr) (x .addr)) (x .count) 0 + at-least (b .addr) g) e
     (omega (arith, test-self (b .addr) (b .count), mono (b .addr) (suc (b .addr)) g (omega arith)))
-member b (c ∷ g) (List·Memᴰ·tail m) = omega (arith, member b g m, test-mono (b .addr) (suc (b .addr)) (c .addr) (c .count) (omega arith))
+member b (c ∷ g) (List·Memᴰ·tail m) =
+    omega (
+      arith,
+      member b g m,
+      test-mono (b .addr) (suc (b .addr)) (c .addr) (c .count)
+          (omega arith),
+    )
 
 clear-key : (b : Body) → b .addr % 2 ≡ 0 → clearBit0 (bodyKey b) ≡ b .addr
 clear-key b e = go (b .thumb)
@@ -92,13 +109,15 @@ clear-key b e = go (b .thumb)
     go false = omega arith
 
 module _ (limit : ℕ) where
-  quiet-of : (b : Body) (a w s : ℕ) (e : Event) → s + w + a ≤ limit → Quiet b e → (spend s e ≤ limit) × (spend s e + w + a ≤ limit)
+  quiet-of : (b : Body) (a w s : ℕ) (e : Event) → s + w + a ≤ limit → Quiet b e
+      → (spend s e ≤ limit) × (spend s e + w + a ≤ limit)
   quiet-of b a w s e i q-native = omega arith
   quiet-of b a w s e i q-none = omega arith
   quiet-of b a w s e i q-other = omega arith
   quiet-of b a w s e i q-gate = omega arith
 
-  pub spent-rules : (g : List Body) → total g ≤ limit → (b : Body) → List·Memᴰ b g → Member b → Rules (Spent limit g) b (map bodyKey g)
+  pub spent-rules : (g : List Body) → total g ≤ limit → (b : Body) → List·Memᴰ b g → Member b
+      → Rules (Spent limit g) b (map bodyKey g)
   spent-rules g small b m h = record {
     Inv = λ p w s. s + w + at-least (suc (b .addr)) g ≤ limit;
     Pre = λ s. s + at-least (b .addr) g ≤ limit;
@@ -116,11 +135,13 @@ module _ (limit : ℕ) where
 
   module _ (g : List Body) where
     -- what the check proves of each part
-    dropped : (us es : List Event) (s : ℕ) → s ≤ limit → Follow (Spent limit g) (us ++ es) s → (r : ℕ) × (r ≤ limit) × Follow (Spent limit g) es r
+    dropped : (us es : List Event) (s : ℕ) → s ≤ limit → Follow (Spent limit g) (us ++ es) s
+        → (r : ℕ) × (r ≤ limit) × Follow (Spent limit g) es r
     dropped [] es s h f = (s, h, f)
     dropped (u ∷ us) es s h f = dropped us es (spend s u) (f .0) (f .1)
 
-    part : (ps vs : List Event) (s : ℕ) → s ≤ limit → Follow (Spent limit g) (ps ++ vs) s → Gateless ps → s + carried ps ≤ limit
+    part : (ps vs : List Event) (s : ℕ) → s ≤ limit → Follow (Spent limit g) (ps ++ vs) s
+        → Gateless ps → s + carried ps ≤ limit
     part [] vs s h f q = omega arith
     part (reach o ∷ ps) vs s h f q = part ps vs s (f .0) (f .1) q
     part (said (guard a l k) x ∷ ps) vs s h f q = part ps vs s (f .0) (f .1) (q .1)
@@ -129,7 +150,8 @@ module _ (limit : ℕ) where
     part (nativeStart k i n ∷ ps) vs s h f q = omega (arith, part ps vs (s + n) (f .0) (f .1) q)
     part (interpreted k i ∷ ps) vs s h f q = omega (arith, part ps vs (s + 1) (f .0) (f .1) q)
 
-    pub parts : (us ps vs : List Event) → Follow (Spent limit g) (us ++ (ps ++ vs)) 0 → Gateless ps → carried ps ≤ limit
+    pub parts : (us ps vs : List Event) → Follow (Spent limit g) (us ++ (ps ++ vs)) 0 → Gateless ps
+        → carried ps ≤ limit
     parts us ps vs f q =
         let d = dropped us (ps ++ vs) 0 (omega arith) f in
         omega (arith, part ps vs (d .0) (d .1) (d .2) q)

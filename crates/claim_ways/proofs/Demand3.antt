@@ -12,7 +12,15 @@ use Rattle.claim_ways.proofs.Complete.{complete}
 
 faithful : (multiplier : ℕ) → Faithful (hashOf multiplier) (bodyOf multiplier)
 unfolding bodyOf
-faithful multiplier = record { addr = λ b. refl; thumb = λ b. refl; count = λ b. refl; hash = λ b. refl; whole = λ b. body-count multiplier b }
+faithful multiplier =
+    record {
+      addr = λ b. refl;
+      thumb = λ b. refl;
+      count = λ b. refl;
+      hash = λ b. refl;
+      whole =
+          λ b. body-count multiplier b;
+    }
 
 pub demand-3 : Demand3
 unfolding Demand3

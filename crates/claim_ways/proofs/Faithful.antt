@@ -7,7 +7,8 @@ use Rattle.file_blocks.specs.Parse.{Block}
 use Rattle.lower_forms.specs.Forms.{Body}
 use Rattle.lower_forms.proofs.RecordCount.{recordCounts}
 
--- that its forms are the block's, hashOf being the hash of its code bytes or their absence, and stand for each of its instructions
+-- that its forms are the block's, hashOf being the hash of its code bytes or their absence, and
+-- stand for each of its instructions
 pub record Faithful (hashOf : Block → Option ℕ) (bodyOf : Block → Body) : Type 0 where
   pub addr : (b : Block) → bodyOf b .addr ≡ b .addr
   pub thumb : (b : Block) → bodyOf b .thumb ≡ b .thumb

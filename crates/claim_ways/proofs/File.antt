@@ -1,4 +1,5 @@
--- What an accepted file gives of its blocks: even addresses, an instruction at least, and no key twice.
+-- What an accepted file gives of its blocks: even addresses, an instruction at least, and no key
+-- twice.
 use Prim.Native.Nat.{ℕ, _%_, _≤_, _<_}
 use mathlib.Core.Path.{_≡_, sym, ap, _∙_}
 use mathlib.Core.Bool.{Bool, true, false}
@@ -31,22 +32,31 @@ module _ (f : List ℕ) (bs : List Block) (accepted : parse f ≡ Parsed.accepte
     unfolding blockAt
     block-even =
         ap (λ (b : Block). b .addr % 2) (block-is f bs accepted i d inside)
-        ∙ halved (thumbAt f (blockStart f i)) (addrAt f (blockStart f i)) (address-aligned f bs accepted i inside)
+        ∙ halved (thumbAt f (blockStart f i)) (addrAt f (blockStart f i))
+        (address-aligned f bs accepted i inside)
 
     pub block-filled : 1 ≤ length (getD bs i d .instrs)
     unfolding recordAt
     block-filled =
         let same : length (getD bs i d .instrs) ≡ countAt f (blockStart f i)
-        = ap (λ (b : Block). length (b .instrs)) (block-is f bs accepted i d inside) ∙ sym (record-reads f bs accepted i inside .count) in
+        = ap (λ (b : Block). length (b .instrs)) (block-is f bs accepted i d inside)
+        ∙ sym (record-reads f bs accepted i inside .count) in
         omega (arith, same, has-instr f bs accepted i inside)
 
-  rise : (d : Block) (i j : ℕ) → i < j → j < length bs → blockKey (getD bs i d) < blockKey (getD bs j d)
+  rise : (d : Block) (i j : ℕ) → i < j → j < length bs
+      → blockKey (getD bs i d) < blockKey (getD bs j d)
   rise d i j l h =
       let there : j < blockCount f = omega (arith, long) in
-      omega (arith, keys-rise f bs accepted i j l there, block-key f bs accepted i d (omega arith), block-key f bs accepted j d there)
+      omega (
+        arith,
+        keys-rise f bs accepted i j l there,
+        block-key f bs accepted i d (omega arith),
+        block-key f bs accepted j d there,
+      )
 
   -- two blocks with one key are one
-  pub one-key : (d : Block) (i j : ℕ) → i < length bs → j < length bs → blockKey (getD bs i d) ≡ blockKey (getD bs j d) → i ≡ j
+  pub one-key : (d : Block) (i j : ℕ) → i < length bs → j < length bs
+      → blockKey (getD bs i d) ≡ blockKey (getD bs j d) → i ≡ j
   one-key d i j h l e =
       elim (decLt i j) [
         | yes a ↦ absurd (omega (arith, e, rise d i j a l))

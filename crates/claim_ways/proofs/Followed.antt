@@ -3,7 +3,9 @@ use Prim.Native.Nat.{ℕ}
 use mathlib.Core.Path.{refl}
 use mathlib.Core.Bool.{Bool}
 use mathlib.Core.List.{List, [], _∷_, map, List·Memᴰ, List·Memᴰ·head, List·Memᴰ·tail}
-use Rattle.c_tree.specs.Stmt.{common, Simple, gap, recordMark, plain, label, goto, ret, retIf, interp, retInterp, call, switch, Code, end, _⨾_, when, braces, _⧺_, Top}
+use Rattle.c_tree.specs.Stmt.{common, Simple, gap, recordMark, plain, label, goto, ret, retIf}
+use Rattle.c_tree.specs.Stmt.{interp, retInterp, call, switch, Code, end, _⨾_, when, braces, _⧺_}
+use Rattle.c_tree.specs.Stmt.{Top}
 use Rattle.lower_forms.specs.Forms.{Body}
 use Rattle.lower_units.specs.Block.{bodyKey, nl, sp, blockCode}
 use Rattle.lower_units.specs.Units.{withLocals, labelled, groupCode}
@@ -43,16 +45,23 @@ module _ (L : Logic) where
   abbrev from : List ℕ → Body → List Body → Code
   from ks b bs = blockCode ks b ⧺ (nl ⨾ labelled ks bs)
 
-  ok-labelled : (ks : List ℕ) (b : Body) (bs : List Body) (R : Rules L b ks) (s : S) → R .Pre s → Ok L (from ks b bs) s (Done L)
-  ok-labelled ks b bs R s i = append L (blockCode ks b) (nl ⨾ labelled ks bs) s (Done L) (ok-block L b ks R _ s i)
+  ok-labelled : (ks : List ℕ) (b : Body) (bs : List Body) (R : Rules L b ks) (s : S) → R .Pre s
+      → Ok L (from ks b bs) s (Done L)
+  ok-labelled ks b bs R s i =
+      append L (blockCode ks b) (nl ⨾ labelled ks bs) s (Done L) (ok-block L b ks R _ s i)
 
-  labels-labelled : (ks : List ℕ) (bs : List Body) → ((b : Body) → List·Memᴰ b bs → Rules L b ks) → Labels L (labelled ks bs) (Done L)
+  labels-labelled : (ks : List ℕ) (bs : List Body) → ((b : Body) → List·Memᴰ b bs → Rules L b ks)
+      → Labels L (labelled ks bs) (Done L)
   unfolding labelled
   labels-labelled ks [] R = tt
   labels-labelled ks (b ∷ bs) R =
       let r : Rules L b ks = R b (List·Memᴰ·head refl) in (
         λ s o. ok-labelled ks b bs r s (r .lands s o),
-        (tt, bare-append (blockCode ks b) (nl ⨾ labelled ks bs) (bare-block ks b) (Done L) (tt, labels-labelled ks bs (λ c m. R c (List·Memᴰ·tail m)))),
+        (
+          tt,
+          bare-append (blockCode ks b) (nl ⨾ labelled ks bs) (bare-block ks b) (Done L)
+              (tt, labels-labelled ks bs (λ c m. R c (List·Memᴰ·tail m))),
+        ),
       )
 
   -- past the declarations
@@ -65,21 +74,34 @@ module _ (L : Logic) where
     pub third : allow (step (step s (reach common)) (reach common)) (reach common)
     pub fourth : allow (opened s) (reach common)
 
-  locals-follow : (c : Code) (s : S) → Opens s → Ok L c (opened s) (Done L) → Labels L c (Done L) → {ts : List Top} {xs : List Bool} {es : List Event}
+  locals-follow : (c : Code) (s : S) → Opens s → Ok L c (opened s) (Done L) → Labels L c (Done L)
+      → {ts : List Top} {xs : List Bool} {es : List Event}
       → Way ts (withLocals c) (withLocals c) xs es → Follow L es s
   unfolding withLocals
-  locals-follow c s o h l way = sound L (tt, (tt, (tt, (tt, (tt, (tt, (tt, l))))))) way s (o .first, (o .second, (o .third, h)))
+  locals-follow c s o h l way =
+      sound L (tt, (tt, (tt, (tt, (tt, (tt, (tt, l))))))) way s
+      (o .first, (o .second, (o .third, h)))
 
-  pub group-follows : (b : Body) (g : List Body) → ((c : Body) → List·Memᴰ c (b ∷ g) → Rules L c (map bodyKey (b ∷ g))) → (s : S) → Opens s
-      → ((k : ℕ) → List·Memᴰ k (map bodyKey (b ∷ g)) → owed k (opened s)) → {ts : List Top} {xs : List Bool} {es : List Event}
+  pub group-follows : (b : Body) (g : List Body)
+      → ((c : Body) → List·Memᴰ c (b ∷ g) → Rules L c (map bodyKey (b ∷ g))) → (s : S) → Opens s
+      → ((k : ℕ) → List·Memᴰ k (map bodyKey (b ∷ g)) → owed k (opened s))
+      → {ts : List Top} {xs : List Bool} {es : List Event}
       → Way ts (groupCode (b ∷ g)) (groupCode (b ∷ g)) xs es → Follow L es s
   unfolding groupCode labelled
   group-follows b g R s o w way =
       let r : Rules L b (map bodyKey (b ∷ g)) = R b (List·Memᴰ·head refl) in
-      locals-follow (sp 4 ⨾ switch (map bodyKey (b ∷ g)) ⨾ nl ⨾ labelled (map bodyKey (b ∷ g)) (b ∷ g)) s o
-      (w, o .fourth, ok-labelled (map bodyKey (b ∷ g)) b g r (opened s) (r .lands (opened s) (w (bodyKey b) (List·Memᴰ·head refl))))
+      locals-follow
+      (sp 4 ⨾ switch (map bodyKey (b ∷ g)) ⨾ nl ⨾ labelled (map bodyKey (b ∷ g)) (b ∷ g)) s o (
+        w,
+        o .fourth,
+        ok-labelled (map bodyKey (b ∷ g)) b g r (opened s)
+            (r .lands (opened s) (w (bodyKey b) (List·Memᴰ·head refl))),
+      )
       (tt, (tt, (tt, labels-labelled (map bodyKey (b ∷ g)) (b ∷ g) R))) way
 
-  pub lone-follows : (b : Body) (R : Rules L b []) (s : S) → Opens s → R .Pre (opened s) → {ts : List Top} {xs : List Bool} {es : List Event}
+  pub lone-follows : (b : Body) (R : Rules L b []) (s : S) → Opens s → R .Pre (opened s)
+      → {ts : List Top} {xs : List Bool} {es : List Event}
       → Way ts (withLocals (blockCode [] b)) (withLocals (blockCode [] b)) xs es → Follow L es s
-  lone-follows b R s o i way = locals-follow (blockCode [] b) s o (ok-block L b [] R (Done L) (opened s) i) (bare-labels (blockCode [] b) (bare-block [] b) (Done L)) way
+  lone-follows b R s o i way =
+      locals-follow (blockCode [] b) s o (ok-block L b [] R (Done L) (opened s) i)
+      (bare-labels (blockCode [] b) (bare-block [] b) (Done L)) way

@@ -1,4 +1,5 @@
--- Native statements of a guarded block are reached only after the guard's yes. The state is what happened, the last first.
+-- Native statements of a guarded block are reached only after the guard's yes. The state is what
+-- happened, the last first.
 use Prim.Native.Nat.{ℕ}
 use mathlib.Core.Path.{_≡_, refl, subst}
 use mathlib.Core.Logic.{_⊎_, inl, inr}
@@ -19,27 +20,33 @@ use Rattle.claim_ways.proofs.Followed.{lone-follows}
 
 -- the guard said yes to the block's address, length and hash
 abbrev pub Allowed : Body → List Event → Type 0
-Allowed b es = (h : ℕ) × (b .hash ≡ some h) × List·Memᴰ (said (guard (b .addr) (bodyLength b) h) true) es
+Allowed b es =
+    (h : ℕ) × (b .hash ≡ some h) × List·Memᴰ (said (guard (b .addr) (bodyLength b) h) true) es
 
 -- no two of some blocks have one key
 abbrev pub Apart : List Body → Type 0
 Apart bs = (b c : Body) → List·Memᴰ b bs → List·Memᴰ c bs → bodyKey b ≡ bodyKey c → b ≡ c
 
 abbrev pub Backed : List Body → List Event → Event → Type 0
-Backed bs s e = (b : Body) → List·Memᴰ b bs → AtNative (bodyKey b) e → T (outsideRomBios (b .addr)) → Allowed b s
+Backed bs s e = (b : Body) → List·Memᴰ b bs → AtNative (bodyKey b) e → T (outsideRomBios (b .addr))
+    → Allowed b s
 
 abbrev pub History : List Body → Logic
-History bs = record { S = List Event; step = λ s e. e ∷ s; allow = Backed bs; owed = λ k s. Unit {0} }
+History bs =
+    record { S = List Event; step = λ s e. e ∷ s; allow = Backed bs; owed = λ k s. Unit {0} }
 
-later : (b : Body) (s : List Event) (e : Event) → (T (outsideRomBios (b .addr)) → Allowed b s) → T (outsideRomBios (b .addr)) → Allowed b (e ∷ s)
+later : (b : Body) (s : List Event) (e : Event) → (T (outsideRomBios (b .addr)) → Allowed b s)
+    → T (outsideRomBios (b .addr)) → Allowed b (e ∷ s)
 later b s e f t = let p = f t in (p .0, p .1, List·Memᴰ·tail (p .2))
 
 module _ (bs : List Body) (apart : Apart bs) (b : Body) (m : List·Memᴰ b bs) where
   -- what is known of b is known of whichever block has its key
-  backed : (s : List Event) → (T (outsideRomBios (b .addr)) → Allowed b s) → (c : Body) → List·Memᴰ c bs → bodyKey b ≡ bodyKey c → T (outsideRomBios (c .addr)) → Allowed c s
+  backed : (s : List Event) → (T (outsideRomBios (b .addr)) → Allowed b s) → (c : Body)
+      → List·Memᴰ c bs → bodyKey b ≡ bodyKey c → T (outsideRomBios (c .addr)) → Allowed c s
   backed s f c n e = subst (λ d. T (outsideRomBios (d .addr)) → Allowed d s) (apart b c m n e) f
 
-  quiet-of : (s : List Event) (e : Event) → (T (outsideRomBios (b .addr)) → Allowed b s) → Quiet b e → Backed bs s e × (T (outsideRomBios (b .addr)) → Allowed b (e ∷ s))
+  quiet-of : (s : List Event) (e : Event) → (T (outsideRomBios (b .addr)) → Allowed b s) → Quiet b e
+      → Backed bs s e × (T (outsideRomBios (b .addr)) → Allowed b (e ∷ s))
   quiet-of s e f q-native = (backed s f, later b s _ f)
   quiet-of s e f q-none = (λ c n a. absurd a, later b s _ f)
   quiet-of s e f q-other = (λ c n a. absurd a, later b s _ f)
@@ -61,18 +68,27 @@ module _ (bs : List Body) (apart : Apart bs) (b : Body) (m : List·Memᴰ b bs) 
     defers = λ s i. (λ c n a. absurd a, λ c n a. absurd a);
   }
 
-  pub lone-seen : {ts : List Top} {xs : List Bool} {es : List Event} → Way ts (withLocals (blockCode [] b)) (withLocals (blockCode [] b)) xs es → Follow (History bs) es []
+  pub lone-seen : {ts : List Top} {xs : List Bool} {es : List Event}
+      → Way ts (withLocals (blockCode [] b)) (withLocals (blockCode [] b)) xs es
+      → Follow (History bs) es []
   unfolding history-rules
   lone-seen w =
       lone-follows (History bs) b (history-rules []) []
-      (record { first = λ c n a. absurd a; second = λ c n a. absurd a; third = λ c n a. absurd a; fourth = λ c n a. absurd a }) tt w
+      (record {
+        first = λ c n a. absurd a;
+        second = λ c n a. absurd a;
+        third =
+            λ c n a. absurd a;
+        fourth = λ c n a. absurd a;
+      }) tt w
 
 -- the events, the last first, and others after
 rev : List Event → List Event → List Event
 rev [] s = s
 rev (u ∷ us) s = rev us (u ∷ s)
 
-at : (bs : List Body) (us vs : List Event) (e : Event) (s : List Event) → Follow (History bs) (us ++ (e ∷ vs)) s → Backed bs (rev us s) e
+at : (bs : List Body) (us vs : List Event) (e : Event) (s : List Event)
+    → Follow (History bs) (us ++ (e ∷ vs)) s → Backed bs (rev us s) e
 unfolding rev
 at bs [] vs e s f = f .0
 at bs (u ∷ us) vs e s f = at bs us vs e (u ∷ s) (f .1)
@@ -90,9 +106,12 @@ among {a} (u ∷ us) s m = go (among us (u ∷ s) m)
     go (inl n) = inl (List·Memᴰ·tail n)
     go (inr n) = down n
 
-pub guarded-of : (bs : List Body) (us vs : List Event) (e : Event) → Follow (History bs) (us ++ (e ∷ vs)) []
-    → (b : Body) → List·Memᴰ b bs → AtNative (bodyKey b) e → T (outsideRomBios (b .addr)) → Allowed b us
-guarded-of bs us vs e f b m n t = let p = at bs us vs e [] f b m n t in (p .0, p .1, go (among us [] (p .2)))
+pub guarded-of : (bs : List Body) (us vs : List Event) (e : Event)
+    → Follow (History bs) (us ++ (e ∷ vs)) []
+    → (b : Body) → List·Memᴰ b bs → AtNative (bodyKey b) e → T (outsideRomBios (b .addr))
+    → Allowed b us
+guarded-of bs us vs e f b m n t =
+    let p = at bs us vs e [] f b m n t in (p .0, p .1, go (among us [] (p .2)))
   where
     go : {a : Event} → List·Memᴰ a us ⊎ List·Memᴰ a [] → List·Memᴰ a us
     go (inl m) = m

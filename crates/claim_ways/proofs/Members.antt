@@ -50,7 +50,8 @@ module _ (F : File) where
   key-of b = ap₂ (λ (a : ℕ) (t : Bool). a + cond t 1 0) (faithful .addr b) (faithful .thumb b)
 
   -- the members of a group are blocks of the file
-  pub member-of : (g : List ℕ) → List·Memᴰ g (groups limit bs) → (b : Body) → List·Memᴰ b (bodiesOf bodies g)
+  pub member-of : (g : List ℕ) → List·Memᴰ g (groups limit bs) → (b : Body)
+      → List·Memᴰ b (bodiesOf bodies g)
       → (i : ℕ) × List·Memᴰ i g × (i < length bs) × (bodyOf (getD bs i nowhere) ≡ b)
   unfolding bodiesOf
   member-of g m b n =
@@ -61,8 +62,15 @@ module _ (F : File) where
   pub is-member : (i : ℕ) → i < length bs → Member (bodyOf (getD bs i nowhere))
   is-member i h =
       record {
-        even = ap (λ (a : ℕ). a % 2) (faithful .addr (getD bs i nowhere)) ∙ block-even bytes bs accepted i nowhere h;
-        filled = omega (arith, faithful .count (getD bs i nowhere), block-filled bytes bs accepted i nowhere h);
+        even = ap (λ (a : ℕ). a % 2) (faithful .addr (getD bs i nowhere))
+            ∙ block-even bytes bs accepted i nowhere h;
+        filled =
+            omega (
+              arith,
+              faithful .count (getD bs i nowhere),
+              block-filled bytes bs accepted i
+                  nowhere h,
+            );
         whole = faithful .whole (getD bs i nowhere);
       }
 
@@ -70,7 +78,8 @@ module _ (F : File) where
   in-bodies i h = Memᴰ·map bodyOf (at-member bs i nowhere h)
 
   -- the counts of the plan are those of the bodies
-  count-at : (cs : List Block) (i : ℕ) → getD (map bodyOf cs) i defaultBody .count ≡ getD (countsOf cs) i 0
+  count-at : (cs : List Block) (i : ℕ)
+      → getD (map bodyOf cs) i defaultBody .count ≡ getD (countsOf cs) i 0
   count-at [] i = refl
   count-at (c ∷ cs) zero = faithful .count c
   count-at (c ∷ cs) (suc i) = count-at cs i
@@ -90,30 +99,37 @@ module _ (F : File) where
   unfolding bodiesOf
   one [] b e = absurd (let z : _≡_ {A = ℕ} 0 1 = ap length e in omega arith)
   one (i ∷ []) b e = refl
-  one (i ∷ j ∷ g) b e = absurd (let z : suc (suc (length (bodiesOf bodies g))) ≡ 1 = ap length e in omega arith)
+  one (i ∷ j ∷ g) b e = absurd (let z : suc (suc (length (bodiesOf bodies g))) ≡ 1 =
+      ap length e in omega arith)
 
   pub good : (g : List ℕ) → List·Memᴰ g (groups limit bs) → Good limit bodies (bodiesOf bodies g)
   good g m =
       record {
         members = λ b n. let r = member-of g m b n in subst Member (r .3) (is-member (r .0) (r .2));
-        inside = λ b n. let r = member-of g m b n in subst (λ c. List·Memᴰ c bodies) (r .3) (in-bodies (r .0) (r .2));
+        inside = λ b n. let r = member-of g m b n in
+            subst (λ c. List·Memᴰ c bodies) (r .3) (in-bodies (r .0) (r .2));
         small = λ v. omega (arith, total-of g, group-limit limit bs g m (several g v));
       }
 
   -- a block of the file by its place
-  body-at : (b : Body) → List·Memᴰ b bodies → (i : ℕ) × (i < length bs) × (bodyOf (getD bs i nowhere) ≡ b)
+  body-at : (b : Body) → List·Memᴰ b bodies
+      → (i : ℕ) × (i < length bs) × (bodyOf (getD bs i nowhere) ≡ b)
   body-at b m =
       let r = Memᴰ·of-map bodyOf bs m in
       let p = place-of bs nowhere (r .0) (r .1) in
       (p .0, p .1, ap bodyOf (p .2) ∙ r .2)
 
   -- one key, one place
-  pub same-place : (i j : ℕ) → i < length bs → j < length bs → bodyKey (bodyOf (getD bs i nowhere)) ≡ bodyKey (bodyOf (getD bs j nowhere)) → i ≡ j
+  pub same-place : (i j : ℕ) → i < length bs → j < length bs
+      → bodyKey (bodyOf (getD bs i nowhere)) ≡ bodyKey (bodyOf (getD bs j nowhere)) → i ≡ j
   same-place i j h l e = one-key bytes bs accepted nowhere i j h l (sym (key-of _) ∙ e ∙ key-of _)
 
   pub apart : Apart bodies
   apart b c m n e =
       let r = body-at b m in
       let s = body-at c n in
-      let same : r .0 ≡ s .0 = same-place (r .0) (s .0) (r .1) (s .1) (ap bodyKey (r .2) ∙ e ∙ sym (ap bodyKey (s .2))) in
+      let same : r .0
+      ≡ s .0 =
+      same-place (r .0) (s .0) (r .1) (s .1)
+      (ap bodyKey (r .2) ∙ e ∙ sym (ap bodyKey (s .2))) in
       sym (r .2) ∙ ap (λ (i : ℕ). bodyOf (getD bs i nowhere)) same ∙ s .2

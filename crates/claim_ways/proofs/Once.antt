@@ -1,4 +1,5 @@
--- A lone block carries out no instruction twice. The state is the index after the last one carried out.
+-- A lone block carries out no instruction twice. The state is the index after the last one carried
+-- out.
 use Prim.Native.Nat.{ℕ, _+_, _≤_, _<_}
 use mathlib.Core.Path.{_≡_}
 use mathlib.Core.Bool.{Bool, true, false, cond, _&&_}
@@ -52,9 +53,12 @@ rising-rules b = record {
   defers = λ s i. (tt, i);
 }
 
-pub lone-rises : (b : Body) {ts : List Top} {xs : List Bool} {es : List Event} → Way ts (withLocals (blockCode [] b)) (withLocals (blockCode [] b)) xs es → Follow Rising es 0
+pub lone-rises : (b : Body) {ts : List Top} {xs : List Bool} {es : List Event}
+    → Way ts (withLocals (blockCode [] b)) (withLocals (blockCode [] b)) xs es → Follow Rising es 0
 unfolding rising-rules
-lone-rises b w = lone-follows Rising b (rising-rules b) 0 (record { first = tt; second = tt; third = tt; fourth = tt }) (omega arith) w
+lone-rises b w =
+    lone-follows Rising b (rising-rules b) 0
+    (record { first = tt; second = tt; third = tt; fourth = tt }) (omega arith) w
 
 -- one event: none of the indices below the state, and each index at most once
 both : (x y : Bool) → T (x && y) → T x × T y
@@ -81,15 +85,21 @@ add h j s r es false f l k = (λ m. omega (arith, k .below (omega arith)), omega
 
 few : (h j : ℕ) (es : List Event) (s : ℕ) → Follow Rising es s → Few h j s es
 few h j [] s f = record { below = λ l. omega arith; twice = omega arith }
-few h j (reach o ∷ es) s f = let k = few h j es s (f .1) in record { below = k .below; twice = k .twice }
-few h j (said t x ∷ es) s f = let k = few h j es s (f .1) in record { below = k .below; twice = k .twice }
+few h j (reach o ∷ es) s f =
+    let k = few h j es s (f .1) in record { below = k .below; twice = k .twice }
+few h j (said t x ∷ es) s f =
+    let k = few h j es s (f .1) in record { below = k .below; twice = k .twice }
 few h j (nativeStart k p n ∷ es) s f =
     let l : s ≤ p = f .0 in
-    let a = add h j s (p + n) es (eqb h k && leb p j && ltb j (p + n)) (λ t. omega (arith, covers h k j p n t)) (omega arith) (few h j es (p + n) (f .1)) in
+    let a =
+    add h j s (p + n) es (eqb h k && leb p j && ltb j (p + n))
+    (λ t. omega (arith, covers h k j p n t)) (omega arith) (few h j es (p + n) (f .1)) in
     record { below = a .0; twice = a .1 }
 few h j (interpreted k p ∷ es) s f =
     let l : s ≤ p = f .0 in
-    let a = add h j s (p + 1) es (eqb h k && eqb p j) (λ t. omega (arith, hits h k j p t)) (omega arith) (few h j es (p + 1) (f .1)) in
+    let a =
+    add h j s (p + 1) es (eqb h k && eqb p j) (λ t. omega (arith, hits h k j p t)) (omega arith)
+    (few h j es (p + 1) (f .1)) in
     record { below = a .0; twice = a .1 }
 
 pub once-of : (h j : ℕ) (es : List Event) → Follow Rising es 0 → timesCarried h j es ≤ 1

@@ -1,4 +1,5 @@
--- The claim on ways (demand 3): one statement about every way through the units of every accepted file.
+-- The claim on ways (demand 3): one statement about every way through the units of every accepted
+-- file.
 use Prim.Native.Nat.{ℕ, _+_, _≤_}
 use mathlib.Core.Path.{_≡_}
 use mathlib.Core.Bool.{Bool, true, cond, _&&_}
@@ -42,7 +43,8 @@ abbrev pub timesCarried : ℕ → ℕ → List Event → ℕ
 timesCarried h j [] = 0
 timesCarried h j (reach o ∷ es) = timesCarried h j es
 timesCarried h j (said t x ∷ es) = timesCarried h j es
-timesCarried h j (nativeStart k i n ∷ es) = cond (eqb h k && leb i j && ltb j (i + n)) 1 0 + timesCarried h j es
+timesCarried h j (nativeStart k i n ∷ es) =
+    cond (eqb h k && leb i j && ltb j (i + n)) 1 0 + timesCarried h j es
 timesCarried h j (interpreted k i ∷ es) = cond (eqb h k && eqb i j) 1 0 + timesCarried h j es
 
 -- an event at the native statements (document 01) of the block with the key h
@@ -64,32 +66,41 @@ Lone limit bs i = List·Memᴰ (i ∷ []) (groups limit bs)
 module _ (toBody : Block → Body) where
   -- all that stands in the units of some blocks
   unfoldable pub allUnits : ℕ → ℕ → List Block → List Top
-  allUnits limit max bs = flatten (map (λ (u : TranslationUnit). u .tree) (unitsFor toBody limit max bs))
+  allUnits limit max bs =
+      flatten (map (λ (u : TranslationUnit). u .tree) (unitsFor toBody limit max bs))
 
 module _ (toHash : Block → Option ℕ) where
   -- the guard said yes to a block: to its address, length and hash
   abbrev pub Passed : Block → List Event → Type 0
   Passed b es =
-      (h : ℕ) × (toHash b ≡ some h) × List·Memᴰ (said (guard (b .addr) (lengthOf (length (b .instrs)) (b .thumb)) h) true) es
+      (h : ℕ) × (toHash b ≡ some h)
+      × List·Memᴰ (said (guard (b .addr) (lengthOf (length (b .instrs)) (b .thumb)) h) true) es
 
-  -- Demand 3 (docs/ARCHITECTURE.md) of the events of a way from the function of block i: each part without a consultation of the chain gate carries out at most
-  -- so many instructions as the limit says in a group of several blocks; a lone block carries out no instruction twice; native statements of a block outside ROM
-  -- and BIOS are reached only after the guard said yes to that block's address, length and hash
+  -- Demand 3 (docs/ARCHITECTURE.md) of the events of a way from the function of block i: each part
+  -- without a consultation of the chain gate carries out at most so many instructions as the limit
+  -- says in a group of several blocks; a lone block carries out no instruction twice; native
+  -- statements of a block outside ROM and BIOS are reached only after the guard said yes to that
+  -- block's address, length and hash
   pub record WayClaim (limit : ℕ) (bs : List Block) (i : ℕ) (es : List Event) : Type 0 where
     -- a part without a consultation of the gate, in a group of several
-    pub bounded : Several limit bs i → (us ps vs : List Event) → es ≡ us ++ (ps ++ vs) → Gateless ps → carried ps ≤ limit
+    pub bounded : Several limit bs i → (us ps vs : List Event) → es ≡ us ++ (ps ++ vs) → Gateless ps
+        → carried ps ≤ limit
     -- a lone block
     pub once : Lone limit bs i → (h j : ℕ) → timesCarried h j es ≤ 1
     -- native statements
-    pub guarded : (us vs : List Event) (e : Event) → es ≡ us ++ (e ∷ vs) → (b : Block) → List·Memᴰ b bs → AtNative (blockKey b) e → T (outsideRomBios (b .addr)) → Passed b us
+    pub guarded : (us vs : List Event) (e : Event) → es ≡ us ++ (e ∷ vs) → (b : Block)
+        → List·Memᴰ b bs → AtNative (blockKey b) e → T (outsideRomBios (b .addr)) → Passed b us
 
 module _ (toHash : Block → Option ℕ) (toBody : Block → Body) where
-  -- a file at a limit and a wished size, if it is accepted: every block and its function in the units; every list of answers and every way
+  -- a file at a limit and a wished size, if it is accepted: every block and its function in the
+  -- units; every list of answers and every way
   unfoldable pub ClaimOf : ℕ → ℕ → List ℕ → Type 0
   ClaimOf limit max f =
-      (bs : List Block) → parse f ≡ Parsed.accepted bs → (i : ℕ) (b : Block) → getElem? bs i ≡ some b
+      (bs : List Block) → parse f ≡ Parsed.accepted bs → (i : ℕ) (b : Block)
+      → getElem? bs i ≡ some b
       → (c : Code) → List·Memᴰ (function (block (blockKey b)) c) (allUnits toBody limit max bs)
-      → (xs : List Bool) (es : List Event) → Way (allUnits toBody limit max bs) c c xs es → WayClaim toHash limit bs i es
+      → (xs : List Bool) (es : List Event) → Way (allUnits toBody limit max bs) c c xs es
+      → WayClaim toHash limit bs i es
 
   -- every file, limit and wished size
   unfoldable pub Claim : Type 0

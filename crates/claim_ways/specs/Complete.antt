@@ -1,4 +1,5 @@
--- That the claim is about something: each block has one function, in the unit where its group is, and a way from it to its first instruction.
+-- That the claim is about something: each block has one function, in the unit where its group is,
+-- and a way from it to its first instruction.
 use Prim.Native.Nat.{ℕ, _+_, _≤_}
 use mathlib.Core.Path.{_≡_}
 use mathlib.Core.Bool.{Bool, cond}
@@ -8,7 +9,8 @@ use lib.Dec.{eqb}
 use lib.ListN.{getElem?}
 use Rattle.file_blocks.specs.Parse.{Block, Parsed, parse, blockKey}
 use Rattle.plan_groups.specs.Plan.{groups}
-use Rattle.c_tree.specs.Stmt.{Code, helper, block, group, Top, opening, function, blank, extern, table, count}
+use Rattle.c_tree.specs.Stmt.{Code, helper, block, group, Top, opening, function, blank, extern}
+use Rattle.c_tree.specs.Stmt.{table, count}
 use Rattle.lower_forms.specs.Forms.{Body}
 use Rattle.lower_units.specs.Units.{TranslationUnit, emitGroup, bodiesOf, unitsFor}
 use Rattle.claim_ways.specs.Ways.{Event, Way}
@@ -45,7 +47,8 @@ module _ (toBody : Block → Body) where
     pub after : List Top
     pub piece : unit .tree ≡ before ++ (emitGroup (bodiesOf (map toBody bs) members) ++ after)
     pub code : Code
-    pub stands : List·Memᴰ (function (block (blockKey b)) code) (emitGroup (bodiesOf (map toBody bs) members))
+    pub stands : List·Memᴰ (function (block (blockKey b)) code)
+        (emitGroup (bodiesOf (map toBody bs) members))
     -- a way from it carries out the block's first instruction
     pub answers : List Bool
     pub events : List Event
@@ -55,4 +58,5 @@ module _ (toBody : Block → Body) where
   -- each block of each accepted file, at each limit and wished size
   unfoldable pub Complete : Type 0
   Complete =
-      (f : List ℕ) (bs : List Block) → parse f ≡ Parsed.accepted bs → (limit max i : ℕ) (b : Block) → getElem? bs i ≡ some b → BlockHasWay limit max bs i b
+      (f : List ℕ) (bs : List Block) → parse f ≡ Parsed.accepted bs → (limit max i : ℕ) (b : Block)
+      → getElem? bs i ≡ some b → BlockHasWay limit max bs i b

@@ -1,4 +1,5 @@
--- Demand 3: the claim on ways, and that it is about something, for the blocks as `forms` has them and any multiplier of the hash.
+-- Demand 3: the claim on ways, and that it is about something, for the blocks as `lower_forms` has
+-- them and any multiplier of the hash.
 use Prim.Native.Nat.{ℕ}
 use mathlib.Core.List.{List}
 use Rattle.lower_forms.specs.Block.{hashOf, bodyOf}

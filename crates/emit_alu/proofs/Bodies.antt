@@ -26,23 +26,30 @@ use Rattle.emit_alu.specs.Rows.{statementsText}
 -- statementsText, and code after them, are the lines of any owner with that code after them
 pub rows-after : (o : Owner) (ps : List Plain) (c : Code) (k : List ℕ)
     → flat (statementsText ps ▸ codeText c) k ≡ flat (codeText (lines o 8 (apart ps) c)) k
-rows-after o ps c k = sym (lines-after common 8 (apart ps) c k) ∙ lines-owner common o 8 (apart ps) c k
+rows-after o ps c k =
+    sym (lines-after common 8 (apart ps) c k) ∙ lines-owner common o 8 (apart ps) c k
 
 -- Alu, if it has lines
-pub alu-lines : (thumb : Bool) (i : Instr) (op : AluOp) (s : Bool) (rd rn : ℕ) (op2 : Operand2) (ls : Lines)
+pub alu-lines : (thumb : Bool) (i : Instr) (op : AluOp) (s : Bool) (rd rn : ℕ) (op2 : Operand2)
+    (ls : Lines)
     → opBody thumb i (Alu op s rd rn op2) ≡ some ls
-    → apart (alu op s rd (regOf (pcValue i) rn) (operandOf (pcValue i) op2 .0) (operandOf (pcValue i) op2 .1)) ≡ ls
+    → apart (alu op s rd (regOf (pcValue i) rn) (operandOf (pcValue i) op2 .0)
+    (operandOf (pcValue i) op2 .1)) ≡ ls
 alu-lines thumb i op s rd rn op2 ls p = of-rd (eqb rd 15) p
   where
-    of-op2 : (b : Option (Expr × Option Expr)) → op2Exprs i op2 ≡ b → aluBody op s rd (regExpr i rn) b ≡ some ls
-        → apart (alu op s rd (regOf (pcValue i) rn) (operandOf (pcValue i) op2 .0) (operandOf (pcValue i) op2 .1)) ≡ ls
+    of-op2 : (b : Option (Expr × Option Expr)) → op2Exprs i op2 ≡ b
+        → aluBody op s rd (regExpr i rn) b ≡ some ls
+        → apart (alu op s rd (regOf (pcValue i) rn) (operandOf (pcValue i) op2 .0)
+        (operandOf (pcValue i) op2 .1)) ≡ ls
     of-op2 none e q = absurd (Option·none-ne-some _ q)
     of-op2 (some b) e q =
-        ap (λ (x : Expr × Option Expr). apart (alu op s rd (regOf (pcValue i) rn) (x .0) (x .1))) (operand-of i op2 b e)
+        ap (λ (x : Expr × Option Expr). apart (alu op s rd (regOf (pcValue i) rn) (x .0) (x .1)))
+        (operand-of i op2 b e)
         ∙ Option·some-injective _ _ q
 
     of-rd : (t : Bool) → cond t none (aluBody op s rd (regExpr i rn) (op2Exprs i op2)) ≡ some ls
-        → apart (alu op s rd (regOf (pcValue i) rn) (operandOf (pcValue i) op2 .0) (operandOf (pcValue i) op2 .1)) ≡ ls
+        → apart (alu op s rd (regOf (pcValue i) rn) (operandOf (pcValue i) op2 .0)
+        (operandOf (pcValue i) op2 .1)) ≡ ls
     of-rd true q = absurd (Option·none-ne-some _ q)
     of-rd false q = of-op2 (op2Exprs i op2) refl q
 
@@ -51,7 +58,8 @@ pub mul-lines : (thumb : Bool) (i : Instr) (acc s : Bool) (rd rn rs rm : ℕ) (l
     → opBody thumb i (Mul acc s rd rn rs rm) ≡ some ls → apart (mulBody acc s rd rn rs rm) ≡ ls
 mul-lines thumb i acc s rd rn rs rm ls p = of-rd (eqb rd 15) p
   where
-    of-rd : (t : Bool) → cond t none (some (apart (mulBody acc s rd rn rs rm))) ≡ some ls → apart (mulBody acc s rd rn rs rm) ≡ ls
+    of-rd : (t : Bool) → cond t none (some (apart (mulBody acc s rd rn rs rm))) ≡ some ls
+        → apart (mulBody acc s rd rn rs rm) ≡ ls
     of-rd true q = absurd (Option·none-ne-some _ q)
     of-rd false q = Option·some-injective _ _ q
 
@@ -60,7 +68,8 @@ pub alu-has : (i : Instr) (op : AluOp) (s : Bool) (rd rn : ℕ) (op2 : Operand2)
     → isSome (op2Exprs i op2) ≡ isSome (aluBody op s rd (regExpr i rn) (op2Exprs i op2))
 alu-has i op s rd rn op2 = of-op2 (op2Exprs i op2)
   where
-    of-op2 : (b : Option (Expr × Option Expr)) → isSome b ≡ isSome (aluBody op s rd (regExpr i rn) b)
+    of-op2 : (b : Option (Expr × Option Expr))
+        → isSome b ≡ isSome (aluBody op s rd (regExpr i rn) b)
     of-op2 none = refl
     of-op2 (some b) = refl
 

@@ -8,16 +8,19 @@ use mathlib.Core.Option.{Option, none, some}
 use Rattle.armv4t.specs.declared.AluOp.{AluOp}
 use Rattle.base_text.specs.Digits.{numeral}
 use Rattle.base_text.specs.Doc.{Doc, nothing, text, dec, _▸_, decimal, flat}
-use Rattle.c_tree.specs.Expr.{u32, u64, udec, int, x-r, reg, var, mul, shl, shr, bor, Expr, lit, get, par, bin, cast}
+use Rattle.c_tree.specs.Expr.{u32, u64, udec, int, x-r, reg, var, mul, shl, shr, bor, Expr, lit}
+use Rattle.c_tree.specs.Expr.{get, par, bin, cast}
 use Rattle.c_tree.specs.Stmt.{plus, f-nz, f-nz64, Plain, declare, set, run}
 use Rattle.c_tree.specs.Preamble.{v32}
 use Rattle.c_tree.specs.Print.{exprText, plainText, spaces}
-use Rattle.lower_forms.specs.InlineBody.{only, let32, setReg, result, logicalC, sum, mulBody, wide, r64, mulLongBody}
+use Rattle.lower_forms.specs.InlineBody.{only, let32, setReg, result, logicalC, sum, mulBody, wide}
+use Rattle.lower_forms.specs.InlineBody.{r64, mulLongBody}
 use Rattle.emit_operands.specs.Operands.{carryText, isSome}
 use Rattle.emit_alu.specs.Rows.{statementsText, before, between, after}
 
 -- lines after lines
-pub rows-append : (ps qs : List Plain) (k : List ℕ) → flat (statementsText ps ▸ statementsText qs) k ≡ flat (statementsText (ps ++ qs)) k
+pub rows-append : (ps qs : List Plain) (k : List ℕ)
+    → flat (statementsText ps ▸ statementsText qs) k ≡ flat (statementsText (ps ++ qs)) k
 rows-append [] qs k = refl
 rows-append (p ∷ ps) qs k = ap (flat (spaces 8 ▸ plainText p ▸ text ";\n")) (rows-append ps qs k)
 
@@ -32,54 +35,82 @@ decimal-32 = refl
 
 -- the carry of a logical operation, if there is one
 pub with-carry : (e : Option Expr) → isSome e ≡ true → (k : List ℕ)
-    → flat (text "        f_c(c, " ▸ carryText e ▸ text ");\n") k ≡ flat (statementsText (logicalC e)) k
+    → flat (text "        f_c(c, " ▸ carryText e ▸ text ");\n") k
+    ≡ flat (statementsText (logicalC e)) k
 with-carry none p k = absurd (let q : _≡_ {A = ℕ} 0 1 = cc in omega arith)
 with-carry (some e) p k = refl
 
-pub without-carry : (e : Option Expr) → isSome e ≡ false → (k : List ℕ) → flat nothing k ≡ flat (statementsText (logicalC e)) k
+pub without-carry : (e : Option Expr) → isSome e ≡ false → (k : List ℕ)
+    → flat nothing k ≡ flat (statementsText (logicalC e)) k
 without-carry none p k = refl
 without-carry (some e) p k = absurd (let q : _≡_ {A = ℕ} 0 1 = cc in omega arith)
 
 -- a sum, flags or not
 sum-text : (op : AluOp) (s : Bool) (rd : ℕ) (x y z : Expr) (k : List ℕ)
-    → flat (before s ▸ exprText x ▸ between s ▸ exprText y ▸ between s ▸ exprText z ▸ after s ▸ statementsText (result op rd ∷ [])) k
+    → flat (before s ▸ exprText x ▸ between s ▸ exprText y ▸ between s ▸ exprText z ▸ after s
+    ▸ statementsText (result op rd ∷ [])) k
     ≡ flat (statementsText (sum op s rd x y z)) k
 sum-text op true rd x y z k = refl
 sum-text op false rd x y z k = refl
 
 -- the same with terms that are put together otherwise
-pub sum-of : (op : AluOp) (s : Bool) (rd : ℕ) (x y z : Expr) (d e : Doc) → ((k : List ℕ) → flat d k ≡ flat (exprText y) k)
+pub sum-of : (op : AluOp) (s : Bool) (rd : ℕ) (x y z : Expr) (d e : Doc)
+    → ((k : List ℕ) → flat d k ≡ flat (exprText y) k)
     → ((k : List ℕ) → flat e k ≡ flat (exprText z) k) → (k : List ℕ)
-    → flat (before s ▸ exprText x ▸ between s ▸ d ▸ between s ▸ e ▸ after s ▸ statementsText (result op rd ∷ [])) k ≡ flat (statementsText (sum op s rd x y z)) k
+    → flat (before s ▸ exprText x ▸ between s ▸ d ▸ between s ▸ e ▸ after s
+    ▸ statementsText (result op rd ∷ [])) k ≡ flat (statementsText (sum op s rd x y z)) k
 sum-of op s rd x y z d e p q k =
-    ap (flat (before s ▸ exprText x ▸ between s)) (p (flat (between s ▸ e ▸ after s ▸ statementsText (result op rd ∷ [])) k))
-    ∙ ap (flat (before s ▸ exprText x ▸ between s ▸ exprText y ▸ between s)) (q (flat (after s ▸ statementsText (result op rd ∷ [])) k))
+    ap (flat (before s ▸ exprText x ▸ between s))
+    (p (flat (between s ▸ e ▸ after s ▸ statementsText (result op rd ∷ [])) k))
+    ∙ ap (flat (before s ▸ exprText x ▸ between s ▸ exprText y ▸ between s))
+    (q (flat (after s ▸ statementsText (result op rd ∷ [])) k))
     ∙ sum-text op s rd x y z k
 
 -- the halves of a long multiplication, and what it adds
 pub halves-text : (hi lo : ℕ) (k : List ℕ)
-    → flat (text "        c[" ▸ dec lo ▸ text "] = (uint32_t)r;\n        c[" ▸ dec hi ▸ text "] = (uint32_t)(r >> 32);\n") k
-    ≡ flat (statementsText (setReg lo (cast u32 r64) ∷ setReg hi (cast u32 (par (bin shr r64 (lit int 32)))) ∷ [])) k
+    → flat (text "        c[" ▸ dec lo ▸ text "] = (uint32_t)r;\n        c[" ▸ dec hi
+    ▸ text "] = (uint32_t)(r >> 32);\n") k
+    ≡ flat (statementsText
+    (setReg lo (cast u32 r64) ∷ setReg hi (cast u32 (par (bin shr r64 (lit int 32)))) ∷ [])) k
 halves-text hi lo k =
-    ap (λ (n : List ℕ). flat (text "        c[" ▸ dec lo ▸ text "] = (uint32_t)r;\n        c[" ▸ dec hi ▸ text "] = (uint32_t)(r >> ") (n ++ flat (text ");\n") k))
+    ap (λ (n : List ℕ). flat
+    (text "        c[" ▸ dec lo ▸ text "] = (uint32_t)r;\n        c[" ▸ dec hi
+    ▸ text "] = (uint32_t)(r >> ") (n ++ flat (text ");\n") k))
     (sym decimal-32)
 
 pub more-text : (hi lo : ℕ) (k : List ℕ)
-    → flat (text "        r += ((uint64_t)c[" ▸ dec hi ▸ text "] << 32) | (uint64_t)c[" ▸ dec lo ▸ text "];\n") k
-    ≡ flat (statementsText (set (var (u64, x-r)) plus (bin bor (par (bin shl (cast u64 (get (reg hi))) (lit int 32))) (cast u64 (get (reg lo)))) ∷ [])) k
+    → flat (text "        r += ((uint64_t)c[" ▸ dec hi ▸ text "] << 32) | (uint64_t)c[" ▸ dec lo
+    ▸ text "];\n") k
+    ≡ flat (statementsText
+    (set (var (u64, x-r)) plus
+    (bin bor (par (bin shl (cast u64 (get (reg hi))) (lit int 32))) (cast u64 (get (reg lo))))
+    ∷ [])) k
 more-text hi lo k =
-    ap (λ (n : List ℕ). flat (text "        r += ((uint64_t)c[" ▸ dec hi ▸ text "] << ") (n ++ flat (text ") | (uint64_t)c[" ▸ dec lo ▸ text "];\n") k))
+    ap (λ (n : List ℕ). flat (text "        r += ((uint64_t)c[" ▸ dec hi ▸ text "] << ")
+    (n ++ flat (text ") | (uint64_t)c[" ▸ dec lo ▸ text "];\n") k))
     (sym decimal-32)
 
 -- the lines of a multiplication, one after the other
 pub mul-text : (acc s : Bool) (rd rn rs rm : ℕ) (k : List ℕ)
-    → flat (statementsText (let32 x-r (bin mul (get (reg rm)) (get (reg rs))) ∷ []) ▸ statementsText (only acc (set (var (u32, x-r)) plus (get (reg rn)))) ▸ statementsText (setReg rd (v32 x-r) ∷ []) ▸ statementsText (only s (run f-nz (v32 x-r)))) k
+    → flat (statementsText (let32 x-r (bin mul (get (reg rm)) (get (reg rs))) ∷ [])
+    ▸ statementsText (only acc (set (var (u32, x-r)) plus (get (reg rn))))
+    ▸ statementsText (setReg rd (v32 x-r) ∷ []) ▸ statementsText (only s (run f-nz (v32 x-r))))
+    k
     ≡ flat (statementsText (mulBody acc s rd rn rs rm)) k
 mul-text true s rd rn rs rm k = refl
 mul-text false s rd rn rs rm k = refl
 
 pub mul-long-text : (signed acc s : Bool) (hi lo rs rm : ℕ) (k : List ℕ)
-    → flat (statementsText (declare (u64, x-r) (cast u64 (par (bin mul (wide signed (get (reg rm))) (wide signed (get (reg rs)))))) [] ∷ []) ▸ statementsText (only acc (set (var (u64, x-r)) plus (bin bor (par (bin shl (cast u64 (get (reg hi))) (lit int 32))) (cast u64 (get (reg lo)))))) ▸ statementsText (setReg lo (cast u32 r64) ∷ setReg hi (cast u32 (par (bin shr r64 (lit int 32)))) ∷ []) ▸ statementsText (only s (run f-nz64 r64))) k
+    → flat (statementsText
+    (declare (u64, x-r)
+    (cast u64 (par (bin mul (wide signed (get (reg rm))) (wide signed (get (reg rs)))))) []
+    ∷ []) ▸ statementsText
+    (only acc
+    (set (var (u64, x-r)) plus
+    (bin bor (par (bin shl (cast u64 (get (reg hi))) (lit int 32))) (cast u64 (get (reg lo))))))
+    ▸ statementsText
+    (setReg lo (cast u32 r64) ∷ setReg hi (cast u32 (par (bin shr r64 (lit int 32)))) ∷ [])
+    ▸ statementsText (only s (run f-nz64 r64))) k
     ≡ flat (statementsText (mulLongBody signed acc s hi lo rs rm)) k
 mul-long-text signed true s hi lo rs rm k = refl
 mul-long-text signed false s hi lo rs rm k = refl

@@ -7,11 +7,13 @@ ghost use mathlib.Core.List.{[], _∷_};
 ghost use Rattle.armv4t.specs.declared.Instr.{Instr};
 ghost use Rattle.armv4t.specs.declared.Op.the-variants.{Mul};
 ghost use Rattle.base_text.specs.Wrote.{Wrote};
-ghost use Rattle.c_tree.specs.Expr.{u32, u64, x-r, reg, var, int, mul, shl, shr, bor, lit, get, par, bin, cast};
+ghost use Rattle.c_tree.specs.Expr.{u32, u64, x-r, reg, var, int, mul, shl, shr, bor, lit, get};
+ghost use Rattle.c_tree.specs.Expr.{par, bin, cast};
 ghost use Rattle.c_tree.specs.Stmt.{plus, f-nz, f-nz64, declare, set, run};
 ghost use Rattle.c_tree.specs.Preamble.{v32};
 ghost use Rattle.c_tree.specs.Print.{exprText};
-ghost use Rattle.lower_forms.specs.InlineBody.{only, let32, setReg, mulBody, wide, r64, mulLongBody, opBody};
+ghost use Rattle.lower_forms.specs.InlineBody.{only, let32, setReg, mulBody, wide, r64};
+ghost use Rattle.lower_forms.specs.InlineBody.{mulLongBody, opBody};
 ghost use Rattle.emit_operands.specs.Operands.{isSome};
 ghost use Rattle.emit_alu.specs.Rows.{statementsText};
 

@@ -15,7 +15,9 @@ use Rattle.emit_block.specs.Walk.{IsMember}
 module _ {f work : List ℕ} {m : Member} {ks : List ℕ} (s : IsMember f work m ks) (key : ℕ) where
   -- a block with others in its group
   pub inside-group : (r : Bool) → m .several ≡ true
-      → ((limit : ℕ) → Ready f (m .blocks) limit work → 2 ≤ length (membersOf limit (blocksOf f) (m .group)) → r ≡ among key (memberKeys (blocksOf f) (membersOf limit (blocksOf f) (m .group))))
+      → ((limit : ℕ) → Ready f (m .blocks) limit work
+      → 2 ≤ length (membersOf limit (blocksOf f) (m .group))
+      → r ≡ among key (memberKeys (blocksOf f) (membersOf limit (blocksOf f) (m .group))))
       → among key ks ≡ r
   inside-group r e found =
       let all : List ℕ = memberKeys (blocksOf f) (membersOf (s .limit) (blocksOf f) (m .group)) in

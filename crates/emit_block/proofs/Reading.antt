@@ -16,22 +16,29 @@ use Rattle.emit_block.specs.declared.instrs.Next.{Next}
 use Rattle.emit_block.specs.Walk.{instrsOf, nextOf}
 use Rattle.emit_block.proofs.FormsFrom.{drop-instr, drop-all}
 
-module _ {f : List ℕ} {i : ℕ} {r : BlockRecord} {first : ℕ} (is : IsBlock f i r first) (j : ℕ) (inside : j < r .count) where
+module _ {f : List ℕ} {i : ℕ} {r : BlockRecord} {first : ℕ} (is : IsBlock f i r first) (j : ℕ)
+    (inside : j < r .count) where
   -- the instruction that was read, and those after it
-  pub here-read : (q : FoundInstr) (x : TimedInstr) → q ≡ readInstr f r first j → q ≡ FoundInstr.At x
+  pub here-read : (q : FoundInstr) (x : TimedInstr) → q ≡ readInstr f r first j
+      → q ≡ FoundInstr.At x
       → drop j (instrsOf f r first) ≡ x ∷ drop (suc j) (instrsOf f r first)
   here-read q x e g =
       drop-instr f (r .thumb) (r .count) first (r .addr) j inside
-      ∙ ap (λ (y : TimedInstr). y ∷ drop (suc j) (instrsOf f r first)) (sym (read-as is j q x inside e g))
+      ∙ ap (λ (y : TimedInstr). y ∷ drop (suc j) (instrsOf f r first))
+      (sym (read-as is j q x inside e g))
 
   -- the last one makes nothing with another
-  pub next-last : (x : Instr) → j + 1 ≡ r .count → Next.Alone ≡ nextOf x (drop (suc j) (instrsOf f r first))
+  pub next-last : (x : Instr) → j + 1 ≡ r .count
+      → Next.Alone ≡ nextOf x (drop (suc j) (instrsOf f r first))
   next-last x e =
       let all : suc j ≡ r .count = omega arith in
-      ap (nextOf x) (sym (drop-all f (r .thumb) (r .count) first (r .addr)) ∙ ap (λ (n : ℕ). drop n (instrsOf f r first)) (sym all))
+      ap (nextOf x)
+      (sym (drop-all f (r .thumb) (r .count) first (r .addr))
+      ∙ ap (λ (n : ℕ). drop n (instrsOf f r first)) (sym all))
 
   -- what another makes with the one after it
-  pub next-read : (x : Instr) (q : FoundInstr) (y : TimedInstr) → (j + 1 ≡ r .count → ⊥) → q ≡ readInstr f r first (j + 1) → q ≡ FoundInstr.At y
+  pub next-read : (x : Instr) (q : FoundInstr) (y : TimedInstr) → (j + 1 ≡ r .count → ⊥)
+      → q ≡ readInstr f r first (j + 1) → q ≡ FoundInstr.At y
       → nextOf x (y ∷ []) ≡ nextOf x (drop (suc j) (instrsOf f r first))
   next-read x q y more e g =
       let below : suc j < r .count = omega arith in

@@ -1,4 +1,5 @@
--- The walk over the records of a block: what is known of the block, and what of its code is still to be written.
+-- The walk over the records of a block: what is known of the block, and what of its code is still
+-- to be written.
 use Prim.Native.Nat.{ℕ, suc, _+_, _*_, _≤_}
 use mathlib.Core.Path.{_≡_}
 use mathlib.Core.Bool.{true, false, cond}
@@ -27,9 +28,11 @@ use Rattle.emit_instr.specs.Onward.{Onward}
 abbrev pub instrsOf : List ℕ → BlockRecord → ℕ → List TimedInstr
 instrsOf f r first = instrsFrom f (r .count) first (r .addr) (r .thumb)
 
--- the forms of its instructions from index j on with cycles pending before them, and the cycles pending after them
+-- the forms of its instructions from index j on with cycles pending before them, and the cycles
+-- pending after them
 abbrev pub formsFrom : List ℕ → BlockRecord → ℕ → ℕ → ℕ → List Form × ℕ
-formsFrom f r first j cycles = emitInstrs (r .thumb) (region (r .addr)) cycles (drop j (instrsOf f r first))
+formsFrom f r first j cycles =
+    emitInstrs (r .thumb) (region (r .addr)) cycles (drop j (instrsOf f r first))
 
 -- a body is that of a block, whatever its hash: what is measured has 0 in its place
 pub record IsBody (f : List ℕ) (r : BlockRecord) (first : ℕ) (b : Body) : Type 0 where
@@ -39,8 +42,9 @@ pub record IsBody (f : List ℕ) (r : BlockRecord) (first : ℕ) (b : Body) : Ty
   pub forms : b .forms ≡ formsFrom f r first 0 0 .0
   pub pending : b .pending ≡ formsFrom f r first 0 0 .1
 
--- where a block stands in the plan that the work numbers have: ks are the keys that a transfer goes to by a goto, those of its group where `several` is true, and
--- none where it is false; it is true only for a group of two or more
+-- where a block stands in the plan that the work numbers have: ks are the keys that a transfer goes
+-- to by a goto, those of its group where `several` is true, and none where it is false; it is true
+-- only for a group of two or more
 pub record IsMember (f work : List ℕ) (m : Member) (ks : List ℕ) : Type 0 where
   pub limit : ℕ
   pub ready : Ready f (m .blocks) limit work
@@ -48,7 +52,8 @@ pub record IsMember (f work : List ℕ) (m : Member) (ks : List ℕ) : Type 0 wh
   pub keys : ks ≡ keysWithin (m .several) limit f (m .group)
 
 -- a block of an accepted file, as the walk has it
-pub record IsMemberBlock (f work : List ℕ) (m : Member) (r : BlockRecord) (first : ℕ) (ks : List ℕ) (b : Body) : Type 0 where
+pub record IsMemberBlock (f work : List ℕ) (m : Member) (r : BlockRecord) (first : ℕ) (ks : List ℕ)
+    (b : Body) : Type 0 where
   pub stands : IsMember f work m ks
   pub is : IsBlock f (m .index) r first
   pub body : IsBody f r first b
@@ -64,13 +69,19 @@ nextOf x [] = Next.Alone
 nextOf x (y ∷ ys) = fusedNext (fuse x (y .instr)) (y .cost)
 
 -- the record with index j was written, with cycles pending before it
-pub record Recorded (f : List ℕ) (r : BlockRecord) (first : ℕ) (ks : List ℕ) (b : Body) (j cycles : ℕ) (out : List ℕ) (at : ℕ) (out′ : List ℕ) (s : Step) : Type 0 where
-  pub onward : Onward out at (codeFrom ks b j (formsFrom f r first j cycles .0)) (cond (s .done) end (codeFrom ks b (suc j) (formsFrom f r first (suc j) (s .cycles) .0))) out′ (s .at)
-  pub same : s .done ≡ false → formsFrom f r first j cycles .1 ≡ formsFrom f r first (suc j) (s .cycles) .1
+pub record Recorded (f : List ℕ) (r : BlockRecord) (first : ℕ) (ks : List ℕ) (b : Body)
+    (j cycles : ℕ) (out : List ℕ) (at : ℕ) (out′ : List ℕ) (s : Step) : Type 0 where
+  pub onward : Onward out at (codeFrom ks b j (formsFrom f r first j cycles .0))
+      (cond (s .done) end (codeFrom ks b (suc j) (formsFrom f r first (suc j) (s .cycles) .0))) out′
+      (s .at)
+  pub same : s .done ≡ false
+      → formsFrom f r first j cycles .1 ≡ formsFrom f r first (suc j) (s .cycles) .1
   pub few : s .cycles ≤ cycles + 65535
 
 -- the records before index j were written, and cycles are pending
-pub record Walked (f : List ℕ) (r : BlockRecord) (first : ℕ) (ks : List ℕ) (b : Body) (out : List ℕ) (at j cycles : ℕ) (out′ : List ℕ) (p : ℕ) : Type 0 where
-  pub onward : Onward out at (codeFrom ks b 0 (b .forms)) (codeFrom ks b j (formsFrom f r first j cycles .0)) out′ p
+pub record Walked (f : List ℕ) (r : BlockRecord) (first : ℕ) (ks : List ℕ) (b : Body) (out : List ℕ)
+    (at j cycles : ℕ) (out′ : List ℕ) (p : ℕ) : Type 0 where
+  pub onward : Onward out at (codeFrom ks b 0 (b .forms))
+      (codeFrom ks b j (formsFrom f r first j cycles .0)) out′ p
   pub same : formsFrom f r first j cycles .1 ≡ formsFrom f r first 0 0 .1
   pub few : cycles ≤ 65535 * j

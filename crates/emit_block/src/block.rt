@@ -62,8 +62,8 @@ fn guard_hash(file: &[u8], block: BlockRecord, hashing: bool) -> u64
     }
 }
 
-// A block: after its guard, or the interpreter in its place where its code bytes are absent, or bare in BIOS and ROM. Without hashing its length is right, and
-// its hash is 0.
+// A block: after its guard, or the interpreter in its place where its code bytes are absent, or
+// bare in BIOS and ROM. Without hashing its length is right, and its hash is 0.
 pub fn emit_block(
     out: &mut [u8],
     at: usize,

@@ -53,7 +53,8 @@ fn fused_next(x: Instr, y: TimedInstr) -> Next
     }
 }
 
-// Whether an instruction is the first half of a Thumb BL; any other makes no pair with the one after it.
+// Whether an instruction is the first half of a Thumb BL; any other makes no pair with the one
+// after it.
 fn begins_bl(x: Instr) -> bool
     ensures { λ r. ⌜ (r ≡ false → (ys : List TimedInstr) → nextOf x ys ≡ Next.Alone) ⌝ }
 {
@@ -64,7 +65,8 @@ fn begins_bl(x: Instr) -> bool
     }
 }
 
-// What instruction j of a block makes with the one after it. Where it cannot make a pair, that one is not read.
+// What instruction j of a block makes with the one after it. Where it cannot make a pair, that one
+// is not read.
 fn next_of(file: &[u8], block: BlockRecord, first: usize, j: u32, x: Instr) -> Next
     requires { ⌜ j < block .count ⌝ }
     ensures { λ r. ⌜ ((i : ℕ) → IsBlock (now (file .entry)) i block first → r ≡ nextOf x (drop (suc j) (instrsOf (now (file .entry)) block first))) ⌝ }

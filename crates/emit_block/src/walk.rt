@@ -37,7 +37,8 @@ fn emit_end(
     emit_closing(out, at, cycles, next, inside, block.addr, key)
 }
 
-// The code of a block after its guard: record after record, until one leaves nothing to write after it.
+// The code of a block after its guard: record after record, until one leaves nothing to write after
+// it.
 pub(crate) fn emit_records(
     out: &mut [u8],
     at: usize,

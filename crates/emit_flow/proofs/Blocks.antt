@@ -6,13 +6,18 @@ use mathlib.Core.List.{List, [], _∷_, _++_}
 use mathlib.Core.Option.{some}
 use Rattle.base_text.specs.Doc.{text, _▸_, flat}
 use Rattle.c_tree.specs.Expr.{Expr}
-use Rattle.c_tree.specs.Stmt.{Plain, guard, Owner, common, plain, retInterp, Code, end, _⨾_, when, braces}
+use Rattle.c_tree.specs.Stmt.{Plain, guard, Owner, common, plain, retInterp, Code, end, _⨾_, when}
+use Rattle.c_tree.specs.Stmt.{braces}
 use Rattle.c_tree.specs.Print.{exprText, plainText, codeText}
-use Rattle.lower_forms.specs.Forms.{Lines, Native, straight, straightIf, branchIf, pop, Form, shell, records, Body}
+use Rattle.lower_forms.specs.Forms.{Lines, Native, straight, straightIf, branchIf, pop, Form, shell}
+use Rattle.lower_forms.specs.Forms.{records, Body}
 use Rattle.lower_forms.specs.Block.{flushTicks, pcLine}
 use Rattle.file_records.specs.BlockRecord.{keyPlus}
-use Rattle.lower_units.specs.Block.{bodyKey, bodyLength, bodyEnd, nl, sp, line, lines, transfer, closing, conditional, leave, nativeText, shellCode, codeFrom, defer, underGuard, exitCode, linesText, closingLines}
-use Rattle.emit_flow.specs.Pieces.{straightOpen, straightEnd, beforeCondition, afterCondition, afterConditional, straightIfOpen, straightIfEnd}
+use Rattle.lower_units.specs.Block.{bodyKey, bodyLength, bodyEnd, nl, sp, line, lines, transfer}
+use Rattle.lower_units.specs.Block.{closing, conditional, leave, nativeText, shellCode, codeFrom}
+use Rattle.lower_units.specs.Block.{defer, underGuard, exitCode, linesText, closingLines}
+use Rattle.emit_flow.specs.Pieces.{straightOpen, straightEnd, beforeCondition, afterCondition}
+use Rattle.emit_flow.specs.Pieces.{afterConditional, straightIfOpen, straightIfEnd}
 use Rattle.emit_flow.proofs.Pieces.{lines-after}
 
 -- lines in braces
@@ -22,12 +27,15 @@ pub straight-text : (ks : List ℕ) (a : ℕ) (o : Owner) (t l : Lines) (c : Cod
 unfolding nativeText
 straight-text ks a o t l c k =
     lines-after o common 4 t (sp 4 ⨾ braces (nl ⨾ lines o 8 l (sp 4 ⨾ end)) (nl ⨾ c)) k
-    ∙ ap (flat (linesText 4 t ▸ straightOpen)) (lines-after o common 8 l (sp 4 ⨾ end) (flat (text "}" ▸ codeText (nl ⨾ c)) k))
+    ∙ ap (flat (linesText 4 t ▸ straightOpen))
+    (lines-after o common 8 l (sp 4 ⨾ end) (flat (text "}" ▸ codeText (nl ⨾ c)) k))
 
 -- lines after a condition
-pub straight-if-text : (ks : List ℕ) (a : ℕ) (o : Owner) (t : Lines) (e : Expr) (l : Lines) (c : Code) (k : List ℕ)
+pub straight-if-text : (ks : List ℕ) (a : ℕ) (o : Owner) (t : Lines) (e : Expr) (l : Lines)
+    (c : Code) (k : List ℕ)
     → flat (codeText (nativeText ks a o (straightIf t e l) c)) k
-    ≡ flat (linesText 4 t ▸ beforeCondition ▸ exprText e ▸ straightIfOpen ▸ linesText 8 l ▸ straightIfEnd ▸ codeText c) k
+    ≡ flat (linesText 4 t ▸ beforeCondition ▸ exprText e ▸ straightIfOpen ▸ linesText 8 l
+    ▸ straightIfEnd ▸ codeText c) k
 unfolding nativeText
 straight-if-text ks a o t e l c k =
     lines-after o common 4 t (conditional o e (nl ⨾ lines o 8 l (sp 6 ⨾ end)) c) k
@@ -35,62 +43,87 @@ straight-if-text ks a o t e l c k =
     (lines-after o common 8 l (sp 6 ⨾ end) (flat (afterConditional ▸ codeText c) k))
 
 -- a branch after a condition
-pub branch-text : (ks : List ℕ) (a : ℕ) (o : Owner) (t : Lines) (e : Expr) (l : List Plain) (key : ℕ) (c : Code) (k : List ℕ)
+pub branch-text : (ks : List ℕ) (a : ℕ) (o : Owner) (t : Lines) (e : Expr) (l : List Plain)
+    (key : ℕ) (c : Code) (k : List ℕ)
     → flat (codeText (nativeText ks a o (branchIf t e l key) c)) k
-    ≡ flat (linesText 4 t ▸ beforeCondition ▸ exprText e ▸ (afterCondition ▸ codeText (sp 1 ⨾ line o l (nl ⨾ transfer ks a o 8 key (sp 6 ⨾ end))) ▸ afterConditional) ▸ codeText c) k
+    ≡ flat (linesText 4 t ▸ beforeCondition ▸ exprText e
+    ▸ (afterCondition ▸ codeText (sp 1 ⨾ line o l (nl ⨾ transfer ks a o 8 key (sp 6 ⨾ end)))
+    ▸ afterConditional) ▸ codeText c) k
 unfolding nativeText
-branch-text ks a o t e l key c k = lines-after o common 4 t (conditional o e (sp 1 ⨾ line o l (nl ⨾ transfer ks a o 8 key (sp 6 ⨾ end))) c) k
+branch-text ks a o t e l key c k =
+    lines-after o common 4 t
+    (conditional o e (sp 1 ⨾ line o l (nl ⨾ transfer ks a o 8 key (sp 6 ⨾ end))) c) k
 
 -- a pop of PC
-pub pop-text : (ks : List ℕ) (a : ℕ) (o : Owner) (t : Lines) (p : Plain) (l : Lines) (q : Plain) (e : Expr) (c : Code) (k : List ℕ)
+pub pop-text : (ks : List ℕ) (a : ℕ) (o : Owner) (t : Lines) (p : Plain) (l : Lines) (q : Plain)
+    (e : Expr) (c : Code) (k : List ℕ)
     → flat (codeText (nativeText ks a o (pop t p l q e) c)) k
-    ≡ flat (linesText 4 t ▸ text "    { " ▸ plainText p ▸ text ";\n" ▸ codeText (lines common 6 l end) ▸ text "      " ▸ plainText q ▸ text "; return " ▸ exprText e ▸ text "; }\n") k
+    ≡ flat (linesText 4 t ▸ text "    { " ▸ plainText p ▸ text ";\n"
+    ▸ codeText (lines common 6 l end) ▸ text "      " ▸ plainText q ▸ text "; return "
+    ▸ exprText e ▸ text "; }\n") k
 unfolding nativeText
 pop-text ks a o t p l q e c k =
-    lines-after o common 4 t (sp 4 ⨾ braces (sp 1 ⨾ plain o p ⨾ nl ⨾ lines o 6 l (sp 6 ⨾ plain o q ⨾ leave o e)) (nl ⨾ end)) k
-    ∙ ap (flat (linesText 4 t ▸ text "    { " ▸ plainText p ▸ text ";\n")) (lines-after o common 6 l (sp 6 ⨾ plain o q ⨾ leave o e) (flat (text "}\n") k))
+    lines-after o common 4 t
+    (sp 4 ⨾ braces (sp 1 ⨾ plain o p ⨾ nl ⨾ lines o 6 l (sp 6 ⨾ plain o q ⨾ leave o e))
+    (nl ⨾ end)) k
+    ∙ ap (flat (linesText 4 t ▸ text "    { " ▸ plainText p ▸ text ";\n"))
+    (lines-after o common 6 l (sp 6 ⨾ plain o q ⨾ leave o e) (flat (text "}\n") k))
 
 -- a shell, and the code after it
 pub shell-after : (b : Body) (i key : ℕ) (t : Lines) (c : Code) (k : List ℕ)
-    → flat (codeText (lines common 4 t (shellCode b i key c))) k ≡ flat (codeText (lines common 4 t (shellCode b i key end)) ▸ codeText c) k
+    → flat (codeText (lines common 4 t (shellCode b i key c))) k
+    ≡ flat (codeText (lines common 4 t (shellCode b i key end)) ▸ codeText c) k
 shell-after b i key t c k =
-    lines-after common common 4 t (shellCode b i key c) k ∙ sym (lines-after common common 4 t (shellCode b i key end) (flat (codeText c) k))
+    lines-after common common 4 t (shellCode b i key c) k
+    ∙ sym (lines-after common common 4 t (shellCode b i key end) (flat (codeText c) k))
 
 -- the guard, and the code after it
 pub guard-after : (ks : List ℕ) (b : Body) (h : ℕ) (k : List ℕ)
     → flat (codeText (underGuard ks b (some h))) k
-    ≡ flat (codeText (sp 4 ⨾ when common true (guard (b .addr) (bodyLength b) h) (sp 1 ⨾ defer b (sp 1 ⨾ end)) (nl ⨾ end)) ▸ codeText (codeFrom ks b 0 (b .forms))) k
+    ≡ flat (codeText
+    (sp 4 ⨾ when common true (guard (b .addr) (bodyLength b) h) (sp 1 ⨾ defer b (sp 1 ⨾ end))
+    (nl ⨾ end)) ▸ codeText (codeFrom ks b 0 (b .forms))) k
 unfolding underGuard
 guard-after ks b h k = refl
 
 -- the text from a native record on: its mark prints nothing
 pub code-native : (ks : List ℕ) (b : Body) (i : ℕ) (r : Native) (rs : List Form) (k : List ℕ)
     → flat (codeText (codeFrom ks b i (Form.native r ∷ rs))) k
-    ≡ flat (codeText (nativeText ks (b .addr) (Owner.native (bodyKey b)) r (codeFrom ks b (i + records r) rs))) k
+    ≡ flat (codeText
+    (nativeText ks (b .addr) (Owner.native (bodyKey b)) r (codeFrom ks b (i + records r) rs))) k
 unfolding codeFrom
 code-native ks b i r rs k = refl
 
 -- from a shell on that has others after it
-pub code-shell : (ks : List ℕ) (b : Body) (i : ℕ) (h : Bool) (t : Lines) (key : ℕ) (r : Form) (rs : List Form) (k : List ℕ)
+pub code-shell : (ks : List ℕ) (b : Body) (i : ℕ) (h : Bool) (t : Lines) (key : ℕ) (r : Form)
+    (rs : List Form) (k : List ℕ)
     → flat (codeText (codeFrom ks b i (shell h t key ∷ r ∷ rs))) k
-    ≡ flat (codeText (lines common 4 t (shellCode b i key end)) ▸ codeText (codeFrom ks b (i + 1) (r ∷ rs))) k
+    ≡ flat (codeText (lines common 4 t (shellCode b i key end))
+    ▸ codeText (codeFrom ks b (i + 1) (r ∷ rs))) k
 unfolding codeFrom
 code-shell ks b i h t key r rs k = shell-after b i key t (codeFrom ks b (i + 1) (r ∷ rs)) k
 
 -- the last shell, and the closing transfer where it is an unfused half
 pub code-last : (ks : List ℕ) (b : Body) (i : ℕ) (h : Bool) (t : Lines) (key : ℕ) (k : List ℕ)
     → flat (codeText (codeFrom ks b i (shell h t key ∷ []))) k
-    ≡ flat (codeText (lines common 4 t (sp 4 ⨾ retInterp (bodyKey b) i ⨾ nl ⨾ end)) ▸ codeText (cond h (closing ks b) end)) k
+    ≡ flat (codeText (lines common 4 t (sp 4 ⨾ retInterp (bodyKey b) i ⨾ nl ⨾ end))
+    ▸ codeText (cond h (closing ks b) end)) k
 unfolding codeFrom
 code-last ks b i h t key k =
-    lines-after common common 4 t (sp 4 ⨾ retInterp (bodyKey b) i ⨾ nl ⨾ cond h (closing ks b) end) k
-    ∙ sym (lines-after common common 4 t (sp 4 ⨾ retInterp (bodyKey b) i ⨾ nl ⨾ end) (flat (codeText (cond h (closing ks b) end)) k))
+    lines-after common common 4 t (sp 4 ⨾ retInterp (bodyKey b) i ⨾ nl ⨾ cond h (closing ks b) end)
+    k
+    ∙ sym (lines-after common common 4 t (sp 4 ⨾ retInterp (bodyKey b) i ⨾ nl ⨾ end)
+    (flat (codeText (cond h (closing ks b) end)) k))
 
 -- the end of a block, by the cycles pending there and where it goes on
-pub closing-text : (ks : List ℕ) (b : Body) (cycles next key : ℕ) (k : List ℕ) → closingLines b ≡ flushTicks cycles ++ pcLine next
+pub closing-text : (ks : List ℕ) (b : Body) (cycles next key : ℕ) (k : List ℕ)
+    → closingLines b ≡ flushTicks cycles ++ pcLine next
     → keyPlus (bodyEnd b) (b .thumb) ≡ key
-    → flat (codeText (closing ks b)) k ≡ flat (codeText (exitCode ks (b .addr) common (flushTicks cycles ++ pcLine next) key)) k
+    → flat (codeText (closing ks b)) k
+    ≡ flat (codeText (exitCode ks (b .addr) common (flushTicks cycles ++ pcLine next) key)) k
 unfolding closing
 closing-text ks b cycles next key k e f =
-    ap (λ (l : Lines). flat (codeText (exitCode ks (b .addr) common l (keyPlus (bodyEnd b) (b .thumb)))) k) e
-    ∙ ap (λ (n : ℕ). flat (codeText (exitCode ks (b .addr) common (flushTicks cycles ++ pcLine next) n)) k) f
+    ap (λ (l : Lines). flat
+    (codeText (exitCode ks (b .addr) common l (keyPlus (bodyEnd b) (b .thumb)))) k) e
+    ∙ ap (λ (n : ℕ). flat
+    (codeText (exitCode ks (b .addr) common (flushTicks cycles ++ pcLine next) n)) k) f

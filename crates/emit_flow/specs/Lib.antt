@@ -1,2 +1,2 @@
--- The definitions that the contracts name beside those of `lowering`.
+-- The definitions that the contracts name beside those of `lower_units`.
 pub mod Pieces

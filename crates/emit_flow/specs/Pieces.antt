@@ -1,4 +1,5 @@
--- Parts of a tree's text that no tree prints alone: what stands before and after what another function writes.
+-- Parts of a tree's text that no tree prints alone: what stands before and after what another
+-- function writes.
 use Prim.Native.Nat.{ℕ}
 use mathlib.Core.Bool.{Bool, true, cond}
 use mathlib.Core.List.{[]}
@@ -23,7 +24,8 @@ straightEnd = codeText (sp 4 ⨾ end) ▸ text "}" ▸ codeText (nl ⨾ end)
 
 -- { flags; if (
 abbrev pub beforeCondition : Doc
-beforeCondition = codeText (sp 4 ⨾ end) ▸ text "{" ▸ codeText (sp 1 ⨾ line common flags (gap true 6 ⨾ end)) ▸ text "if ("
+beforeCondition = codeText (sp 4 ⨾ end) ▸ text "{"
+    ▸ codeText (sp 1 ⨾ line common flags (gap true 6 ⨾ end)) ▸ text "if ("
 
 -- ) {, after the condition
 abbrev pub afterCondition : Doc
@@ -51,7 +53,8 @@ functionEnd = text "}\n" ▸ topText blank
 
 -- the head of a group's function up to its first case
 abbrev pub groupOpen : ℕ → Doc
-groupOpen key = headText (group key) ▸ text " {" ▸ codeText (withLocals (sp 4 ⨾ end)) ▸ text "switch (entry) {\n"
+groupOpen key = headText (group key) ▸ text " {" ▸ codeText (withLocals (sp 4 ⨾ end))
+    ▸ text "switch (entry) {\n"
 
 -- the end of the switch
 abbrev pub switchEnd : Doc

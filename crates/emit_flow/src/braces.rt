@@ -1,6 +1,7 @@
 // The braces around the lines of a native record.
 ghost use Rattle.base_text.specs.Wrote.{Wrote};
-ghost use Rattle.emit_flow.specs.Pieces.{straightOpen, straightEnd, beforeCondition, straightIfOpen, straightIfEnd};
+ghost use Rattle.emit_flow.specs.Pieces.{straightOpen, straightEnd, beforeCondition};
+ghost use Rattle.emit_flow.specs.Pieces.{straightIfOpen, straightIfEnd};
 
 // Before the lines of a record without a condition.
 pub fn open_straight(out: &mut [u8], at: usize) -> usize

@@ -16,7 +16,8 @@ ghost use Rattle.c_tree.specs.Print.{codeText};
 ghost use Rattle.lower_forms.specs.Forms.{jump};
 ghost use Rattle.lower_forms.specs.InlineBody.{only, apart};
 ghost use Rattle.lower_forms.specs.Block.{flushTicks, setWord, pcLine, emitPair, branchRegs};
-ghost use Rattle.lower_units.specs.Block.{nl, sp, line, transfer as Block·transfer, exitCode, nativeText, linesText};
+ghost use Rattle.lower_units.specs.Block.{nl, sp, line, transfer as Block·transfer, exitCode};
+ghost use Rattle.lower_units.specs.Block.{nativeText, linesText};
 ghost use Rattle.file_blocks.specs.Address.{among};
 ghost use Rattle.emit_flow.specs.Pieces.{afterCondition, afterConditional};
 

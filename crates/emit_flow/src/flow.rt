@@ -80,7 +80,8 @@ fn put_return(out: &mut [u8], at: usize, key: u32, deep: bool) -> usize
     base_text::put(out, q, b"u;\n")
 }
 
-// From the block at src to a key: a goto within the group, gated if it does not go up, or else a return.
+// From the block at src to a key: a goto within the group, gated if it does not go up, or else a
+// return.
 pub fn transfer(out: &mut [u8], at: usize, inside: bool, src: u32, key: u32, deep: bool) -> usize
     ensures { λ r. ⌜ ((ks : List ℕ) (o : Owner) → among key ks ≡ inside → Wrote (now (out .entry)) at (codeText (transfer ks src o (indent deep) key end)) (now (out .exit)) r) ⌝ }
 {

@@ -1,5 +1,5 @@
-// The text of control flow: transfers, shells, branches, guards, and what stands around the blocks of a unit. Each function writes at index at of a lent
-// buffer, and answers the index after it.
+// The text of control flow: transfers, shells, branches, guards, and what stands around the blocks
+// of a unit. Each function writes at index at of a lent buffer, and answers the index after it.
 mod braces;
 mod exits;
 mod flow;

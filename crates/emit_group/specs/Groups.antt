@@ -20,16 +20,19 @@ fileBodies f = map (bodyOf hashMultiplier) (blocksOf f)
 
 -- the code of block i, written or measured, where ks are the keys of its group
 abbrev pub memberText : Bool → List ℕ → List ℕ → ℕ → Doc
-memberText written f ks i = codeText (blockCode ks (hashedIf written (getD (fileBodies f) i defaultBody)))
+memberText written f ks i =
+    codeText (blockCode ks (hashedIf written (getD (fileBodies f) i defaultBody)))
 
 -- the same with its label before it and a line end after
 abbrev pub labelledText : Bool → List ℕ → List ℕ → ℕ → Doc
 labelledText written f ks i =
-    codeText (label (bodyKey (getD (fileBodies f) i defaultBody)) ⨾ nl ⨾ end) ▸ memberText written f ks i ▸ codeText (nl ⨾ end)
+    codeText (label (bodyKey (getD (fileBodies f) i defaultBody)) ⨾ nl ⨾ end)
+    ▸ memberText written f ks i ▸ codeText (nl ⨾ end)
 
 -- the labelled code of some blocks, written or measured, where ks are the keys of their group
 abbrev pub membersText : Bool → List ℕ → List ℕ → List ℕ → Doc
-membersText written f ks is = codeText (labelled ks (map (hashedIf written) (bodiesOf (fileBodies f) is)))
+membersText written f ks is =
+    codeText (labelled ks (map (hashedIf written) (bodiesOf (fileBodies f) is)))
 
 -- the functions of a group of some blocks, written or measured
 abbrev pub groupText : Bool → List ℕ → List ℕ → Doc

@@ -135,7 +135,8 @@ fn put_several(
     put_forwarders(out, e, file, work, n, p, end)
 }
 
-// The functions of the group in the rows from p to the one before end, with its hashes or with 0 in their place.
+// The functions of the group in the rows from p to the one before end, with its hashes or with 0 in
+// their place.
 pub fn emit_group(
     out: &mut [u8],
     at: usize,

@@ -20,18 +20,21 @@ use Rattle.lower_forms.specs.Operands.{regOf, operandOf}
 use Rattle.emit_alu.proofs.Bodies.{alu-lines}
 
 -- equal lines have one text
-pub as-lines : {o o′ : List ℕ} {at r : ℕ} (ls body : Lines) → ls ≡ body → Wrote o at (linesText 8 ls) o′ r
+pub as-lines : {o o′ : List ℕ} {at r : ℕ} (ls body : Lines) → ls ≡ body
+    → Wrote o at (linesText 8 ls) o′ r
     → Wrote o at (linesText 8 body) o′ r
 as-lines ls body e w = said w (ap (λ (l : Lines). flat (linesText 8 l) []) e)
 
 -- the lines of an instruction whose operation is known
-pub known-body : (thumb : Bool) (i : Instr) (op : Op) (body : Lines) → i .op ≡ op → inlineBody thumb i ≡ some body
+pub known-body : (thumb : Bool) (i : Instr) (op : Op) (body : Lines) → i .op ≡ op
+    → inlineBody thumb i ≡ some body
     → opBody thumb i op ≡ some body
 unfolding inlineBody
 known-body thumb i op body p e = sym (ap (opBody thumb i) p) ∙ e
 
 -- lines that are there after a test
-pub tested : (b : Bool) (ls : Option Lines) (body : Lines) → cond b none ls ≡ some body → ls ≡ some body
+pub tested : (b : Bool) (ls : Option Lines) (body : Lines) → cond b none ls ≡ some body
+    → ls ≡ some body
 tested true ls body e = absurd (Option·none-ne-some _ e)
 tested false ls body e = e
 
@@ -39,8 +42,10 @@ pub tested-lines : (b : Bool) (ls body : Lines) → cond b none (some ls) ≡ so
 tested-lines b ls body e = Option·some-injective _ _ (tested b (some ls) body e)
 
 -- Alu, by a number that is its PC value
-pub alu-by-pc : (thumb : Bool) (i : Instr) (op : AluOp) (s : Bool) (rd rn : ℕ) (op2 : Operand2) (pc : ℕ) (body : Lines) → pc ≡ pcValue i
+pub alu-by-pc : (thumb : Bool) (i : Instr) (op : AluOp) (s : Bool) (rd rn : ℕ) (op2 : Operand2)
+    (pc : ℕ) (body : Lines) → pc ≡ pcValue i
     → opBody thumb i (Alu op s rd rn op2) ≡ some body
     → apart (alu op s rd (regOf pc rn) (operandOf pc op2 .0) (operandOf pc op2 .1)) ≡ body
 alu-by-pc thumb i op s rd rn op2 pc body p e =
-    ap (λ (n : ℕ). apart (alu op s rd (regOf n rn) (operandOf n op2 .0) (operandOf n op2 .1))) p ∙ alu-lines thumb i op s rd rn op2 body e
+    ap (λ (n : ℕ). apart (alu op s rd (regOf n rn) (operandOf n op2 .0) (operandOf n op2 .1))) p
+    ∙ alu-lines thumb i op s rd rn op2 body e

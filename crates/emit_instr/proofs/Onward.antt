@@ -12,7 +12,8 @@ use Rattle.c_tree.specs.Print.{codeText}
 use Rattle.emit_instr.specs.Onward.{Onward}
 
 -- nothing was written
-pub stay : {o : List ℕ} {at : ℕ} (c : Code) → length o ≤ maxUsize → at ≤ maxUsize → Onward o at c c o at
+pub stay : {o : List ℕ} {at : ℕ} (c : Code) → length o ≤ maxUsize → at ≤ maxUsize
+    → Onward o at c c o at
 stay c h k = record { doc = nothing; wrote = none h k; text = λ l. refl }
 
 -- a doc was written that stands between the two codes
@@ -21,7 +22,8 @@ pub by : {o o′ : List ℕ} {at r : ℕ} {d : Doc} (from to : Code) → Wrote o
 by {d = d} from to w e = record { doc = d; wrote = w; text = e }
 
 -- one and then another
-pub then : {o o₁ o₂ : List ℕ} {at r₁ r₂ : ℕ} {a b c : Code} → Onward o at a b o₁ r₁ → Onward o₁ r₁ b c o₂ r₂ → Onward o at a c o₂ r₂
+pub then : {o o₁ o₂ : List ℕ} {at r₁ r₂ : ℕ} {a b c : Code} → Onward o at a b o₁ r₁
+    → Onward o₁ r₁ b c o₂ r₂ → Onward o at a c o₂ r₂
 then v w =
     record {
       doc = v .doc ▸ w .doc;
@@ -30,20 +32,25 @@ then v w =
     }
 
 -- the whole text of a code was written, and nothing is left
-pub start : {o o′ : List ℕ} {at r : ℕ} {c : Code} → Wrote o at (codeText c) o′ r → Onward o at c end o′ r
+pub start : {o o′ : List ℕ} {at r : ℕ} {c : Code} → Wrote o at (codeText c) o′ r
+    → Onward o at c end o′ r
 start {c = c} w = record { doc = codeText c; wrote = w; text = λ k. refl }
 
-pub finish : {o o′ : List ℕ} {at r : ℕ} {c : Code} → Onward o at c end o′ r → Wrote o at (codeText c) o′ r
+pub finish : {o o′ : List ℕ} {at r : ℕ} {c : Code} → Onward o at c end o′ r
+    → Wrote o at (codeText c) o′ r
 finish v = said (v .wrote) (sym (v .text _))
 
 -- codes of the same text
-pub same-from : {o o′ : List ℕ} {at r : ℕ} {b c : Code} (a : Code) → ((k : List ℕ) → flat (codeText a) k ≡ flat (codeText b) k)
+pub same-from : {o o′ : List ℕ} {at r : ℕ} {b c : Code} (a : Code)
+    → ((k : List ℕ) → flat (codeText a) k ≡ flat (codeText b) k)
     → Onward o at b c o′ r → Onward o at a c o′ r
 same-from a e v = record { doc = v .doc; wrote = v .wrote; text = λ k. e k ∙ v .text k }
 
-pub same-to : {o o′ : List ℕ} {at r : ℕ} {a b : Code} (c : Code) → ((k : List ℕ) → flat (codeText b) k ≡ flat (codeText c) k)
+pub same-to : {o o′ : List ℕ} {at r : ℕ} {a b : Code} (c : Code)
+    → ((k : List ℕ) → flat (codeText b) k ≡ flat (codeText c) k)
     → Onward o at a b o′ r → Onward o at a c o′ r
-same-to c e v = record { doc = v .doc; wrote = v .wrote; text = λ k. v .text k ∙ ap (flat (v .doc)) (e k) }
+same-to c e v =
+    record { doc = v .doc; wrote = v .wrote; text = λ k. v .text k ∙ ap (flat (v .doc)) (e k) }
 
 -- the buffer keeps its length, and the index is a `usize`
 pub kept : {o o′ : List ℕ} {at r : ℕ} {a b : Code} → Onward o at a b o′ r → length o′ ≡ length o

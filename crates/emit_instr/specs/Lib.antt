@@ -1,3 +1,3 @@
--- The definitions that the contracts name beside those of `forms` and `lowering`.
+-- The definitions that the contracts name beside those of `lower_forms` and `lower_units`.
 pub mod Onward
 pub mod Steps

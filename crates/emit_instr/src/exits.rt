@@ -36,7 +36,8 @@ fn put_condition(out: &mut [u8], at: usize, cycles: u64, cond: Cond) -> usize
     put_cond_expr(out, q, cond)
 }
 
-// A branch; the cycles are those pending with its own. inside: the key of its target is among those of its group. src: the address of its block.
+// A branch; the cycles are those pending with its own. inside: the key of its target is among those
+// of its group. src: the address of its block.
 pub(crate) fn emit_branch(
     out: &mut [u8],
     at: usize,
@@ -70,7 +71,8 @@ pub(crate) fn emit_branch(
     }
 }
 
-// Whether a Bx, or the pop of PC, is native in a block of a region: with condition Al, outside region 0.
+// Whether a Bx, or the pop of PC, is native in a block of a region: with condition Al, outside
+// region 0.
 pub(crate) fn is_native_exit(region: u32, i: Instr) -> bool
     ensures { λ r. ⌜ r ≡ nativeExit region i ⌝ }
 {

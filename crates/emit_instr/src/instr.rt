@@ -69,8 +69,9 @@ fn emit_block_mem(
     }
 }
 
-// An instruction that is not fused. region: of its block; cycles: those pending before it; last: it is the block's last; inside: the key of its target,
-// if it is a branch, is among those of the group; src: the address of its block.
+// An instruction that is not fused. region: of its block; cycles: those pending before it; last: it
+// is the block's last; inside: the key of its target, if it is a branch, is among those of the
+// group; src: the address of its block.
 pub fn emit_instr(
     out: &mut [u8],
     at: usize,

@@ -1,4 +1,5 @@
-// The text of one instruction of a block: its lines where it is inlined, a call of the interpreter where it is not, or an exit of the block.
+// The text of one instruction of a block: its lines where it is inlined, a call of the interpreter
+// where it is not, or an exit of the block.
 mod bodies;
 mod cycles;
 mod exits;

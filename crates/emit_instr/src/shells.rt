@@ -16,7 +16,8 @@ ghost use Rattle.emit_instr.specs.Onward.{Onward};
 ghost use Rattle.emit_instr.specs.Steps.{FormWritten};
 ghost use Rattle.plan_groups.specs.Plan.{isEmpty};
 
-// A shell, also for an unfused ThumbBlHigh (high), after which the closing transfer stands where it is the last of its block.
+// A shell, also for an unfused ThumbBlHigh (high), after which the closing transfer stands where it
+// is the last of its block.
 fn put_shell(out: &mut [u8], at: usize, thumb: bool, cycles: u64, i: Instr, last: bool) -> usize
     ensures { λ r. ⌜ ((high : Bool) (ks : List ℕ) (b : Body) (j : ℕ) (fs : List Form) → last ≡ isEmpty fs → Onward (now (out .entry)) at (codeFrom ks b j (emitShell thumb high cycles i ∷ fs)) (cond (not high && last) end (codeFrom ks b (j + 1) fs)) (now (out .exit)) r) ⌝ }
 {

@@ -93,7 +93,8 @@ fn emit_lowered(
     }
 }
 
-// An instruction of a block that goes on after it; touches_bus: it touches memory. last: it is the block's last.
+// An instruction of a block that goes on after it; touches_bus: it touches memory. last: it is the
+// block's last.
 pub(crate) fn emit_straight(
     out: &mut [u8],
     at: usize,

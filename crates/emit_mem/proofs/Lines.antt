@@ -9,15 +9,18 @@ use Rattle.c_tree.specs.Print.{codeText}
 use Rattle.emit_operands.proofs.Lines.{lines-after}
 use Rattle.lower_forms.specs.Forms.{Lines}
 use Rattle.emit_mem.proofs.Listed.{listed-suc}
-use Rattle.lower_forms.specs.InlineBody.{only, apart, setReg, aligned, listed, advance, loads, stores}
+use Rattle.lower_forms.specs.InlineBody.{only, apart, setReg, aligned, listed, advance, loads}
+use Rattle.lower_forms.specs.InlineBody.{stores}
 use Rattle.armv4t.specs.RegisterList.{isListed}
 use Rattle.lower_units.specs.Block.{lines}
 use Rattle.lower_units.proofs.LinesAfter.{lines-append}
 
 pub lines-both : (n : ℕ) (ls ms : Lines) (c : Code) (k : List ℕ)
-    → flat (codeText (lines common n ls end) ▸ codeText (lines common n ms c)) k ≡ flat (codeText (lines common n (ls ++ ms) c)) k
+    → flat (codeText (lines common n ls end) ▸ codeText (lines common n ms c)) k
+    ≡ flat (codeText (lines common n (ls ++ ms) c)) k
 lines-both n ls ms c k =
-    sym (ap (λ (d : Code). flat (codeText d) k) (lines-append common n ls ms c) ∙ lines-after common n ls (lines common n ms c) k)
+    sym (ap (λ (d : Code). flat (codeText d) k) (lines-append common n ls ms c)
+    ∙ lines-after common n ls (lines common n ms c) k)
 
 -- statements after statements, each in a line of its own
 apart-append : (ps qs : List Plain) → apart (ps ++ qs) ≡ apart ps ++ apart qs
@@ -34,25 +37,32 @@ apart-both n ps qs =
 -- the loads and the stores of two names of registers, one after the other
 pub loads-append : (xs ys : List ℕ) → loads (xs ++ ys) ≡ loads xs ++ loads ys
 loads-append [] ys = refl
-loads-append (x ∷ xs) ys = ap (_∷_ (setReg x (read w32 (aligned 3)) ∷ advance ∷ [])) (loads-append xs ys)
+loads-append (x ∷ xs) ys =
+    ap (_∷_ (setReg x (read w32 (aligned 3)) ∷ advance ∷ [])) (loads-append xs ys)
 
-pub stores-append : (value : ℕ → Expr) (xs ys : List ℕ) → stores value (xs ++ ys) ≡ stores value xs ++ stores value ys
+pub stores-append : (value : ℕ → Expr) (xs ys : List ℕ)
+    → stores value (xs ++ ys) ≡ stores value xs ++ stores value ys
 stores-append value [] ys = refl
-stores-append value (x ∷ xs) ys = ap (_∷_ (write w32 (aligned 3) (value x) ∷ advance ∷ [])) (stores-append value xs ys)
+stores-append value (x ∷ xs) ys =
+    ap (_∷_ (write w32 (aligned 3) (value x) ∷ advance ∷ [])) (stores-append value xs ys)
 
 -- the lines of one register more
 pub loads-more : (n rlist r : ℕ)
-    → flat (codeText (lines common n (loads (listed rlist r)) end) ▸ codeText (lines common n (loads (only (isListed rlist r) r)) end)) []
+    → flat (codeText (lines common n (loads (listed rlist r)) end)
+    ▸ codeText (lines common n (loads (only (isListed rlist r) r)) end)) []
     ≡ flat (codeText (lines common n (loads (listed rlist (r + 1))) end)) []
 loads-more n rlist r =
     lines-both n (loads (listed rlist r)) (loads (only (isListed rlist r) r)) end []
     ∙ ap (λ (ls : Lines). flat (codeText (lines common n ls end)) [])
-    (sym (loads-append (listed rlist r) (only (isListed rlist r) r)) ∙ ap loads (sym (listed-suc rlist r)))
+    (sym (loads-append (listed rlist r) (only (isListed rlist r) r))
+    ∙ ap loads (sym (listed-suc rlist r)))
 
 pub stores-more : (n : ℕ) (value : ℕ → Expr) (rlist r : ℕ)
-    → flat (codeText (lines common n (stores value (listed rlist r)) end) ▸ codeText (lines common n (stores value (only (isListed rlist r) r)) end)) []
+    → flat (codeText (lines common n (stores value (listed rlist r)) end)
+    ▸ codeText (lines common n (stores value (only (isListed rlist r) r)) end)) []
     ≡ flat (codeText (lines common n (stores value (listed rlist (r + 1))) end)) []
 stores-more n value rlist r =
     lines-both n (stores value (listed rlist r)) (stores value (only (isListed rlist r) r)) end []
     ∙ ap (λ (ls : Lines). flat (codeText (lines common n ls end)) [])
-    (sym (stores-append value (listed rlist r) (only (isListed rlist r) r)) ∙ ap (stores value) (sym (listed-suc rlist r)))
+    (sym (stores-append value (listed rlist r) (only (isListed rlist r) r))
+    ∙ ap (stores value) (sym (listed-suc rlist r)))

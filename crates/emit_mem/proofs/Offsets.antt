@@ -1,4 +1,5 @@
--- The offset of a Mem with no case left out is the definition's, where that has one; and when the definition has a body.
+-- The offset of a Mem with no case left out is the definition's, where that has one; and when the
+-- definition has a body.
 use Prim.Native.Nat.{ℕ, zero, suc}
 use borrow.Author.Tests.{ne-eqb}
 use lib.Dec.{eqb}
@@ -17,7 +18,8 @@ use Rattle.armv4t.specs.Instr.{pcValue}
 use Rattle.c_tree.specs.Expr.{Expr}
 use Rattle.c_tree.specs.Stmt.{Plain}
 use Rattle.lower_forms.specs.Forms.{Lines}
-use Rattle.lower_forms.specs.InlineBody.{baseExpr, shiftedOffset, offsetExpr, access, memBody, listed, blockMemBody, opBody, memLines}
+use Rattle.lower_forms.specs.InlineBody.{baseExpr, shiftedOffset, offsetExpr, access, memBody}
+use Rattle.lower_forms.specs.InlineBody.{listed, blockMemBody, opBody, memLines}
 use Rattle.armv4t.specs.RegisterList.{isListed}
 use Rattle.emit_operands.specs.Operands.{isSome}
 use Rattle.emit_mem.specs.Mem.{offsetOf}
@@ -27,20 +29,25 @@ abbrev given : Option Lines → Lines
 given none = []
 given (some ls) = ls
 
-pub mem-lines : (i : Instr) (base : Expr) (up pre : Bool) (rest : List Plain) (offset : MemOffset) (ls : Lines)
-    → memBody base up pre rest (offsetExpr i offset) ≡ some ls → memLines base up pre rest (offsetOf (pcValue i) offset) ≡ ls
+pub mem-lines : (i : Instr) (base : Expr) (up pre : Bool) (rest : List Plain) (offset : MemOffset)
+    (ls : Lines)
+    → memBody base up pre rest (offsetExpr i offset) ≡ some ls
+    → memLines base up pre rest (offsetOf (pcValue i) offset) ≡ ls
 mem-lines i base up pre rest (MemOffset.Imm value) ls e = ap given e
 mem-lines i base up pre rest (MemOffset.Reg rm (Shift.Imm Lsl amount)) ls e = ap given e
 mem-lines i base up pre rest (MemOffset.Reg rm (Shift.Imm Lsr amount)) ls e = ap given e
 mem-lines i base up pre rest (MemOffset.Reg rm (Shift.Imm Asr amount)) ls e = ap given e
-mem-lines i base up pre rest (MemOffset.Reg rm (Shift.Imm Ror zero)) ls e = absurd (true≢false (sym (ap isSome e)))
+mem-lines i base up pre rest (MemOffset.Reg rm (Shift.Imm Ror zero)) ls e =
+    absurd (true≢false (sym (ap isSome e)))
 mem-lines i base up pre rest (MemOffset.Reg rm (Shift.Imm Ror (suc n))) ls e = ap given e
-mem-lines i base up pre rest (MemOffset.Reg rm (Shift.Reg kind rs)) ls e = absurd (true≢false (sym (ap isSome e)))
+mem-lines i base up pre rest (MemOffset.Reg rm (Shift.Reg kind rs)) ls e =
+    absurd (true≢false (sym (ap isSome e)))
 
 -- Ror by zero is RRX
 pub ror-inlined : (e : Expr) (n : ℕ) → not (eqb n 0) ≡ isSome (shiftedOffset e Ror n)
 ror-inlined e zero = refl
-ror-inlined e (suc n) = let nonzero : eqb (suc n) 0 ≡ false = ne-eqb (suc n) 0 (λ p. omega (arith, p)) in ap not nonzero
+ror-inlined e (suc n) =
+    let nonzero : eqb (suc n) 0 ≡ false = ne-eqb (suc n) 0 (λ p. omega (arith, p)) in ap not nonzero
 
 -- what is tested before a body is written is whether the definition has one
 mem-some : (base : Expr) (up pre : Bool) (rest : List Plain) (pc : Bool) (off : Option Expr)
@@ -49,17 +56,21 @@ mem-some base up pre rest true off = refl
 mem-some base up pre rest false none = refl
 mem-some base up pre rest false (some off) = refl
 
-pub mem-inlined : (thumb : Bool) (i : Instr) (load : Bool) (width : MemWidth) (signed : Bool) (rd rn : ℕ) (offset : MemOffset)
+pub mem-inlined : (thumb : Bool) (i : Instr) (load : Bool) (width : MemWidth) (signed : Bool)
+    (rd rn : ℕ) (offset : MemOffset)
     (pre up writeback : Bool)
-    → isSome (opBody thumb i (Mem load width signed rd rn offset pre up writeback)) ≡ (not (eqb rd 15) && isSome (offsetExpr i offset))
+    → isSome (opBody thumb i (Mem load width signed rd rn offset pre up writeback))
+    ≡ (not (eqb rd 15) && isSome (offsetExpr i offset))
 mem-inlined thumb i load width signed rd rn offset pre up writeback =
-    mem-some (baseExpr thumb i rn) up pre (access load width signed rd rn (not pre || writeback)) (eqb rd 15) (offsetExpr i offset)
+    mem-some (baseExpr thumb i rn) up pre (access load width signed rd rn (not pre || writeback))
+    (eqb rd 15) (offsetExpr i offset)
 
 block-some : (left : Bool) (ls : Lines) → isSome (cond left none (some ls)) ≡ not left
 block-some true ls = refl
 block-some false ls = refl
 
-pub block-mem-inlined : (thumb : Bool) (i : Instr) (load : Bool) (rn rlist : ℕ) (pre up s-bit writeback : Bool)
+pub block-mem-inlined : (thumb : Bool) (i : Instr) (load : Bool) (rn rlist : ℕ)
+    (pre up s-bit writeback : Bool)
     → isSome (opBody thumb i (BlockMem load rn rlist pre up s-bit writeback))
     ≡ not (s-bit || eqb rlist 0 || eqb rn 15 || (load && isListed rlist 15))
 block-mem-inlined thumb i load rn rlist pre up s-bit writeback =

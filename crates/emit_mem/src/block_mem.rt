@@ -16,7 +16,8 @@ ghost use lib.Dec.{eqb};
 ghost use Rattle.base_text.specs.Wrote.{Wrote};
 ghost use Rattle.c_tree.specs.Expr.{x-base, x-addr, get, reg};
 ghost use Rattle.c_tree.specs.Print.{exprText};
-ghost use Rattle.lower_forms.specs.InlineBody.{only, apart, let32, setReg, listed, movedBase, start, loadsOrStores, blockMemBody};
+ghost use Rattle.lower_forms.specs.InlineBody.{only, apart, let32, setReg, listed, movedBase};
+ghost use Rattle.lower_forms.specs.InlineBody.{start, loadsOrStores, blockMemBody};
 ghost use Rattle.armv4t.specs.RegisterList.{isListed};
 ghost use Rattle.lower_units.specs.Block.{linesText};
 
@@ -55,7 +56,8 @@ fn put_write_back(out: &mut [u8], at: usize, rn: u8, up: bool, total: u32) -> us
     put(out, s, b";\n")
 }
 
-// The write-back of a load: the base is written back if writeback is set and the base is not listed.
+// The write-back of a load: the base is written back if writeback is set and the base is not
+// listed.
 fn put_load_back(
     out: &mut [u8],
     at: usize,
@@ -172,7 +174,8 @@ pub fn put_block_mem(
     put_transfers(out, p, i, load, rn, rlist, up, writeback, total)
 }
 
-// Whether a BlockMem is inlined: not if it touches the user's registers or SPSR, names none, is based on PC or loads it.
+// Whether a BlockMem is inlined: not if it touches the user's registers or SPSR, names none, is
+// based on PC or loads it.
 pub fn block_mem_is_inlined(load: bool, rn: u8, rlist: u16, s_bit: bool) -> bool
     ensures { λ b. ⌜ b ≡ not («s_bit» || eqb rlist 0 || eqb rn 15 || (load && isListed rlist 15)) ⌝ }
 {

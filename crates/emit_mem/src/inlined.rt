@@ -1,4 +1,5 @@
-// Whether a Mem is inlined: not if it loads or stores PC, or if its offset is shifted by a register or by RRX.
+// Whether a Mem is inlined: not if it loads or stores PC, or if its offset is shifted by a register
+// or by RRX.
 use armv4t::MemOffset;
 use armv4t::PC;
 use armv4t::Shift;

@@ -23,7 +23,8 @@ ghost use Rattle.c_tree.specs.Expr.{word, uhex, x-base, x-ob, x-addr, operator,
 ghost use Rattle.c_tree.specs.Preamble.{v32};
 ghost use Rattle.c_tree.specs.Print.{exprText};
 ghost use Rattle.lower_forms.specs.Forms.{Lines};
-ghost use Rattle.lower_forms.specs.InlineBody.{apart, let32, baseExpr, offsetExpr, addOrSub, access, memBody, memLines};
+ghost use Rattle.lower_forms.specs.InlineBody.{apart, let32, baseExpr, offsetExpr, addOrSub};
+ghost use Rattle.lower_forms.specs.InlineBody.{access, memBody, memLines};
 ghost use Rattle.lower_units.specs.Block.{linesText};
 ghost use Rattle.emit_mem.specs.Mem.{offsetOf};
 

@@ -1,4 +1,5 @@
-// The pop of PC: a load of registers upwards from a base that is written back, PC among them, which ends the block.
+// The pop of PC: a load of registers upwards from a base that is written back, PC among them, which
+// ends the block.
 use crate::registers::bytes_listed;
 use crate::transfers::put_loads;
 use armv4t::Cond;

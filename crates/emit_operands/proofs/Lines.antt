@@ -1,4 +1,5 @@
--- Lines of plain statements: whose they are does not show in their text, and the text of code after them stands after theirs.
+-- Lines of plain statements: whose they are does not show in their text, and the text of code after
+-- them stands after theirs.
 use mathlib.Core.Path.{_≡_, refl, ap}
 use Prim.Native.Nat.{ℕ}
 use mathlib.Core.List.{List, [], _∷_}
@@ -9,7 +10,8 @@ use Rattle.lower_forms.specs.Forms.{Lines}
 use Rattle.lower_units.specs.Block.{nl, line, lines}
 
 -- a line, and code after it
-line-owner : (o q : Owner) (l : List Plain) (c d : Code) → ((k : List ℕ) → flat (codeText c) k ≡ flat (codeText d) k) → (k : List ℕ)
+line-owner : (o q : Owner) (l : List Plain) (c d : Code)
+    → ((k : List ℕ) → flat (codeText c) k ≡ flat (codeText d) k) → (k : List ℕ)
     → flat (codeText (line o l c)) k ≡ flat (codeText (line q l d)) k
 line-owner o q [] c d same k = same k
 line-owner o q (p ∷ []) c d same k = ap (flat (plainText p ▸ text ";")) (same k)
@@ -26,7 +28,8 @@ lines-owner o q n (l ∷ ls) c k =
     (λ (j : List ℕ). ap (flat (simpleText nl)) (lines-owner o q n ls c j)) k)
 
 -- code after a line
-line-after : (o : Owner) (l : List Plain) (c d e : Code) → ((k : List ℕ) → flat (codeText c) k ≡ flat (codeText d ▸ codeText e) k)
+line-after : (o : Owner) (l : List Plain) (c d e : Code)
+    → ((k : List ℕ) → flat (codeText c) k ≡ flat (codeText d ▸ codeText e) k)
     → (k : List ℕ) → flat (codeText (line o l c)) k ≡ flat (codeText (line o l d) ▸ codeText e) k
 line-after o [] c d e same k = same k
 line-after o (p ∷ []) c d e same k = ap (flat (plainText p ▸ text ";")) (same k)

@@ -1,4 +1,5 @@
--- The texts of operands as the code puts them together, and the operands of instructions by their PC value.
+-- The texts of operands as the code puts them together, and the operands of instructions by their
+-- PC value.
 use mathlib.Core.Path.{_≡_, refl, sym, ap}
 use Prim.Native.Nat.{ℕ, zero, suc, _-_}
 use native.Mathlib.Omega.{arith}
@@ -38,34 +39,41 @@ unfolding decimal numeral
 decimal-1 = refl
 
 pub bit-text : (e : Expr) (n : ℕ) (k : List ℕ)
-    → flat (text "((" ▸ exprText e ▸ text " >> " ▸ dec n ▸ text "u) & 1u)") k ≡ flat (exprText (bitOf e n)) k
+    → flat (text "((" ▸ exprText e ▸ text " >> " ▸ dec n ▸ text "u) & 1u)") k
+    ≡ flat (exprText (bitOf e n)) k
 bit-text e n k =
-    ap (λ (one : List ℕ). flat (text "((" ▸ exprText e ▸ text " >> " ▸ dec n ▸ text "u) & ") (one ++ flat (text "u)") k)) (sym decimal-1)
+    ap (λ (one : List ℕ). flat (text "((" ▸ exprText e ▸ text " >> " ▸ dec n ▸ text "u) & ")
+    (one ++ flat (text "u)") k)) (sym decimal-1)
 
 -- shifted values, by an amount that is not 0
 pub lsl-text : (e : Expr) (n : ℕ) → (n ≡ 0 → ⊥) → (k : List ℕ)
-    → flat (text "(" ▸ exprText e ▸ text " << " ▸ dec n ▸ text "u)") k ≡ flat (exprText (shiftExprs e Lsl n .0)) k
+    → flat (text "(" ▸ exprText e ▸ text " << " ▸ dec n ▸ text "u)") k
+    ≡ flat (exprText (shiftExprs e Lsl n .0)) k
 lsl-text e zero ne k = absurd (ne refl)
 lsl-text e (suc n) ne k = refl
 
 pub lsr-text : (e : Expr) (n : ℕ) → (n ≡ 0 → ⊥) → (k : List ℕ)
-    → flat (text "(" ▸ exprText e ▸ text " >> " ▸ dec n ▸ text "u)") k ≡ flat (exprText (shiftExprs e Lsr n .0)) k
+    → flat (text "(" ▸ exprText e ▸ text " >> " ▸ dec n ▸ text "u)") k
+    ≡ flat (exprText (shiftExprs e Lsr n .0)) k
 lsr-text e zero ne k = absurd (ne refl)
 lsr-text e (suc n) ne k = refl
 
 pub asr-text : (e : Expr) (n : ℕ) → (n ≡ 0 → ⊥) → (k : List ℕ)
-    → flat (text "((uint32_t)((int32_t)" ▸ exprText e ▸ text " >> " ▸ dec n ▸ text "))") k ≡ flat (exprText (shiftExprs e Asr n .0)) k
+    → flat (text "((uint32_t)((int32_t)" ▸ exprText e ▸ text " >> " ▸ dec n ▸ text "))") k
+    ≡ flat (exprText (shiftExprs e Asr n .0)) k
 asr-text e zero ne k = absurd (ne refl)
 asr-text e (suc n) ne k = refl
 
 pub ror-text : (e : Expr) (n : ℕ) → (n ≡ 0 → ⊥) → (k : List ℕ)
-    → flat (text "ror32(" ▸ exprText e ▸ text ", " ▸ dec n ▸ text "u)") k ≡ flat (exprText (shiftExprs e Ror n .0)) k
+    → flat (text "ror32(" ▸ exprText e ▸ text ", " ▸ dec n ▸ text "u)") k
+    ≡ flat (exprText (shiftExprs e Ror n .0)) k
 ror-text e zero ne k = absurd (ne refl)
 ror-text e (suc n) ne k = refl
 
 -- RRX
 pub rrx-text : (e : Expr) (k : List ℕ)
-    → flat (text "((((c[16] >> 29) & 1u) << 31) | (" ▸ exprText e ▸ text " >> 1u))") k ≡ flat (exprText (shiftExprs e Ror 0 .0)) k
+    → flat (text "((((c[16] >> 29) & 1u) << 31) | (" ▸ exprText e ▸ text " >> 1u))") k
+    ≡ flat (exprText (shiftExprs e Ror 0 .0)) k
 unfolding decimal numeral
 rrx-text e k = refl
 
@@ -76,8 +84,10 @@ left-carry e zero ne k = absurd (ne refl)
 left-carry e (suc n) ne k = refl
 
 -- to the right, the bit below the amount
-below-amount : (e : Expr) (n : ℕ) (k : List ℕ) → flat (exprText (bitOf e (suc n - 1))) k ≡ flat (exprText (bitOf e n)) k
-below-amount e n k = let same : suc n - 1 ≡ n = omega arith in ap (λ (m : ℕ). flat (exprText (bitOf e m)) k) same
+below-amount : (e : Expr) (n : ℕ) (k : List ℕ)
+    → flat (exprText (bitOf e (suc n - 1))) k ≡ flat (exprText (bitOf e n)) k
+below-amount e n k =
+    let same : suc n - 1 ≡ n = omega arith in ap (λ (m : ℕ). flat (exprText (bitOf e m)) k) same
 
 pub right-carry : (e : Expr) (n : ℕ) → (n ≡ 0 → ⊥) → (k : List ℕ)
     → flat (exprText (bitOf e (n - 1))) k ≡ flat (carryText (shiftExprs e Lsr n .1)) k
@@ -107,7 +117,8 @@ asr-carry e (suc n) = refl
 -- whether there is a carry
 pub lsl-has : (e : Expr) (n : ℕ) → not (eqb n 0) ≡ isSome (shiftExprs e Lsl n .1)
 lsl-has e zero = refl
-lsl-has e (suc n) = let nonzero : eqb (suc n) 0 ≡ false = ne-eqb (suc n) 0 (λ p. omega (arith, p)) in ap not nonzero
+lsl-has e (suc n) =
+    let nonzero : eqb (suc n) 0 ≡ false = ne-eqb (suc n) 0 (λ p. omega (arith, p)) in ap not nonzero
 
 pub lsr-has : (e : Expr) (n : ℕ) → true ≡ isSome (shiftExprs e Lsr n .1)
 lsr-has e zero = refl
@@ -126,7 +137,8 @@ value-has true e = refl
 value-has false e = refl
 
 -- the second operand of an instruction, if it has a text
-pub operand-of : (i : Instr) (op2 : Operand2) (e : Expr × Option Expr) → op2Exprs i op2 ≡ some e → operandOf (pcValue i) op2 ≡ e
+pub operand-of : (i : Instr) (op2 : Operand2) (e : Expr × Option Expr) → op2Exprs i op2 ≡ some e
+    → operandOf (pcValue i) op2 ≡ e
 operand-of i (Operand2.Imm value rot) e p = Option·some-injective _ _ p
 operand-of i (Operand2.Reg rm (Shift.Imm kind amount)) e p = Option·some-injective _ _ p
 operand-of i (Operand2.Reg rm (Shift.Reg kind rs)) e p = absurd (Option·none-ne-some _ p)

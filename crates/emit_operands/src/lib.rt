@@ -1,4 +1,5 @@
-// Writers of conditions, registers and shifted operands. Each writes the text of an expression into out at index at, and answers the index after it.
+// Writers of conditions, registers and shifted operands. Each writes the text of an expression into
+// out at index at, and answers the index after it.
 mod shifts;
 
 use armv4t::Cond;
@@ -15,7 +16,8 @@ ghost use Rattle.base_text.specs.Doc.{raw, _▸_};
 ghost use Rattle.base_text.specs.Wrote.{Wrote};
 ghost use Rattle.c_tree.specs.Expr.{word, reg, Expr, lit, get};
 ghost use Rattle.c_tree.specs.Print.{exprText};
-ghost use Rattle.lower_forms.specs.Operands.{condExpr, carryIn, shiftExprs, op2Exprs, regOf, operandOf};
+ghost use Rattle.lower_forms.specs.Operands.{condExpr, carryIn, shiftExprs, op2Exprs, regOf};
+ghost use Rattle.lower_forms.specs.Operands.{operandOf};
 ghost use Rattle.emit_operands.specs.Operands.{carryText, isSome};
 
 // A condition, without parentheses around it.
@@ -85,7 +87,8 @@ pub fn put_carry_in(out: &mut [u8], at: usize) -> usize
     base_text::put(out, at, b"((c[16] >> 29) & 1u)")
 }
 
-// A register operand. The interpreter is to carry out a shift by a register, so no one asks for its text.
+// A register operand. The interpreter is to carry out a shift by a register, so no one asks for its
+// text.
 fn put_shifted(out: &mut [u8], at: usize, rm: Reg, shift: Shift, pc: u32) -> usize
     ensures { λ r. ⌜ Wrote (now (out .entry)) at (exprText (operandOf pc (Operand2.Reg rm shift) .0)) (now (out .exit)) r ⌝ }
 {

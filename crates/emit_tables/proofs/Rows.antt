@@ -26,30 +26,39 @@ pub file-length : (f : List ℕ) → Accepted f → length (fileKeys f) ≡ bloc
 file-length f ok = length-map (blocksOf f) blockKey ∙ length-of f (blocksOf f) ok
 
 -- the key of a record that was found
-pub key-found : (f : List ℕ) (i : ℕ) (b : BlockRecord) (key : ℕ) → foundBlock f i ≡ FoundBlock.At b → key ≡ keyOf (b .addr) (b .thumb) → Accepted f
+pub key-found : (f : List ℕ) (i : ℕ) (b : BlockRecord) (key : ℕ) → foundBlock f i ≡ FoundBlock.At b
+    → key ≡ keyOf (b .addr) (b .thumb) → Accepted f
     → key ≡ getD (fileKeys f) i 0
 unfolding recordAt
 key-found f i b key found e ok =
-    let is : IsBlock f i b (countSum f i) = record { accepted = ok; found = found; starts = refl } in
+    let is : IsBlock f i b (countSum f i) =
+    record { accepted = ok; found = found; starts = refl } in
     let inside : i < blockCount f = block-inside is in
     let other : Block = blockAt f 0 0 in
     e
     ∙ key-plus is
     ∙ ap (λ (r : BlockRecord). keyPlus (r .addr) (r .thumb)) (block-record is)
     ∙ sym (block-key f (blocksOf f) ok i other inside)
-    ∙ sym (map-at blockKey (blocksOf f) i other 0 (omega (arith, inside, length-of f (blocksOf f) ok)))
+    ∙ sym (map-at blockKey (blocksOf f) i other 0
+    (omega (arith, inside, length-of f (blocksOf f) ok)))
 
 -- and that of none
-pub key-missing : (f : List ℕ) (i : ℕ) → foundBlock f i ≡ FoundBlock.Nothing → Accepted f → 0 ≡ getD (fileKeys f) i 0
-key-missing f i e ok = sym (List·getD-eq-default (fileKeys f) 0 (omega (arith, missing f ok i e, file-length f ok)))
+pub key-missing : (f : List ℕ) (i : ℕ) → foundBlock f i ≡ FoundBlock.Nothing → Accepted f
+    → 0 ≡ getD (fileKeys f) i 0
+key-missing f i e ok =
+    sym (List·getD-eq-default (fileKeys f) 0 (omega (arith, missing f ok i e, file-length f ok)))
 
 -- the key of a member
-pub key-member : (limit : ℕ) (f : List ℕ) (g k i key : ℕ) → key ≡ getD (fileKeys f) i 0 → i ≡ getD (membersOf limit (blocksOf f) g) k 0
+pub key-member : (limit : ℕ) (f : List ℕ) (g k i key : ℕ) → key ≡ getD (fileKeys f) i 0
+    → i ≡ getD (membersOf limit (blocksOf f) g) k 0
     → k < length (membersOf limit (blocksOf f) g) → key ≡ getD (groupKeys limit f g) k 0
 key-member limit f g k i key e is inside =
-    e ∙ ap (λ (j : ℕ). getD (fileKeys f) j 0) is ∙ sym (map-at (λ (j : ℕ). getD (fileKeys f) j 0) (membersOf limit (blocksOf f) g) k 0 0 inside)
+    e ∙ ap (λ (j : ℕ). getD (fileKeys f) j 0) is
+    ∙ sym (map-at (λ (j : ℕ). getD (fileKeys f) j 0) (membersOf limit (blocksOf f) g) k 0 0
+    inside)
 
-module _ {f : List ℕ} {n limit : ℕ} {work : List ℕ} {g p end : ℕ} (is : IsGroup f n limit work g p end) where
+module _ {f : List ℕ} {n limit : ℕ} {work : List ℕ} {g p end : ℕ}
+    (is : IsGroup f n limit work g p end) where
   -- a row for each member
   pub group-size : end ≡ p + length (membersOf limit (blocksOf f) g)
   group-size = omega (arith, is .first, is .next, start-next (groups limit (blocksOf f)) g)

@@ -1,2 +1,2 @@
--- The definitions that the contracts name beside those of `lowering` and `members`.
+-- The definitions that the contracts name beside those of `lower_units` and `plan_members`.
 pub mod Tables

@@ -36,7 +36,8 @@ pub fn put_cases(
     q
 }
 
-// The functions of the members of the group in the rows from p to the one before end, and an empty line.
+// The functions of the members of the group in the rows from p to the one before end, and an empty
+// line.
 pub fn put_forwarders(
     out: &mut [u8],
     at: usize,

@@ -1,4 +1,5 @@
-// What a unit has around the code of its blocks: the cases and entries of a group, and declarations, table and count at its end.
+// What a unit has around the code of its blocks: the cases and entries of a group, and
+// declarations, table and count at its end.
 mod ends;
 mod entries;
 mod keys;

@@ -12,7 +12,8 @@ use Rattle.plan_groups.specs.Plan.{groups}
 use Rattle.plan_members.specs.Members.{startOf}
 use Rattle.c_tree.specs.Stmt.{Top}
 use Rattle.lower_forms.specs.Forms.{Body}
-use Rattle.lower_units.specs.Units.{TranslationUnit, emitGroup, unitHead, lastUnitEnd, textOf, cut, bodiesOf, fileUnits}
+use Rattle.lower_units.specs.Units.{TranslationUnit, emitGroup, unitHead, lastUnitEnd, textOf, cut}
+use Rattle.lower_units.specs.Units.{bodiesOf, fileUnits}
 use Rattle.emit_units.specs.declared.extents.Extent.{Extent}
 use Rattle.emit_units.specs.declared.extents.FoundUnit.{FoundUnit}
 use Rattle.emit_group.specs.Groups.{fileBodies}
@@ -28,16 +29,19 @@ grown bs ts (is ∷ gs) = grown bs (ts ++ emitGroup (bodiesOf bs is)) gs
 
 -- so many groups of a file from group g on, as a unit has them
 abbrev pub unitGroups : List ℕ → ℕ → ℕ → ℕ → List Top
-unitGroups f limit g size = grown (fileBodies f) unitHead (take size (drop g (groups limit (blocksOf f))))
+unitGroups f limit g size =
+    grown (fileBodies f) unitHead (take size (drop g (groups limit (blocksOf f))))
 
 -- the tree of a unit with so many groups from group g on
 abbrev pub unitTree : List ℕ → ℕ → ℕ → ℕ → Bool → List Top
-unitTree f limit g size last = cond last (unitGroups f limit g size ++ lastUnitEnd (fileBodies f)) (unitGroups f limit g size)
+unitTree f limit g size last =
+    cond last (unitGroups f limit g size ++ lastUnitEnd (fileBodies f)) (unitGroups f limit g size)
 
 -- the units of the groups from group g on, where the tree of the one reached is ts
 abbrev pub unitsWith : List ℕ → ℕ → ℕ → List Top → ℕ → List TranslationUnit
 unitsWith f limit max ts g =
-    cut max (lastUnitEnd (fileBodies f)) ts (startOf (groups limit (blocksOf f)) g) (map (bodiesOf (fileBodies f)) (drop g (groups limit (blocksOf f))))
+    cut max (lastUnitEnd (fileBodies f)) ts (startOf (groups limit (blocksOf f)) g)
+    (map (bodiesOf (fileBodies f)) (drop g (groups limit (blocksOf f))))
 
 -- where nothing of one is reached yet
 abbrev pub unitsFrom : List ℕ → ℕ → ℕ → ℕ → List TranslationUnit
@@ -55,7 +59,8 @@ pub record FirstUnit (f : List ℕ) (limit max g : ℕ) (e : Extent) : Type 0 wh
   pub takes : Takes f limit g size e
   pub bytes : e .length ≡ after 0 (unitTree f limit g size (e .last))
   pub units : unitsFrom f limit max g
-      ≡ record { tree = unitTree f limit g size (e .last); done = e .end; last = e .last } ∷ cond (e .last) [] (unitsFrom f limit max (g + size))
+      ≡ record { tree = unitTree f limit g size (e .last); done = e .end; last = e .last }
+      ∷ cond (e .last) [] (unitsFrom f limit max (g + size))
 
 -- an extent is that of unit k
 pub record IsUnit (f : List ℕ) (limit max k : ℕ) (e : Extent) : Type 0 where
@@ -71,5 +76,6 @@ pub record IsUnit (f : List ℕ) (limit max k : ℕ) (e : Extent) : Type 0 where
 
 -- what is found is unit k, or there is none
 unfoldable pub describes : List ℕ → ℕ → ℕ → ℕ → FoundUnit → Type 0
-describes f limit max k FoundUnit.Nothing = getElem? (fileUnits hashMultiplier limit max (blocksOf f)) k ≡ none
+describes f limit max k FoundUnit.Nothing =
+    getElem? (fileUnits hashMultiplier limit max (blocksOf f)) k ≡ none
 describes f limit max k (FoundUnit.At e) = IsUnit f limit max k e

@@ -13,7 +13,8 @@ ghost use Rattle.plan_members.specs.Prepared.{Ready};
 ghost use Rattle.emit_units.specs.Units.{FirstUnit, describes};
 ghost use Rattle.plan_groups.specs.Groups.{HasRoom};
 
-// A unit: the rows from start to the one before end, the length of its text, and whether it is the last.
+// A unit: the rows from start to the one before end, the length of its text, and whether it is the
+// last.
 pub struct Extent {
     pub start: usize,
     pub end: usize,

@@ -1,4 +1,5 @@
-// How long the parts of a unit are: they are written to no bytes at all, with 0 in the place of each hash.
+// How long the parts of a unit are: they are written to no bytes at all, with 0 in the place of
+// each hash.
 use emit_flow::put_preamble;
 use emit_group::emit_group;
 use emit_tables::put_tail;

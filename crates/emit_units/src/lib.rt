@@ -1,4 +1,5 @@
-// The units of a file at a wished size: the rows of the unit with a number, found by measuring, and its text.
+// The units of a file at a wished size: the rows of the unit with a number, found by measuring, and
+// its text.
 mod extents;
 mod lengths;
 mod writing;

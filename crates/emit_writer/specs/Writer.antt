@@ -11,8 +11,9 @@ use Rattle.emit_writer.specs.declared.writer.Writer.{Writer}
 abbrev pub ticks : ℕ → Doc
 ticks cycles = linesText 4 (flushTicks cycles)
 
--- the writer after a flush: the same borrow with the ticks laid over its bytes at the place reached, the place after them as `Wrote` has it, and no cycles
--- pending. `at-last x l` is the reference x at the list l
+-- the writer after a flush: the same borrow with the ticks laid over its bytes at the place
+-- reached, the place after them as `Wrote` has it, and no cycles pending. `at-last x l` is the
+-- reference x at the list l
 abbrev pub flushed : Writer → Writer
 flushed w =
     record {

@@ -1,4 +1,5 @@
-// The end of a block's code, written through a writer: a small struct that holds the lent text, the place reached and the cycles pending.
+// The end of a block's code, written through a writer: a small struct that holds the lent text, the
+// place reached and the cycles pending.
 mod writer;
 
 pub use writer::Writer;

@@ -1,5 +1,5 @@
-// The writer, and what it writes at the end of a block. Each function here is proved by a walk of its MIR, by hand; what does the work, in `emit_flow`, is
-// covered by the borrow checker.
+// The writer, and what it writes at the end of a block. Each function here is proved by a walk of
+// its MIR, by hand; what does the work, in `emit_flow`, is covered by the borrow checker.
 use emit_flow::flush_ticks;
 use emit_flow::put_closing;
 ghost use mathlib.Core.Path.{_≡_};
@@ -45,7 +45,8 @@ pub fn flush<'a>(w: Writer<'a>) -> Writer<'a>
     }
 }
 
-// What stands after the ticks at the end of a block that goes on at address next, whose key is given too.
+// What stands after the ticks at the end of a block that goes on at address next, whose key is
+// given too.
 pub fn close<'a>(w: Writer<'a>, next: u32, inside: bool, src: u32, key: u32) -> usize
     ensures { λ r. ⌜ ((ks : List ℕ) → among key ks ≡ inside → Wrote (now (w .entry .text)) (w .entry .at) (codeText (exitCode ks src common (pcLine next) key)) (now (w .exit .0)) r) ⌝ }
 {
@@ -53,7 +54,8 @@ pub fn close<'a>(w: Writer<'a>, next: u32, inside: bool, src: u32, key: u32) -> 
     put_closing(&mut *w.text, at, next, inside, src, key)
 }
 
-// The end of a block that goes on at address next, whose key is given too. No writer stands in its contract, so that whoever calls it needs no walk by hand.
+// The end of a block that goes on at address next, whose key is given too. No writer stands in its
+// contract, so that whoever calls it needs no walk by hand.
 pub fn emit_closing(
     out: &mut [u8],
     at: usize,

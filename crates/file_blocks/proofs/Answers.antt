@@ -39,7 +39,9 @@ module _ (f : List ℕ) (r : Checked) (e : checkedOf r ≡ checkAnswer (parse f)
 
   accepted-both : (b k : ℕ) → r ≡ Checked.Accepted b k → Accepted f × (b ≡ length (blocksOf f))
   unfolding checkedOf parse
-  accepted-both b k is = by-value f (firstBroken f (rows f)) (record { blocks = b; instructions = k }) (ap checkedOf (sym is) ∙ e)
+  accepted-both b k is =
+      by-value f (firstBroken f (rows f)) (record { blocks = b; instructions = k })
+      (ap checkedOf (sym is) ∙ e)
 
   -- a file that the check accepts
   pub accepted-file : (b k : ℕ) → r ≡ Checked.Accepted b k → Accepted f

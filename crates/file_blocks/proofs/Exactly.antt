@@ -1,31 +1,36 @@
--- 'Given exactly if': parse refuses with a row's number and place exactly if the row applies, and accepts exactly if none does.
--- Assumes nothing.
+-- 'Given exactly if': parse refuses with a row's number and place exactly if the row applies, and
+-- accepts exactly if none does. Assumes nothing.
 use mathlib.Core.Path.{_≡_, refl, sym, ap, ap₂, _∙_}
 use mathlib.Core.Bool.{Bool, true, false}
-use mathlib.Core.List.{List, [], _∷_, _++_, List·Memᴰ, List·Memᴰ·head, List·Memᴰ·tail, List·Memᴰ·not-nil, List·Memᴰ·cases-cons}
+use mathlib.Core.List.{List, [], _∷_, _++_, List·Memᴰ, List·Memᴰ·head, List·Memᴰ·tail}
+use mathlib.Core.List.{List·Memᴰ·not-nil, List·Memᴰ·cases-cons}
 use mathlib.Core.Logic.{⊎-elim, _↔_}
 use mathlib.Core.Option.{Option, none, some}
 use Prim.Native.Nat.{ℕ, _-_, _≤_}
 use native.Mathlib.Omega.{arith}
 use lib.ListN.{getD}
 use Rattle.file_records.specs.Trailer.{blockCount}
-use Rattle.file_blocks.specs.Refusal.{Row, number, place, broken, pick, firstBroken, rows, First, Applies}
+use Rattle.file_blocks.specs.Refusal.{Row, number, place, broken, pick, firstBroken, rows}
+use Rattle.file_blocks.specs.Refusal.{First, Applies}
 use Rattle.file_blocks.specs.Parse.{Block, Parsed, blocksFrom, parsed, parse, checkAnswer}
 use Rattle.file_blocks.specs.Answer.{refusal}
 
 -- the first broken row is the one found
 found-first : (f : List ℕ) (before : List Row) (r : Row) (after : List Row) → broken f r ≡ true
-    → ((s : Row) → List·Memᴰ s before → broken f s ≡ false) → firstBroken f (before ++ (r ∷ after)) ≡ some r
+    → ((s : Row) → List·Memᴰ s before → broken f s ≡ false)
+    → firstBroken f (before ++ (r ∷ after)) ≡ some r
 found-first f [] r after e kept = rw e
 found-first f (x ∷ before) r after e kept =
-    rw (kept x (List·Memᴰ·head refl)) (found-first f before r after e (λ s m. kept s (List·Memᴰ·tail m)))
+    rw (kept x (List·Memᴰ·head refl))
+    (found-first f before r after e (λ s m. kept s (List·Memᴰ·tail m)))
 
 -- and the one found is the first
 first-found : (f : List ℕ) (xs : List Row) (r : Row) → firstBroken f xs ≡ some r → First f xs r
 first-found f [] r e = absurd (let z : _≡_ {A = ℕ} 0 1 = cc in omega arith)
 first-found f (x ∷ xs) r e = go (broken f x) refl (first-found f xs) e
   where
-    go : (b : Bool) → broken f x ≡ b → ((r : Row) → firstBroken f xs ≡ some r → First f xs r) → pick b x (firstBroken f xs) ≡ some r → First f (x ∷ xs) r
+    go : (b : Bool) → broken f x ≡ b → ((r : Row) → firstBroken f xs ≡ some r → First f xs r)
+        → pick b x (firstBroken f xs) ≡ some r → First f (x ∷ xs) r
     go true h rest e′ =
         let same : x ≡ r = cc in
         record {
@@ -42,13 +47,16 @@ first-found f (x ∷ xs) r e = go (broken f x) refl (first-found f xs) e
           after = t .after;
           placed = ap (λ (l : List Row). x ∷ l) (t .placed);
           here = t .here;
-          earlier = λ s m. ⊎-elim (λ (same : s ≡ x). ap (broken f) same ∙ h) (λ (m′ : List·Memᴰ s (t .before)). t .earlier s m′) (List·Memᴰ·cases-cons m);
+          earlier =
+              λ s m. ⊎-elim (λ (same : s ≡ x). ap (broken f) same ∙ h)
+              (λ (m′ : List·Memᴰ s (t .before)). t .earlier s m′) (List·Memᴰ·cases-cons m);
         }
 
 -- the row that a number and a place name
 rowOf : ℕ → ℕ → Row
 rowOf n i =
-    getD (Row.short ∷ Row.limits ∷ Row.trailer ∷ Row.block i ∷ Row.order i ∷ Row.sum ∷ Row.instr i ∷ []) (n - 1) Row.short
+    getD (Row.short ∷ Row.limits ∷ Row.trailer ∷ Row.block i ∷ Row.order i ∷ Row.sum ∷ Row.instr i
+    ∷ []) (n - 1) Row.short
 
 row-of : (r : Row) → rowOf (number r) (place r) ≡ r
 unfolding rowOf
@@ -65,7 +73,8 @@ same-row : (r s : Row) → number r ≡ number s → place r ≡ place s → r �
 same-row r s e h = sym (row-of r) ∙ ap₂ rowOf e h ∙ row-of s
 
 module _ (f : List ℕ) where
-  refused-row : (o : Option Row) (r : Row) → parsed f o ≡ Parsed.refused (number r) (place r) → o ≡ some r
+  refused-row : (o : Option Row) (r : Row) → parsed f o ≡ Parsed.refused (number r) (place r)
+      → o ≡ some r
   refused-row none r e = absurd (let z : _≡_ {A = ℕ} 0 1 = cc in omega arith)
   refused-row (some s) r e =
       let n : number s ≡ number r = cc in
@@ -76,29 +85,42 @@ module _ (f : List ℕ) where
   applies r e = first-found f (rows f) r e
 
   applied : (r : Row) → Applies f r → firstBroken f (rows f) ≡ some r
-  applied r a = ap (firstBroken f) (a .placed) ∙ found-first f (a .before) r (a .after) (a .here) (a .earlier)
+  applied r a =
+      ap (firstBroken f) (a .placed) ∙ found-first f (a .before) r (a .after) (a .here) (a .earlier)
 
   -- a row's refusal is given exactly if the row applies
   pub refused-exactly : (r : Row) → (parse f ≡ Parsed.refused (number r) (place r)) ↔ Applies f r
   unfolding parse
-  refused-exactly r = (λ e. applies r (refused-row (firstBroken f (rows f)) r e), λ a. ap (parsed f) (applied r a))
+  refused-exactly r =
+      (λ e. applies r (refused-row (firstBroken f (rows f)) r e), λ a. ap (parsed f) (applied r a))
 
   -- a file is accepted exactly if no row applies
-  pub accepted-exactly : (parse f ≡ Parsed.accepted (blocksFrom f (blockCount f) 0 0)) ↔ ((r : Row) → Applies f r → ⊥)
+  pub accepted-exactly : (parse f ≡ Parsed.accepted (blocksFrom f (blockCount f) 0 0)) ↔
+      ((r : Row) → Applies f r → ⊥)
   unfolding parse
-  accepted-exactly = (λ e r a. clash (sym e ∙ ap (parsed f) (applied r a)), λ never. go (firstBroken f (rows f)) refl never)
+  accepted-exactly = (
+    λ e r a. clash (sym e ∙ ap (parsed f) (applied r a)),
+    λ never. go (firstBroken f (rows f))
+        refl never,
+  )
     where
       clash : {bs : List Block} {n i : ℕ} → Parsed.accepted bs ≡ Parsed.refused n i → ⊥
       clash e = let z : _≡_ {A = ℕ} 0 1 = cc in omega arith
 
-      go : (o : Option Row) → firstBroken f (rows f) ≡ o → ((r : Row) → Applies f r → ⊥) → parsed f o ≡ Parsed.accepted (blocksFrom f (blockCount f) 0 0)
+      go : (o : Option Row) → firstBroken f (rows f) ≡ o → ((r : Row) → Applies f r → ⊥)
+          → parsed f o ≡ Parsed.accepted (blocksFrom f (blockCount f) 0 0)
       go none e never = refl
       go (some r) e never = absurd (never r (applies r e))
 
   -- and so the check answers with it
-  pub answer-exactly : (r : Row) → (checkAnswer (parse f) ≡ refusal (number r) (place r)) ↔ Applies f r
+  pub answer-exactly : (r : Row)
+      → (checkAnswer (parse f) ≡ refusal (number r) (place r)) ↔ Applies f r
   unfolding checkAnswer
-  answer-exactly r = (λ e. refused-exactly r .0 (unanswer (parse f) e), λ a. ap checkAnswer (refused-exactly r .1 a))
+  answer-exactly r = (
+    λ e. refused-exactly r .0 (unanswer (parse f) e),
+    λ a. ap checkAnswer
+        (refused-exactly r .1 a),
+  )
     where
       unanswer : (p : Parsed) {n i : ℕ} → checkAnswer p ≡ refusal n i → p ≡ Parsed.refused n i
       unanswer (Parsed.refused m j) {n} {i} e =

@@ -16,29 +16,38 @@ use Rattle.file_records.specs.Trailer.{blockCount, instrCount, blockStart}
 use Rattle.file_records.specs.BlockRecord.{lengthOf, countSum}
 use Rattle.file_blocks.specs.Parse.{Block, blockAt, blocksOf, Accepted}
 use Rattle.file_blocks.specs.Read.{recordAt, foundBlock, IsBlock}
-use Rattle.file_blocks.proofs.Accepted.{block-of, length-of, block-found, few-instrs, has-instr, ends-inside, instrs-inside}
+use Rattle.file_blocks.proofs.Accepted.{block-of, length-of, block-found, few-instrs}
+use Rattle.file_blocks.proofs.Accepted.{has-instr, ends-inside, instrs-inside}
 
 -- the reader of block records misses none
-pub missing : (f : List ℕ) → Accepted f → (i : ℕ) → foundBlock f i ≡ FoundBlock.Nothing → blockCount f ≤ i
+pub missing : (f : List ℕ) → Accepted f → (i : ℕ) → foundBlock f i ≡ FoundBlock.Nothing
+    → blockCount f ≤ i
 missing f ok i e =
-    let no : i < blockCount f → ⊥ = λ h. let z : _≡_ {A = ℕ} 0 1 = cc (block-found f (blocksOf f) ok i (omega (arith, length-of f (blocksOf f) ok))) in omega arith in
+    let no : i < blockCount f
+    → ⊥ = λ h. let z : _≡_ {A = ℕ} 0 1 =
+    cc (block-found f (blocksOf f) ok i (omega (arith, length-of f (blocksOf f) ok))) in
+    omega arith in
     omega arith
 
 -- block i is the one of its record
-pub nth-block : (f : List ℕ) (i : ℕ) (d : Block) → i < blockCount f → getD (blocksOf f) i d ≡ blockAt f (blockStart f i) (countSum f i)
+pub nth-block : (f : List ℕ) (i : ℕ) (d : Block) → i < blockCount f
+    → getD (blocksOf f) i d ≡ blockAt f (blockStart f i) (countSum f i)
 unfolding countSum
 nth-block f i d h = rw zero-add at (block-of f (blockCount f) 0 0 i d h refl)
 
 -- what a record that was found says of the file
 module _ (f : List ℕ) (i : ℕ) (b : BlockRecord) (found : foundBlock f i ≡ FoundBlock.At b) where
-  tested : (p q : Bool) (x : BlockRecord) → cond (p && q) (FoundBlock.At x) FoundBlock.Nothing ≡ FoundBlock.At b → (p ≡ true) × (b ≡ x)
+  tested : (p q : Bool) (x : BlockRecord)
+      → cond (p && q) (FoundBlock.At x) FoundBlock.Nothing ≡ FoundBlock.At b → (p ≡ true) × (b ≡ x)
   tested true true x e = (refl, cc)
   tested true false x e = absurd (let z : _≡_ {A = ℕ} 0 1 = cc in omega arith)
   tested false q x e = absurd (let z : _≡_ {A = ℕ} 0 1 = cc in omega arith)
 
   both : (ltb i (blockCount f) ≡ true) × (b ≡ recordAt f (blockStart f i))
   unfolding foundBlock
-  both = tested (ltb i (blockCount f)) (leb (blockStart f i + 16) (length f)) (recordAt f (blockStart f i)) found
+  both =
+      tested (ltb i (blockCount f)) (leb (blockStart f i + 16) (length f))
+      (recordAt f (blockStart f i)) found
 
   pub found-inside : i < blockCount f
   found-inside = ltb-true _ _ (both .0)
@@ -70,5 +79,6 @@ module _ {f : List ℕ} {i : ℕ} {b : BlockRecord} {first : ℕ} (is : IsBlock 
   pub sum-next : (first + b .count) % 2 ^ 64 ≡ countSum f (i + 1)
   unfolding countSum recordAt
   sum-next =
-      let small : first + b .count < 2 ^ 64 = omega (arith, among, few-instrs f (blocksOf f) (is .accepted)) in
+      let small : first + b .count < 2 ^ 64 =
+      omega (arith, among, few-instrs f (blocksOf f) (is .accepted)) in
       mod-eq-of-lt small ∙ rw (is .starts, block-record, add-one i)

@@ -25,22 +25,28 @@ leastKey f (suc i) = keyAt f (blockStart f i) + 1
 rises : (f : List ℕ) (i : ℕ) → keyRises f i ≡ leb (leastKey f i) (keyAt f (blockStart f i))
 unfolding keyRises leastKey
 rises f zero = sym (leb·zero (keyAt f (blockStart f 0)))
-rises f (suc i) = ap (λ (n : ℕ). leb n (keyAt f (blockStart f (suc i)))) (sym (add-one (keyAt f (blockStart f i))))
+rises f (suc i) =
+    ap (λ (n : ℕ). leb n (keyAt f (blockStart f (suc i))))
+    (sym (add-one (keyAt f (blockStart f i))))
 
 -- the rows of the blocks from block i on, where there is one
-next-rows : (n i : ℕ) → i < n → blockRows (n - i) i ≡ Row.block i ∷ Row.order i ∷ blockRows (n - (i + 1)) (i + 1)
+next-rows : (n i : ℕ) → i < n
+    → blockRows (n - i) i ≡ Row.block i ∷ Row.order i ∷ blockRows (n - (i + 1)) (i + 1)
 next-rows n i h =
     let one : n - i ≡ suc (n - (i + 1)) = omega arith in
     rw (one, add-one)
 
-next-instrs : (n i : ℕ) → i < n → instrRows (n - i) i ≡ Row.instr i ∷ instrRows (n - (i + 1)) (i + 1)
+next-instrs : (n i : ℕ) → i < n
+    → instrRows (n - i) i ≡ Row.instr i ∷ instrRows (n - (i + 1)) (i + 1)
 next-instrs n i h =
     let one : n - i ≡ suc (n - (i + 1)) = omega arith in
     rw (one, add-one)
 
-module _ (f : List ℕ) (rest : List Row) (start n i : ℕ) (starts : start ≡ length f - blocksBack f) (inside : i < n) where
+module _ (f : List ℕ) (rest : List Row) (start n i : ℕ) (starts : start ≡ length f - blocksBack f)
+    (inside : i < n) where
   -- block i breaks a rule of its record
-  pub block-broken : blockRight f (start + 16 * i) ≡ false → firstBroken f (blockRows (n - i) i ++ rest) ≡ some (Row.block i)
+  pub block-broken : blockRight f (start + 16 * i) ≡ false
+      → firstBroken f (blockRows (n - i) i ++ rest) ≡ some (Row.block i)
   block-broken e = rw (next-rows n i inside, ← starts, e)
 
   -- block i keeps those, and its key is not above the last
@@ -50,7 +56,8 @@ module _ (f : List ℕ) (rest : List Row) (start n i : ℕ) (starts : start ≡ 
 
   -- block i breaks no rule
   pub block-kept : blockRight f (start + 16 * i) ≡ true → leastKey f i ≤ keyAt f (start + 16 * i)
-      → firstBroken f (blockRows (n - i) i ++ rest) ≡ firstBroken f (blockRows (n - (i + 1)) (i + 1) ++ rest)
+      → firstBroken f (blockRows (n - i) i ++ rest)
+      ≡ firstBroken f (blockRows (n - (i + 1)) (i + 1) ++ rest)
   block-kept e h = rw (next-rows n i inside, ← starts, e, rises f i, ← starts, le-leb _ _ h)
 
 module _ (f : List ℕ) (start i : ℕ) (starts : start ≡ length f - blocksBack f) where
@@ -73,7 +80,8 @@ pub record Blocks (f : List ℕ) (blocks least total i : ℕ) : Type 0 where
   pub key : least ≡ leastKey f i
   pub counts : total ≡ countSum f i
   pub small : total ≤ 65535 * i
-  pub kept : firstBroken f (blockRows (blockCount f) 0 ++ (Row.sum ∷ [])) ≡ firstBroken f (blockRows (blocks - i) i ++ (Row.sum ∷ []))
+  pub kept : firstBroken f (blockRows (blockCount f) 0 ++ (Row.sum ∷ []))
+      ≡ firstBroken f (blockRows (blocks - i) i ++ (Row.sum ∷ []))
 
 module _ (f : List ℕ) (n : ℕ) (all : n ≡ blockCount f) where
   pub blocks-none : Blocks f n 0 0 0
@@ -92,21 +100,26 @@ module _ (f : List ℕ) (n : ℕ) (all : n ≡ blockCount f) where
     none-left = omega arith
 
     -- after the last block, the counts sum to I
-    pub sum-right : countSum f i ≡ instrCount f → firstBroken f (blockRows (n - i) i ++ (Row.sum ∷ [])) ≡ none
+    pub sum-right : countSum f i ≡ instrCount f
+        → firstBroken f (blockRows (n - i) i ++ (Row.sum ∷ [])) ≡ none
     sum-right e = rw (none-left, ← (done ∙ all), eq-eqb _ _ e)
 
     -- or they do not
-    pub sum-wrong : (countSum f i ≡ instrCount f → ⊥) → firstBroken f (blockRows (n - i) i ++ (Row.sum ∷ [])) ≡ some Row.sum
+    pub sum-wrong : (countSum f i ≡ instrCount f → ⊥)
+        → firstBroken f (blockRows (n - i) i ++ (Row.sum ∷ [])) ≡ some Row.sum
     sum-wrong e = rw (none-left, ← (done ∙ all), ne-eqb _ _ e)
 
-module _ (f : List ℕ) (start n i : ℕ) (starts : start ≡ length f - instrsBack f) (inside : i < n) where
-  -- instruction i breaks a rule of its record
-  pub instr-broken : instrRight f (start + 16 * i) ≡ false → firstBroken f (instrRows (n - i) i) ≡ some (Row.instr i)
-  instr-broken e = rw (next-instrs n i inside, ← starts, e)
+module _ (f : List ℕ) (start n i : ℕ) (starts : start ≡ length f - instrsBack f) (inside : i < n)
+  where
+    -- instruction i breaks a rule of its record
+    pub instr-broken : instrRight f (start + 16 * i) ≡ false
+        → firstBroken f (instrRows (n - i) i) ≡ some (Row.instr i)
+    instr-broken e = rw (next-instrs n i inside, ← starts, e)
 
-  -- instruction i breaks none
-  pub instr-kept : instrRight f (start + 16 * i) ≡ true → firstBroken f (instrRows (n - i) i) ≡ firstBroken f (instrRows (n - (i + 1)) (i + 1))
-  instr-kept e = rw (next-instrs n i inside, ← starts, e)
+    -- instruction i breaks none
+    pub instr-kept : instrRight f (start + 16 * i) ≡ true
+        → firstBroken f (instrRows (n - i) i) ≡ firstBroken f (instrRows (n - (i + 1)) (i + 1))
+    instr-kept e = rw (next-instrs n i inside, ← starts, e)
 
 module _ (f : List ℕ) (n : ℕ) (all : n ≡ instrCount f) where
   pub instrs-none : firstBroken f (instrRows (instrCount f) 0) ≡ firstBroken f (instrRows (n - 0) 0)

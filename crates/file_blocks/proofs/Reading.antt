@@ -21,25 +21,30 @@ module _ (f : List ℕ) (i start : ℕ) where
   unfolding foundBlock
   no-block h = simp (le-ltb _ _ h)
 
-  pub no-instr : (addr : ℕ) (thumb : Bool) → instrCount f ≤ i → FoundInstr.Nothing ≡ foundInstr f i addr thumb
+  pub no-instr : (addr : ℕ) (thumb : Bool) → instrCount f ≤ i
+      → FoundInstr.Nothing ≡ foundInstr f i addr thumb
   unfolding foundInstr
   no-instr addr thumb h = simp (le-ltb _ _ h)
 
-  pub block-past : start ≡ length f - blocksBack f → length f < start + 16 * i + 16 → FoundBlock.Nothing ≡ foundBlock f i
+  pub block-past : start ≡ length f - blocksBack f → length f < start + 16 * i + 16
+      → FoundBlock.Nothing ≡ foundBlock f i
   unfolding foundBlock
   block-past e h = rw (← e, lt-leb _ _ h, and-false)
 
-  pub instr-past : (addr : ℕ) (thumb : Bool) → start ≡ length f - instrsBack f → length f < start + 16 * i + 16
+  pub instr-past : (addr : ℕ) (thumb : Bool) → start ≡ length f - instrsBack f
+      → length f < start + 16 * i + 16
       → FoundInstr.Nothing ≡ foundInstr f i addr thumb
   unfolding foundInstr
   instr-past addr thumb e h = rw (← e, lt-leb _ _ h, and-false)
 
-  pub block-there : i < blockCount f → start ≡ length f - blocksBack f → start + 16 * i + 16 ≤ length f
+  pub block-there : i < blockCount f → start ≡ length f - blocksBack f
+      → start + 16 * i + 16 ≤ length f
       → FoundBlock.At (recordAt f (start + 16 * i)) ≡ foundBlock f i
   unfolding foundBlock
   block-there b e h = rw (lt-ltb _ _ b, ← e, le-leb _ _ h)
 
-  pub instr-there : (addr : ℕ) (thumb : Bool) → i < instrCount f → start ≡ length f - instrsBack f → start + 16 * i + 16 ≤ length f
+  pub instr-there : (addr : ℕ) (thumb : Bool) → i < instrCount f → start ≡ length f - instrsBack f
+      → start + 16 * i + 16 ≤ length f
       → FoundInstr.At (timedAt f (start + 16 * i) addr thumb) ≡ foundInstr f i addr thumb
   unfolding foundInstr
   instr-there addr thumb b e h = rw (lt-ltb _ _ b, ← e, le-leb _ _ h)
@@ -54,6 +59,9 @@ module _ (f : List ℕ) (b : BlockRecord) (n : ℕ) (long : n ≡ lengthOf (b .c
   unfolding codeBytes
   code-past e h = rw (e, ← long, lt-leb _ _ h)
 
-  pub code-there : b .present ≡ true → b .offset + n ≤ length f → take (b .offset + n - b .offset) (drop (b .offset) f) ≡ codeBytes f b
+  pub code-there : b .present ≡ true → b .offset + n ≤ length f
+      → take (b .offset + n - b .offset) (drop (b .offset) f) ≡ codeBytes f b
   unfolding codeBytes
-  code-there e h = rw (e, ← long, le-leb _ _ h) (ap (λ (k : ℕ). take k (drop (b .offset) f)) (add-sub-cancel-left (b .offset) n))
+  code-there e h =
+      rw (e, ← long, le-leb _ _ h)
+      (ap (λ (k : ℕ). take k (drop (b .offset) f)) (add-sub-cancel-left (b .offset) n))

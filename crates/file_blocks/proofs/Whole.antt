@@ -1,8 +1,9 @@
--- The whole check: its passes one after the other give the first broken row, and an accepted file has the counts of its trailer.
--- Assumes nothing.
+-- The whole check: its passes one after the other give the first broken row, and an accepted file
+-- has the counts of its trailer. Assumes nothing.
 use mathlib.Core.Path.{_≡_, refl, sym, ap, ap₂, _∙_}
 use mathlib.Core.Bool.{Bool, true, false}
-use mathlib.Core.List.{List, [], _∷_, _++_, append-assoc, append-nil, List·Memᴰ, List·Memᴰ·head, List·Memᴰ·tail, List·Memᴰ·not-nil, List·Memᴰ·cases-cons, Memᴰ·cast}
+use mathlib.Core.List.{List, [], _∷_, _++_, append-assoc, append-nil, List·Memᴰ, List·Memᴰ·head}
+use mathlib.Core.List.{List·Memᴰ·tail, List·Memᴰ·not-nil, List·Memᴰ·cases-cons, Memᴰ·cast}
 use mathlib.Core.Logic.{_⊎_, inl, inr}
 use mathlib.Core.Option.{Option, none, some}
 use Prim.Native.Nat.{ℕ, zero, suc, _+_, _≤_, _<_}
@@ -13,10 +14,13 @@ use lib.ListN.{length}
 use Rattle.file_blocks.specs.declared.refusal.Checked.{Checked}
 use Rattle.file_blocks.specs.declared.refusal.Found.{Found}
 use Rattle.file_blocks.specs.Answer.{checkedOf}
-use Rattle.file_records.specs.Trailer.{blockCount, instrCount, blockStart, withinLimits, trailerRight}
+use Rattle.file_records.specs.Trailer.{blockCount, instrCount, blockStart, withinLimits}
+use Rattle.file_records.specs.Trailer.{trailerRight}
 use Rattle.file_records.specs.BlockRecord.{countAt, countSum}
-use Rattle.file_blocks.specs.Refusal.{Row, broken, pick, firstBroken, blockRows, instrRows, found}
-use Rattle.file_blocks.specs.Parse.{Parsed, instrsFrom, blockAt, blocksFrom, parsed, parse, instrTotal, checkAnswer}
+use Rattle.file_blocks.specs.Refusal.{Row, broken, pick, firstBroken, blockRows, instrRows}
+use Rattle.file_blocks.specs.Refusal.{found}
+use Rattle.file_blocks.specs.Parse.{Parsed, instrsFrom, blockAt, blocksFrom, parsed, parse}
+use Rattle.file_blocks.specs.Parse.{instrTotal, checkAnswer}
 
 -- the answer to a file as the code makes it
 unfoldable pub checked : Parsed → Checked
@@ -47,11 +51,14 @@ one-more f false r o later other e = e
 
 -- what two names of rows say together
 passes : (f : List ℕ) (xs ys : List Row)
-    → orElse (found (firstBroken f xs)) (checked (parsed f (firstBroken f ys))) ≡ checked (parsed f (firstBroken f (xs ++ ys)))
+    → orElse (found (firstBroken f xs)) (checked (parsed f (firstBroken f ys)))
+    ≡ checked (parsed f (firstBroken f (xs ++ ys)))
 passes f [] ys = refl
-passes f (r ∷ xs) ys = one-more f (broken f r) r (firstBroken f xs) (firstBroken f (xs ++ ys)) _ (passes f xs ys)
+passes f (r ∷ xs) ys =
+    one-more f (broken f r) r (firstBroken f xs) (firstBroken f (xs ++ ys)) _ (passes f xs ys)
 
-pub length-instrs : (f : List ℕ) (n k addr : ℕ) (thumb : Bool) → length (instrsFrom f n k addr thumb) ≡ n
+pub length-instrs : (f : List ℕ) (n k addr : ℕ) (thumb : Bool)
+    → length (instrsFrom f n k addr thumb) ≡ n
 length-instrs f zero k addr thumb = refl
 length-instrs f (suc n) k addr thumb = ap suc (length-instrs f n (suc k) _ thumb)
 
@@ -61,7 +68,8 @@ length-blocks f zero i k = refl
 length-blocks f (suc n) i k = ap suc (length-blocks f n (suc i) _)
 
 -- the instructions of n blocks from block i on, with the counts before them
-pub total-blocks : (f : List ℕ) (n i k : ℕ) → countSum f i + instrTotal (blocksFrom f n i k) ≡ countSum f (i + n)
+pub total-blocks : (f : List ℕ) (n i k : ℕ)
+    → countSum f i + instrTotal (blocksFrom f n i k) ≡ countSum f (i + n)
 unfolding blocksFrom instrTotal countSum blockAt
 total-blocks f zero i k = rw (add-zero (countSum f i), add-zero)
 total-blocks f (suc n) i k =
@@ -78,22 +86,32 @@ none-rest true r o e = absurd (let z : _≡_ {A = ℕ} 0 1 = cc in omega arith)
 none-rest false r o e = e
 
 -- where no row is broken, each is kept
-pub each-kept : (f : List ℕ) (xs : List Row) (r : Row) → firstBroken f xs ≡ none → List·Memᴰ r xs → broken f r ≡ false
+pub each-kept : (f : List ℕ) (xs : List Row) (r : Row) → firstBroken f xs ≡ none → List·Memᴰ r xs
+    → broken f r ≡ false
 each-kept f [] r e m = absurd (List·Memᴰ·not-nil m)
-each-kept f (x ∷ xs) r e m = go (each-kept f xs r (none-rest (broken f x) x (firstBroken f xs) e)) (List·Memᴰ·cases-cons m)
+each-kept f (x ∷ xs) r e m =
+    go (each-kept f xs r (none-rest (broken f x) x (firstBroken f xs) e)) (List·Memᴰ·cases-cons m)
   where
     go : (List·Memᴰ r xs → broken f r ≡ false) → (r ≡ x) ⊎ List·Memᴰ r xs → broken f r ≡ false
     go rest (inl same) = ap (broken f) same ∙ none-first (broken f x) x (firstBroken f xs) e
     go rest (inr m′) = rest m′
 
 -- each block and each instruction has its rows
-pub block-rows : (n i j : ℕ) → j < n → List·Memᴰ (Row.block (i + j)) (blockRows n i) × List·Memᴰ (Row.order (i + j)) (blockRows n i)
+pub block-rows : (n i j : ℕ) → j < n
+    → List·Memᴰ (Row.block (i + j)) (blockRows n i) × List·Memᴰ (Row.order (i + j)) (blockRows n i)
 block-rows zero i j h = absurd (not-suc-le-zero h)
-block-rows (suc n) i zero h = (List·Memᴰ·head (ap Row.block (add-zero i)), List·Memᴰ·tail (List·Memᴰ·head (ap Row.order (add-zero i))))
+block-rows (suc n) i zero h = (
+  List·Memᴰ·head (ap Row.block (add-zero i)),
+  List·Memᴰ·tail
+      (List·Memᴰ·head (ap Row.order (add-zero i))),
+)
 block-rows (suc n) i (suc j) h =
     let m = block-rows n (suc i) j (le-of-suc-le-suc h) in
-    let same : i + suc j ≡ suc i + j = omega arith in
-    (List·Memᴰ·tail (List·Memᴰ·tail (Memᴰ·cast (ap Row.block same) (m .0))), List·Memᴰ·tail (List·Memᴰ·tail (Memᴰ·cast (ap Row.order same) (m .1))))
+    let same : i + suc j ≡ suc i + j = omega arith in (
+      List·Memᴰ·tail (List·Memᴰ·tail (Memᴰ·cast (ap Row.block same) (m .0))),
+      List·Memᴰ·tail
+          (List·Memᴰ·tail (Memᴰ·cast (ap Row.order same) (m .1))),
+    )
 
 pub instr-rows : (n i j : ℕ) → j < n → List·Memᴰ (Row.instr (i + j)) (instrRows n i)
 instr-rows zero i j h = absurd (not-suc-le-zero h)
@@ -111,7 +129,9 @@ found-none none e = refl
 found-none (some r) e = absurd (let z : _≡_ {A = ℕ} 0 1 = cc in omega arith)
 
 module _ (f : List ℕ) where
-  last-pass : (ys : List Row) → orElse (found (firstBroken f ys)) (checked (parsed f none)) ≡ checked (parsed f (firstBroken f ys))
+  last-pass : (ys : List Row)
+      → orElse (found (firstBroken f ys)) (checked (parsed f none))
+      ≡ checked (parsed f (firstBroken f ys))
   last-pass ys = rw append-nil at (passes f ys [])
 
   pub too-short : length f < 32 → Checked.Refused 1 0 ≡ checked (parse f)
@@ -123,19 +143,24 @@ module _ (f : List ℕ) where
     unfolding parse checked
     over-limits e = simp (le-leb _ _ long, e)
 
-    pub wrong-trailer : withinLimits f ≡ true → trailerRight f ≡ false → Checked.Refused 3 0 ≡ checked (parse f)
+    pub wrong-trailer : withinLimits f ≡ true → trailerRight f ≡ false
+        → Checked.Refused 3 0 ≡ checked (parse f)
     unfolding parse checked
     wrong-trailer e h = simp (le-leb _ _ long, e, h)
 
-    -- with a right trailer, the pass over the blocks decides, and then the one over the instructions
+    -- with a right trailer, the pass over the blocks decides, and then the one over the
+    -- instructions
     in-passes : withinLimits f ≡ true → trailerRight f ≡ true
         → orElse (found (firstBroken f (blockRows (blockCount f) 0 ++ (Row.sum ∷ []))))
-        (orElse (found (firstBroken f (instrRows (instrCount f) 0))) (checked (parsed f none))) ≡ checked (parse f)
+        (orElse (found (firstBroken f (instrRows (instrCount f) 0))) (checked (parsed f none)))
+        ≡ checked (parse f)
     unfolding parse
     in-passes e h =
-        ap (orElse (found (firstBroken f (blockRows (blockCount f) 0 ++ (Row.sum ∷ []))))) (last-pass (instrRows (instrCount f) 0))
+        ap (orElse (found (firstBroken f (blockRows (blockCount f) 0 ++ (Row.sum ∷ [])))))
+        (last-pass (instrRows (instrCount f) 0))
         ∙ passes f (blockRows (blockCount f) 0 ++ (Row.sum ∷ [])) (instrRows (instrCount f) 0)
-        ∙ ap (λ (l : List Row). checked (parsed f (firstBroken f l))) (append-assoc (blockRows (blockCount f) 0) (Row.sum ∷ []) (instrRows (instrCount f) 0))
+        ∙ ap (λ (l : List Row). checked (parsed f (firstBroken f l)))
+        (append-assoc (blockRows (blockCount f) 0) (Row.sum ∷ []) (instrRows (instrCount f) 0))
         ∙ sym (simp (le-leb _ _ long, e, h))
 
   -- a file whose blocks pass has the counts of its trailer
@@ -143,19 +168,30 @@ module _ (f : List ℕ) where
       → Checked.Accepted (blockCount f) (instrCount f) ≡ checked (parsed f none)
   unfolding countSum checked
   counts clean =
-      let sums : countSum f (blockCount f) ≡ instrCount f = eqb-true _ _ (not-false _ (each-kept f (blockRows (blockCount f) 0 ++ (Row.sum ∷ [])) Row.sum (found-none _ clean) (sum-last (blockRows (blockCount f) 0)))) in
-      let total : instrTotal (blocksFrom f (blockCount f) 0 0) ≡ countSum f (blockCount f) = sym (zero-add _) ∙ total-blocks f (blockCount f) 0 0 ∙ ap (countSum f) (zero-add (blockCount f)) in
+      let sums : countSum f (blockCount f)
+      ≡ instrCount f =
+      eqb-true _ _
+      (not-false _
+      (each-kept f (blockRows (blockCount f) 0 ++ (Row.sum ∷ [])) Row.sum (found-none _ clean)
+      (sum-last (blockRows (blockCount f) 0)))) in
+      let total : instrTotal (blocksFrom f (blockCount f) 0 0)
+      ≡ countSum f (blockCount f) = sym (zero-add _) ∙ total-blocks f (blockCount f) 0 0
+      ∙ ap (countSum f) (zero-add (blockCount f)) in
       ap₂ Checked.Accepted (sym (length-blocks f (blockCount f) 0 0)) (sym (total ∙ sums))
 
   -- what the answers of the two passes say of the whole
   module _ (long : 32 ≤ length f) (few : withinLimits f ≡ true) (right : trailerRight f ≡ true)
-      (r : Found) (blocks : r ≡ found (firstBroken f (blockRows (blockCount f) 0 ++ (Row.sum ∷ [])))) where
+      (r : Found)
+      (blocks : r ≡ found (firstBroken f (blockRows (blockCount f) 0 ++ (Row.sum ∷ [])))) where
     pub blocks-refused : (n i : ℕ) → r ≡ Found.Row n i → Checked.Refused n i ≡ checked (parse f)
     blocks-refused n i e = rw (← blocks, e) at (in-passes long few right)
 
-    module _ (e : r ≡ Found.Nothing) (q : Found) (instrs : q ≡ found (firstBroken f (instrRows (instrCount f) 0))) where
+    module _ (e : r ≡ Found.Nothing) (q : Found)
+        (instrs : q ≡ found (firstBroken f (instrRows (instrCount f) 0))) where
       pub instrs-refused : (n i : ℕ) → q ≡ Found.Row n i → Checked.Refused n i ≡ checked (parse f)
       instrs-refused n i g = rw (← blocks, e, ← instrs, g) at (in-passes long few right)
 
-      pub all-kept : q ≡ Found.Nothing → Checked.Accepted (blockCount f) (instrCount f) ≡ checked (parse f)
-      all-kept g = counts (sym e ∙ blocks) ∙ (rw (← blocks, e, ← instrs, g) at (in-passes long few right))
+      pub all-kept : q ≡ Found.Nothing
+          → Checked.Accepted (blockCount f) (instrCount f) ≡ checked (parse f)
+      all-kept g =
+          counts (sym e ∙ blocks) ∙ (rw (← blocks, e, ← instrs, g) at (in-passes long few right))

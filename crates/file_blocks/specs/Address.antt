@@ -12,7 +12,8 @@ page addr = addr / 2 ^ 24
 abbrev pub region : ℕ → ℕ
 region addr = page addr % 16
 
--- outside regions 0 and 8, that is outside BIOS and ROM: the code there can change, so it stands after a guard
+-- outside regions 0 and 8, that is outside BIOS and ROM: the code there can change, so it stands
+-- after a guard
 unfoldable pub outsideRomBios : ℕ → Bool
 outsideRomBios addr = not (eqb (region addr) 8 || eqb (region addr) 0)
 

@@ -1,4 +1,5 @@
--- Files that compute: document 01's three blocks are accepted, and for each row of the table a file that it refuses.
+-- Files that compute: document 01's three blocks are accepted, and for each row of the table a file
+-- that it refuses.
 use Prim.Native.Nat.{ℕ}
 use mathlib.Core.Path.{_≡_, refl}
 use mathlib.Core.List.{List, [], _∷_, _++_}
@@ -46,5 +47,7 @@ Each [] = Unit {0}
 Each ((f, a) ∷ more) = (checkAnswer (parse f) ≡ a) × Each more
 
 small-files : Each cases
-unfolding Each cases threeBlocks checkAnswer parse blocksFrom blockAt instrTotal trailerWord withinLimits trailerRight aligned codeRight blockRight keyRises countSum largest within evenFields instrRight
+unfolding Each cases threeBlocks checkAnswer parse blocksFrom blockAt instrTotal trailerWord
+    withinLimits trailerRight aligned codeRight blockRight keyRises countSum largest within
+    evenFields instrRight
 small-files = (refl, (refl, (refl, (refl, (refl, (refl, (refl, (refl, tt))))))))

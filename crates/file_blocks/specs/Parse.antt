@@ -9,11 +9,13 @@ use Rattle.armv4t.specs.Instr.{sizeOf}
 use Rattle.file_instrs.specs.declared.decode.TimedInstr.{TimedInstr}
 use Rattle.file_blocks.specs.Answer.{Answer, refusal, value, Counts}
 use Rattle.file_records.specs.Trailer.{blockCount, blockStart, instrStart}
-use Rattle.file_records.specs.BlockRecord.{addrAt, countAt, codeOffsetAt, thumbAt, presentAt, lengthAt, keyPlus}
+use Rattle.file_records.specs.BlockRecord.{addrAt, countAt, codeOffsetAt, thumbAt, presentAt}
+use Rattle.file_records.specs.BlockRecord.{lengthAt, keyPlus}
 use Rattle.file_instrs.specs.Decode.{timedAt}
 use Rattle.file_blocks.specs.Refusal.{Row, number, place, firstBroken, rows}
 
--- a block: its address, whether it is Thumb, its code bytes or their absence, its instructions with their costs
+-- a block: its address, whether it is Thumb, its code bytes or their absence, its instructions with
+-- their costs
 pub record Block : Type 0 where
   pub addr : ℕ
   pub thumb : Bool
@@ -27,7 +29,8 @@ blockKey b = keyPlus (b .addr) (b .thumb)
 -- n instructions of a file from record k on, at consecutive addresses
 abbrev pub instrsFrom : List ℕ → ℕ → ℕ → ℕ → Bool → List TimedInstr
 instrsFrom f zero k addr thumb = []
-instrsFrom f (suc n) k addr thumb = timedAt f (instrStart f k) addr thumb ∷ instrsFrom f n (suc k) (addr + sizeOf thumb) thumb
+instrsFrom f (suc n) k addr thumb =
+    timedAt f (instrStart f k) addr thumb ∷ instrsFrom f n (suc k) (addr + sizeOf thumb) thumb
 
 -- n bytes of the file from an offset on, or those up to its end where it has fewer
 abbrev pub slice : List ℕ → ℕ → ℕ → List ℕ
@@ -50,7 +53,8 @@ blockAt f at k =
 -- n blocks of a file from block i on, whose instructions are those from record k on
 unfoldable pub blocksFrom : List ℕ → ℕ → ℕ → ℕ → List Block
 blocksFrom f zero i k = []
-blocksFrom f (suc n) i k = blockAt f (blockStart f i) k ∷ blocksFrom f n (suc i) (k + countAt f (blockStart f i))
+blocksFrom f (suc n) i k =
+    blockAt f (blockStart f i) k ∷ blocksFrom f n (suc i) (k + countAt f (blockStart f i))
 
 -- the blocks that a file's records say
 abbrev pub blocksOf : List ℕ → List Block

@@ -1,5 +1,6 @@
--- Single records by number, and code bytes by offset and length, whether or not the file is accepted. A record that the trailer does not count, or
--- that does not lie inside the file, is Nothing; code bytes that are absent, or do not lie inside it, are the empty list.
+-- Single records by number, and code bytes by offset and length, whether or not the file is
+-- accepted. A record that the trailer does not count, or that does not lie inside the file, is
+-- Nothing; code bytes that are absent, or do not lie inside it, are the empty list.
 use Prim.Native.Nat.{ℕ, _+_}
 use mathlib.Core.Path.{_≡_}
 use mathlib.Core.Bool.{Bool, cond, _&&_}
@@ -10,7 +11,8 @@ use Rattle.file_blocks.specs.declared.read.BlockRecord.{BlockRecord}
 use Rattle.file_blocks.specs.declared.read.FoundBlock.{FoundBlock}
 use Rattle.file_blocks.specs.declared.read.FoundInstr.{FoundInstr}
 use Rattle.file_records.specs.Trailer.{blockCount, instrCount, blockStart, instrStart}
-use Rattle.file_records.specs.BlockRecord.{addrAt, countAt, codeOffsetAt, thumbAt, presentAt, lengthOf, countSum}
+use Rattle.file_records.specs.BlockRecord.{addrAt, countAt, codeOffsetAt, thumbAt, presentAt}
+use Rattle.file_records.specs.BlockRecord.{lengthOf, countSum}
 use Rattle.file_instrs.specs.Decode.{timedAt}
 use Rattle.file_blocks.specs.Parse.{slice, Accepted}
 
@@ -28,24 +30,29 @@ recordAt f at =
 -- block record i, where the trailer counts it and it lies inside the file
 unfoldable pub foundBlock : List ℕ → ℕ → FoundBlock
 foundBlock f i =
-    cond (ltb i (blockCount f) && leb (blockStart f i + 16) (length f)) (FoundBlock.At (recordAt f (blockStart f i)))
+    cond (ltb i (blockCount f) && leb (blockStart f i + 16) (length f))
+    (FoundBlock.At (recordAt f (blockStart f i)))
     FoundBlock.Nothing
 
--- instruction record i as the instruction at an address of a block, where the trailer counts it and it lies inside the file
+-- instruction record i as the instruction at an address of a block, where the trailer counts it and
+-- it lies inside the file
 unfoldable pub foundInstr : List ℕ → ℕ → ℕ → Bool → FoundInstr
 foundInstr f i addr thumb =
     cond (ltb i (instrCount f) && leb (instrStart f i + 16) (length f))
     (FoundInstr.At (timedAt f (instrStart f i) addr thumb))
     FoundInstr.Nothing
 
--- the bytes at a block record's offset, of the block's length; none where they are absent or run past the file's end
+-- the bytes at a block record's offset, of the block's length; none where they are absent or run
+-- past the file's end
 unfoldable pub codeBytes : List ℕ → BlockRecord → List ℕ
 codeBytes f b =
     cond (b .present)
-    (cond (leb (b .offset + lengthOf (b .count) (b .thumb)) (length f)) (slice f (b .offset) (lengthOf (b .count) (b .thumb))) [])
+    (cond (leb (b .offset + lengthOf (b .count) (b .thumb)) (length f))
+    (slice f (b .offset) (lengthOf (b .count) (b .thumb))) [])
     []
 
--- block i of an accepted file, as a pass over the records has it: its record, and the number of its first instruction
+-- block i of an accepted file, as a pass over the records has it: its record, and the number of its
+-- first instruction
 pub record IsBlock (f : List ℕ) (i : ℕ) (b : BlockRecord) (first : ℕ) : Type 0 where
   pub accepted : Accepted f
   pub found : foundBlock f i ≡ FoundBlock.At b

@@ -1,4 +1,5 @@
--- The refusal table of a file: its rows in the order of their places, and the first whose rule is broken.
+-- The refusal table of a file: its rows in the order of their places, and the first whose rule is
+-- broken.
 use Prim.Native.Nat.{ℕ, zero, suc}
 use mathlib.Core.Bool.{Bool, true, false, not}
 use mathlib.Core.Path.{_≡_}
@@ -6,7 +7,8 @@ use mathlib.Core.List.{List, [], _∷_, _++_, List·Memᴰ}
 use mathlib.Core.Option.{Option, none, some}
 use lib.Dec.{eqb}
 use Rattle.file_blocks.specs.declared.refusal.Found.{Found}
-use Rattle.file_records.specs.Trailer.{hasTrailer, withinLimits, trailerRight, blockCount, instrCount, blockStart, instrStart}
+use Rattle.file_records.specs.Trailer.{hasTrailer, withinLimits, trailerRight, blockCount}
+use Rattle.file_records.specs.Trailer.{instrCount, blockStart, instrStart}
 use Rattle.file_records.specs.BlockRecord.{blockRight, keyRises, countSum}
 use Rattle.file_instrs.specs.InstrRecord.{instrRight}
 
@@ -79,7 +81,8 @@ abbrev pub found : Option Row → Found
 found none = Found.Nothing
 found (some r) = Found.Row (number r) (place r)
 
--- the first of some rows whose rule is broken, as a fact: it stands among them, its rule is broken, and that of no earlier one is
+-- the first of some rows whose rule is broken, as a fact: it stands among them, its rule is broken,
+-- and that of no earlier one is
 pub record First (f : List ℕ) (xs : List Row) (r : Row) : Type 0 where
   pub before : List Row
   pub after : List Row

@@ -1,5 +1,6 @@
-// Readers that lean on no check. Records are read by number: the answer is Nothing where the trailer counts no such record, or it does not lie
-// inside the file. Code bytes are read by offset and length: an empty slice where they are absent, or do not lie inside the file.
+// Readers that lean on no check. Records are read by number: the answer is Nothing where the
+// trailer counts no such record, or it does not lie inside the file. Code bytes are read by offset
+// and length: an empty slice where they are absent, or do not lie inside the file.
 use file_instrs::decode::TimedInstr;
 use file_instrs::decode::timed_instr;
 use file_records::block_record::addr;
@@ -26,7 +27,8 @@ pub struct BlockRecord {
     pub present: bool,
     // How many instructions it has.
     pub count: u32,
-    // The offset of its code bytes from the file's start. In an accepted file it is 0 where they are absent.
+    // The offset of its code bytes from the file's start. In an accepted file it is 0 where they
+    // are absent.
     pub offset: u32,
 }
 
@@ -91,7 +93,8 @@ pub fn instr_at(file: &[u8], i: usize, address: u32, is_thumb: bool) -> FoundIns
     FoundInstr::At(timed_instr(file, at, address, is_thumb))
 }
 
-// The slice of the file at a block record's offset, of the block's length; empty where the bytes are absent or run past the file's end.
+// The slice of the file at a block record's offset, of the block's length; empty where the bytes
+// are absent or run past the file's end.
 pub fn code_bytes(file: &[u8], block: BlockRecord) -> &[u8]
     ensures { λ r. ⌜ now r ≡ codeBytes (now (file .entry)) block ⌝ }
 {

@@ -1,5 +1,5 @@
--- What a test that antt computes shows of each number below a bound, and of those that no arm of a match has.
--- Assumes nothing.
+-- What a test that antt computes shows of each number below a bound, and of those that no arm of a
+-- match has. Assumes nothing.
 use mathlib.Core.Path.{_≡_, refl, ap₂}
 use mathlib.Core.Bool.{Bool, true, false, _&&_, _||_}
 use mathlib.Core.Logic.{⊎-elim}
@@ -29,7 +29,8 @@ each test (suc n) = test n && each test n
 pub below : (test : ℕ → Bool) (end : ℕ) {n : ℕ} → T (each test end) → n < end → T (test n)
 below test zero t h = absurd (not-suc-le-zero h)
 below test (suc end) t h =
-    ⊎-elim (λ e. rw e (and-yes (test end) (each test end) t .0)) (below test end (and-yes (test end) (each test end) t .1))
+    ⊎-elim (λ e. rw e (and-yes (test end) (each test end) t .0))
+    (below test end (and-yes (test end) (each test end) t .1))
     (eq-or-lt-of-le (le-of-suc-le-suc h))
 
 -- two lists of the same numbers
@@ -47,10 +48,13 @@ alike→eq (x ∷ xs) (y ∷ ys) t =
     let both = and-yes (eqb x y) (alike xs ys) t in
     ap₂ _∷_ (eqb→eq x y (both .0)) (alike→eq xs ys (both .1))
 
-passes : (test : ℕ → Bool) (arms : List (List ℕ)) (n : ℕ) → T (keyOr test arms n) → None arms n → T (test n)
+passes : (test : ℕ → Bool) (arms : List (List ℕ)) (n : ℕ) → T (keyOr test arms n) → None arms n
+    → T (test n)
 passes test [] n t none = t
 passes test (keys ∷ arms) n t none =
-    ⊎-elim (λ k. absurd (none .1 (hit keys n k))) (λ r. passes test arms n r (none .0)) (or-yes (hasKey keys n) (keyOr test arms n) t)
+    ⊎-elim (λ k. absurd (none .1 (hit keys n k))) (λ r. passes test arms n r (none .0))
+    (or-yes (hasKey keys n) (keyOr test arms n) t)
 
-pub default : (test : ℕ → Bool) (arms : List (List ℕ)) (end : ℕ) {n : ℕ} → T (each (keyOr test arms) end) → n < end → None arms n → T (test n)
+pub default : (test : ℕ → Bool) (arms : List (List ℕ)) (end : ℕ) {n : ℕ}
+    → T (each (keyOr test arms) end) → n < end → None arms n → T (test n)
 default test arms end {n} t h none = passes test arms n (below (keyOr test arms) end t h) none

@@ -26,7 +26,8 @@ bitAt f at k = eqb (byteAt f at / 2 ^ k % 2) 1
 -- the shift of a register operand: by an amount in form 1, by a register in form 2
 abbrev pub shiftAt : List ℕ → ℕ → Shift
 shiftAt f at =
-    cond (eqb (byteAt f (at + 8)) 1) (Shift.Imm (shiftKindOf (byteAt f (at + 10) % 4)) (byteAt f (at + 11)))
+    cond (eqb (byteAt f (at + 8)) 1)
+    (Shift.Imm (shiftKindOf (byteAt f (at + 10) % 4)) (byteAt f (at + 11)))
     (Shift.Reg (shiftKindOf (byteAt f (at + 10) % 4)) (byteAt f (at + 11)))
 
 -- the second operand of an Alu record: a value in form 0
@@ -47,30 +48,36 @@ widthOf n = getD (MemWidth.Byte ∷ MemWidth.Half ∷ MemWidth.Word ∷ []) n Me
 
 -- an Alu record: operation, s, rd, rn, second operand
 unfoldable pub aluAt : List ℕ → ℕ → Op
-aluAt f at = Op.Alu (aluOpOf (byteAt f (at + 4) % 16)) (flagAt f (at + 5)) (byteAt f (at + 6)) (byteAt f (at + 7)) (operandAt f at)
+aluAt f at =
+    Op.Alu (aluOpOf (byteAt f (at + 4) % 16)) (flagAt f (at + 5)) (byteAt f (at + 6))
+    (byteAt f (at + 7)) (operandAt f at)
 
 -- a Mul record: acc, s, rd, rn, rs, rm
 unfoldable pub mulAt : List ℕ → ℕ → Op
 mulAt f at =
-    Op.Mul (flagAt f (at + 4)) (flagAt f (at + 5)) (byteAt f (at + 6)) (byteAt f (at + 7)) (byteAt f (at + 8))
+    Op.Mul (flagAt f (at + 4)) (flagAt f (at + 5)) (byteAt f (at + 6)) (byteAt f (at + 7))
+    (byteAt f (at + 8))
     (byteAt f (at + 9))
 
 -- a MulLong record: signed, acc, s, rd_hi, rd_lo, rs, rm
 unfoldable pub mulLongAt : List ℕ → ℕ → Op
 mulLongAt f at =
-    Op.MulLong (flagAt f (at + 4)) (flagAt f (at + 5)) (flagAt f (at + 6)) (byteAt f (at + 7)) (byteAt f (at + 8))
+    Op.MulLong (flagAt f (at + 4)) (flagAt f (at + 5)) (flagAt f (at + 6)) (byteAt f (at + 7))
+    (byteAt f (at + 8))
     (byteAt f (at + 9)) (byteAt f (at + 10))
 
 -- a Mem record: load, width, signed, rd, rn, offset, pre, up, writeback
 unfoldable pub memAt : List ℕ → ℕ → Op
 memAt f at =
-    Op.Mem (bitAt f (at + 4) 0) (widthOf (byteAt f (at + 5))) (bitAt f (at + 4) 1) (byteAt f (at + 6)) (byteAt f (at + 7))
+    Op.Mem (bitAt f (at + 4) 0) (widthOf (byteAt f (at + 5))) (bitAt f (at + 4) 1)
+    (byteAt f (at + 6)) (byteAt f (at + 7))
     (memOffsetAt f at) (bitAt f (at + 4) 2) (bitAt f (at + 4) 3) (bitAt f (at + 4) 4)
 
 -- a BlockMem record: load, rn, rlist, pre, up, s_bit, writeback
 unfoldable pub blockMemAt : List ℕ → ℕ → Op
 blockMemAt f at =
-    Op.BlockMem (bitAt f (at + 4) 0) (byteAt f (at + 6)) (halfAt f (at + 12)) (bitAt f (at + 4) 1) (bitAt f (at + 4) 2)
+    Op.BlockMem (bitAt f (at + 4) 0) (byteAt f (at + 6)) (halfAt f (at + 12)) (bitAt f (at + 4) 1)
+    (bitAt f (at + 4) 2)
     (bitAt f (at + 4) 3) (bitAt f (at + 4) 4)
 
 -- the operation of a kind that leaves its bytes free, with the value 0 in every field
@@ -104,6 +111,13 @@ opAt f at = getD (opsAt f at) (byteAt f at) (freeOp (byteAt f at))
 unfoldable pub timedAt : List ℕ → ℕ → ℕ → Bool → TimedInstr
 timedAt f at addr thumb =
     record {
-      instr = record { addr = addr; cond = condOf (byteAt f (at + 1) % 16); op = opAt f at; thumb = thumb };
+      instr =
+          record {
+            addr = addr;
+            cond = condOf (byteAt f (at + 1) % 16);
+            op = opAt f at;
+            thumb =
+                thumb;
+          };
       cost = halfAt f (at + 2);
     }

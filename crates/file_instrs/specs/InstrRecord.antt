@@ -1,4 +1,5 @@
--- An instruction record: 16 bytes at an offset of the file, and the rules that hold of one (refusal 7).
+-- An instruction record: 16 bytes at an offset of the file, and the rules that hold of one (refusal
+-- 7).
 use Prim.Native.Nat.{ℕ, zero, suc, _+_, _/_, _%_}
 use mathlib.Core.Bool.{Bool, true, cond, _&&_}
 use mathlib.Core.List.{List, [], _∷_, _++_}
@@ -24,13 +25,18 @@ byForm form value amount register = getD (value ∷ amount ∷ register ∷ []) 
 
 -- bytes 4 to 15 of a kind that leaves them free
 abbrev pub free : List ℕ
-free = maxByte ∷ maxByte ∷ maxByte ∷ maxByte ∷ maxByte ∷ maxByte ∷ maxByte ∷ maxByte ∷ maxByte ∷ maxByte ∷ maxByte ∷ maxByte ∷ []
+free =
+    maxByte ∷ maxByte ∷ maxByte ∷ maxByte ∷ maxByte ∷ maxByte ∷ maxByte ∷ maxByte ∷ maxByte
+    ∷ maxByte ∷ maxByte ∷ maxByte ∷ []
 
--- the largest value of each of bytes 4 to 15, kind by kind: operations, flags, registers, forms, shift kinds, amounts, and 0 for what must be zero
+-- the largest value of each of bytes 4 to 15, kind by kind: operations, flags, registers, forms,
+-- shift kinds, amounts, and 0 for what must be zero
 abbrev pub byKind : ℕ → List (List ℕ)
 byKind form =
     -- Alu: operation, s, rd, rn, form, ror or rm, shift kind, amount or rs, value
-    byForm form (15 ∷ maxFlag ∷ maxReg ∷ maxReg ∷ 0 ∷ 30 ∷ 0 ∷ 0 ∷ maxByte ∷ maxByte ∷ maxByte ∷ maxByte ∷ [])
+    byForm form
+    (15 ∷ maxFlag ∷ maxReg ∷ maxReg ∷ 0 ∷ 30 ∷ 0 ∷ 0 ∷ maxByte ∷ maxByte ∷ maxByte ∷ maxByte
+    ∷ [])
     (15 ∷ maxFlag ∷ maxReg ∷ maxReg ∷ 1 ∷ maxReg ∷ 3 ∷ 31 ∷ 0 ∷ 0 ∷ 0 ∷ 0 ∷ [])
     (15 ∷ maxFlag ∷ maxReg ∷ maxReg ∷ 2 ∷ maxReg ∷ 3 ∷ maxReg ∷ 0 ∷ 0 ∷ 0 ∷ 0 ∷ [])
     -- Mul: acc, s, rd, rn, rs, rm
@@ -64,7 +70,8 @@ fields kind form = getD (byKind form) kind free
 unfoldable pub largest : ℕ → ℕ → List ℕ
 largest kind form = 14 ∷ 15 ∷ maxByte ∷ maxByte ∷ fields kind form
 
--- the rows of the numbers below n one after another; a row's number has the kind as its last digit and the form before it
+-- the rows of the numbers below n one after another; a row's number has the kind as its last digit
+-- and the form before it
 unfoldable pub rowsTo : ℕ → List ℕ
 rowsTo zero = []
 rowsTo (suc n) = rowsTo n ++ largest (n % 10) (n / 10)

@@ -13,7 +13,9 @@ use file_records::bytes::word;
 ghost use mathlib.Core.Path.{_≡_};
 ghost use Prim.Native.Nat.{_+_, _≤_};
 ghost use lib.ListN.{length};
-ghost use Rattle.file_instrs.specs.Decode.{shiftAt, operandAt, memOffsetAt, widthOf, aluAt, mulAt, mulLongAt, memAt, blockMemAt, freeOp, opAt, timedAt};
+ghost use Rattle.file_instrs.specs.Decode.{shiftAt, operandAt, memOffsetAt, widthOf, aluAt};
+ghost use Rattle.file_instrs.specs.Decode.{mulAt, mulLongAt, memAt, blockMemAt, freeOp, opAt};
+ghost use Rattle.file_instrs.specs.Decode.{timedAt};
 
 // An instruction with its cost in cycles.
 pub struct TimedInstr {

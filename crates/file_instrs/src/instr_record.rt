@@ -3,7 +3,8 @@ ghost use mathlib.Core.Path.{_≡_};
 ghost use Prim.Native.Nat.{ℕ, _+_, _/_, _%_, _<_, _≤_};
 ghost use lib.ListN.{length, take, drop};
 ghost use lib.Seq.{paste};
-ghost use Rattle.file_instrs.specs.InstrRecord.{fields, largest, rowsTo, within as row-within, evenFields, instrRight};
+ghost use Rattle.file_instrs.specs.InstrRecord.{fields, largest, rowsTo};
+ghost use Rattle.file_instrs.specs.InstrRecord.{within as row-within, evenFields, instrRight};
 
 // The kind whose row a kind has: those from 10 on leave all fields free, as Swap (3) does.
 fn row_kind(kind: u8) -> u8
@@ -25,7 +26,8 @@ fn row(number: u8) -> [u8; 12]
     ensures { λ r. ⌜ r ≡ fields (number % 10) (number / 10) ⌝ }
 {
     match number {
-        // Alu with a value, a shift by amount, a shift by register: operation, s, rd, rn, form, ror or rm, shift kind, amount or rs, value
+        // Alu with a value, a shift by amount, a shift by register: operation, s, rd, rn, form, ror
+        // or rm, shift kind, amount or rs, value
         0 => [15, 1, 15, 15, 0, 30, 0, 0, 255, 255, 255, 255],
         10 => [15, 1, 15, 15, 1, 15, 3, 31, 0, 0, 0, 0],
         20 => [15, 1, 15, 15, 2, 15, 3, 15, 0, 0, 0, 0],
@@ -41,7 +43,8 @@ fn row(number: u8) -> [u8; 12]
         6 | 16 | 26 => [0, 0, 0, 0, 0, 0, 0, 0, 255, 255, 255, 255],
         // ThumbBlLow: off
         7 | 17 | 27 => [0, 0, 0, 0, 0, 0, 0, 0, 255, 255, 0, 0],
-        // Mem, in the same three forms: five flag bits, width, rd, rn, form, rm, shift kind, amount or rs, value
+        // Mem, in the same three forms: five flag bits, width, rd, rn, form, rm, shift kind, amount
+        // or rs, value
         8 => [31, 2, 15, 15, 0, 0, 0, 0, 255, 255, 0, 0],
         18 => [31, 2, 15, 15, 1, 15, 3, 31, 0, 0, 0, 0],
         28 => [31, 2, 15, 15, 2, 15, 3, 15, 0, 0, 0, 0],
@@ -64,9 +67,10 @@ fn put(rows: &mut [u8], from: usize, part: &[u8])
     }
 }
 
-// The rows of all numbers, 16 values each: those of kind, condition and cost, then those of the fields.
-// Kinds come in any order, so that the processor guesses wrong at most jumps by kind. The compiler compares all bytes of a record with a row at
-// once, without a jump, if the row lies in memory. So the rows are written there, once for a file.
+// The rows of all numbers, 16 values each: those of kind, condition and cost, then those of the
+// fields. Kinds come in any order, so that the processor guesses wrong at most jumps by kind. The
+// compiler compares all bytes of a record with a row at once, without a jump, if the row lies in
+// memory. So the rows are written there, once for a file.
 pub fn all_rows() -> [u8; 480]
     ensures { λ r. ⌜ r ≡ rowsTo 30 ⌝ }
 {
@@ -104,7 +108,8 @@ fn within(file: &[u8], at: usize, rows: &[u8], from: usize) -> bool
     ok
 }
 
-// The rotation of an Alu value and the target of a Branch are even. All tests are made, since a jump by kind would cost more.
+// The rotation of an Alu value and the target of a Branch are even. All tests are made, since a
+// jump by kind would cost more.
 fn even_fields(file: &[u8], at: usize) -> bool
     requires { ⌜ at + 16 ≤ length (now file) ⌝ }
     ensures { λ r. ⌜ r ≡ evenFields (now (file .entry)) at ⌝ }

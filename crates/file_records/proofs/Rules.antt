@@ -1,5 +1,5 @@
--- What decides the rules of the trailer and of a block record: one that is broken makes the whole false, and all of them make it true.
--- Assumes nothing.
+-- What decides the rules of the trailer and of a block record: one that is broken makes the whole
+-- false, and all of them make it true. Assumes nothing.
 use mathlib.Core.Path.{_≡_}
 use mathlib.Core.Bool.{true, false, _&&_, and-false}
 use mathlib.Core.List.{List}
@@ -7,8 +7,11 @@ use Prim.Native.Nat.{ℕ, _+_, _*_, _≤_, _<_, _^_}
 use lib.ListN.{length}
 use lib.Dec.{leb, ltb, eqb}
 use borrow.Author.Tests.{le-ltb, lt-ltb, le-leb, lt-leb, eq-eqb, ne-eqb}
-use Rattle.file_records.specs.Trailer.{edition, blocksBack, blockCount, instrsBack, instrCount, codeBack, codeCount, fileLength, withinLimits, trailerRight}
-use Rattle.file_records.specs.BlockRecord.{addrAt, flagsAt, countAt, lengthAt, aligned, codeRight, blockRight}
+use Rattle.file_records.specs.Trailer.{edition, blocksBack, blockCount, instrsBack}
+use Rattle.file_records.specs.Trailer.{instrCount, codeBack, codeCount, fileLength}
+use Rattle.file_records.specs.Trailer.{withinLimits, trailerRight}
+use Rattle.file_records.specs.BlockRecord.{addrAt, flagsAt, countAt, lengthAt, aligned}
+use Rattle.file_records.specs.BlockRecord.{codeRight, blockRight}
 use Rattle.armv4t.proofs.Bools.{right-true}
 
 module _ (f : List ℕ) where
@@ -32,7 +35,8 @@ module _ (f : List ℕ) where
   unfolding trailerRight
   wrong-blocks h = simp (ne-eqb _ _ h, and-false)
 
-  pub wrong-instrs : (instrsBack f ≡ 32 + 16 * blockCount f + 16 * instrCount f → ⊥) → false ≡ trailerRight f
+  pub wrong-instrs : (instrsBack f ≡ 32 + 16 * blockCount f + 16 * instrCount f → ⊥)
+      → false ≡ trailerRight f
   unfolding trailerRight
   wrong-instrs h = simp (ne-eqb _ _ h, and-false)
 
@@ -44,10 +48,13 @@ module _ (f : List ℕ) where
   unfolding trailerRight
   wrong-touch h = simp (ne-eqb _ _ h, and-false)
 
-  pub right-but-length : edition f ≡ 1 → blocksBack f ≡ 32 + 16 * blockCount f → instrsBack f ≡ 32 + 16 * blockCount f + 16 * instrCount f
-      → codeBack f ≡ length f → codeCount f + instrsBack f ≡ length f → eqb (fileLength f) (length f) ≡ trailerRight f
+  pub right-but-length : edition f ≡ 1 → blocksBack f ≡ 32 + 16 * blockCount f
+      → instrsBack f ≡ 32 + 16 * blockCount f + 16 * instrCount f
+      → codeBack f ≡ length f → codeCount f + instrsBack f ≡ length f
+      → eqb (fileLength f) (length f) ≡ trailerRight f
   unfolding trailerRight
-  right-but-length a b c d e = simp (eq-eqb _ _ a, eq-eqb _ _ b, eq-eqb _ _ c, eq-eqb _ _ d, eq-eqb _ _ e)
+  right-but-length a b c d e =
+      simp (eq-eqb _ _ a, eq-eqb _ _ b, eq-eqb _ _ c, eq-eqb _ _ d, eq-eqb _ _ e)
 
 module _ (f : List ℕ) (at : ℕ) where
   pub wrong-flags : 4 ≤ flagsAt f at → false ≡ blockRight f at
@@ -70,7 +77,8 @@ module _ (f : List ℕ) (at : ℕ) where
   unfolding blockRight
   end-past h = simp (lt-leb _ _ h, and-false)
 
-  pub right-but-code : flagsAt f at < 4 → 1 ≤ countAt f at → countAt f at ≤ 65535 → aligned f at ≡ true → addrAt f at + lengthAt f at ≤ 2 ^ 32
+  pub right-but-code : flagsAt f at < 4 → 1 ≤ countAt f at → countAt f at ≤ 65535
+      → aligned f at ≡ true → addrAt f at + lengthAt f at ≤ 2 ^ 32
       → codeRight f at ≡ blockRight f at
   unfolding blockRight
   right-but-code a b c d e = simp (lt-ltb _ _ a, le-leb _ _ b, le-leb _ _ c, d, le-leb _ _ e)
@@ -79,5 +87,6 @@ module _ (f : List ℕ) (at : ℕ) where
   unfolding blockRight
   code-kept e =
       right-true
-      (ltb (flagsAt f at) 4 && leb 1 (countAt f at) && leb (countAt f at) 65535 && aligned f at && leb (addrAt f at + lengthAt f at) (2 ^ 32))
+      (ltb (flagsAt f at) 4 && leb 1 (countAt f at) && leb (countAt f at) 65535 && aligned f at
+      && leb (addrAt f at + lengthAt f at) (2 ^ 32))
       (codeRight f at) e

@@ -7,7 +7,9 @@ use Prim.Native.Nat.{ℕ, _+_, _*_}
 use lib.ListN.{length}
 use lib.Dec.{eqb}
 use borrow.Author.Tests.{eqb-true}
-use Rattle.file_records.specs.Trailer.{edition, blocksBack, blockCount, instrsBack, instrCount, codeBack, codeCount, fileLength, trailerRight}
+use Rattle.file_records.specs.Trailer.{edition, blocksBack, blockCount, instrsBack}
+use Rattle.file_records.specs.Trailer.{instrCount, codeBack, codeCount, fileLength}
+use Rattle.file_records.specs.Trailer.{trailerRight}
 use Rattle.armv4t.proofs.Bools.{left-true, right-true}
 
 -- the sections of a file with a right trailer

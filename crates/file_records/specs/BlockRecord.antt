@@ -1,4 +1,5 @@
--- A block record: four words at an offset of the file, and the rules that hold of one (refusals 4 and 5).
+-- A block record: four words at an offset of the file, and the rules that hold of one (refusals 4
+-- and 5).
 use Prim.Native.Nat.{ℕ, zero, suc, _+_, _*_, _/_, _%_, _^_}
 use mathlib.Core.Bool.{Bool, true, cond, _&&_}
 use mathlib.Core.List.{List}
@@ -53,7 +54,9 @@ aligned f at = eqb (addrAt f at % sizeOf (thumbAt f at)) 0
 
 -- present code bytes end inside the code area; the offset of absent ones is 0
 unfoldable pub codeRight : List ℕ → ℕ → Bool
-codeRight f at = cond (presentAt f at) (leb (codeOffsetAt f at + lengthAt f at) (codeCount f)) (eqb (codeOffsetAt f at) 0)
+codeRight f at =
+    cond (presentAt f at) (leb (codeOffsetAt f at + lengthAt f at) (codeCount f))
+    (eqb (codeOffsetAt f at) 0)
 
 -- the rule of refusal 4: flags, count, alignment, an end not past 2^32, code bytes
 unfoldable pub blockRight : List ℕ → ℕ → Bool

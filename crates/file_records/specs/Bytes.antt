@@ -13,4 +13,5 @@ halfAt s at = byteAt s at + 256 * byteAt s (at + 1)
 
 -- the 32-bit number at an offset
 abbrev pub wordAt : List ℕ → ℕ → ℕ
-wordAt s at = byteAt s at + 256 * byteAt s (at + 1) + 65536 * byteAt s (at + 2) + 16777216 * byteAt s (at + 3)
+wordAt s at =
+    byteAt s at + 256 * byteAt s (at + 1) + 65536 * byteAt s (at + 2) + 16777216 * byteAt s (at + 3)

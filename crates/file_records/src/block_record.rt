@@ -4,7 +4,10 @@ use crate::trailer::trailer_word;
 ghost use mathlib.Core.Path.{_≡_};
 ghost use Prim.Native.Nat.{_+_, _≤_, _<_, _^_};
 ghost use lib.ListN.{length};
-ghost use Rattle.file_records.specs.BlockRecord.{addrAt, flagsAt, countAt, codeOffsetAt, thumbAt, presentAt, lengthOf, lengthAt, keyPlus, keyAt, aligned as specAligned, codeRight, blockRight};
+ghost use Rattle.file_records.specs.BlockRecord.{addrAt, flagsAt, countAt, codeOffsetAt};
+ghost use Rattle.file_records.specs.BlockRecord.{thumbAt, presentAt, lengthOf, lengthAt};
+ghost use Rattle.file_records.specs.BlockRecord.{keyPlus, keyAt, aligned as specAligned};
+ghost use Rattle.file_records.specs.BlockRecord.{codeRight, blockRight};
 
 // The address of the block's first instruction.
 pub fn addr(file: &[u8], at: usize) -> u32
@@ -70,7 +73,8 @@ fn byte_length(file: &[u8], at: usize) -> usize
     instrs_length(count(file, at), thumb(file, at))
 }
 
-// The key of a block: its address plus the Thumb bit. The bound is what the check of the next key needs.
+// The key of a block: its address plus the Thumb bit. The bound is what the check of the next key
+// needs.
 pub fn key_plus(address: u32, is_thumb: bool) -> u64
     ensures { λ r. ⌜ (r ≡ keyPlus address «is_thumb») × (r ≤ 2 ^ 32) ⌝ }
 {

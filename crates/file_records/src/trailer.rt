@@ -16,7 +16,8 @@ pub fn trailer_word(file: &[u8], k: usize) -> u32
     word(file, file.len() - 32 + 4 * k)
 }
 
-// Where the section begins whose distance from the file's end is word k; 0 where that would be before the file.
+// Where the section begins whose distance from the file's end is word k; 0 where that would be
+// before the file.
 pub fn section_start(file: &[u8], k: usize) -> usize
     requires { ⌜ k < 8 ⌝ }
     ensures { λ r. ⌜ r ≡ length (now (file .entry)) - trailerWord (now (file .entry)) k ⌝ }

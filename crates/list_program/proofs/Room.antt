@@ -1,5 +1,5 @@
--- For a file of at most 65,536 bytes the lent buffers suffice: the listing's call refuses only what the file's rules refuse.
--- Assumes nothing.
+-- For a file of at most 65,536 bytes the lent buffers suffice: the listing's call refuses only what
+-- the file's rules refuse. Assumes nothing.
 use Prim.Native.Nat.{ℕ, _+_, _*_, _≤_, _<_}
 use mathlib.Core.Path.{_≡_, refl, sym, ap, ap₂, _∙_}
 use mathlib.Core.List.{List, _++_}
@@ -32,18 +32,26 @@ listed (Parsed.accepted bs) work out =
     }
 
 -- a text in the front of a buffer
-front : (s rest : List ℕ) (n : ℕ) (out′ : List ℕ) → n ≡ length s → out′ ≡ s ++ rest → (n ≤ length out′) × (take n out′ ≡ s)
-front s rest n out′ size is =
-    (omega (arith, ap length is, length-append s rest, size), ap (take n) is ∙ take-at s rest n (sym size))
+front : (s rest : List ℕ) (n : ℕ) (out′ : List ℕ) → n ≡ length s → out′ ≡ s ++ rest
+    → (n ≤ length out′) × (take n out′ ≡ s)
+front s rest n out′ size is = (
+  omega (arith, ap length is, length-append s rest, size),
+  ap (take n) is
+      ∙ take-at s rest n (sym size),
+)
 
 -- a line in the front of a buffer that has room for it
-pub line-shown : {out₁ out₂ : List ℕ} {r : ℕ} {d : Doc} → Wrote out₁ 0 d out₂ r → length (print d) ≤ length out₁
+pub line-shown : {out₁ out₂ : List ℕ} {r : ℕ} {d : Doc} → Wrote out₁ 0 d out₂ r
+    → length (print d) ≤ length out₁
     → (r ≤ length out₂) × (take r out₂ ≡ print d)
-line-shown {out₁} {out₂} {r} {d} w h = let put = whole w h in front (print d) (drop (length (print d)) out₁) r out₂ (put .1) (put .0)
+line-shown {out₁} {out₂} {r} {d} w h =
+    let put = whole w h in front (print d) (drop (length (print d)) out₁) r out₂ (put .1) (put .0)
 
-module _ (f : List ℕ) (short : length f ≤ longest) (work out : List ℕ) (numbers : 16384 ≤ length work) (bytes : room ≤ length out) where
+module _ (f : List ℕ) (short : length f ≤ longest) (work out : List ℕ)
+    (numbers : 16384 ≤ length work) (bytes : room ≤ length out) where
   few : (bs : List Block) → parse f ≡ Parsed.accepted bs → 16 * length bs ≤ 65504
-  few bs is = omega (arith, length-of f bs is, sections-of f bs is .touch, sections-of f bs is .instrs)
+  few bs is =
+      omega (arith, length-of f bs is, sections-of f bs is .touch, sections-of f bs is .instrs)
 
   call-is : (p : Parsed) → parse f ≡ p → listingCall p work out ≡ listed p work out
   unfolding callOnFile callOnBlocks
@@ -51,7 +59,8 @@ module _ (f : List ℕ) (short : length f ≤ longest) (work out : List ℕ) (nu
   call-is (Parsed.accepted bs) is =
       rw (
         le-ltb (length work) (4 * length bs) (omega (arith, few bs is)),
-        le-ltb (length out) (length (print (listing partLimit bs))) (omega (arith, few bs is, listing-most partLimit bs)),
+        le-ltb (length out) (length (print (listing partLimit bs)))
+            (omega (arith, few bs is, listing-most partLimit bs)),
       )
 
   pub listing-shown : (p : Parsed) → parse f ≡ p → (n : ℕ) (work′ out′ : List ℕ)
@@ -59,19 +68,23 @@ module _ (f : List ℕ) (short : length f ≤ longest) (work out : List ℕ) (nu
       → (n ≤ length out′) × (take n out′ ≡ print (answerText p))
   unfolding answerText
   listing-shown (Parsed.refused m j) is n work′ out′ e =
-      let same : value n ≡ refusal m j = ap (λ (l : CallOutcome ℕ). l .answer) (e ∙ call-is (Parsed.refused m j) is) in
+      let same : value n ≡ refusal m j =
+      ap (λ (l : CallOutcome ℕ). l .answer) (e ∙ call-is (Parsed.refused m j) is) in
       absurd (let z : _≡_ {A = ℕ} 0 1 = cc in omega arith)
   listing-shown (Parsed.accepted bs) is n work′ out′ e =
       let left = e ∙ call-is (Parsed.accepted bs) is in
-      let same : value n ≡ value (length (print (listing partLimit bs))) = ap (λ (l : CallOutcome ℕ). l .answer) left in
+      let same : value n ≡ value (length (print (listing partLimit bs))) =
+      ap (λ (l : CallOutcome ℕ). l .answer) left in
       let size : n ≡ length (print (listing partLimit bs)) = cc in
-      front (print (listing partLimit bs)) (drop (length (print (listing partLimit bs))) out) n out′ size (ap (λ (l : CallOutcome ℕ). l .result) left)
+      front (print (listing partLimit bs)) (drop (length (print (listing partLimit bs))) out) n out′
+      size (ap (λ (l : CallOutcome ℕ). l .result) left)
 
   line-fits : (n i : ℕ) → length (print (refusalLine n i)) ≤ 53
   line-fits n i = length-most (refusalLine n i)
 
   pub refusal-shown : (p : Parsed) → parse f ≡ p → (n i : ℕ) (work′ out₁ out₂ : List ℕ) (r : ℕ)
-      → record { answer = refusal n i; work = work′; result = out₁ } ≡ listingCall p work out → Wrote out₁ 0 (refusalLine n i) out₂ r
+      → record { answer = refusal n i; work = work′; result = out₁ } ≡ listingCall p work out
+      → Wrote out₁ 0 (refusalLine n i) out₂ r
       → (r ≤ length out₂) × (take r out₂ ≡ print (answerText p))
   unfolding answerText
   refusal-shown (Parsed.refused m j) is n i work′ out₁ out₂ r e w =
@@ -83,17 +96,22 @@ module _ (f : List ℕ) (short : length f ≤ longest) (work out : List ℕ) (nu
       let there = line-shown w (omega (arith, line-fits n i, long)) in
       (there .0, there .1 ∙ ap₂ (λ (a b : ℕ). print (refusalLine a b)) number place)
   refusal-shown (Parsed.accepted bs) is n i work′ out₁ out₂ r e w =
-      let same : refusal n i ≡ value (length (print (listing partLimit bs))) = ap (λ (l : CallOutcome ℕ). l .answer) (e ∙ call-is (Parsed.accepted bs) is) in
+      let same : refusal n i ≡ value (length (print (listing partLimit bs))) =
+      ap (λ (l : CallOutcome ℕ). l .answer) (e ∙ call-is (Parsed.accepted bs) is) in
       absurd (let z : _≡_ {A = ℕ} 0 1 = cc in omega arith)
 
 -- what is printed for a file that is too long
-pub long-shown : (f : List ℕ) {out out₂ : List ℕ} {r : ℕ} → room ≤ length out → longest < length f → Wrote out 0 (text "too long\n") out₂ r
+pub long-shown : (f : List ℕ) {out out₂ : List ℕ} {r : ℕ} → room ≤ length out → longest < length f
+    → Wrote out 0 (text "too long\n") out₂ r
     → (r ≤ length out₂) × (take r out₂ ≡ print (output f))
 unfolding output
-long-shown f bytes h w = let there = line-shown w (omega (arith, length-most (text "too long\n"))) in rw (lt-ltb longest (length f) h) there
+long-shown f bytes h w = let there =
+    line-shown w (omega (arith, length-most (text "too long\n"))) in
+    rw (lt-ltb longest (length f) h) there
 
 -- and for one that is not
-pub short-shown : (f out₂ : List ℕ) (r : ℕ) → length f ≤ longest → (r ≤ length out₂) × (take r out₂ ≡ print (answerText (parse f)))
+pub short-shown : (f out₂ : List ℕ) (r : ℕ) → length f ≤ longest
+    → (r ≤ length out₂) × (take r out₂ ≡ print (answerText (parse f)))
     → (r ≤ length out₂) × (take r out₂ ≡ print (output f))
 unfolding output
 short-shown f out₂ r h there = rw (le-ltb longest (length f) h) there

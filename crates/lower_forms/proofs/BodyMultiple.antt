@@ -21,13 +21,15 @@ use Rattle.armv4t_manual.specs.Machine.{Machine, Sound}
 use Rattle.armv4t_manual.specs.Machine as M
 use Rattle.armv4t.specs.InRange.{InRange}
 use Rattle.armv4t_manual.specs.Transfer.{moved}
-use Rattle.armv4t_manual.specs.Multiple.{listed, start, loadAll, loadMultiple, lowest, storeMultiple}
+use Rattle.armv4t_manual.specs.Multiple.{listed, start, loadAll, loadMultiple, lowest}
+use Rattle.armv4t_manual.specs.Multiple.{storeMultiple}
 use Rattle.armv4t_manual.specs.Execute.{onward, loadMultiplePc}
 use Rattle.lower_forms.specs.Agree.{Agrees, Makes}
 use Rattle.lower_forms.specs.Means.{statements, Leads, OpMeans}
 use Rattle.lower_forms.proofs.Operands.{same-of, under}
 use Rattle.lower_forms.proofs.Body.{some-same, not-none, or-l, or-r}
-use Rattle.lower_forms.proofs.Listed.{listed-same, listed-15, Named, listed-named, member, named-member}
+use Rattle.lower_forms.proofs.Listed.{listed-same, listed-15, Named, listed-named, member}
+use Rattle.lower_forms.proofs.Listed.{named-member}
 use Rattle.lower_forms.proofs.Multiple.{load-multiple-ok, store-multiple-ok}
 use Rattle.armv4t_manual.proofs.All.{All, all-map}
 
@@ -46,7 +48,9 @@ one-more false n = omega arith
 pub listed-length : (rlist n : ℕ) → length (listed rlist n) ≤ n
 unfolding listed
 listed-length rlist zero = omega arith
-listed-length rlist (suc n) = subst (λ (l : ℕ). l ≤ suc n) (sym (append-length (listed rlist n) _)) (sum _ _ (listed-length rlist n) (one-more (bit rlist n) n))
+listed-length rlist (suc n) =
+    subst (λ (l : ℕ). l ≤ suc n) (sym (append-length (listed rlist n) _))
+    (sum _ _ (listed-length rlist n) (one-more (bit rlist n) n))
   where
     sum : (p q : ℕ) → p ≤ n → q ≤ 1 → p + q ≤ suc n
     sum p q h l = omega arith
@@ -54,12 +58,18 @@ listed-length rlist (suc n) = subst (λ (l : ℕ). l ≤ suc n) (sym (append-len
 four : (k : ℕ) → k ≤ 16 → k * 4 < 4294967296
 four k h = omega arith
 
-module _ (i : Instr) {z : State} {m : Machine} (s : Sound m) (a : Agrees z m) (rn : ℕ) (hn : rn < 15) (rlist : ℕ) (pre up wb : Bool) where
+module _ (i : Instr) {z : State} {m : Machine} (s : Sound m) (a : Agrees z m) (rn : ℕ)
+    (hn : rn < 15) (rlist : ℕ) (pre up wb : Bool) where
   -- LDM without R15
-  load-lines : bit rlist 15 ≡ false → Makes (statements (blockMemBody i true rn (isListed rlist rn) pre up wb (listed rlist 16))) (enter z) (loadMultiple up pre wb rn rlist m)
+  load-lines : bit rlist 15 ≡ false
+      → Makes (statements (blockMemBody i true rn (isListed rlist rn) pre up wb (listed rlist 16)))
+      (enter z) (loadMultiple up pre wb rn rlist m)
   load-lines q =
-      subst (λ (is : List ℕ). Makes (statements (blockMemBody i true rn (isListed rlist rn) pre up wb (listed rlist 16))) (enter z) (made is)) (listed-15 rlist q)
-      (load-multiple-ok s a i rn hn (listed rlist 16) (four _ (listed-length rlist 16)) below up pre wb (isListed rlist rn) named)
+      subst (λ (is : List ℕ). Makes
+      (statements (blockMemBody i true rn (isListed rlist rn) pre up wb (listed rlist 16)))
+      (enter z) (made is)) (listed-15 rlist q)
+      (load-multiple-ok s a i rn hn (listed rlist 16) (four _ (listed-length rlist 16)) below up pre
+      wb (isListed rlist rn) named)
     where
       made : List ℕ → Machine
       made is =
@@ -68,63 +78,93 @@ module _ (i : Instr) {z : State} {m : Machine} (s : Sound m) (a : Agrees z m) (r
           M.setRegs (loadAll is (start up pre (m .r rn) k) (m .mem) (m1 .r)) m
 
       below : All (λ j. j < 15) (listed rlist 16)
-      below = subst (All (λ j. j < 15)) (sym (listed-15 rlist q)) (all-map (Named rlist 15) (λ j. j < 15) (λ j h. h .0) (listed rlist 15) (listed-named rlist 15))
+      below =
+          subst (All (λ j. j < 15)) (sym (listed-15 rlist q))
+          (all-map (Named rlist 15) (λ j. j < 15) (λ j h. h .0) (listed rlist 15)
+          (listed-named rlist 15))
 
       named : isListed rlist rn ≡ true → member rn (listed rlist 16) ≡ true
       named e = named-member rlist 16 rn (omega (arith, hn)) e
 
   -- STM, where a base that is listed and not written is the lowest
   store-lines : (wb ≡ false → bit rlist rn ≡ true → eqb (lowest rlist) rn ≡ true)
-      → Makes (statements (blockMemBody i false rn (isListed rlist rn) pre up wb (listed rlist 16))) (enter z) (storeMultiple up pre wb rn rlist (pcValue i) m)
+      → Makes (statements (blockMemBody i false rn (isListed rlist rn) pre up wb (listed rlist 16)))
+      (enter z) (storeMultiple up pre wb rn rlist (pcValue i) m)
   store-lines low =
-      store-multiple-ok s a i rn hn (listed rlist 16) (four _ (listed-length rlist 16)) up pre wb (isListed rlist rn)
+      store-multiple-ok s a i rn hn (listed rlist 16) (four _ (listed-length rlist 16)) up pre wb
+      (isListed rlist rn)
       (all-map (Named rlist 16) _ each (listed rlist 16) (listed-named rlist 16))
     where
       at-most : (j : ℕ) → j < 16 → j ≤ 15
       at-most j h = omega arith
 
       same : (j : ℕ) → j ≡ rn → lowest rlist ≡ rn → eqb j (lowest rlist) ≡ true
-      same j p q = is-true (eqb j (lowest rlist)) (subst (λ (l : ℕ). T (eqb j l)) (p ∙ sym q) (eqb-refl j))
+      same j p q =
+          is-true (eqb j (lowest rlist)) (subst (λ (l : ℕ). T (eqb j l)) (p ∙ sym q) (eqb-refl j))
 
-      each : (j : ℕ) → Named rlist 16 j → (j ≤ 15) × (wb ≡ false → eqb j rn ≡ true → eqb j (lowest rlist) ≡ true)
+      each : (j : ℕ) → Named rlist 16 j
+          → (j ≤ 15) × (wb ≡ false → eqb j rn ≡ true → eqb j (lowest rlist) ≡ true)
       each j h = (
         at-most j (h .0),
         λ w e.
             let p : j ≡ rn = same-of j rn e in
-            same j p (same-of (lowest rlist) rn (low w (subst (λ (k : ℕ). bit rlist k ≡ true) p (h .1)))),
+            same j p
+            (same-of (lowest rlist) rn
+            (low w (subst (λ (k : ℕ). bit rlist k ≡ true) p (h .1)))),
       )
 
 -- a base that is listed and not written is the lowest, where the text is no named difference
-low-base : (wb inList low : Bool) → (not wb && inList && not low) ≡ false → wb ≡ false → inList ≡ true → low ≡ true
+low-base : (wb inList low : Bool) → (not wb && inList && not low) ≡ false → wb ≡ false
+    → inList ≡ true → low ≡ true
 low-base wb inList true q w e = refl
 low-base true inList false q w e = sym w
 low-base false true false q w e = sym q
 low-base false false false q w e = e
 
 -- BlockMem
-pub block-mem-means : (i : Instr) (ld : Bool) (rn rlist : ℕ) (pre up s-bit wb : Bool) → InRange (BlockMem ld rn rlist pre up s-bit wb)
+pub block-mem-means : (i : Instr) (ld : Bool) (rn rlist : ℕ) (pre up s-bit wb : Bool)
+    → InRange (BlockMem ld rn rlist pre up s-bit wb)
     → OpMeans i (BlockMem ld rn rlist pre up s-bit wb)
-block-mem-means i ld rn rlist pre up s-bit wb r ls q z m s a bad d next o = split (s-bit || eqb rlist 0 || eqb rn 15 || (ld && isListed rlist 15)) refl q s-bit o
+block-mem-means i ld rn rlist pre up s-bit wb r ls q z m s a bad d next o =
+    split (s-bit || eqb rlist 0 || eqb rn 15 || (ld && isListed rlist 15)) refl q s-bit o
   where
     out : Bool → Machine × ℕ
     out l =
-        cond l (cond (bit rlist 15) (loadMultiplePc i up pre wb rn rlist m) (onward i (loadMultiple up pre wb rn rlist m)))
+        cond l (cond (bit rlist 15) (loadMultiplePc i up pre wb rn rlist m)
+        (onward i (loadMultiple up pre wb rn rlist m)))
         (onward i (storeMultiple up pre wb rn rlist (pcValue i) m))
 
     body : Bool → Lines
     body l = blockMemBody i l rn (isListed rlist rn) pre up wb (listed rlist 16)
 
-    means : (l : Bool) → rn < 15 → (l && isListed rlist 15) ≡ false → (not l && not wb && bit rlist rn && not (eqb (lowest rlist) rn)) ≡ false → Leads i (body l) z (out l)
-    means true hn pc d = subst (λ (b : Bool). Leads i (body true) z (cond b (loadMultiplePc i up pre wb rn rlist m) (onward i (loadMultiple up pre wb rn rlist m)))) (sym pc) (load-lines i s a rn hn rlist pre up wb pc, refl)
-    means false hn pc d = (store-lines i s a rn hn rlist pre up wb (low-base wb (bit rlist rn) (eqb (lowest rlist) rn) d), refl)
+    means : (l : Bool) → rn < 15 → (l && isListed rlist 15) ≡ false
+        → (not l && not wb && bit rlist rn && not (eqb (lowest rlist) rn)) ≡ false
+        → Leads i (body l) z (out l)
+    means true hn pc d =
+        subst (λ (b : Bool). Leads i (body true) z
+        (cond b (loadMultiplePc i up pre wb rn rlist m)
+        (onward i (loadMultiple up pre wb rn rlist m)))) (sym pc)
+        (load-lines i s a rn hn rlist pre up wb pc, refl)
+    means false hn pc d = (
+      store-lines i s a rn hn rlist pre up wb
+          (low-base wb (bit rlist rn) (eqb (lowest rlist) rn) d),
+      refl,
+    )
 
     split : (b : Bool) → (s-bit || eqb rlist 0 || eqb rn 15 || (ld && isListed rlist 15)) ≡ b
-        → cond b none (some (blockMemBody i ld rn (isListed rlist rn) pre up wb (F.listed rlist 16))) ≡ some ls
+        → cond b none
+        (some (blockMemBody i ld rn (isListed rlist rn) pre up wb (F.listed rlist 16)))
+        ≡ some ls
         → (c : Bool) → cond c none (some (out ld)) ≡ some next → Leads i ls z next
     split true e q c o = absurd (not-none q)
     split false e q true o = absurd (not-none o)
     split false e q false o =
-        let hn : rn < 15 = under rn (r .0) (or-r (s-bit || eqb rlist 0) (eqb rn 15) (or-l (s-bit || eqb rlist 0 || eqb rn 15) (ld && isListed rlist 15) e)) in
+        let hn : rn < 15 =
+        under rn (r .0)
+        (or-r (s-bit || eqb rlist 0) (eqb rn 15)
+        (or-l (s-bit || eqb rlist 0 || eqb rn 15) (ld && isListed rlist 15) e)) in
         subst (λ (n : Machine × ℕ). Leads i ls z n) (some-same o)
-        (subst (λ (k : Lines). Leads i k z (out ld)) (ap (λ (is : List ℕ). blockMemBody i ld rn (isListed rlist rn) pre up wb is) (sym (listed-same rlist 16)) ∙ some-same q)
+        (subst (λ (k : Lines). Leads i k z (out ld))
+        (ap (λ (is : List ℕ). blockMemBody i ld rn (isListed rlist rn) pre up wb is)
+        (sym (listed-same rlist 16)) ∙ some-same q)
         (means ld hn (or-r (s-bit || eqb rlist 0 || eqb rn 15) (ld && isListed rlist 15) e) d))

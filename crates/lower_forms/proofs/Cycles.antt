@@ -1,5 +1,5 @@
--- No cycle is lost or counted twice: the ticks of a block's forms, with the cycles pending after them, are the costs of its native records. A record that
--- is left to the interpreter adds none.
+-- No cycle is lost or counted twice: the ticks of a block's forms, with the cycles pending after
+-- them, are the costs of its native records. A record that is left to the interpreter adds none.
 use mathlib.Core.Path.{_≡_, refl, ap}
 use Prim.Native.Nat.{ℕ, zero, suc, _+_, _%_, _^_}
 use package.native.Mathlib.Omega.{arith}
@@ -8,18 +8,24 @@ use mathlib.Core.List.{List, [], _∷_, _++_}
 use mathlib.Core.Option.{Option, none, some}
 use lib.ListN.{take, drop}
 use Rattle.armv4t.specs.declared.Op.{Op}
-use Rattle.armv4t.specs.declared.Op.the-variants.{Alu, Mul, MulLong, Swap, Bx, Branch, ThumbBlHigh, ThumbBlLow, Mem, BlockMem, Mrs, MsrReg, MsrImm, Swi, Undefined}
+use Rattle.armv4t.specs.declared.Op.the-variants.{Alu, Mul, MulLong, Swap, Bx, Branch, ThumbBlHigh}
+use Rattle.armv4t.specs.declared.Op.the-variants.{ThumbBlLow, Mem, BlockMem, Mrs, MsrReg, MsrImm}
+use Rattle.armv4t.specs.declared.Op.the-variants.{Swi, Undefined}
 use Rattle.armv4t.specs.declared.Instr.{Instr}
 use Rattle.armv4t.specs.Bit0.{clearBit0}
 use Rattle.armv4t.specs.Fused.{fuse}
 use Rattle.file_instrs.specs.declared.decode.TimedInstr.{TimedInstr}
 use Rattle.file_blocks.specs.Parse.{Block}
 use Rattle.armv4t.specs.Cond.{isAl}
-use Rattle.c_tree.specs.Stmt.{Plain, registers, local, declare, adds, set, discard, run, write, tick}
-use Rattle.lower_forms.specs.Forms.{Lines, straight, straightIf, branchIf, jump, pair, bx, pop, Form, native, shell}
+use Rattle.c_tree.specs.Stmt.{Plain, registers, local, declare, adds, set, discard, run, write}
+use Rattle.c_tree.specs.Stmt.{tick}
+use Rattle.lower_forms.specs.Forms.{Lines, straight, straightIf, branchIf, jump, pair, bx}
+use Rattle.lower_forms.specs.Forms.{pop, Form, native, shell}
 use Rattle.lower_forms.proofs.RecordCount.{recordCount, instr-count}
 use Rattle.lower_forms.specs.InlineBody.{apart, inlineBody}
-use Rattle.lower_forms.specs.Block.{flushTicks, setWord, emitPair, emitBranch, nativeExit, isPop, emitLines, emitStraight, emitOp, emitInstr, emitInstrs, bodyOf, pcLine}
+use Rattle.lower_forms.specs.Block.{flushTicks, setWord, emitPair, emitBranch, nativeExit}
+use Rattle.lower_forms.specs.Block.{isPop, emitLines, emitStraight, emitOp, emitInstr}
+use Rattle.lower_forms.specs.Block.{emitInstrs, bodyOf, pcLine}
 use Rattle.file_blocks.specs.Address.{region}
 use Rattle.lower_forms.proofs.Every.{fused-or}
 use Rattle.armv4t.proofs.Bools.{either}
@@ -89,39 +95,61 @@ ticks-alone (suc n) = omega arith
 record Kept (cycles cost : ℕ) (s : Form × ℕ) : Type 0 where
   kept : formTicks (s .0) + s .1 ≡ cycles + own (s .0) cost
 
-lines-kept : (thumb touchesBus : Bool) (cycles : ℕ) (x : TimedInstr) (body : Option Lines) → Kept cycles (x .cost) (emitLines thumb touchesBus cycles x body)
-lines-kept thumb touchesBus cycles x none = record { kept = omega (arith, ticks-all cycles (pcLine (x .instr .addr))) }
+lines-kept : (thumb touchesBus : Bool) (cycles : ℕ) (x : TimedInstr) (body : Option Lines)
+    → Kept cycles (x .cost) (emitLines thumb touchesBus cycles x body)
+lines-kept thumb touchesBus cycles x none =
+    record { kept = omega (arith, ticks-all cycles (pcLine (x .instr .addr))) }
 lines-kept thumb true cycles x (some body) =
     record {
       kept =
-          either (λ r. formTicks (native r) + (0 + x .cost) ≡ cycles + x .cost) (isAl (x .instr .cond)) (omega (arith, ticks-alone cycles))
+          either (λ r. formTicks (native r) + (0 + x .cost) ≡ cycles + x .cost)
+          (isAl (x .instr .cond)) (omega (arith, ticks-alone cycles))
           (omega (arith, ticks-alone cycles));
     }
 lines-kept thumb false cycles x (some body) =
-    record { kept = either (λ r. formTicks (native r) + (cycles + x .cost) ≡ cycles + x .cost) (isAl (x .instr .cond)) (omega arith) (omega arith) }
+    record {
+      kept =
+          either (λ r. formTicks (native r) + (cycles + x .cost) ≡ cycles + x .cost)
+          (isAl (x .instr .cond)) (omega arith) (omega arith);
+    }
 
-straight-kept : (thumb touchesBus : Bool) (cycles : ℕ) (x : TimedInstr) → Kept cycles (x .cost) (emitStraight thumb touchesBus cycles x)
-straight-kept thumb touchesBus cycles x = lines-kept thumb touchesBus cycles x (inlineBody thumb (x .instr))
+straight-kept : (thumb touchesBus : Bool) (cycles : ℕ) (x : TimedInstr)
+    → Kept cycles (x .cost) (emitStraight thumb touchesBus cycles x)
+straight-kept thumb touchesBus cycles x =
+    lines-kept thumb touchesBus cycles x (inlineBody thumb (x .instr))
 
-branch-ticks : (thumb : Bool) (cycles : ℕ) (i : Instr) (link : Bool) (target : ℕ) → formTicks (native (emitBranch thumb cycles i link target)) ≡ cycles
+branch-ticks : (thumb : Bool) (cycles : ℕ) (i : Instr) (link : Bool) (target : ℕ)
+    → formTicks (native (emitBranch thumb cycles i link target)) ≡ cycles
 branch-ticks thumb cycles i true target =
     either (λ r. formTicks (native r) ≡ cycles) (isAl (i .cond))
-    (omega (arith, ticks-all cycles (apart (setWord 14 ((i .addr + 4) % 2 ^ 32) ∷ setWord 15 target ∷ [])))) (ticks-alone cycles)
+    (omega (
+      arith,
+      ticks-all cycles
+          (apart (setWord 14 ((i .addr + 4) % 2 ^ 32) ∷ setWord 15 target ∷ [])),
+    ))
+    (ticks-alone cycles)
 branch-ticks thumb cycles i false target =
-    either (λ r. formTicks (native r) ≡ cycles) (isAl (i .cond)) (omega (arith, ticks-all cycles (pcLine target))) (ticks-alone cycles)
+    either (λ r. formTicks (native r) ≡ cycles) (isAl (i .cond))
+    (omega (arith, ticks-all cycles (pcLine target))) (ticks-alone cycles)
 
-op-kept : (thumb : Bool) (region cycles : ℕ) (x : TimedInstr) (o : Op) → Kept cycles (x .cost) (emitOp thumb region cycles x o)
+op-kept : (thumb : Bool) (region cycles : ℕ) (x : TimedInstr) (o : Op)
+    → Kept cycles (x .cost) (emitOp thumb region cycles x o)
 op-kept thumb region cycles x (Alu op s rd rn op2) = straight-kept thumb false cycles x
 op-kept thumb region cycles x (Mul acc s rd rn rs rm) = straight-kept thumb false cycles x
-op-kept thumb region cycles x (MulLong signed acc s hi lo rs rm) = straight-kept thumb false cycles x
+op-kept thumb region cycles x (MulLong signed acc s hi lo rs rm) =
+    straight-kept thumb false cycles x
 op-kept thumb region cycles x (Swap byte rd rm rn) = straight-kept thumb false cycles x
 op-kept thumb region cycles x (Bx rm) =
-    either (Kept cycles (x .cost)) (nativeExit region (x .instr)) (record { kept = omega (arith, ticks-alone (cycles + x .cost)) })
+    either (Kept cycles (x .cost)) (nativeExit region (x .instr))
+    (record { kept = omega (arith, ticks-alone (cycles + x .cost)) })
     (straight-kept thumb false cycles x)
-op-kept thumb region cycles x (Branch link target) = record { kept = omega (arith, branch-ticks thumb (cycles + x .cost) (x .instr) link target) }
-op-kept thumb region cycles x (ThumbBlHigh lr) = record { kept = omega (arith, ticks-all cycles (pcLine (x .instr .addr))) }
+op-kept thumb region cycles x (Branch link target) =
+    record { kept = omega (arith, branch-ticks thumb (cycles + x .cost) (x .instr) link target) }
+op-kept thumb region cycles x (ThumbBlHigh lr) =
+    record { kept = omega (arith, ticks-all cycles (pcLine (x .instr .addr))) }
 op-kept thumb region cycles x (ThumbBlLow off) = straight-kept thumb false cycles x
-op-kept thumb region cycles x (Mem load width signed rd rn offset pre up writeback) = straight-kept thumb true cycles x
+op-kept thumb region cycles x (Mem load width signed rd rn offset pre up writeback) =
+    straight-kept thumb true cycles x
 op-kept thumb region cycles x (BlockMem load rn rlist pre up s-bit writeback) =
     either (Kept cycles (x .cost)) (isPop region (x .instr) load rn rlist pre up s-bit writeback)
     (record { kept = omega (arith, ticks-alone (cycles + x .cost)) })
@@ -134,7 +162,8 @@ op-kept thumb region cycles x (Undefined raw) = straight-kept thumb false cycles
 
 -- an instruction that is not fused
 pub instr-cycles : (thumb : Bool) (region cycles : ℕ) (x : TimedInstr)
-    → formTicks (emitInstr thumb region cycles x .0) + emitInstr thumb region cycles x .1 ≡ cycles + own (emitInstr thumb region cycles x .0) (x .cost)
+    → formTicks (emitInstr thumb region cycles x .0) + emitInstr thumb region cycles x .1
+    ≡ cycles + own (emitInstr thumb region cycles x .0) (x .cost)
 unfolding emitInstr
 instr-cycles thumb region cycles x = op-kept thumb region cycles x (x .instr .op) .kept
 
@@ -142,22 +171,33 @@ own-one : (r : Form) (n : ℕ) → own r (n + 0) ≡ own r n
 own-one (native r) n = omega arith
 own-one (shell h t k) n = refl
 
-charged-one : (r : Form) (rs : List Form) (x : TimedInstr) (xs : List TimedInstr) → recordCount r ≡ 1 → charged (r ∷ rs) (x ∷ xs) ≡ own r (x .cost) + charged rs xs
+charged-one : (r : Form) (rs : List Form) (x : TimedInstr) (xs : List TimedInstr)
+    → recordCount r ≡ 1 → charged (r ∷ rs) (x ∷ xs) ≡ own r (x .cost) + charged rs xs
 charged-one r rs x xs h = rw h (ap (λ n. n + charged rs xs) (own-one r (x .cost)))
 
 pair-ticks : (cycles target ret : ℕ) → formTicks (native (emitPair cycles target ret)) ≡ cycles
-pair-ticks cycles target ret = omega (arith, ticks-all cycles (apart (setWord 14 ret ∷ setWord 15 (clearBit0 target) ∷ [])))
+pair-ticks cycles target ret =
+    omega (arith, ticks-all cycles (apart (setWord 14 ret ∷ setWord 15 (clearBit0 target) ∷ [])))
 
 -- forms for some instructions, with cycles pending before and after them
 record AllKept (cycles : ℕ) (xs : List TimedInstr) (rs : List Form × ℕ) : Type 0 where
   kept : formsTicks (rs .0) + rs .1 ≡ cycles + charged (rs .0) xs
 
-instrs-kept : (thumb : Bool) (region cycles : ℕ) (xs : List TimedInstr) → AllKept cycles xs (emitInstrs thumb region cycles xs)
+instrs-kept : (thumb : Bool) (region cycles : ℕ) (xs : List TimedInstr)
+    → AllKept cycles xs (emitInstrs thumb region cycles xs)
 unfolding emitInstrs
 instrs-kept thumb region cycles [] = record { kept = omega arith }
 instrs-kept thumb region cycles (x ∷ []) =
     let s : Form × ℕ = emitInstr thumb region cycles x in
-    record { kept = omega (arith, instr-cycles thumb region cycles x, charged-one (s .0) [] x [] (instr-count thumb region cycles x)) }
+    record {
+      kept =
+          omega (
+            arith,
+            instr-cycles thumb region cycles x,
+            charged-one (s .0) [] x []
+                (instr-count thumb region cycles x),
+          );
+    }
 instrs-kept thumb region cycles (x ∷ y ∷ rest) =
     let s : Form × ℕ = emitInstr thumb region cycles x in
     let rs : List Form × ℕ = emitInstrs thumb region (s .1) (y ∷ rest) in
@@ -171,21 +211,38 @@ instrs-kept thumb region cycles (x ∷ y ∷ rest) =
             charged-one (s .0) (rs .0) x (y ∷ rest) (instr-count thumb region cycles x),
           );
     })
-    (λ t r. record { kept = omega (arith, pair-ticks (cycles + (x .cost + y .cost)) t r, instrs-kept thumb region 0 rest .kept) })
+    (λ t r. record {
+      kept =
+          omega (
+            arith,
+            pair-ticks (cycles + (x .cost + y .cost)) t r,
+            instrs-kept thumb region 0 rest
+                .kept,
+          );
+    })
 
 -- the loop
 pub instrs-cycles : (thumb : Bool) (region cycles : ℕ) (xs : List TimedInstr)
-    → formsTicks (emitInstrs thumb region cycles xs .0) + emitInstrs thumb region cycles xs .1 ≡ cycles + charged (emitInstrs thumb region cycles xs .0) xs
+    → formsTicks (emitInstrs thumb region cycles xs .0) + emitInstrs thumb region cycles xs .1
+    ≡ cycles + charged (emitInstrs thumb region cycles xs .0) xs
 instrs-cycles thumb region cycles xs = instrs-kept thumb region cycles xs .kept
 
 -- the lines before a closing transfer have the ticks of what is pending
 closing-ticks : (cycles a : ℕ) → linesTicks (flushTicks cycles ++ pcLine a) ≡ cycles
 closing-ticks cycles a = omega (arith, ticks-all cycles (pcLine a))
 
--- a block: its ticks, those before its closing transfer included, are the costs of its native records
+-- a block: its ticks, those before its closing transfer included, are the costs of its native
+-- records
 pub body-cycles : (multiplier : ℕ) (b : Block) (a : ℕ)
-    → formsTicks (bodyOf multiplier b .forms) + linesTicks (flushTicks (bodyOf multiplier b .pending) ++ pcLine a) ≡ charged (bodyOf multiplier b .forms) (b .instrs)
+    → formsTicks (bodyOf multiplier b .forms) + linesTicks
+    (flushTicks (bodyOf multiplier b .pending) ++ pcLine a)
+    ≡ charged (bodyOf multiplier b .forms) (b .instrs)
 unfolding bodyOf
 body-cycles multiplier b a =
     let rs : List Form × ℕ = emitInstrs (b .thumb) (region (b .addr)) 0 (b .instrs) in
-    omega (arith, instrs-cycles (b .thumb) (region (b .addr)) 0 (b .instrs), closing-ticks (rs .1) a)
+    omega (
+      arith,
+      instrs-cycles (b .thumb) (region (b .addr)) 0 (b .instrs),
+      closing-ticks (rs .1)
+          a,
+    )

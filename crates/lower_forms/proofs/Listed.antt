@@ -24,7 +24,8 @@ only-same false n = refl
 pub listed-same : (rlist n : ℕ) → F.listed rlist n ≡ listed rlist n
 unfolding F.listed listed
 listed-same rlist zero = refl
-listed-same rlist (suc n) = ap₂ (λ (p q : List ℕ). p ++ q) (listed-same rlist n) (only-same (bit rlist n) n)
+listed-same rlist (suc n) =
+    ap₂ (λ (p q : List ℕ). p ++ q) (listed-same rlist n) (only-same (bit rlist n) n)
 
 append-nil : (is : List ℕ) → is ++ [] ≡ is
 append-nil [] = refl
@@ -33,7 +34,8 @@ append-nil (i ∷ is) = ap (λ (js : List ℕ). i ∷ js) (append-nil is)
 -- without R15 the list of 16 is that of 15
 pub listed-15 : (rlist : ℕ) → bit rlist 15 ≡ false → listed rlist 16 ≡ listed rlist 15
 unfolding listed
-listed-15 rlist q = ap (λ (b : Bool). listed rlist 15 ++ cond b (15 ∷ []) []) q ∙ append-nil (listed rlist 15)
+listed-15 rlist q =
+    ap (λ (b : Bool). listed rlist 15 ++ cond b (15 ∷ []) []) q ∙ append-nil (listed rlist 15)
 
 -- members are below n and named
 abbrev pub Named : ℕ → ℕ → ℕ → Type 0
@@ -42,7 +44,10 @@ Named rlist n i = (i < n) × (bit rlist i ≡ true)
 pub listed-named : (rlist n : ℕ) → All (Named rlist n) (listed rlist n)
 unfolding listed
 listed-named rlist zero = tt
-listed-named rlist (suc n) = all-append (Named rlist (suc n)) (listed rlist n) _ (all-map (Named rlist n) (Named rlist (suc n)) (λ i h. (omega (arith, h .0), h .1)) (listed rlist n) (listed-named rlist n)) (go (bit rlist n) refl)
+listed-named rlist (suc n) =
+    all-append (Named rlist (suc n)) (listed rlist n) _
+    (all-map (Named rlist n) (Named rlist (suc n)) (λ i h. (omega (arith, h .0), h .1))
+    (listed rlist n) (listed-named rlist n)) (go (bit rlist n) refl)
   where
     go : (b : Bool) → bit rlist n ≡ b → All (Named rlist (suc n)) (cond b (n ∷ []) [])
     go true q = ((omega arith, q), tt)
@@ -57,7 +62,8 @@ member-left : (k : ℕ) (is js : List ℕ) → member k is ≡ true → member k
 member-left k [] js h = absurd (subst T (sym h) tt)
 member-left k (i ∷ is) js h = go (eqb i k) h (member-left k is js)
   where
-    go : (b : Bool) → (b || member k is) ≡ true → (member k is ≡ true → member k (is ++ js) ≡ true) → (b || member k (is ++ js)) ≡ true
+    go : (b : Bool) → (b || member k is) ≡ true → (member k is ≡ true → member k (is ++ js) ≡ true)
+        → (b || member k (is ++ js)) ≡ true
     go true h rec = refl
     go false h rec = rec h
 
@@ -82,22 +88,30 @@ named-member rlist (suc n) k h q = go (eqb k n) refl (λ l. named-member rlist n
     below k n h e = omega arith
 
     here : k ≡ n → member k (cond (bit rlist n) (n ∷ []) []) ≡ true
-    here e = subst (λ (j : ℕ). member k (cond (bit rlist j) (j ∷ []) []) ≡ true) e (rw (q, is-true (eqb k k) (eqb-refl k)))
+    here e =
+        subst (λ (j : ℕ). member k (cond (bit rlist j) (j ∷ []) []) ≡ true) e
+        (rw (q, is-true (eqb k k) (eqb-refl k)))
 
-    go : (b : Bool) → eqb k n ≡ b → (k < n → member k (listed rlist n) ≡ true) → member k (listed rlist n ++ cond (bit rlist n) (n ∷ []) []) ≡ true
+    go : (b : Bool) → eqb k n ≡ b → (k < n → member k (listed rlist n) ≡ true)
+        → member k (listed rlist n ++ cond (bit rlist n) (n ∷ []) []) ≡ true
     go true e rec = member-right k (listed rlist n) _ (here (same-of k n e))
     go false e rec = member-left k (listed rlist n) _ (rec (below k n h (ne-of k n e)))
 
 -- loads depend on the registers before them only where a register is not loaded
-load-same : (is : List ℕ) (a : ℕ) (f : ℕ → ℕ) (r q : ℕ → ℕ) → ((j : ℕ) → r j ≡ q j) → (j : ℕ) → loadAll is a f r j ≡ loadAll is a f q j
+load-same : (is : List ℕ) (a : ℕ) (f : ℕ → ℕ) (r q : ℕ → ℕ) → ((j : ℕ) → r j ≡ q j) → (j : ℕ)
+    → loadAll is a f r j ≡ loadAll is a f q j
 load-same [] a f r q h j = h j
-load-same (i ∷ is) a f r q h j = load-same is ((a + 4) % 4294967296) f (update i (Memory4 f a) r) (update i (Memory4 f a) q) (λ j. ap (cond (eqb j i) (Memory4 f a)) (h j)) j
+load-same (i ∷ is) a f r q h j =
+    load-same is ((a + 4) % 4294967296) f (update i (Memory4 f a) r) (update i (Memory4 f a) q)
+    (λ j. ap (cond (eqb j i) (Memory4 f a)) (h j)) j
 
-pub load-over : (k : ℕ) (is : List ℕ) (a : ℕ) (f : ℕ → ℕ) (r q : ℕ → ℕ) → member k is ≡ true → ((j : ℕ) → eqb j k ≡ false → r j ≡ q j) → (j : ℕ) → loadAll is a f r j ≡ loadAll is a f q j
+pub load-over : (k : ℕ) (is : List ℕ) (a : ℕ) (f : ℕ → ℕ) (r q : ℕ → ℕ) → member k is ≡ true
+    → ((j : ℕ) → eqb j k ≡ false → r j ≡ q j) → (j : ℕ) → loadAll is a f r j ≡ loadAll is a f q j
 load-over k [] a f r q m h j = absurd (subst T (sym m) tt)
 load-over k (i ∷ is) a f r q m h j =
     go (eqb i k) refl m
-    (λ m. load-over k is ((a + 4) % 4294967296) f (update i (Memory4 f a) r) (update i (Memory4 f a) q) m (λ j e. ap (cond (eqb j i) (Memory4 f a)) (h j e)) j)
+    (λ m. load-over k is ((a + 4) % 4294967296) f (update i (Memory4 f a) r)
+    (update i (Memory4 f a) q) m (λ j e. ap (cond (eqb j i) (Memory4 f a)) (h j e)) j)
   where
     x : ℕ
     x = Memory4 f a
@@ -110,8 +124,11 @@ load-over k (i ∷ is) a f r q m h j =
         each false e = h j (subst (λ (l : ℕ). eqb j l ≡ false) (eqb→eq i k t) e)
 
     Same : Type 0
-    Same = loadAll is ((a + 4) % 4294967296) f (update i x r) j ≡ loadAll is ((a + 4) % 4294967296) f (update i x q) j
+    Same = loadAll is ((a + 4) % 4294967296) f (update i x r) j
+        ≡ loadAll is ((a + 4) % 4294967296) f (update i x q) j
 
     go : (b : Bool) → eqb i k ≡ b → (b || member k is) ≡ true → (member k is ≡ true → Same) → Same
-    go true e m rec = load-same is ((a + 4) % 4294967296) f (update i x r) (update i x q) (all (subst T (sym e) tt)) j
+    go true e m rec =
+        load-same is ((a + 4) % 4294967296) f (update i x r) (update i x q)
+        (all (subst T (sym e) tt)) j
     go false e m rec = rec m

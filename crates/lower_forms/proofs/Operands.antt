@@ -1,4 +1,5 @@
--- Registers and second operands: the expression, and the carry out of it, give what addressing mode 1 has.
+-- Registers and second operands: the expression, and the carry out of it, give what addressing mode
+-- 1 has.
 use mathlib.Core.Path.{_≡_, refl, sym, ap, _∙_, subst}
 use mathlib.Core.Logic.{_≢_}
 use mathlib.Core.Bool.{Bool, true, false, cond}
@@ -19,7 +20,8 @@ use Rattle.lower_forms.specs.Operands.{regExpr, carryIn, shiftExprs}
 use Rattle.armv4t_manual.specs.Machine.{Machine, pack, R, Sound}
 use Rattle.armv4t_manual.specs.Operators.{Arithmetic-Shift-Right}
 use Rattle.armv4t_manual.specs.Shifter.{shift}
-use Rattle.lower_forms.proofs.Gives.{Reads, to, r-reg, r-udec, r-word, r-par, r-and, r-or, r-shl, r-shr, r-shr-int, r-shl-int, r-bit, r-asr, r-ror}
+use Rattle.lower_forms.proofs.Gives.{Reads, to, r-reg, r-udec, r-word, r-par, r-and, r-or}
+use Rattle.lower_forms.proofs.Gives.{r-shl, r-shr, r-shr-int, r-shl-int, r-bit, r-asr, r-ror}
 
 pub same-of : (i k : ℕ) → eqb i k ≡ true → i ≡ k
 same-of i k q = eqb→eq i k (subst T (sym q) tt)
@@ -43,15 +45,18 @@ one-lt true = lit< tt
 one-lt false = lit< tt
 
 pub pack-lt : (n z c v : Bool) (low : ℕ) → low < 2 ^ 28 → pack n z c v low < 4294967296
-pack-lt n z c v low h = go (oneIf n) (oneIf z) (oneIf c) (oneIf v) (one-lt n) (one-lt z) (one-lt c) (one-lt v)
+pack-lt n z c v low h =
+    go (oneIf n) (oneIf z) (oneIf c) (oneIf v) (one-lt n) (one-lt z) (one-lt c) (one-lt v)
   where
-    go : (n z c v : ℕ) → n < 2 → z < 2 → c < 2 → v < 2 → (n * 8 + z * 4 + c * 2 + v) * 268435456 + low < 4294967296
+    go : (n z c v : ℕ) → n < 2 → z < 2 → c < 2 → v < 2
+        → (n * 8 + z * 4 + c * 2 + v) * 268435456 + low < 4294967296
     go n z c v hn hz hc hv = omega arith
 
 pub pack-c : (n z c v : Bool) (low : ℕ) → low < 2 ^ 28 → pack n z c v low / 2 ^ 29 % 2 ≡ oneIf c
 pack-c n z c v low h = go (oneIf n) (oneIf z) (oneIf c) (oneIf v) (one-lt c) (one-lt v)
   where
-    go : (n z c v : ℕ) → c < 2 → v < 2 → ((n * 8 + z * 4 + c * 2 + v) * 268435456 + low) / 536870912 % 2 ≡ c
+    go : (n z c v : ℕ) → c < 2 → v < 2
+        → ((n * 8 + z * 4 + c * 2 + v) * 268435456 + low) / 536870912 % 2 ≡ c
     go n z c v hc hv = omega arith
 
 -- what an instruction reads as PC is a word
@@ -71,10 +76,12 @@ module _ (z : State) (m : Machine) (s : Sound m) (i : Instr) (g : Regs z m) wher
       go false q = let l = under r h q in rw q (r-reg r (up r h) (g r l) (s .words r l))
 
 -- ((c[16] >> 29) & 1u)
-pub carry-reads : (z : State) (n zf c v : Bool) (low : ℕ) → low < 2 ^ 28 → z .c 16 ≡ pack n zf c v low → Reads carryIn z (oneIf c)
+pub carry-reads : (z : State) (n zf c v : Bool) (low : ℕ) → low < 2 ^ 28
+    → z .c 16 ≡ pack n zf c v low → Reads carryIn z (oneIf c)
 carry-reads z n zf c v low h f =
     to (and-mask (pack n zf c v low / 2 ^ 29) 1 ∙ pack-c n zf c v low h)
-    (r-par (r-and (r-par (r-shr-int (r-reg 16 (lit≤ tt) f (pack-lt n zf c v low h)) 29 (lit< tt))) (r-udec (lit< tt))))
+    (r-par (r-and (r-par (r-shr-int (r-reg 16 (lit≤ tt) f (pack-lt n zf c v low h)) 29 (lit< tt)))
+    (r-udec (lit< tt))))
 
 count-lt : {i : ℕ} → i < 32 → i < 4294967296
 count-lt h = le-trans h (lit≤ tt)
@@ -86,9 +93,11 @@ asr-all x h = ap (λ (k : ℕ). k + cond (bit x 31) 4294967294 0) (top-bit x h) 
     go true = refl
     go false = refl
 
-module _ (z : State) (n zf c v : Bool) (low : ℕ) (h : low < 2 ^ 28) (f : z .c 16 ≡ pack n zf c v low) {e : Expr} {x : ℕ} (p : Reads e z x) where
+module _ (z : State) (n zf c v : Bool) (low : ℕ) (h : low < 2 ^ 28)
+    (f : z .c 16 ≡ pack n zf c v low) {e : Expr} {x : ℕ} (p : Reads e z x) where
   rrx : OR (oneIf c * 2 ^ 31 % 4294967296) (x / 2 ^ 1) ≡ oneIf c * 2 ^ 31 + x / 2 ^ 1
-  rrx = ap (λ (k : ℕ). OR k (x / 2 ^ 1)) (go c) ∙ or-shifted (oneIf c) 31 (x / 2 ^ 1) (half x (p .small))
+  rrx = ap (λ (k : ℕ). OR k (x / 2 ^ 1)) (go c)
+      ∙ or-shifted (oneIf c) 31 (x / 2 ^ 1) (half x (p .small))
     where
       go : (c : Bool) → oneIf c * 2147483648 % 4294967296 ≡ oneIf c * 2147483648
       go true = refl
@@ -97,7 +106,8 @@ module _ (z : State) (n zf c v : Bool) (low : ℕ) (h : low < 2 ^ 28) (f : z .c 
       half : (x : ℕ) → x < 4294967296 → x / 2 < 2147483648
       half x h = omega arith
 
-  pub shift-reads : (k : ShiftKind) (i : ℕ) → i < 32 → Reads (shiftExprs e k i .0) z (shift k x i c .0)
+  pub shift-reads : (k : ShiftKind) (i : ℕ) → i < 32
+      → Reads (shiftExprs e k i .0) z (shift k x i c .0)
   shift-reads Lsl zero l = p
   shift-reads Lsl (suc i) l = r-par (r-shl p (r-udec (count-lt l)) l)
   shift-reads Lsr zero l = r-udec (lit< tt)
@@ -105,7 +115,9 @@ module _ (z : State) (n zf c v : Bool) (low : ℕ) (h : low < 2 ^ 28) (f : z .c 
   shift-reads Asr zero l = to (asr-all x (p .small)) (r-asr p 31 (lit< tt))
   shift-reads Asr (suc i) l = r-asr p (suc i) l
   shift-reads Ror zero l =
-      to rrx (r-par (r-or (r-par (r-shl-int (carry-reads z n zf c v low h f) 31 (lit< tt))) (r-par (r-shr p (r-udec (lit< tt)) (lit< tt)))))
+      to rrx (r-par
+      (r-or (r-par (r-shl-int (carry-reads z n zf c v low h f) 31 (lit< tt)))
+      (r-par (r-shr p (r-udec (lit< tt)) (lit< tt)))))
   shift-reads Ror (suc i) l = r-ror p (r-udec (count-lt l)) l
 
 -- a carry that is not written stays
@@ -113,30 +125,45 @@ abbrev pub Carries : Option Expr → State → Bool → Bool → Type 0
 Carries none z old new = new ≡ old
 Carries (some e) z old new = Reads e z (oneIf new)
 
-pub shift-carries : (z : State) {e : Expr} {x : ℕ} → Reads e z x → (c : Bool) (k : ShiftKind) (i : ℕ) → i < 32 → Carries (shiftExprs e k i .1) z c (shift k x i c .1)
+pub shift-carries : (z : State) {e : Expr} {x : ℕ} → Reads e z x
+    → (c : Bool) (k : ShiftKind) (i : ℕ) → i < 32
+    → Carries (shiftExprs e k i .1) z c (shift k x i c .1)
 shift-carries z p c Lsl zero l = refl
 shift-carries z p c Lsl (suc i) l = r-bit p (32 - suc i) (omega arith)
-shift-carries z {x = x} p c Lsr zero l = to (top-bit x (p .small)) (r-par (r-shr p (r-udec (lit< tt)) (lit< tt)))
+shift-carries z {x = x} p c Lsr zero l =
+    to (top-bit x (p .small)) (r-par (r-shr p (r-udec (lit< tt)) (lit< tt)))
 shift-carries z p c Lsr (suc i) l = r-bit p i (omega arith)
-shift-carries z {x = x} p c Asr zero l = to (top-bit x (p .small)) (r-par (r-shr p (r-udec (lit< tt)) (lit< tt)))
+shift-carries z {x = x} p c Asr zero l =
+    to (top-bit x (p .small)) (r-par (r-shr p (r-udec (lit< tt)) (lit< tt)))
 shift-carries z p c Asr (suc i) l = r-bit p i (omega arith)
-shift-carries z {x = x} p c Ror zero l = to (and-mask x 1 ∙ sym (bit-num x 0 ∙ ap (λ (k : ℕ). k % 2) (div-one x))) (r-par (r-and p (r-udec (lit< tt))))
+shift-carries z {x = x} p c Ror zero l =
+    to (and-mask x 1 ∙ sym (bit-num x 0 ∙ ap (λ (k : ℕ). k % 2) (div-one x)))
+    (r-par (r-and p (r-udec (lit< tt))))
 shift-carries z p c Ror (suc i) l = r-bit p i (omega arith)
 
 module _ (z : State) (m : Machine) (s : Sound m) (i : Instr) (g : Regs z m) where
   -- a register shifted by an amount
-  pub shifted-reads : z .c 16 ≡ pack (m .n) (m .z) (m .c) (m .v) (m .otherBits) → (rm : ℕ) (k : ShiftKind) (n : ℕ) → rm ≤ 15 → n < 32
+  pub shifted-reads : z .c 16 ≡ pack (m .n) (m .z) (m .c) (m .v) (m .otherBits)
+      → (rm : ℕ) (k : ShiftKind) (n : ℕ) → rm ≤ 15 → n < 32
       → Reads (shiftExprs (regExpr i rm) k n .0) z (shift k (R m (pcValue i) rm) n (m .c) .0)
-  shifted-reads f rm k n h l = shift-reads z (m .n) (m .z) (m .c) (m .v) (m .otherBits) (s .otherBits) f (operand-reads z m s i g rm h) k n l
+  shifted-reads f rm k n h l =
+      shift-reads z (m .n) (m .z) (m .c) (m .v) (m .otherBits) (s .otherBits) f
+      (operand-reads z m s i g rm h) k n l
 
   -- the carry out of a value, and out of a register shifted
-  pub value-carries : (x rot : ℕ) → Carries (cond (eqb rot 0) none (some (lit udec (x / 2 ^ 31 % 2)))) z (m .c) (cond (eqb rot 0) (m .c) (bit x 31))
+  pub value-carries : (x rot : ℕ)
+      → Carries (cond (eqb rot 0) none (some (lit udec (x / 2 ^ 31 % 2)))) z (m .c)
+      (cond (eqb rot 0) (m .c) (bit x 31))
   value-carries x rot = go (eqb rot 0)
     where
-      go : (b : Bool) → Carries (cond b none (some (lit udec (x / 2 ^ 31 % 2)))) z (m .c) (cond b (m .c) (bit x 31))
+      go : (b : Bool)
+          → Carries (cond b none (some (lit udec (x / 2 ^ 31 % 2)))) z (m .c)
+          (cond b (m .c) (bit x 31))
       go true = refl
-      go false = to (sym (bit-num x 31)) (r-udec (le-trans (mod-lt (x / 2 ^ 31) (lit< tt)) (lit≤ tt)))
+      go false =
+          to (sym (bit-num x 31)) (r-udec (le-trans (mod-lt (x / 2 ^ 31) (lit< tt)) (lit≤ tt)))
 
   pub shifted-carries : (rm : ℕ) (k : ShiftKind) (n : ℕ) → rm ≤ 15 → n < 32
-      → Carries (shiftExprs (regExpr i rm) k n .1) z (m .c) (shift k (R m (pcValue i) rm) n (m .c) .1)
+      → Carries (shiftExprs (regExpr i rm) k n .1) z (m .c)
+      (shift k (R m (pcValue i) rm) n (m .c) .1)
   shifted-carries rm k n h l = shift-carries z (operand-reads z m s i g rm h) (m .c) k n l

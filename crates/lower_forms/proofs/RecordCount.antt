@@ -27,15 +27,19 @@ abbrev pub recordCounts : List Form → ℕ
 recordCounts [] = 0
 recordCounts (r ∷ rs) = recordCount r + recordCounts rs
 
-lines-count : (thumb touchesBus : Bool) (cycles : ℕ) (x : TimedInstr) (body : Option Lines) → recordCount (emitLines thumb touchesBus cycles x body .0) ≡ 1
+lines-count : (thumb touchesBus : Bool) (cycles : ℕ) (x : TimedInstr) (body : Option Lines)
+    → recordCount (emitLines thumb touchesBus cycles x body .0) ≡ 1
 lines-count thumb touchesBus cycles x none = refl
-lines-count thumb touchesBus cycles x (some body) = either (λ r. records r ≡ 1) (isAl (x .instr .cond)) refl refl
+lines-count thumb touchesBus cycles x (some body) =
+    either (λ r. records r ≡ 1) (isAl (x .instr .cond)) refl refl
 
 -- an instruction that is not fused is one record
-pub instr-count : (thumb : Bool) (region cycles : ℕ) (x : TimedInstr) → recordCount (emitInstr thumb region cycles x .0) ≡ 1
+pub instr-count : (thumb : Bool) (region cycles : ℕ) (x : TimedInstr)
+    → recordCount (emitInstr thumb region cycles x .0) ≡ 1
 instr-count =
     every-instr (λ r. recordCount r ≡ 1) (λ thumb high cycles i. refl)
-    (λ thumb touchesBus cycles x. lines-count thumb touchesBus cycles x (inlineBody thumb (x .instr)))
+    (λ thumb touchesBus cycles x. lines-count thumb touchesBus cycles x
+    (inlineBody thumb (x .instr)))
     (λ thumb cycles i link target. either (λ r. records r ≡ 1) (isAl (i .cond)) refl refl)
     (λ cycles i rm. refl)
     (λ thumb cycles rn rlist. refl)
@@ -44,21 +48,31 @@ instr-count =
 record All (n : ℕ) (rs : List Form × ℕ) : Type 0 where
   counted : recordCounts (rs .0) ≡ n
 
-instrs-all : (thumb : Bool) (region cycles : ℕ) (xs : List TimedInstr) → All (length xs) (emitInstrs thumb region cycles xs)
+instrs-all : (thumb : Bool) (region cycles : ℕ) (xs : List TimedInstr)
+    → All (length xs) (emitInstrs thumb region cycles xs)
 unfolding emitInstrs
 instrs-all thumb region cycles [] = record { counted = refl }
-instrs-all thumb region cycles (x ∷ []) = record { counted = omega (arith, instr-count thumb region cycles x) }
+instrs-all thumb region cycles (x ∷ []) =
+    record { counted = omega (arith, instr-count thumb region cycles x) }
 instrs-all thumb region cycles (x ∷ y ∷ rest) =
     fused-or (All (length (x ∷ y ∷ rest))) (fuse (x .instr) (y .instr))
     (record {
-      counted = omega (arith, instr-count thumb region cycles x, instrs-all thumb region (emitInstr thumb region cycles x .1) (y ∷ rest) .counted);
+      counted =
+          omega (
+            arith,
+            instr-count thumb region cycles x,
+            instrs-all thumb region
+                (emitInstr thumb region cycles x .1) (y ∷ rest) .counted,
+          );
     })
     (λ t r. record { counted = omega (arith, instrs-all thumb region 0 rest .counted) })
 
-pub instrs-count : (thumb : Bool) (region cycles : ℕ) (xs : List TimedInstr) → recordCounts (emitInstrs thumb region cycles xs .0) ≡ length xs
+pub instrs-count : (thumb : Bool) (region cycles : ℕ) (xs : List TimedInstr)
+    → recordCounts (emitInstrs thumb region cycles xs .0) ≡ length xs
 instrs-count thumb region cycles xs = instrs-all thumb region cycles xs .counted
 
 -- the forms of a block stand for all its instructions
-pub body-count : (multiplier : ℕ) (b : Block) → recordCounts (bodyOf multiplier b .forms) ≡ length (b .instrs)
+pub body-count : (multiplier : ℕ) (b : Block)
+    → recordCounts (bodyOf multiplier b .forms) ≡ length (b .instrs)
 unfolding bodyOf
 body-count multiplier b = instrs-count (b .thumb) (region (b .addr)) 0 (b .instrs)

@@ -4,9 +4,19 @@ use native.Mathlib.Omega.{arith}
 use mathlib.Core.Path.{_≡_, refl}
 use mathlib.Core.Bool.{Bool, true, false, not, _&&_}
 use lib.Dec.{eqb}
-use Rattle.armv4t_manual.specs.Thumb.{Opcode2, Opcode3, Opcode4, Opcode5, Opcode7, Opcode8, Opcode9, Opcode10, Opcode11, Opcode12, Opcode13, Opcode14, Opcode15, Thumb, Fits, decoded, PC}
-use Rattle.armv4t_manual.specs.Thumb.{add-1, add-3, sub-1, sub-3, mov-1, cmp-1, add-2, sub-2, and, eor, lsl-2, lsr-2, asr-2, adc, sbc, ror, tst, neg, cmp-2, cmn, orr, mul, bic, mvn, add-4, cmp-3, mov-3, bx, str-2, strb-2, ldr-2, ldrb-2, strh-2, ldrsb, ldrh-2, ldrsh, str-1, ldr-1, strb-1, ldrb-1, strh-1, ldrh-1, str-3, ldr-4, add-5, add-6, add-7, sub-4, push, pop, stmia, ldmia}
-use Rattle.armv4t_manual.specs.Thumb.{format-1, format-2, format-3, format-4, format-5, format-6, format-7, format-8, format-9, format-10, format-11, format-12, format-13, format-14, format-15, format-16, format-17, format-18, format-19-high, format-19-low}
+use Rattle.armv4t_manual.specs.Thumb.{Opcode2, Opcode3, Opcode4, Opcode5, Opcode7, Opcode8, Opcode9}
+use Rattle.armv4t_manual.specs.Thumb.{Opcode10, Opcode11, Opcode12, Opcode13, Opcode14, Opcode15}
+use Rattle.armv4t_manual.specs.Thumb.{Thumb, Fits, decoded, PC}
+use Rattle.armv4t_manual.specs.Thumb.{add-1, add-3, sub-1, sub-3, mov-1, cmp-1, add-2, sub-2, and}
+use Rattle.armv4t_manual.specs.Thumb.{eor, lsl-2, lsr-2, asr-2, adc, sbc, ror, tst, neg, cmp-2, cmn}
+use Rattle.armv4t_manual.specs.Thumb.{orr, mul, bic, mvn, add-4, cmp-3, mov-3, bx, str-2, strb-2}
+use Rattle.armv4t_manual.specs.Thumb.{ldr-2, ldrb-2, strh-2, ldrsb, ldrh-2, ldrsh, str-1, ldr-1}
+use Rattle.armv4t_manual.specs.Thumb.{strb-1, ldrb-1, strh-1, ldrh-1, str-3, ldr-4, add-5, add-6}
+use Rattle.armv4t_manual.specs.Thumb.{add-7, sub-4, push, pop, stmia, ldmia}
+use Rattle.armv4t_manual.specs.Thumb.{format-1, format-2, format-3, format-4, format-5, format-6}
+use Rattle.armv4t_manual.specs.Thumb.{format-7, format-8, format-9, format-10, format-11, format-12}
+use Rattle.armv4t_manual.specs.Thumb.{format-13, format-14, format-15, format-16, format-17}
+use Rattle.armv4t_manual.specs.Thumb.{format-18, format-19-high, format-19-low}
 use Rattle.armv4t_manual.proofs.Thumb.{low, folded-odd, folded-even, multiple, by-bit}
 use Rattle.lower_forms.specs.Means.{differsIn}
 
@@ -81,8 +91,11 @@ same-11 a str-3 rd immed = refl
 same-11 a ldr-4 rd immed = refl
 
 -- ADD (5): where PC has bit 1 the value is no multiple of 4
-same-12 : (a : ℕ) (op : Opcode12) (rd immed : ℕ) → a % 2 ≡ 0 → immed < 256 → Same a (format-12 op rd immed)
-same-12 a add-5 rd immed e h = by-bit a (λ q. rw (folded-even a immed h q, multiple immed, aligned a e q)) (λ q. rw (folded-odd a immed h q))
+same-12 : (a : ℕ) (op : Opcode12) (rd immed : ℕ) → a % 2 ≡ 0 → immed < 256
+    → Same a (format-12 op rd immed)
+same-12 a add-5 rd immed e h =
+    by-bit a (λ q. rw (folded-even a immed h q, multiple immed, aligned a e q))
+    (λ q. rw (folded-odd a immed h q))
   where
     aligned : (a : ℕ) → a % 2 ≡ 0 → a / 2 % 2 ≡ 0 → PC a % 4 ≡ 0
     aligned a e q = omega arith
@@ -102,7 +115,8 @@ same-15 a stmia rn list = refl
 same-15 a ldmia rn list = refl
 
 -- the record that an instruction decodes to is no named difference
-pub thumb-same : (a : ℕ) (t : Thumb) → Fits t → a % 2 ≡ 0 → differsIn (decoded a t) (decoded a t .op) ≡ false
+pub thumb-same : (a : ℕ) (t : Thumb) → Fits t → a % 2 ≡ 0
+    → differsIn (decoded a t) (decoded a t .op) ≡ false
 thumb-same a (format-1 op immed rm rd) h e = refl
 thumb-same a (format-2 op rm rn rd) h e = same-2 a op rm rn rd (h .1)
 thumb-same a (format-3 op rd immed) h e = same-3 a op rd immed (h .0)

@@ -1,4 +1,5 @@
--- The statements that an instruction is lowered to, without its condition: inline_body, class by class.
+-- The statements that an instruction is lowered to, without its condition: inline_body, class by
+-- class.
 use Prim.Native.Nat.{ℕ, zero, suc, _+_, _*_, _/_, _%_, _^_}
 use mathlib.Core.Bool.{Bool, true, false, not, cond, _&&_, _||_}
 use mathlib.Core.List.{List, [], _∷_, _++_}
@@ -6,7 +7,8 @@ use mathlib.Core.Option.{Option, none, some}
 use lib.Dec.{eqb}
 use lib.ListN.{length, getD}
 use Rattle.armv4t.specs.declared.AluOp.{AluOp}
-use Rattle.armv4t.specs.declared.AluOp.the-variants.{And, Eor, Sub, Rsb, Add, Adc, Sbc, Rsc, Tst, Teq, Cmp, Cmn, Orr, Mov, Bic, Mvn}
+use Rattle.armv4t.specs.declared.AluOp.the-variants.{And, Eor, Sub, Rsb, Add, Adc, Sbc, Rsc, Tst}
+use Rattle.armv4t.specs.declared.AluOp.the-variants.{Teq, Cmp, Cmn, Orr, Mov, Bic, Mvn}
 use Rattle.armv4t.specs.declared.ShiftKind.{ShiftKind}
 use Rattle.armv4t.specs.declared.ShiftKind.the-variants.{Lsl, Lsr, Asr, Ror}
 use Rattle.armv4t.specs.declared.Shift.{Shift}
@@ -14,13 +16,19 @@ use Rattle.armv4t.specs.declared.MemWidth.{MemWidth}
 use Rattle.armv4t.specs.declared.MemWidth.the-variants.{Byte, Half, Word}
 use Rattle.armv4t.specs.declared.MemOffset.{MemOffset}
 use Rattle.armv4t.specs.declared.Op.{Op}
-use Rattle.armv4t.specs.declared.Op.the-variants.{Alu, Mul, MulLong, Swap, Bx, Branch, ThumbBlHigh, ThumbBlLow, Mem, BlockMem, Mrs, MsrReg, MsrImm, Swi, Undefined}
+use Rattle.armv4t.specs.declared.Op.the-variants.{Alu, Mul, MulLong, Swap, Bx, Branch, ThumbBlHigh}
+use Rattle.armv4t.specs.declared.Op.the-variants.{ThumbBlLow, Mem, BlockMem, Mrs, MsrReg, MsrImm}
+use Rattle.armv4t.specs.declared.Op.the-variants.{Swi, Undefined}
 use Rattle.armv4t.specs.declared.Instr.{Instr}
 use Rattle.armv4t.specs.AluOp.{isCompare}
 use Rattle.armv4t.specs.Instr.{pcValue}
 use Rattle.armv4t.specs.RegisterList.{isListed}
-use Rattle.c_tree.specs.Expr.{Ty, s8, s16, s32, u32, s64, u64, word, uhex, udec, int, Name, x-r, x-base, x-ob, x-addr, reg, var, compl, Bin, mul, add, sub, shl, shr, band, bxor, bor, Width, w8, w16, w32, Expr, lit, get, par, un, bin, cast, pick, ror, read}
-use Rattle.c_tree.specs.Stmt.{is, plus, f-nz, f-c, f-nz64, Plain, declare, adds, set, discard, run, write}
+use Rattle.c_tree.specs.Expr.{Ty, s8, s16, s32, u32, s64, u64, word, uhex, udec, int, Name, x-r}
+use Rattle.c_tree.specs.Expr.{x-base, x-ob, x-addr, reg, var, compl, Bin, mul, add, sub, shl, shr}
+use Rattle.c_tree.specs.Expr.{band, bxor, bor, Width, w8, w16, w32, Expr, lit, get, par, un, bin}
+use Rattle.c_tree.specs.Expr.{cast, pick, ror, read}
+use Rattle.c_tree.specs.Stmt.{is, plus, f-nz, f-c, f-nz64, Plain, declare, adds, set, discard, run}
+use Rattle.c_tree.specs.Stmt.{write}
 use Rattle.c_tree.specs.Preamble.{v32}
 use Rattle.lower_forms.specs.Forms.{Lines}
 use Rattle.lower_forms.specs.Operands.{regExpr, carryIn, shiftExprs, op2Exprs}
@@ -62,7 +70,8 @@ logical op s rd carry e = let32 x-r e ∷ logicalRest op s rd carry
 
 -- an Alu that adds
 abbrev pub sum : AluOp → Bool → ℕ → Expr → Expr → Expr → List Plain
-sum op s rd x y carry = cond s (adds x-r x y carry) (let32 x-r (bin add (bin add x y) carry)) ∷ result op rd ∷ []
+sum op s rd x y carry =
+    cond s (adds x-r x y carry) (let32 x-r (bin add (bin add x y) carry)) ∷ result op rd ∷ []
 
 -- Alu: first operand, second operand, the carry out of the second
 abbrev pub alu : AluOp → Bool → ℕ → Expr → Expr → Option Expr → List Plain
@@ -107,9 +116,13 @@ r64 = get (var (u64, x-r))
 -- MulLong
 abbrev pub mulLongBody : Bool → Bool → Bool → ℕ → ℕ → ℕ → ℕ → List Plain
 mulLongBody signed acc s hi lo rs rm =
-    declare (u64, x-r) (cast u64 (par (bin mul (wide signed (get (reg rm))) (wide signed (get (reg rs)))))) []
-    ∷ only acc (set (var (u64, x-r)) plus (bin bor (par (bin shl (cast u64 (get (reg hi))) (lit int 32))) (cast u64 (get (reg lo)))))
-    ++ (setReg lo (cast u32 r64) ∷ setReg hi (cast u32 (par (bin shr r64 (lit int 32)))) ∷ only s (run f-nz64 r64))
+    declare (u64, x-r)
+    (cast u64 (par (bin mul (wide signed (get (reg rm))) (wide signed (get (reg rs)))))) []
+    ∷ only acc
+    (set (var (u64, x-r)) plus
+    (bin bor (par (bin shl (cast u64 (get (reg hi))) (lit int 32))) (cast u64 (get (reg lo)))))
+    ++ (setReg lo (cast u32 r64) ∷ setReg hi (cast u32 (par (bin shr r64 (lit int 32))))
+    ∷ only s (run f-nz64 r64))
 
 -- the base of a Mem: PC is word-aligned in a Thumb block
 abbrev pub baseExpr : Bool → Instr → ℕ → Expr
@@ -151,7 +164,8 @@ abbrev pub loaded : MemWidth → Bool → Expr
 loaded Byte false = read w8 (v32 x-addr)
 loaded Byte true = signedRead s8 w8
 loaded Half false = ror (read w16 (aligned 1)) (rotation 1)
-loaded Half true = par (pick (par (bin band (v32 x-addr) (lit udec 1))) (signedRead s8 w8) (signedRead s16 w16))
+loaded Half true =
+    par (pick (par (bin band (v32 x-addr) (lit udec 1))) (signedRead s8 w8) (signedRead s16 w16))
 loaded Word signed = ror (read w32 (aligned 3)) (rotation 3)
 
 -- how a Mem stores
@@ -162,13 +176,18 @@ stored Word e = write w32 (aligned 3) e
 
 -- a load or a store, after the lines that both have; wb: the base is written back
 abbrev pub access : Bool → MemWidth → Bool → ℕ → ℕ → Bool → List Plain
-access true width signed rd rn wb = only (wb && not (eqb rn rd) && not (eqb rn 15)) (setReg rn (v32 x-ob)) ++ (setReg rd (loaded width signed) ∷ [])
-access false width signed rd rn wb = stored width (get (reg rd)) ∷ only (wb && not (eqb rn 15)) (setReg rn (v32 x-ob))
+access true width signed rd rn wb =
+    only (wb && not (eqb rn rd) && not (eqb rn 15)) (setReg rn (v32 x-ob))
+    ++ (setReg rd (loaded width signed) ∷ [])
+access false width signed rd rn wb = stored width (get (reg rd)) ∷ only (wb && not (eqb rn 15))
+    (setReg rn (v32 x-ob))
 
--- the lines of a Mem, by its base, whether the offset is added, whether it counts before the access, the statements of the access, and the offset
+-- the lines of a Mem, by its base, whether the offset is added, whether it counts before the
+-- access, the statements of the access, and the offset
 abbrev pub memLines : Expr → Bool → Bool → List Plain → Expr → Lines
 memLines base up pre rest off =
-    apart (let32 x-base base ∷ let32 x-ob (bin (addOrSub up) (v32 x-base) off) ∷ let32 x-addr (v32 (cond pre x-ob x-base)) ∷ rest)
+    apart (let32 x-base base ∷ let32 x-ob (bin (addOrSub up) (v32 x-base) off)
+    ∷ let32 x-addr (v32 (cond pre x-ob x-base)) ∷ rest)
 
 -- Mem, if its offset can be printed
 abbrev pub memBody : Expr → Bool → Bool → List Plain → Option Expr → Option Lines
@@ -200,19 +219,23 @@ start true true total = bin add (v32 x-base) (lit udec 4)
 start false false total = bin add (bin sub (v32 x-base) (lit udec total)) (lit udec 4)
 start false true total = bin sub (v32 x-base) (lit udec total)
 
--- what a BlockMem stores of a register, given its base register, the lowest register listed and the base after it
+-- what a BlockMem stores of a register, given its base register, the lowest register listed and the
+-- base after it
 abbrev pub storedReg : Instr → ℕ → ℕ → Expr → ℕ → Expr
 storedReg i rn lowest moved r =
-    cond (eqb r 15) (lit word ((pcValue i + 4) % 2 ^ 32)) (cond (eqb r rn) (cond (eqb r lowest) (v32 x-base) moved) (get (reg r)))
+    cond (eqb r 15) (lit word ((pcValue i + 4) % 2 ^ 32))
+    (cond (eqb r rn) (cond (eqb r lowest) (v32 x-base) moved) (get (reg r)))
 
 -- the stores of a BlockMem, a line for each register
 abbrev pub stores : (ℕ → Expr) → List ℕ → Lines
 stores value [] = []
 stores value (r ∷ rs) = (write w32 (aligned 3) (value r) ∷ advance ∷ []) ∷ stores value rs
 
--- the lines of a BlockMem after its start: load or store, the base register, whether it is written back and is listed, the base after, the registers
+-- the lines of a BlockMem after its start: load or store, the base register, whether it is written
+-- back and is listed, the base after, the registers
 abbrev pub loadsOrStores : Bool → Instr → ℕ → Bool → Bool → Expr → List ℕ → Lines
-loadsOrStores true i rn writeback inList moved regs = apart (only (writeback && not inList) (setReg rn moved)) ++ loads regs
+loadsOrStores true i rn writeback inList moved regs =
+    apart (only (writeback && not inList) (setReg rn moved)) ++ loads regs
 loadsOrStores false i rn writeback inList moved regs =
     stores (storedReg i rn (getD regs 0 16) moved) regs ++ apart (only writeback (setReg rn moved))
 
@@ -223,11 +246,15 @@ blockMemBody i load rn inList pre up writeback regs =
     apart (let32 x-base (get (reg rn)) ∷ let32 x-addr (start up pre total) ∷ [])
     ++ loadsOrStores load i rn writeback inList (movedBase up total) regs
 
--- inline_body by the operation, in a block that is Thumb or not; none where the interpreter is to carry it out
+-- inline_body by the operation, in a block that is Thumb or not; none where the interpreter is to
+-- carry it out
 abbrev pub opBody : Bool → Instr → Op → Option Lines
-opBody thumb i (Alu op s rd rn op2) = cond (eqb rd 15) none (aluBody op s rd (regExpr i rn) (op2Exprs i op2))
-opBody thumb i (Mul acc s rd rn rs rm) = cond (eqb rd 15) none (some (apart (mulBody acc s rd rn rs rm)))
-opBody thumb i (MulLong signed acc s hi lo rs rm) = some (apart (mulLongBody signed acc s hi lo rs rm))
+opBody thumb i (Alu op s rd rn op2) =
+    cond (eqb rd 15) none (aluBody op s rd (regExpr i rn) (op2Exprs i op2))
+opBody thumb i (Mul acc s rd rn rs rm) =
+    cond (eqb rd 15) none (some (apart (mulBody acc s rd rn rs rm)))
+opBody thumb i (MulLong signed acc s hi lo rs rm) =
+    some (apart (mulLongBody signed acc s hi lo rs rm))
 opBody thumb i (Swap byte rd rm rn) = none
 opBody thumb i (Bx rm) = none
 opBody thumb i (Branch link target) = none
@@ -235,7 +262,8 @@ opBody thumb i (ThumbBlHigh lr) = none
 opBody thumb i (ThumbBlLow off) = none
 opBody thumb i (Mem load width signed rd rn offset pre up writeback) =
     cond (eqb rd 15) none
-    (memBody (baseExpr thumb i rn) up pre (access load width signed rd rn (not pre || writeback)) (offsetExpr i offset))
+    (memBody (baseExpr thumb i rn) up pre (access load width signed rd rn (not pre || writeback))
+    (offsetExpr i offset))
 opBody thumb i (BlockMem load rn rlist pre up s-bit writeback) =
     cond (s-bit || eqb rlist 0 || eqb rn 15 || (load && isListed rlist 15)) none
     (some (blockMemBody i load rn (isListed rlist rn) pre up writeback (listed rlist 16)))

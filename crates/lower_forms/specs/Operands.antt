@@ -5,14 +5,17 @@ use mathlib.Core.List.{List, [], _∷_}
 use mathlib.Core.Option.{Option, none, some}
 use lib.Dec.{eqb}
 use Rattle.armv4t.specs.declared.Cond.{Cond}
-use Rattle.armv4t.specs.declared.Cond.the-variants.{Eq, Ne, Cs, Cc, Mi, Pl, Vs, Vc, Hi, Ls, Ge, Lt, Gt, Le, Al, Nv}
+use Rattle.armv4t.specs.declared.Cond.the-variants.{Eq, Ne, Cs, Cc, Mi, Pl, Vs, Vc, Hi, Ls, Ge, Lt}
+use Rattle.armv4t.specs.declared.Cond.the-variants.{Gt, Le, Al, Nv}
 use Rattle.armv4t.specs.declared.ShiftKind.{ShiftKind}
 use Rattle.armv4t.specs.declared.ShiftKind.the-variants.{Lsl, Lsr, Asr, Ror}
 use Rattle.armv4t.specs.declared.Shift.{Shift}
 use Rattle.armv4t.specs.declared.Operand2.{Operand2}
 use Rattle.armv4t.specs.declared.Instr.{Instr}
 use Rattle.armv4t.specs.Instr.{pcValue}
-use Rattle.c_tree.specs.Expr.{s32, u32, word, udec, int, x-s, x-cn, x-cz, x-cc, x-cv, reg, lnot, shl, shr, eq, ne, band, bor, land, lor, Expr, lit, get, par, un, bin, cast, ror}
+use Rattle.c_tree.specs.Expr.{s32, u32, word, udec, int, x-s, x-cn, x-cz, x-cc, x-cv, reg, lnot}
+use Rattle.c_tree.specs.Expr.{shl, shr, eq, ne, band, bor, land, lor, Expr, lit, get, par, un, bin}
+use Rattle.c_tree.specs.Expr.{cast, ror}
 use Rattle.c_tree.specs.Stmt.{Plain, declare}
 use Rattle.c_tree.specs.Preamble.{v32}
 
@@ -43,7 +46,8 @@ flagBit n = bin band (par (bin shr (v32 x-s) (lit int n))) (lit udec 1)
 abbrev pub flags : List Plain
 flags =
     declare (u32, x-s) (get (reg 16)) []
-    ∷ declare (u32, x-cn) (bin shr (v32 x-s) (lit int 31)) ((x-cz, flagBit 30) ∷ (x-cc, flagBit 29) ∷ (x-cv, flagBit 28) ∷ [])
+    ∷ declare (u32, x-cn) (bin shr (v32 x-s) (lit int 31))
+    ((x-cz, flagBit 30) ∷ (x-cc, flagBit 29) ∷ (x-cv, flagBit 28) ∷ [])
     ∷ []
 
 -- a register, or the value pc in the place of PC
@@ -66,7 +70,8 @@ carryIn = par (bin band (par (bin shr (get (reg 16)) (lit int 29))) (lit udec 1)
 abbrev pub shiftSigned : Expr → ℕ → Expr
 shiftSigned e n = par (cast u32 (par (bin shr (cast s32 e) (lit int n))))
 
--- shift_exprs: an operand shifted by an amount as encoded, and the carry out of it; none where C stays as it is
+-- shift_exprs: an operand shifted by an amount as encoded, and the carry out of it; none where C
+-- stays as it is
 abbrev pub shiftExprs : Expr → ShiftKind → ℕ → Expr × Option Expr
 shiftExprs e Lsl zero = (e, none)
 shiftExprs e Lsl (suc n) = (par (bin shl e (lit udec (suc n))), some (bitOf e (32 - suc n)))
@@ -74,17 +79,25 @@ shiftExprs e Lsr zero = (lit udec 0, some (par (bin shr e (lit udec 31))))
 shiftExprs e Lsr (suc n) = (par (bin shr e (lit udec (suc n))), some (bitOf e n))
 shiftExprs e Asr zero = (shiftSigned e 31, some (par (bin shr e (lit udec 31))))
 shiftExprs e Asr (suc n) = (shiftSigned e (suc n), some (bitOf e n))
-shiftExprs e Ror zero = (par (bin bor (par (bin shl carryIn (lit int 31))) (par (bin shr e (lit udec 1)))), some (par (bin band e (lit udec 1))))
+shiftExprs e Ror zero = (
+  par (bin bor (par (bin shl carryIn (lit int 31))) (par (bin shr e (lit udec 1)))),
+  some
+      (par (bin band e (lit udec 1))),
+)
 shiftExprs e Ror (suc n) = (ror e (lit udec (suc n)), some (bitOf e n))
 
--- an operand by the value of PC, and the carry out of it; one that is shifted by a register counts as not shifted
+-- an operand by the value of PC, and the carry out of it; one that is shifted by a register counts
+-- as not shifted
 abbrev pub operandOf : ℕ → Operand2 → Expr × Option Expr
-operandOf pc (Operand2.Imm value rot) = (lit word value, cond (eqb rot 0) none (some (lit udec (value / 2 ^ 31 % 2))))
+operandOf pc (Operand2.Imm value rot) =
+    (lit word value, cond (eqb rot 0) none (some (lit udec (value / 2 ^ 31 % 2))))
 operandOf pc (Operand2.Reg rm (Shift.Imm kind amount)) = shiftExprs (regOf pc rm) kind amount
 operandOf pc (Operand2.Reg rm (Shift.Reg kind rs)) = (regOf pc rm, none)
 
--- op2_exprs: the second operand and the carry out of it; none where the interpreter is to shift by a register
+-- op2_exprs: the second operand and the carry out of it; none where the interpreter is to shift by
+-- a register
 abbrev pub op2Exprs : Instr → Operand2 → Option (Expr × Option Expr)
 op2Exprs i (Operand2.Imm value rot) = some (operandOf (pcValue i) (Operand2.Imm value rot))
-op2Exprs i (Operand2.Reg rm (Shift.Imm kind amount)) = some (operandOf (pcValue i) (Operand2.Reg rm (Shift.Imm kind amount)))
+op2Exprs i (Operand2.Reg rm (Shift.Imm kind amount)) =
+    some (operandOf (pcValue i) (Operand2.Reg rm (Shift.Imm kind amount)))
 op2Exprs i (Operand2.Reg rm (Shift.Reg kind rs)) = none

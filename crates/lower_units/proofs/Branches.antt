@@ -34,7 +34,8 @@ use Rattle.lower_forms.proofs.Body.{some-same}
 use Rattle.lower_units.proofs.Exits.{jump-leaves, branch-leaves, branch-continues}
 use Rattle.lower_units.proofs.Outcome.{Outcome, done, skipped, outcome, al-passes, not-nv}
 
-key-lt : (t : Bool) (target : ℕ) → target < 4294967296 → target % 2 ≡ 0 → keyOf target t < 4294967296
+key-lt : (t : Bool) (target : ℕ) → target < 4294967296 → target % 2 ≡ 0
+    → keyOf target t < 4294967296
 key-lt true target h e = omega arith
 key-lt false target h e = h
 
@@ -42,20 +43,25 @@ key-address : (t : Bool) (target : ℕ) → target % 2 ≡ 0 → target ≡ clea
 key-address true target e = omega arith
 key-address false target e = omega arith
 
--- what the text does is the manual's branch: only ARM links, where 4 bytes lead to the instruction after
-same-branch : (addr : ℕ) (m : Machine) (target : ℕ) → target % 2 ≡ 0 → (t l : Bool) → (t && l) ≡ false
-    → _≡_ {A = Machine × ℕ} (cond l (setReg 14 ((addr + 4) % 4294967296) m) m, keyOf target t) (cond l (setReg 14 ((addr + sizeOf t) % 4294967296) m) m, key t target)
+-- what the text does is the manual's branch: only ARM links, where 4 bytes lead to the instruction
+-- after
+same-branch : (addr : ℕ) (m : Machine) (target : ℕ) → target % 2 ≡ 0 → (t l : Bool)
+    → (t && l) ≡ false
+    → _≡_ {A = Machine × ℕ} (cond l (setReg 14 ((addr + 4) % 4294967296) m) m, keyOf target t)
+    (cond l (setReg 14 ((addr + sizeOf t) % 4294967296) m) m, key t target)
 same-branch addr m target e true true q = absurd (true≢false q)
 same-branch addr m target e true false q = λ j. (m, odd target e j)
   where
     odd : (k : ℕ) → k % 2 ≡ 0 → k / 2 * 2 + 1 ≡ k + 1
     odd k e = omega arith
-same-branch addr m target e false l q = λ j. (cond l (setReg 14 ((addr + 4) % 4294967296) m) m, even target j)
+same-branch addr m target e false l q =
+    λ j. (cond l (setReg 14 ((addr + 4) % 4294967296) m) m, even target j)
   where
     even : (k : ℕ) → k ≡ k + 0
     even k = omega arith
 
-module _ (i : Instr) (link : Bool) (target : ℕ) (r : InRange (Branch link target)) (n : ℕ) (ks : List ℕ) (a : ℕ) (o : Owner) {z : State} {m : Machine}
+module _ (i : Instr) (link : Bool) (target : ℕ) (r : InRange (Branch link target)) (n : ℕ)
+    (ks : List ℕ) (a : ℕ) (o : Owner) {z : State} {m : Machine}
     (s : Sound m) (g : Agrees z m) (nv : isNv (i .cond) ≡ false) where
   ret : ℕ
   ret = (i .addr + 4) % 4294967296
@@ -75,18 +81,25 @@ module _ (i : Instr) (link : Bool) (target : ℕ) (r : InRange (Branch link targ
 
   -- the form, under Al or not
   form : Bool → Native
-  form b = cond b (jump (flushTicks n ++ apart (branchRegs link ret target)) k) (F.branchIf (flushTicks n) (condExpr (i .cond)) (branchRegs link ret target) k)
+  form b =
+      cond b (jump (flushTicks n ++ apart (branchRegs link ret target)) k)
+      (F.branchIf (flushTicks n) (condExpr (i .cond)) (branchRegs link ret target) k)
 
   -- no Thumb instruction but the pair links
-  taken : (i .thumb && link) ≡ false → passed (i .cond) m ≡ true → Leaves (nativeText ks a o (emitBranch (i .thumb) n i link target)) z (branch i link target m)
+  taken : (i .thumb && link) ≡ false → passed (i .cond) m ≡ true
+      → Leaves (nativeText ks a o (emitBranch (i .thumb) n i link target)) z
+      (branch i link target m)
   unfolding form ret
-  taken f p = subst (Leaves (nativeText ks a o (form (isAl (i .cond)))) z) (same-branch (i .addr) m target (r .1) (i .thumb) link f) (go (isAl (i .cond)))
+  taken f p =
+      subst (Leaves (nativeText ks a o (form (isAl (i .cond)))) z)
+      (same-branch (i .addr) m target (r .1) (i .thumb) link f) (go (isAl (i .cond)))
     where
       go : (b : Bool) → Leaves (nativeText ks a o (form b)) z (cond link (setReg 14 ret m) m, k)
       go true = jump-leaves ks a o n link ret target k hr (r .0) hk at g
       go false = branch-leaves ks a o n link ret target k hr (r .0) hk at s g (i .cond) nv p
 
-  missed : passed (i .cond) m ≡ false → Continues (nativeText ks a o (emitBranch (i .thumb) n i link target)) z m
+  missed : passed (i .cond) m ≡ false
+      → Continues (nativeText ks a o (emitBranch (i .thumb) n i link target)) z m
   unfolding form ret
   missed p = go (isAl (i .cond)) refl
     where
@@ -94,19 +107,29 @@ module _ (i : Instr) (link : Bool) (target : ℕ) (r : InRange (Branch link targ
       go true e = absurd (true≢false (sym (al-passes (i .cond) e m) ∙ p))
       go false e = branch-continues ks a o n link ret target k hr (r .0) hk at s g (i .cond) nv p
 
--- a branch: where its condition passes the text leaves as the manual's branch does, and where it fails the text continues with the machine as it was
-pub branch-means : (i : Instr) (link : Bool) (target : ℕ) → i .op ≡ Branch link target → InRange (Branch link target)
-    → (cycles : ℕ) (ks : List ℕ) (a : ℕ) (o : Owner) {z : State} {m : Machine} → Sound m → Agrees z m → isNamedDifference i m ≡ false
+-- a branch: where its condition passes the text leaves as the manual's branch does, and where it
+-- fails the text continues with the machine as it was
+pub branch-means : (i : Instr) (link : Bool) (target : ℕ) → i .op ≡ Branch link target
+    → InRange (Branch link target)
+    → (cycles : ℕ) (ks : List ℕ) (a : ℕ) (o : Owner) {z : State} {m : Machine} → Sound m
+    → Agrees z m → isNamedDifference i m ≡ false
     → (next : Machine × ℕ) → execute i m ≡ some next
-    → Acts (nativeText ks a o (emitBranch (i .thumb) cycles i link target)) (isTaken i m) z next (keyAfter i)
-branch-means i link target q r n ks a o {z} {m} s g d next e = let w = outcome i m next e in go (subst (λ (op : Op). noInstructionOf (i .thumb) (i .cond) op ≡ false) q (w .0)) (w .1)
+    → Acts (nativeText ks a o (emitBranch (i .thumb) cycles i link target)) (isTaken i m) z next
+    (keyAfter i)
+branch-means i link target q r n ks a o {z} {m} s g d next e = let w = outcome i m next e in
+    go (subst (λ (op : Op). noInstructionOf (i .thumb) (i .cond) op ≡ false) q (w .0)) (w .1)
   where
     nv : isNv (i .cond) ≡ false
     nv = not-nv i m d
 
     Result : Machine × ℕ → Type 0
-    Result next = Acts (nativeText ks a o (emitBranch (i .thumb) n i link target)) (isTaken i m) z next (keyAfter i)
+    Result next =
+        Acts (nativeText ks a o (emitBranch (i .thumb) n i link target)) (isTaken i m) z next
+        (keyAfter i)
 
     go : (i .thumb && link) ≡ false → Outcome i m next → Result next
-    go h (done p u f) = subst Result (some-same (subst (λ (op : Op). operation i op m ≡ some next) q f)) (leaves (rw (p, q)) (taken i link target r n ks a o s g nv h p))
-    go h (skipped p f) = subst Result f (continues (rw p) refl (missed i link target r n ks a o s g nv p))
+    go h (done p u f) =
+        subst Result (some-same (subst (λ (op : Op). operation i op m ≡ some next) q f))
+        (leaves (rw (p, q)) (taken i link target r n ks a o s g nv h p))
+    go h (skipped p f) =
+        subst Result f (continues (rw p) refl (missed i link target r n ks a o s g nv p))

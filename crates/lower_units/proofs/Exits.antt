@@ -42,36 +42,79 @@ pub record Transfers (ks : List ℕ) (a : ℕ) (o : Owner) (n k : ℕ) (z : Stat
   pub memory : end .mem ≡ z .mem
 
 -- the transfer by the answers of the group and of the gate
-pub transfers : (ks : List ℕ) (a : ℕ) (o : Owner) (n k : ℕ) (z : State) → k < 4294967296 → Transfers ks a o n k z
+pub transfers : (ks : List ℕ) (a : ℕ) (o : Owner) (n k : ℕ) (z : State) → k < 4294967296
+    → Transfers ks a o n k z
 unfolding transfer gotoCode run runs step asks evalAs eval
-transfers ks a o n k z h = go (among k ks) refl (leb (clearBit0 k) a) refl (eqb (z .answers 0) 0) refl
+transfers ks a o n k z h =
+    go (among k ks) refl (leb (clearBit0 k) a) refl (eqb (z .answers 0) 0) refl
   where
-    go : (b : Bool) → among k ks ≡ b → (d : Bool) → leb (clearBit0 k) a ≡ d → (y : Bool) → eqb (z .answers 0) 0 ≡ y → Transfers ks a o n k z
-    go false p d q y r = record { end = z; exit = back k; ends = λ c. rw (p, lt-true h); leads = refl; regs = refl; memory = refl }
-    go true p false q y r = record { end = z; exit = to k; ends = λ c. rw (p, q); leads = refl; regs = refl; memory = refl }
-    go true p true q true r = record { end = answered z; exit = to k; ends = λ c. rw (p, q, r); leads = refl; regs = refl; memory = refl }
-    go true p true q false r = record { end = answered z; exit = back k; ends = λ c. rw (p, q, r, lt-true h); leads = refl; regs = refl; memory = refl }
+    go : (b : Bool) → among k ks ≡ b → (d : Bool) → leb (clearBit0 k) a ≡ d → (y : Bool)
+        → eqb (z .answers 0) 0 ≡ y → Transfers ks a o n k z
+    go false p d q y r =
+        record {
+          end = z;
+          exit = back k;
+          ends = λ c. rw (p, lt-true h);
+          leads = refl;
+          regs =
+              refl;
+          memory = refl;
+        }
+    go true p false q y r =
+        record {
+          end = z;
+          exit = to k;
+          ends = λ c. rw (p, q);
+          leads = refl;
+          regs = refl;
+          memory =
+              refl;
+        }
+    go true p true q true r =
+        record {
+          end = answered z;
+          exit = to k;
+          ends = λ c. rw (p, q, r);
+          leads = refl;
+          regs =
+              refl;
+          memory = refl;
+        }
+    go true p true q false r =
+        record {
+          end = answered z;
+          exit = back k;
+          ends = λ c. rw (p, q, r, lt-true h);
+          leads =
+              refl;
+          regs = refl;
+          memory = refl;
+        }
 
 -- the state after what a branch sets: R14 if it links, and c[15]
 abbrev branched : Bool → ℕ → ℕ → State → State
 branched link ret target z = setC 15 target (cond link (setC 14 ret z) z)
 
 sets-do : (link : Bool) (ret target : ℕ) → ret < 4294967296 → target < 4294967296 → (z : State)
-    → perform (only link (setWord 14 ret) ++ (setWord 15 target ∷ [])) z ≡ some (branched link ret target z)
+    → perform (only link (setWord 14 ret) ++ (setWord 15 target ∷ [])) z
+    ≡ some (branched link ret target z)
 unfolding perform execs exec eval
 sets-do true ret target h l z = rw (lt-true h, lt-true l)
 sets-do false ret target h l z = rw (lt-true l)
 
 -- c[15] is no register of the machine
 pub with-pc : {z : State} {m : Machine} → Agrees z m → (x : ℕ) → Agrees (setC 15 x z) m
-with-pc a x = record { regs = λ i l. rw (ne i 15 l) (a .regs i l); flags = a .flags; memory = a .memory }
+with-pc a x =
+    record { regs = λ i l. rw (ne i 15 l) (a .regs i l); flags = a .flags; memory = a .memory }
 
-branched-agrees : {z : State} {m : Machine} → Agrees z m → (link : Bool) (ret target : ℕ) → Agrees (branched link ret target z) (cond link (setReg 14 ret m) m)
+branched-agrees : {z : State} {m : Machine} → Agrees z m → (link : Bool) (ret target : ℕ)
+    → Agrees (branched link ret target z) (cond link (setReg 14 ret m) m)
 branched-agrees a true ret target = with-pc (with-reg a 14 ret (lit< tt)) target
 branched-agrees a false ret target = with-pc a target
 
 -- ticks before lines
-pub ticks-first : (n : ℕ) (ls : Lines) (z : State) → perform (statements (flushTicks n ++ ls)) z ≡ perform (statements ls) z
+pub ticks-first : (n : ℕ) (ls : Lines) (z : State)
+    → perform (statements (flushTicks n ++ ls)) z ≡ perform (statements ls) z
 unfolding perform execs exec
 ticks-first zero ls z = refl
 ticks-first (suc n) ls z = refl
@@ -79,12 +122,21 @@ ticks-first (suc n) ls z = refl
 -- the same registers and memory, the same machine
 pub moved-on : {z y : State} {m : Machine} → Agrees z m → y .c ≡ z .c → y .mem ≡ z .mem → Agrees y m
 moved-on {z} {y} {m} a p q =
-    record { regs = λ i l. ap (λ (f : ℕ → ℕ). f i) p ∙ a .regs i l; flags = ap (λ (f : ℕ → ℕ). f 16) p ∙ a .flags; memory = q ∙ a .memory }
+    record {
+      regs = λ i l. ap (λ (f : ℕ → ℕ). f i) p
+          ∙ a .regs i l;
+      flags = ap (λ (f : ℕ → ℕ). f 16) p ∙ a .flags;
+      memory = q ∙ a .memory;
+    }
 
-module _ (ks : List ℕ) (a : ℕ) (o : Owner) (n : ℕ) (link : Bool) (ret target k : ℕ) (hr : ret < 4294967296) (ht : target < 4294967296) (hk : k < 4294967296)
+module _ (ks : List ℕ) (a : ℕ) (o : Owner) (n : ℕ) (link : Bool) (ret target k : ℕ)
+    (hr : ret < 4294967296) (ht : target < 4294967296) (hk : k < 4294967296)
     (addr : target ≡ clearBit0 k) {z : State} {m : Machine} (g : Agrees z m) where
   -- ..; transfer
-  pub jump-leaves : Leaves (nativeText ks a o (jump (flushTicks n ++ apart (only link (setWord 14 ret) ++ (setWord 15 target ∷ []))) k)) z (cond link (setReg 14 ret m) m, k)
+  pub jump-leaves : Leaves
+      (nativeText ks a o
+      (jump (flushTicks n ++ apart (only link (setWord 14 ret) ++ (setWord 15 target ∷ []))) k)) z
+      (cond link (setReg 14 ret m) m, k)
   unfolding nativeText
   jump-leaves =
       let y : State = branched link ret target z in
@@ -94,7 +146,9 @@ module _ (ks : List ℕ) (a : ℕ) (o : Owner) (n : ℕ) (link : Bool) (ret targ
         exit = t .exit;
         ends = λ c.
             run-lines o 4 (flushTicks n ++ apart ps) (transfer ks a o 4 k end) z
-            ∙ ap (λ (q : Option State). bind q (run (transfer ks a o 4 k end))) (ticks-first n (apart ps) z ∙ ap (λ (qs : List Plain). perform qs z) (all-of ps) ∙ sets-do link ret target hr ht z)
+            ∙ ap (λ (q : Option State). bind q (run (transfer ks a o 4 k end)))
+            (ticks-first n (apart ps) z ∙ ap (λ (qs : List Plain). perform qs z) (all-of ps)
+            ∙ sets-do link ret target hr ht z)
             ∙ t .ends end;
         leads = t .leads;
         pc = ap (λ (f : ℕ → ℕ). f 15) (t .regs) ∙ addr;
@@ -105,25 +159,38 @@ module _ (ks : List ℕ) (a : ℕ) (o : Owner) (n : ℕ) (link : Bool) (ret targ
       ps = only link (setWord 14 ret) ++ (setWord 15 target ∷ [])
 
 -- what leads away leads past what stands after
-away : (w : Goes) (z : State) (f : State → Outcome) {k : ℕ} → destination w ≡ some k → next w z f ≡ some (z, w)
+away : (w : Goes) (z : State) (f : State → Outcome) {k : ℕ} → destination w ≡ some k
+    → next w z f ≡ some (z, w)
 away on z f e = absurd (not-none e)
 away (to l) z f e = refl
 away (back l) z f e = refl
 
-pub closed-out : (b c : Code) (z : State) (w : Goes) {y : State} {k : ℕ} → destination w ≡ some k → run b (enter z) ≡ some (y, w) → run (braces b c) z ≡ some (leave y, w)
+pub closed-out : (b c : Code) (z : State) (w : Goes) {y : State} {k : ℕ} → destination w ≡ some k
+    → run b (enter z) ≡ some (y, w) → run (braces b c) z ≡ some (leave y, w)
 unfolding run runs
-closed-out b c z w {y} h e = ap (λ (q : Outcome). bind q (λ r. next (r .1) (leave (r .0)) (run c))) e ∙ away w (leave y) (run c) h
+closed-out b c z w {y} h e =
+    ap (λ (q : Outcome). bind q (λ r. next (r .1) (leave (r .0)) (run c))) e
+    ∙ away w (leave y) (run c) h
 
-when-out : (o : Owner) (e : Expr) (b : Code) (u : State) (w : Goes) {y : State} {k : ℕ} → destination w ≡ some k → eval rotated e u ≡ some 1 → run b (enter u) ≡ some (y, w)
+when-out : (o : Owner) (e : Expr) (b : Code) (u : State) (w : Goes) {y : State} {k : ℕ}
+    → destination w ≡ some k → eval rotated e u ≡ some 1 → run b (enter u) ≡ some (y, w)
     → run (when o false (other e) b (sp 1 ⨾ end)) u ≡ some (leave y, w)
 unfolding run runs step asks
-when-out o e b u w {y} h q p = rw q (ap (λ (q : Outcome). bind q (λ r. next (r .1) (leave (r .0)) (run (sp 1 ⨾ end)))) p ∙ away w (leave y) (run (sp 1 ⨾ end)) h)
+when-out o e b u w {y} h q p =
+    rw q (ap (λ (q : Outcome). bind q (λ r. next (r .1) (leave (r .0)) (run (sp 1 ⨾ end)))) p
+    ∙ away w (leave y) (run (sp 1 ⨾ end)) h)
 
-module _ (ks : List ℕ) (a : ℕ) (o : Owner) (n : ℕ) (link : Bool) (ret target k : ℕ) (hr : ret < 4294967296) (ht : target < 4294967296) (hk : k < 4294967296)
-    (addr : target ≡ clearBit0 k) {z : State} {m : Machine} (s : Sound m) (g : Agrees z m) (c : Cond) (nv : isNv c ≡ false) where
+module _ (ks : List ℕ) (a : ℕ) (o : Owner) (n : ℕ) (link : Bool) (ret target k : ℕ)
+    (hr : ret < 4294967296) (ht : target < 4294967296) (hk : k < 4294967296)
+    (addr : target ≡ clearBit0 k) {z : State} {m : Machine} (s : Sound m) (g : Agrees z m)
+    (c : Cond) (nv : isNv c ≡ false) where
   -- { flags; if (e) { ..; transfer } } where the condition passes
   pub branch-leaves : passed c m ≡ true
-      → Leaves (nativeText ks a o (branchIf (flushTicks n) (condExpr c) (only link (setWord 14 ret) ++ (setWord 15 target ∷ [])) k)) z (cond link (setReg 14 ret m) m, k)
+      → Leaves
+      (nativeText ks a o
+      (branchIf (flushTicks n) (condExpr c)
+      (only link (setWord 14 ret) ++ (setWord 15 target ∷ [])) k)) z
+      (cond link (setReg 14 ret m) m, k)
   unfolding nativeText run runs step
   branch-leaves pass =
       let u : State = flagged s g c nv in
@@ -134,34 +201,54 @@ module _ (ks : List ℕ) (a : ℕ) (o : Owner) (n : ℕ) (link : Bool) (ret targ
         exit = t .exit;
         ends = λ d.
             after-ticks o 4 n (conditional o (condExpr c) b d) z
-            ∙ closed-out (sp 1 ⨾ line o flags (gap true 6 ⨾ when o false (other (condExpr c)) b (sp 1 ⨾ end))) (nl ⨾ d) z (t .exit) (t .leads)
-            (run-line o flags (gap true 6 ⨾ when o false (other (condExpr c)) b (sp 1 ⨾ end)) (enter z)
-            ∙ ap (λ (q : Option State). bind q (run (gap true 6 ⨾ when o false (other (condExpr c)) b (sp 1 ⨾ end)))) (declared s g)
+            ∙ closed-out
+            (sp 1 ⨾ line o flags
+            (gap true 6 ⨾ when o false (other (condExpr c)) b (sp 1 ⨾ end))) (nl ⨾ d) z
+            (t .exit) (t .leads)
+            (run-line o flags (gap true 6 ⨾ when o false (other (condExpr c)) b (sp 1 ⨾ end))
+            (enter z)
+            ∙ ap (λ (q : Option State). bind q
+            (run (gap true 6 ⨾ when o false (other (condExpr c)) b (sp 1 ⨾ end))))
+            (declared s g)
             ∙ when-out o (condExpr c) b u (t .exit) (t .leads) (test s g c nv true pass)
             (run-line o ps (nl ⨾ transfer ks a o 8 k (sp 6 ⨾ end)) (enter u)
-            ∙ ap (λ (q : Option State). bind q (run (nl ⨾ transfer ks a o 8 k (sp 6 ⨾ end)))) (sets-do link ret target hr ht (enter u))
+            ∙ ap (λ (q : Option State). bind q (run (nl ⨾ transfer ks a o 8 k (sp 6 ⨾ end))))
+            (sets-do link ret target hr ht (enter u))
             ∙ t .ends (sp 6 ⨾ end)));
         leads = t .leads;
         pc = ap (λ (f : ℕ → ℕ). f 15) (t .regs) ∙ addr;
-        same = with-scopes (moved-on {y = t .end} (branched-agrees (with-scopes g (enter u .scopes)) link ret target) (t .regs) (t .memory)) _;
+        same =
+            with-scopes
+            (moved-on {y = t .end}
+            (branched-agrees (with-scopes g (enter u .scopes)) link ret target) (t .regs)
+            (t .memory)) _;
       }
     where
       ps : List Plain
       ps = only link (setWord 14 ret) ++ (setWord 15 target ∷ [])
 
       b : Code
-      b = sp 1 ⨾ line o (only link (setWord 14 ret) ++ (setWord 15 target ∷ [])) (nl ⨾ transfer ks a o 8 k (sp 6 ⨾ end))
+      b = sp 1
+          ⨾ line o (only link (setWord 14 ret) ++ (setWord 15 target ∷ []))
+          (nl ⨾ transfer ks a o 8 k (sp 6 ⨾ end))
 
   -- and where it fails
   pub branch-continues : passed c m ≡ false
-      → Continues (nativeText ks a o (branchIf (flushTicks n) (condExpr c) (only link (setWord 14 ret) ++ (setWord 15 target ∷ [])) k)) z m
+      → Continues
+      (nativeText ks a o
+      (branchIf (flushTicks n) (condExpr c)
+      (only link (setWord 14 ret) ++ (setWord 15 target ∷ [])) k)) z m
   unfolding nativeText
   branch-continues fail =
       record {
         end = leave (flagged s g c nv);
-        goes = λ d. after-ticks o 4 n (conditional o (condExpr c) b d) z ∙ framed s g c nv o b (when-false o (condExpr c) b (flagged s g c nv) (test s g c nv false fail)) d;
+        goes = λ d. after-ticks o 4 n (conditional o (condExpr c) b d) z
+            ∙ framed s g c nv o b
+            (when-false o (condExpr c) b (flagged s g c nv) (test s g c nv false fail)) d;
         same = with-scopes g _;
       }
     where
       b : Code
-      b = sp 1 ⨾ line o (only link (setWord 14 ret) ++ (setWord 15 target ∷ [])) (nl ⨾ transfer ks a o 8 k (sp 6 ⨾ end))
+      b = sp 1
+          ⨾ line o (only link (setWord 14 ret) ++ (setWord 15 target ∷ []))
+          (nl ⨾ transfer ks a o 8 k (sp 6 ⨾ end))

@@ -23,19 +23,30 @@ use Rattle.c_tree.specs.Print.{codeText}
 use Rattle.base_hash.specs.Fnv.{hashMultiplier}
 use Rattle.lower_forms.specs.Block.{emitInstr, emitInstrs, bodyOf}
 use Rattle.lower_forms.specs.InlineBody.{inlineBody}
-use Rattle.lower_units.specs.Block.{gotoCode, transfer, closing, nativeText, codeFrom, underGuard, blockCode}
+use Rattle.lower_units.specs.Block.{gotoCode, transfer, closing, nativeText, codeFrom}
+use Rattle.lower_units.specs.Block.{underGuard, blockCode}
 use Rattle.file_blocks.specs.Address.{outsideRomBios}
-use Rattle.lower_units.specs.Units.{withLocals, emitBlock, emitGroup, lastUnitEnd, textOf, cut, bodiesOf, unitsOf, unitsFor, unitCount}
+use Rattle.lower_units.specs.Units.{withLocals, emitBlock, emitGroup, lastUnitEnd, textOf}
+use Rattle.lower_units.specs.Units.{cut, bodiesOf, unitsOf, unitsFor, unitCount}
 use Rattle.plan_search.specs.Target.{target}
-use Rattle.plan_groups.specs.Plan.{joinExits, joinBlocks, parents, withRoot, insert, sortByKey, parts, groupsFrom, groups, rowsFrom, plan}
+use Rattle.plan_groups.specs.Plan.{joinExits, joinBlocks, parents, withRoot, insert, sortByKey}
+use Rattle.plan_groups.specs.Plan.{parts, groupsFrom, groups, rowsFrom, plan}
 
 -- an instruction of one cycle
 timed : ℕ → Bool → Cond → Op → TimedInstr
-timed addr thumb k op = record { instr = record { addr = addr; cond = k; op = op; thumb = thumb }; cost = 1 }
+timed addr thumb k op =
+    record { instr = record { addr = addr; cond = k; op = op; thumb = thumb }; cost = 1 }
 
 -- an ARM block at 0x08000010 of one instruction
 one : Cond → Op → Block
-one k op = record { addr = 0x0800_0010; thumb = false; code = none; instrs = timed 0x0800_0010 false k op ∷ [] }
+one k op =
+    record {
+      addr = 0x0800_0010;
+      thumb = false;
+      code = none;
+      instrs =
+          timed 0x0800_0010 false k op ∷ [];
+    }
 
 -- a Thumb block of the two halves of a BL
 pair : ℕ → ℕ → Block
@@ -44,17 +55,33 @@ pair lr off =
       addr = 0x0800_0100;
       thumb = true;
       code = none;
-      instrs = timed 0x0800_0100 true Al (ThumbBlHigh lr) ∷ timed 0x0800_0102 true Al (ThumbBlLow off) ∷ [];
+      instrs =
+          timed 0x0800_0100 true Al (ThumbBlHigh lr) ∷ timed 0x0800_0102 true Al (ThumbBlLow off)
+          ∷ [];
     }
 
 -- an ARM block of n Swi and a branch
 long : ℕ → ℕ → ℕ → Block
 long addr n target =
-    record { addr = addr; thumb = false; code = none; instrs = replicate n (timed addr false Al (Swi 0)) ++ (timed addr false Al (Branch false target) ∷ []) }
+    record {
+      addr = addr;
+      thumb = false;
+      code = none;
+      instrs =
+          replicate n (timed addr false Al (Swi 0))
+          ++ (timed addr false Al (Branch false target) ∷ []);
+    }
 
 -- an ARM block of one instruction
 short : Block
-short = record { addr = 0x0801_0000; thumb = false; code = none; instrs = timed 0x0801_0000 false Al (Bx 14) ∷ [] }
+short =
+    record {
+      addr = 0x0801_0000;
+      thumb = false;
+      code = none;
+      instrs =
+          timed 0x0801_0000 false Al (Bx 14) ∷ [];
+    }
 
 -- a block of n instructions, and the short one that it branches to
 two : ℕ → List Block
@@ -67,16 +94,24 @@ swi addr = timed addr false Al (Swi 0)
 -- a block at 0x08000100 with a branch to an address in its last instruction
 from : List TimedInstr → ℕ → ℕ → Block
 from before addr target =
-    record { addr = 0x0800_0100; thumb = false; code = none; instrs = before ++ (timed addr false Al (Branch false target) ∷ []) }
+    record {
+      addr = 0x0800_0100;
+      thumb = false;
+      code = none;
+      instrs =
+          before ++ (timed addr false Al (Branch false target) ∷ []);
+    }
 
 -- a block that shares its group with none
 lone : ℕ → Block
-lone addr = record { addr = addr; thumb = false; code = none; instrs = timed addr false Al (Bx 14) ∷ [] }
+lone addr =
+    record { addr = addr; thumb = false; code = none; instrs = timed addr false Al (Bx 14) ∷ [] }
 
 pub data Case : Type 0 where
   -- a block and its exits
   exit : Block → List ℕ → Case
-  -- two blocks of one component, the second of one instruction, by the number of instructions of the first; the rows of their plan
+  -- two blocks of one component, the second of one instruction, by the number of instructions of
+  -- the first; the rows of their plan
   part : ℕ → List ℕ → Case
   -- the text of a block at 0x08000100 in a group with one at 0x08000104
   goto : Block → String → Case
@@ -104,7 +139,8 @@ cases =
 pub defined : Case → List ℕ
 defined (exit b keys) = exits b
 defined (part n rows) = plan partLimit (two n)
-defined (goto b s) = print (codeText (blockCode (0x0800_0100 ∷ 0x0800_0104 ∷ []) (bodyOf hashMultiplier b)))
+defined (goto b s) =
+    print (codeText (blockCode (0x0800_0100 ∷ 0x0800_0104 ∷ []) (bodyOf hashMultiplier b)))
 defined (units bs n) = unitCount hashMultiplier partLimit 0 bs ∷ []
 
 -- what document 01 says of a case
@@ -115,11 +151,16 @@ stated (goto b s) = print (text s)
 stated (units bs n) = n ∷ []
 
 -- what two functions agree on along a list they agree on at each of its members
-each : {A B : Type 0} (g h : A → B) {x : A} {xs : List A} → List·Memᴰ x xs → map g xs ≡ map h xs → g x ≡ h x
+each : {A B : Type 0} (g h : A → B) {x : A} {xs : List A} → List·Memᴰ x xs → map g xs ≡ map h xs
+    → g x ≡ h x
 each g h (List·Memᴰ·head same) e = cc
 each g h (List·Memᴰ·tail m) e = each g h m (cc)
 
 -- each starred case holds
 pub starred : (c : Case) → List·Memᴰ c cases → defined c ≡ stated c
-unfolding exits instrExits fuse cases one pair long short two timed swi from lone defined stated bodyOf emitInstrs emitInstr inlineBody blockCode outsideRomBios underGuard codeFrom nativeText transfer gotoCode closing unitsFor unitsOf cut bodiesOf lastUnitEnd textOf emitGroup emitBlock withLocals print decimal numeral hexadecimal hexadecimal8 hexadecimal16 lastDigits plan rowsFrom groups groupsFrom parts sortByKey insert withRoot parents joinBlocks joinExits target follow
+unfolding exits instrExits fuse cases one pair long short two timed swi from lone defined stated
+    bodyOf emitInstrs emitInstr inlineBody blockCode outsideRomBios underGuard codeFrom nativeText
+    transfer gotoCode closing unitsFor unitsOf cut bodiesOf lastUnitEnd textOf emitGroup emitBlock
+    withLocals print decimal numeral hexadecimal hexadecimal8 hexadecimal16 lastDigits plan rowsFrom
+    groups groupsFrom parts sortByKey insert withRoot parents joinBlocks joinExits target follow
 starred c m = each defined stated m refl

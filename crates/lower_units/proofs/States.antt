@@ -1,4 +1,5 @@
--- The claims leave no state and no machine out: each state of words and bytes agrees with a machine, and each machine in range with such a state.
+-- The claims leave no state and no machine out: each state of words and bytes agrees with a
+-- machine, and each machine in range with such a state.
 use Prim.Native.Nat.{ℕ, _+_, _*_, _/_, _%_, _^_, _<_}
 use mathlib.Core.Path.{_≡_, refl, sym, subst}
 use mathlib.Core.Bool.{Bool, true, false, cond}
@@ -17,17 +18,38 @@ use Rattle.lower_forms.proofs.Operands.{pack-lt}
 use Rattle.lower_forms.proofs.Steps.{ne}
 
 -- a word as a status register
-unpack : (x : ℕ) → x < 4294967296 → x ≡ pack (bit x 31) (bit x 30) (bit x 29) (bit x 28) (x % 2 ^ 28)
-unpack x h = rw (bit-num x 31, bit-num x 30, bit-num x 29, bit-num x 28, ← shr-shr x 30 1, ← shr-shr x 29 1, ← shr-shr x 28 1) (go x h)
+unpack : (x : ℕ) → x < 4294967296
+    → x ≡ pack (bit x 31) (bit x 30) (bit x 29) (bit x 28) (x % 2 ^ 28)
+unpack x h =
+    rw (
+      bit-num x 31,
+      bit-num x 30,
+      bit-num x 29,
+      bit-num x 28,
+      ← shr-shr x 30 1,
+      ← shr-shr x 29 1,
+      ← shr-shr x 28 1,
+    ) (go x h)
   where
     go : (x : ℕ) → x < 4294967296
-        → x ≡ (x / 268435456 / 2 / 2 / 2 % 2 * 8 + x / 268435456 / 2 / 2 % 2 * 4 + x / 268435456 / 2 % 2 * 2 + x / 268435456 % 2) * 268435456 + x % 268435456
+        → x ≡ (x / 268435456 / 2 / 2 / 2 % 2 * 8 + x / 268435456 / 2 / 2 % 2 * 4 + x / 268435456 / 2
+        % 2 * 2 + x / 268435456 % 2) * 268435456 + x % 268435456
     go x h = omega arith
 
-pub every-state : (z : State) → ((i : ℕ) → z .c i < 4294967296) → ((a : ℕ) → z .mem a < 256) → (m : Machine) × Agrees z m × Sound m
+pub every-state : (z : State) → ((i : ℕ) → z .c i < 4294967296) → ((a : ℕ) → z .mem a < 256)
+    → (m : Machine) × Agrees z m × Sound m
 every-state z w b =
     let x : ℕ = z .c 16 in (
-      record { r = z .c; n = bit x 31; z = bit x 30; c = bit x 29; v = bit x 28; otherBits = x % 2 ^ 28; mem = z .mem },
+      record {
+        r = z .c;
+        n = bit x 31;
+        z = bit x 30;
+        c = bit x 29;
+        v = bit x 28;
+        otherBits =
+            x % 2 ^ 28;
+        mem = z .mem;
+      },
       record { regs = λ i h. refl; flags = unpack x (w 16); memory = refl },
       record { words = λ i h. w i; otherBits = mod-lt x (lit< tt); bytes = b },
     )
@@ -45,7 +67,8 @@ words-lt {m} s i = go (eqb i 16) (ltb i 15) refl
     go false false q = lit< tt
 
 -- with any scopes, answers of the runtime and interpreter
-pub every-machine : (m : Machine) → Sound m → (fs : List Scope) (answers : ℕ → ℕ) (interpreter : ℕ → Interpreter)
+pub every-machine : (m : Machine) → Sound m
+    → (fs : List Scope) (answers : ℕ → ℕ) (interpreter : ℕ → Interpreter)
     → (z : State) × Agrees z m × ((i : ℕ) → z .c i < 4294967296) × ((a : ℕ) → z .mem a < 256)
     × (z .scopes ≡ fs) × (z .answers ≡ answers) × (z .interpreter ≡ interpreter)
 every-machine m s fs answers interpreter = (

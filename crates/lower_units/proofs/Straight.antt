@@ -21,7 +21,8 @@ use Rattle.lower_forms.specs.Agree.{Agrees}
 use Rattle.lower_forms.specs.Means.{OpMeans}
 use Rattle.lower_units.specs.Text.{Continues}
 use Rattle.lower_units.specs.Records.{isNamedDifference}
-use Rattle.lower_units.proofs.Outcome.{Outcome, done, skipped, outcome, al-passes, not-nv, not-different}
+use Rattle.lower_units.proofs.Outcome.{Outcome, done, skipped, outcome, al-passes, not-nv}
+use Rattle.lower_units.proofs.Outcome.{not-different}
 use Rattle.lower_units.proofs.Wrapped.{straight-text, straight-if-text}
 
 -- a shell is not native, and a native form is that one
@@ -42,17 +43,23 @@ unfolding is-native
 not-shell e = subst is-native (sym e) tt
 
 -- what is native is lowered to lines
-pub lowered : (thumb touchesBus : Bool) (cycles : ℕ) (x : TimedInstr) (r : Native) → emitStraight thumb touchesBus cycles x .0 ≡ native r
-    → (ls : Lines) × (inlineBody thumb (x .instr) ≡ some ls) × (emitLines thumb touchesBus cycles x (some ls) .0 ≡ native r)
+pub lowered : (thumb touchesBus : Bool) (cycles : ℕ) (x : TimedInstr) (r : Native)
+    → emitStraight thumb touchesBus cycles x .0 ≡ native r
+    → (ls : Lines) × (inlineBody thumb (x .instr) ≡ some ls)
+    × (emitLines thumb touchesBus cycles x (some ls) .0 ≡ native r)
 lowered thumb touchesBus cycles x r q = go (inlineBody thumb (x .instr)) refl q
   where
-    go : (b : Option Lines) → inlineBody thumb (x .instr) ≡ b → emitLines thumb touchesBus cycles x b .0 ≡ native r
-        → (ls : Lines) × (inlineBody thumb (x .instr) ≡ some ls) × (emitLines thumb touchesBus cycles x (some ls) .0 ≡ native r)
+    go : (b : Option Lines) → inlineBody thumb (x .instr) ≡ b
+        → emitLines thumb touchesBus cycles x b .0 ≡ native r
+        → (ls : Lines) × (inlineBody thumb (x .instr) ≡ some ls)
+        × (emitLines thumb touchesBus cycles x (some ls) .0 ≡ native r)
     go none l q = absurd (not-shell q)
     go (some ls) l q = (ls, l, q)
 
-module _ (x : TimedInstr) (p : OpMeans (x .instr) (x .instr .op)) (ks : List ℕ) (a : ℕ) (o : Owner) {z : State} {m : Machine} (s : Sound m) (g : Agrees z m)
-    (d : isNamedDifference (x .instr) m ≡ false) (next : Machine × ℕ) (e : execute (x .instr) m ≡ some next) where
+module _ (x : TimedInstr) (p : OpMeans (x .instr) (x .instr .op)) (ks : List ℕ) (a : ℕ) (o : Owner)
+    {z : State} {m : Machine} (s : Sound m) (g : Agrees z m)
+    (d : isNamedDifference (x .instr) m ≡ false) (next : Machine × ℕ)
+    (e : execute (x .instr) m ≡ some next) where
   abbrev i : Instr
   i = x .instr
 
@@ -67,7 +74,8 @@ module _ (x : TimedInstr) (p : OpMeans (x .instr) (x .instr .op)) (ks : List ℕ
     always-means pass = go (outcome i m next e .1)
       where
         go : Outcome i m next → Result (straight (flushTicks n) ls)
-        go (done t u q) = let r = p ls l z m s g u (not-different i m d t) next q in (straight-text ks a o n ls (r .0), r .1)
+        go (done t u q) = let r = p ls l z m s g u (not-different i m d t) next q in
+            (straight-text ks a o n ls (r .0), r .1)
         go (skipped t q) = absurd (true≢false (sym pass ∙ t))
 
     -- under another condition
@@ -81,24 +89,35 @@ module _ (x : TimedInstr) (p : OpMeans (x .instr) (x .instr .op)) (ks : List ℕ
         go : Outcome i m next → text (next .0) × (next .1 ≡ keyAfter i)
         go (done t u q) = (
           subst (λ (b : Bool). text (cond b (next .0) m)) t
-              (straight-if-text s g (i .cond) (not-nv i m d) ks a o n ls (λ t v h. p ls l v m s h u (not-different i m d t) next q .0)),
+              (straight-if-text s g (i .cond) (not-nv i m d) ks a o n ls
+              (λ t v h. p ls l v m s h u (not-different i m d t) next q .0)),
           p ls l z m s g u (not-different i m d t) next q .1,
         )
         go (skipped t q) =
-            subst (λ (n : Machine × ℕ). text (n .0) × (n .1 ≡ keyAfter i)) q
-            (subst (λ (b : Bool). text (cond b m m)) t (straight-if-text s g (i .cond) (not-nv i m d) ks a o n ls (λ y u h. absurd (true≢false (sym y ∙ t)))), refl)
+            subst (λ (n : Machine × ℕ). text (n .0) × (n .1 ≡ keyAfter i)) q (
+              subst (λ (b : Bool). text (cond b m m)) t
+                  (straight-if-text s g (i .cond) (not-nv i m d) ks a o n ls
+                  (λ y u h. absurd (true≢false (sym y ∙ t)))),
+              refl,
+            )
 
-    by-cond : (b : Bool) → isAl (i .cond) ≡ b → Result (cond b (straight (flushTicks n) ls) (straightIf (flushTicks n) (condExpr (i .cond)) ls))
+    by-cond : (b : Bool) → isAl (i .cond) ≡ b
+        → Result
+        (cond b (straight (flushTicks n) ls) (straightIf (flushTicks n) (condExpr (i .cond)) ls))
     by-cond true c = always-means (al-passes (i .cond) c m)
     by-cond false c = under-means
 
   by-bus : (ls : Lines) → inlineBody (i .thumb) i ≡ some ls → (cycles : ℕ) (b : Bool)
-      → Result (cond (isAl (i .cond)) (straight (cond b (flushTicks cycles) []) ls) (straightIf (cond b (flushTicks cycles) []) (condExpr (i .cond)) ls))
+      → Result
+      (cond (isAl (i .cond)) (straight (cond b (flushTicks cycles) []) ls)
+      (straightIf (cond b (flushTicks cycles) []) (condExpr (i .cond)) ls))
   by-bus ls l cycles true = by-cond ls l cycles (isAl (i .cond)) refl
   by-bus ls l cycles false = by-cond ls l 0 (isAl (i .cond)) refl
 
   -- a straight-line instruction that is native, where its operation means what it should
-  pub straight-means : (touchesBus : Bool) (cycles : ℕ) (r : Native) → emitStraight (i .thumb) touchesBus cycles x .0 ≡ native r
+  pub straight-means : (touchesBus : Bool) (cycles : ℕ) (r : Native)
+      → emitStraight (i .thumb) touchesBus cycles x .0 ≡ native r
       → Continues (nativeText ks a o r) z (next .0) × (next .1 ≡ keyAfter i)
   unfolding Result
-  straight-means touchesBus cycles r q = let w = lowered (i .thumb) touchesBus cycles x r q in subst Result (native-same (w .2)) (by-bus (w .0) (w .1) cycles touchesBus)
+  straight-means touchesBus cycles r q = let w = lowered (i .thumb) touchesBus cycles x r q in
+      subst Result (native-same (w .2)) (by-bus (w .0) (w .1) cycles touchesBus)

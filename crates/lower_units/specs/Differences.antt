@@ -1,5 +1,5 @@
--- Differences 1 to 3 of docs/DIFFERENCES.md, which the claim on records excepts, each by the smallest record that shows it: what `execute` and what the text
--- makes of it, computed.
+-- Differences 1 to 3 of docs/DIFFERENCES.md, which the claim on records excepts, each by the
+-- smallest record that shows it: what `execute` and what the text makes of it, computed.
 use Prim.Native.Nat.{ℕ}
 use mathlib.Core.Path.{_≡_, refl}
 use mathlib.Core.Bool.{Bool, true, false}
@@ -32,24 +32,36 @@ use Rattle.lower_units.specs.Records.{isNamedDifference}
 
 -- a machine whose registers, status register and memory hold 0
 abbrev machine : Machine
-machine = record { r = λ k. 0; n = false; z = false; c = false; v = false; otherBits = 0; mem = λ a. 0 }
+machine =
+    record { r = λ k. 0; n = false; z = false; c = false; v = false; otherBits = 0; mem = λ a. 0 }
 
 -- a state that agrees with it, with one scope and nothing declared
 abbrev state : State
-state = record { c = λ k. 0; mem = λ a. 0; scopes = empty ∷ []; answers = λ k. 0; interpreter = λ k c mem. record { c = c; mem = mem; answer = 0 } }
+state =
+    record {
+      c = λ k. 0;
+      mem = λ a. 0;
+      scopes = empty ∷ [];
+      answers = λ k. 0;
+      interpreter =
+          λ k c mem. record { c = c; mem = mem; answer = 0 };
+    }
 
 -- a record by its address, its set, its condition and its operation; its cost is 1
 abbrev record-of : ℕ → Bool → Cond → Op → TimedInstr
-record-of a thumb c op = record { instr = record { addr = a; cond = c; op = op; thumb = thumb }; cost = 1 }
+record-of a thumb c op =
+    record { instr = record { addr = a; cond = c; op = op; thumb = thumb }; cost = 1 }
 
 -- what the text of a form does
 abbrev does : Form → Outcome
 does (native r) = run (nativeText [] 0 common r end) state
 does (shell high t k) = none
 
--- c[0] and the word at 4 after the text of a record, in a block of region 8 and with no cycles pending
+-- c[0] and the word at 4 after the text of a record, in a block of region 8 and with no cycles
+-- pending
 abbrev text-has : TimedInstr → Option (ℕ × ℕ)
-text-has x = bind (does (emitInstr (x .instr .thumb) 8 0 x .0)) λ q. some (q .0 .c 0, load w32 (q .0 .mem) 4)
+text-has x =
+    bind (does (emitInstr (x .instr .thumb) 8 0 x .0)) λ q. some (q .0 .c 0, load w32 (q .0 .mem) 4)
 
 -- register 0 and the word at 4 after the record's instruction, by the manual
 abbrev manual-has : TimedInstr → Option (ℕ × ℕ)
@@ -64,14 +76,16 @@ unfolding execute M.listed
 manual-1 = refl
 
 text-1 : text-has store-of-base ≡ some (0, 8)
-unfolding emitInstr inlineBody F.listed nativeText run runs step asks execs exec others evalAs eval rotated called AND OR EOR
+unfolding emitInstr inlineBody F.listed nativeText run runs step asks execs exec others evalAs eval
+    rotated called AND OR EOR
 text-1 = refl
 
 named-1 : isNamedDifference (store-of-base .instr) machine ≡ true
 unfolding M.listed
 named-1 = refl
 
--- 2. ADD r0, pc, #0 of Thumb where PC has bit 1, with the value not folded: the manual takes PC without it, and the text with it
+-- 2. ADD r0, pc, #0 of Thumb where PC has bit 1, with the value not folded: the manual takes PC
+-- without it, and the text with it
 abbrev add-of-pc : TimedInstr
 add-of-pc = record-of 0x08000002 true Al (Alu Add false 0 15 (Operand2.Imm 0 0))
 
@@ -80,13 +94,15 @@ unfolding execute
 manual-2 = refl
 
 text-2 : text-has add-of-pc ≡ some (0x08000006, 0)
-unfolding emitInstr inlineBody F.listed nativeText run runs step asks execs exec others evalAs eval rotated called AND OR EOR
+unfolding emitInstr inlineBody F.listed nativeText run runs step asks execs exec others evalAs eval
+    rotated called AND OR EOR
 text-2 = refl
 
 named-2 : isNamedDifference (add-of-pc .instr) machine ≡ true
 named-2 = refl
 
--- 3. MOV r0, #1 under NV: unpredictable (A3.2.1); `passed` never passes it, and the text carries it out
+-- 3. MOV r0, #1 under NV: unpredictable (A3.2.1); `passed` never passes it, and the text carries it
+-- out
 abbrev mov-under-nv : TimedInstr
 mov-under-nv = record-of 0x08000000 false Nv (Alu Mov false 0 0 (Operand2.Imm 1 0))
 
@@ -95,7 +111,8 @@ unfolding execute
 manual-3 = refl
 
 text-3 : text-has mov-under-nv ≡ some (1, 0)
-unfolding emitInstr inlineBody F.listed nativeText run runs step asks execs exec others evalAs eval rotated called AND OR EOR
+unfolding emitInstr inlineBody F.listed nativeText run runs step asks execs exec others evalAs eval
+    rotated called AND OR EOR
 text-3 = refl
 
 named-3 : isNamedDifference (mov-under-nv .instr) machine ≡ true

@@ -1,4 +1,5 @@
--- The tree of blocks, groups and units, in the order of emit.rs, and what is claimed of the text of records.
+-- The tree of blocks, groups and units, in the order of emit.rs, and what is claimed of the text of
+-- records.
 pub mod Block
 pub mod Units
 pub mod Measured

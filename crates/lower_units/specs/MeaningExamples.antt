@@ -25,17 +25,36 @@ use Rattle.lower_units.specs.Text.{destination}
 abbrev regs : ℕ → ℕ
 regs = update 1 0x08000100 (update 2 0x08000103 λ k. 0)
 
--- a machine, and a state that agrees with it, whose status register has bit 4, and T, bit 5, where the block is Thumb
+-- a machine, and a state that agrees with it, whose status register has bit 4, and T, bit 5, where
+-- the block is Thumb
 abbrev machine : Bool → Machine
-machine thumb = record { r = regs; n = false; z = false; c = false; v = false; otherBits = cond thumb 0x30 0x10; mem = λ a. 0 }
+machine thumb =
+    record {
+      r = regs;
+      n = false;
+      z = false;
+      c = false;
+      v = false;
+      otherBits =
+          cond thumb 0x30 0x10;
+      mem = λ a. 0;
+    }
 
 abbrev state : Bool → State
 state thumb =
-    record { c = update 16 (cond thumb 0x30 0x10) regs; mem = λ a. 0; scopes = empty ∷ []; answers = λ k. 0; interpreter = λ k c mem. record { c = c; mem = mem; answer = 0 } }
+    record {
+      c = update 16 (cond thumb 0x30 0x10) regs;
+      mem = λ a. 0;
+      scopes = empty ∷ [];
+      answers =
+          λ k. 0;
+      interpreter = λ k c mem. record { c = c; mem = mem; answer = 0 };
+    }
 
 -- bx of a register, in a block in ROM
 abbrev bx-of : Bool → ℕ → TimedInstr
-bx-of thumb rm = record { instr = record { addr = 0x08000000; cond = Al; op = Bx rm; thumb = thumb }; cost = 1 }
+bx-of thumb rm =
+    record { instr = record { addr = 0x08000000; cond = Al; op = Bx rm; thumb = thumb }; cost = 1 }
 
 -- what the text of a form does
 abbrev does : Bool → Form → Outcome
@@ -44,10 +63,13 @@ does thumb (shell high t k) = none
 
 -- the status register, and the key that is led to: by the text, and by the manual
 abbrev text-has : Bool → ℕ → Option (ℕ × Option ℕ)
-text-has thumb rm = bind (does thumb (emitInstr thumb 8 0 (bx-of thumb rm) .0)) λ q. some (q .0 .c 16, destination (q .1))
+text-has thumb rm =
+    bind (does thumb (emitInstr thumb 8 0 (bx-of thumb rm) .0)) λ q. some
+    (q .0 .c 16, destination (q .1))
 
 abbrev manual-has : Bool → ℕ → Option (ℕ × Option ℕ)
-manual-has thumb rm = bind (execute (bx-of thumb rm .instr) (machine thumb)) λ q. some (cpsr (q .0), some (q .1))
+manual-has thumb rm =
+    bind (execute (bx-of thumb rm .instr) (machine thumb)) λ q. some (cpsr (q .0), some (q .1))
 
 -- both are the same, and known
 abbrev Both : Bool → ℕ → ℕ × Option ℕ → Type 0
@@ -55,10 +77,12 @@ Both thumb rm x = (text-has thumb rm ≡ some x) × (manual-has thumb rm ≡ som
 
 -- from Thumb to an ARM address: T is cleared
 to-arm : Both true 1 (0x10, some 0x08000100)
-unfolding emitInstr inlineBody nativeText run runs step asks execs exec others evalAs eval rotated called execute AND OR
+unfolding emitInstr inlineBody nativeText run runs step asks execs exec others evalAs eval rotated
+    called execute AND OR
 to-arm = (refl, refl)
 
 -- from ARM to a Thumb address: T is set
 to-thumb : Both false 2 (0x30, some 0x08000103)
-unfolding emitInstr inlineBody nativeText run runs step asks execs exec others evalAs eval rotated called execute AND OR
+unfolding emitInstr inlineBody nativeText run runs step asks execs exec others evalAs eval rotated
+    called execute AND OR
 to-thumb = (refl, refl)

@@ -11,7 +11,8 @@ use Rattle.c_meaning.specs.Helpers.{run}
 use Rattle.armv4t_manual.specs.Machine.{Machine}
 use Rattle.lower_forms.specs.Agree.{Agrees}
 
--- text, run from z, ends defined in a state that agrees with m, and what stands after it goes on from there
+-- text, run from z, ends defined in a state that agrees with m, and what stands after it goes on
+-- from there
 pub record Continues (text : Code → Code) (z : State) (m : Machine) : Type 0 where
   pub end : State
   pub goes : (c : Code) → run (text c) z ≡ run c end
@@ -23,7 +24,8 @@ destination on = none
 destination (to k) = some k
 destination (back k) = some k
 
--- text, run from z, ends defined in a state that agrees with a machine and holds a key's address in c[15], and leads to the key, whatever stands after it
+-- text, run from z, ends defined in a state that agrees with a machine and holds a key's address in
+-- c[15], and leads to the key, whatever stands after it
 pub record Leaves (text : Code → Code) (z : State) (next : Machine × ℕ) : Type 0 where
   pub end : State
   pub exit : Goes
@@ -32,7 +34,10 @@ pub record Leaves (text : Code → Code) (z : State) (next : Machine × ℕ) : T
   pub pc : end .c 15 ≡ clearBit0 (next .1)
   pub same : Agrees end (next .0)
 
--- text leads to the key that the manual gives: it leaves by a transfer that is taken, and without one goes on to the key after it
-pub data Acts (text : Code → Code) (taken : Bool) (z : State) (next : Machine × ℕ) (following : ℕ) : Type 0 where
-  continues : taken ≡ false → next .1 ≡ following → Continues text z (next .0) → Acts text taken z next following
+-- text leads to the key that the manual gives: it leaves by a transfer that is taken, and without
+-- one goes on to the key after it
+pub data Acts (text : Code → Code) (taken : Bool) (z : State) (next : Machine × ℕ) (following : ℕ) :
+    Type 0 where
+  continues : taken ≡ false → next .1 ≡ following → Continues text z (next .0)
+      → Acts text taken z next following
   leaves : taken ≡ true → Leaves text z next → Acts text taken z next following

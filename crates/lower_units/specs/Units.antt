@@ -7,7 +7,9 @@ use lib.Dec.{leb}
 use lib.ListN.{length, getD, getElem?}
 use Rattle.base_text.specs.Doc.{print}
 use Rattle.c_tree.specs.Expr.{u32, x-pc}
-use Rattle.c_tree.specs.Stmt.{registers, local, discard, common, gap, plain, label, call, switch, Code, end, _⨾_, _⧺_, block, group, Top, function, blank, extern, table, count}
+use Rattle.c_tree.specs.Stmt.{registers, local, discard, common, gap, plain, label, call, switch}
+use Rattle.c_tree.specs.Stmt.{Code, end, _⨾_, _⧺_, block, group, Top, function, blank, extern}
+use Rattle.c_tree.specs.Stmt.{table, count}
 use Rattle.c_tree.specs.Print.{unitText}
 use Rattle.c_tree.specs.Preamble.{preamble}
 use Rattle.file_blocks.specs.Parse.{Block}
@@ -45,13 +47,16 @@ groupCode bs = withLocals (sp 4 ⨾ switch (map bodyKey bs) ⨾ nl ⨾ labelled 
 -- the functions that enter the group of the key k, counted from n
 unfoldable pub forwarders : ℕ → ℕ → List Body → List Top
 forwarders k n [] = blank ∷ []
-forwarders k n (b ∷ bs) = function (block (bodyKey b)) (sp 1 ⨾ call k n ⨾ sp 1 ⨾ end) ∷ forwarders k (suc n) bs
+forwarders k n (b ∷ bs) =
+    function (block (bodyKey b)) (sp 1 ⨾ call k n ⨾ sp 1 ⨾ end) ∷ forwarders k (suc n) bs
 
 -- emit_group, or emit_block where the group has one member; each with an empty line after it
 unfoldable pub emitGroup : List Body → List Top
 emitGroup [] = []
 emitGroup (b ∷ []) = emitBlock b
-emitGroup (b ∷ c ∷ bs) = function (group (bodyKey b)) (groupCode (b ∷ c ∷ bs)) ∷ blank ∷ forwarders (bodyKey b) 0 (b ∷ c ∷ bs)
+emitGroup (b ∷ c ∷ bs) =
+    function (group (bodyKey b)) (groupCode (b ∷ c ∷ bs)) ∷ blank
+    ∷ forwarders (bodyKey b) 0 (b ∷ c ∷ bs)
 
 -- PREAMBLE and a newline, at the head of each unit
 abbrev pub unitHead : List Top
@@ -59,10 +64,11 @@ unitHead = preamble ++ (blank ∷ [])
 
 -- the end of the last unit: externs, table and count of all blocks
 unfoldable pub lastUnitEnd : List Body → List Top
-lastUnitEnd bs = map (λ (b : Body). extern (bodyKey b)) bs ++ (table (map bodyKey bs) ∷ count (length bs) ∷ [])
+lastUnitEnd bs =
+    map (λ (b : Body). extern (bodyKey b)) bs ++ (table (map bodyKey bs) ∷ count (length bs) ∷ [])
 
--- a unit (document 01): its tree; the blocks done (document 01), that is how many blocks are done up to its end, from the first unit on; whether it is
--- the last
+-- a unit (document 01): its tree; the blocks done (document 01), that is how many blocks are done
+-- up to its end, from the first unit on; whether it is the last
 pub record TranslationUnit : Type 0 where
   pub tree : List Top
   pub done : ℕ
@@ -72,13 +78,15 @@ pub record TranslationUnit : Type 0 where
 unfoldable pub textOf : List Top → List ℕ
 textOf ts = print (unitText ts)
 
--- the units of the groups to come, where the tree of the one reached is ts and n blocks are done: it is handed on once its length reaches max after a
--- group; the last is always made, and ends with the tree lastEnd
+-- the units of the groups to come, where the tree of the one reached is ts and n blocks are done:
+-- it is handed on once its length reaches max after a group; the last is always made, and ends with
+-- the tree lastEnd
 unfoldable pub cut : ℕ → List Top → List Top → ℕ → List (List Body) → List TranslationUnit
 cut max lastEnd ts n [] = record { tree = ts ++ lastEnd; done = n; last = true } ∷ []
 cut max lastEnd ts n (g ∷ gs) =
     cond (leb max (length (textOf (ts ++ emitGroup g))))
-    (record { tree = ts ++ emitGroup g; done = n + length g; last = false } ∷ cut max lastEnd unitHead (n + length g) gs)
+    (record { tree = ts ++ emitGroup g; done = n + length g; last = false }
+    ∷ cut max lastEnd unitHead (n + length g) gs)
     (cut max lastEnd (ts ++ emitGroup g) (n + length g) gs)
 
 -- what a number past the last block would name; no group has one
@@ -89,11 +97,13 @@ defaultBody = record { addr = 0; thumb = false; count = 0; hash = none; forms = 
 unfoldable pub bodiesOf : List Body → List ℕ → List Body
 bodiesOf bs is = map (λ (i : ℕ). getD bs i defaultBody) is
 
--- emit_c_chunked: the units of some blocks at a wished size (document 01), the groups being lists of block numbers
+-- emit_c_chunked: the units of some blocks at a wished size (document 01), the groups being lists
+-- of block numbers
 unfoldable pub unitsOf : ℕ → List Body → List (List ℕ) → List TranslationUnit
 unitsOf max bs gs = cut max (lastUnitEnd bs) unitHead 0 (map (bodiesOf bs) gs)
 
--- the units of some blocks, where toBody says how one is printed: grouped by a limit, cut at a wished size
+-- the units of some blocks, where toBody says how one is printed: grouped by a limit, cut at a
+-- wished size
 unfoldable pub unitsFor : (Block → Body) → ℕ → ℕ → List Block → List TranslationUnit
 unitsFor toBody limit max bs = unitsOf max (map toBody bs) (groups limit bs)
 
@@ -101,7 +111,8 @@ unitsFor toBody limit max bs = unitsOf max (map toBody bs) (groups limit bs)
 abbrev pub fileUnits : ℕ → ℕ → ℕ → List Block → List TranslationUnit
 fileUnits multiplier = unitsFor (bodyOf multiplier)
 
--- what is answered of a unit: how long its text is, how many blocks are done up to its end, from the first unit on, and whether it is the last
+-- what is answered of a unit: how long its text is, how many blocks are done up to its end, from
+-- the first unit on, and whether it is the last
 pub record UnitAnswer : Type 0 where
   pub length : ℕ
   pub done : ℕ
@@ -109,7 +120,13 @@ pub record UnitAnswer : Type 0 where
 
 -- what the call for a unit makes: the values of its answer, and the text
 abbrev pub madeUnit : TranslationUnit → Made UnitAnswer
-madeUnit u = record { values = record { length = length (textOf (u .tree)); done = u .done; last = u .last }; content = textOf (u .tree) }
+madeUnit u =
+    record {
+      values =
+          record { length = length (textOf (u .tree)); done = u .done; last = u .last };
+      content =
+          textOf (u .tree);
+    }
 
 -- what the call for unit k of a file's blocks makes, if there is such a unit
 abbrev pub unit : ℕ → ℕ → ℕ → List Block → ℕ → Option (Made UnitAnswer)

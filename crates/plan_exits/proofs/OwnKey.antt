@@ -21,7 +21,10 @@ even : (thumb : Bool) (addr : ℕ) → addr % sizeOf thumb ≡ 0 → keyOf addr 
 even true addr e = omega arith
 even false addr e = sym (add-zero addr)
 
-pub key-plus : {f : List ℕ} {i : ℕ} {b : BlockRecord} {first : ℕ} → IsBlock f i b first → keyOf (b .addr) (b .thumb) ≡ keyPlus (b .addr) (b .thumb)
+pub key-plus : {f : List ℕ} {i : ℕ} {b : BlockRecord} {first : ℕ} → IsBlock f i b first
+    → keyOf (b .addr) (b .thumb) ≡ keyPlus (b .addr) (b .thumb)
 unfolding recordAt
 key-plus {f} {i} is =
-    rw (block-record is) (even (thumbAt f (blockStart f i)) (addrAt f (blockStart f i)) (address-aligned f (blocksOf f) (is .accepted) i (block-inside is)))
+    rw (block-record is)
+    (even (thumbAt f (blockStart f i)) (addrAt f (blockStart f i))
+    (address-aligned f (blocksOf f) (is .accepted) i (block-inside is)))

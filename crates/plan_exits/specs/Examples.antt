@@ -15,11 +15,19 @@ use Rattle.plan_exits.specs.Exits.{exits, instrExits}
 -- an ARM block of one instruction
 unfoldable pub armBlock : ℕ → Op → Block
 armBlock at op =
-    record { addr = at; thumb = false; code = none; instrs = record { instr = record { addr = at; cond = Al; op = op; thumb = false }; cost = 1 } ∷ [] }
+    record {
+      addr = at;
+      thumb = false;
+      code = none;
+      instrs =
+          record { instr = record { addr = at; cond = Al; op = op; thumb = false }; cost = 1 } ∷ [];
+    }
 
 -- a branch over one block to another
 unfoldable pub threeBlocks : List Block
-threeBlocks = armBlock 0x0800_0000 (Branch false 0x0800_0008) ∷ armBlock 0x0800_0004 (Bx 14) ∷ armBlock 0x0800_0008 (Bx 14) ∷ []
+threeBlocks =
+    armBlock 0x0800_0000 (Branch false 0x0800_0008) ∷ armBlock 0x0800_0004 (Bx 14)
+    ∷ armBlock 0x0800_0008 (Bx 14) ∷ []
 
 -- exits of a block that there is, and of one that there is not
 exits-found : exitsCall (Parsed.accepted threeBlocks) 0 ≡ value (0x0800_0008 ∷ [])

@@ -1,11 +1,14 @@
--- The exit list of a block (document 01), by its last instruction, or by its last two where they fuse.
+-- The exit list of a block (document 01), by its last instruction, or by its last two where they
+-- fuse.
 use Prim.Native.Nat.{ℕ}
 use mathlib.Core.Bool.{Bool, true, false, cond, _&&_}
 use mathlib.Core.List.{List, [], _∷_}
 use lib.Dec.{eqb}
 use Rattle.armv4t.specs.declared.Cond.{Cond}
 use Rattle.armv4t.specs.declared.Op.{Op}
-use Rattle.armv4t.specs.declared.Op.the-variants.{Alu, Mul, MulLong, Swap, Bx, Branch, ThumbBlHigh, ThumbBlLow, Mem, BlockMem, Mrs, MsrReg, MsrImm, Swi, Undefined}
+use Rattle.armv4t.specs.declared.Op.the-variants.{Alu, Mul, MulLong, Swap, Bx, Branch, ThumbBlHigh}
+use Rattle.armv4t.specs.declared.Op.the-variants.{ThumbBlLow, Mem, BlockMem, Mrs, MsrReg, MsrImm}
+use Rattle.armv4t.specs.declared.Op.the-variants.{Swi, Undefined}
 use Rattle.armv4t.specs.declared.Instr.{Instr}
 use Rattle.armv4t.specs.declared.Fused.{Fused}
 use Rattle.armv4t.specs.declared.Fused.the-variants.{Pair, Nothing}
@@ -31,8 +34,9 @@ fallThrough thumb i = keyOf (nextAddr i) thumb
 abbrev pub branchExits : Cond → ℕ → ℕ → List ℕ
 branchExits c target fall = target ∷ cond (isAl c) [] (fall ∷ [])
 
--- the exits by a block's last operation, given its condition, the block's Thumb bit and the fall-through: none for Bx, Swi, Undefined, ThumbBlLow, Alu with rd 15, a
--- Mem load with rd 15 and a BlockMem load with PC listed; those of a branch for Branch; the fall-through for the others
+-- the exits by a block's last operation, given its condition, the block's Thumb bit and the
+-- fall-through: none for Bx, Swi, Undefined, ThumbBlLow, Alu with rd 15, a Mem load with rd 15 and
+-- a BlockMem load with PC listed; those of a branch for Branch; the fall-through for the others
 abbrev pub opExits : Op → Cond → Bool → ℕ → List ℕ
 opExits (Alu op s rd rn op2) c thumb fall = cond (eqb rd 15) [] (fall ∷ [])
 opExits (Mul acc s rd rn rs rm) c thumb fall = fall ∷ []
@@ -42,8 +46,10 @@ opExits (Bx rm) c thumb fall = []
 opExits (Branch link target) c thumb fall = branchExits c (keyOf target thumb) fall
 opExits (ThumbBlHigh lr) c thumb fall = fall ∷ []
 opExits (ThumbBlLow off) c thumb fall = []
-opExits (Mem load width signed rd rn offset pre up writeback) c thumb fall = cond (load && eqb rd 15) [] (fall ∷ [])
-opExits (BlockMem load rn rlist pre up s-bit writeback) c thumb fall = cond (load && isListed rlist 15) [] (fall ∷ [])
+opExits (Mem load width signed rd rn offset pre up writeback) c thumb fall =
+    cond (load && eqb rd 15) [] (fall ∷ [])
+opExits (BlockMem load rn rlist pre up s-bit writeback) c thumb fall =
+    cond (load && isListed rlist 15) [] (fall ∷ [])
 opExits (Mrs spsr rd) c thumb fall = fall ∷ []
 opExits (MsrReg spsr fields rm) c thumb fall = fall ∷ []
 opExits (MsrImm spsr fields value) c thumb fall = fall ∷ []
@@ -63,7 +69,8 @@ closingExits Nothing alone = alone
 unfoldable pub instrExits : Bool → List TimedInstr → List ℕ
 instrExits thumb [] = []
 instrExits thumb (x ∷ []) = lastExits thumb (x .instr)
-instrExits thumb (x ∷ y ∷ []) = closingExits (fuse (x .instr) (y .instr)) (lastExits thumb (y .instr))
+instrExits thumb (x ∷ y ∷ []) =
+    closingExits (fuse (x .instr) (y .instr)) (lastExits thumb (y .instr))
 instrExits thumb (x ∷ y ∷ z ∷ rest) = instrExits thumb (y ∷ z ∷ rest)
 
 -- the exit list of a block (document 01): 0, 1 or 2 keys, the target before the fall-through

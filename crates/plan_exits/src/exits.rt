@@ -24,7 +24,8 @@ ghost use Rattle.armv4t.specs.Instr.{sizeOf};
 ghost use Rattle.file_records.specs.Trailer.{blockStart};
 ghost use Rattle.file_blocks.specs.Parse.{blockAt, blocksOf, Accepted};
 ghost use Rattle.file_blocks.specs.Read.{foundInstr, IsBlock};
-ghost use Rattle.plan_exits.specs.Exits.{keyOf, fallThrough, branchExits, lastExits, closingExits, exits, keysOf};
+ghost use Rattle.plan_exits.specs.Exits.{keyOf, fallThrough, branchExits, lastExits};
+ghost use Rattle.plan_exits.specs.Exits.{closingExits, exits, keysOf};
 ghost use Rattle.plan_exits.specs.Found.{foundKeys};
 
 // The keys of an exit list, the target before the fall-through.
@@ -54,7 +55,8 @@ pub fn fall_through(thumb: bool, instr: Instr) -> u32
     key_of(std::num::wrapping_add_u32(instr.addr, instr.size()), thumb)
 }
 
-// The fall-through, or no exit where the last operation is one that leaves the block by a value it reads.
+// The fall-through, or no exit where the last operation is one that leaves the block by a value it
+// reads.
 fn falls_unless(leaves: bool, fall: u32) -> Exits
     ensures { λ r. ⌜ keysOf r ≡ cond leaves [] (fall ∷ []) ⌝ }
 {
@@ -92,7 +94,8 @@ pub(crate) fn last_exits(thumb: bool, last: Instr) -> Exits
     }
 }
 
-// The exits by the last two instructions: a fused pair goes to its target in Thumb, otherwise the last one decides.
+// The exits by the last two instructions: a fused pair goes to its target in Thumb, otherwise the
+// last one decides.
 pub(crate) fn closing_exits(thumb: bool, before: Instr, last: Instr) -> Exits
     ensures { λ r. ⌜ keysOf r ≡ closingExits (fuse before last) (lastExits thumb last) ⌝ }
 {
@@ -102,7 +105,8 @@ pub(crate) fn closing_exits(thumb: bool, before: Instr, last: Instr) -> Exits
     }
 }
 
-// Whether an instruction is the second half of a Thumb BL; any other makes no pair with the one before it.
+// Whether an instruction is the second half of a Thumb BL; any other makes no pair with the one
+// before it.
 fn ends_bl(instr: Instr) -> bool
     ensures { λ r. ⌜ (r ≡ false → (before : Instr) → fuse before instr ≡ Fused.Nothing) ⌝ }
 {
@@ -126,7 +130,8 @@ pub fn instr_addr(addr: u32, thumb: bool, j: u32) -> u32
     }
 }
 
-// Instruction j of a block whose instructions are those from record `first` on. In an accepted file nothing wraps.
+// Instruction j of a block whose instructions are those from record `first` on. In an accepted file
+// nothing wraps.
 pub fn instr_of(file: &[u8], block: BlockRecord, first: usize, j: u32) -> FoundInstr
     ensures { λ r. ⌜ r ≡ foundInstr (now (file .entry)) ((first + j) % 2 ^ 64) ((block .addr + sizeOf (block .thumb) * j) % 2 ^ 32) (block .thumb) ⌝ }
 {
@@ -162,7 +167,8 @@ pub fn exits_at(file: &[u8], block: BlockRecord, first: usize) -> Exits
     closing_exits(block.thumb, previous.instr, last.instr)
 }
 
-// The exits of block i, or Nothing. `first` sums the counts of the blocks before block k; in an accepted file it does not wrap.
+// The exits of block i, or Nothing. `first` sums the counts of the blocks before block k; in an
+// accepted file it does not wrap.
 pub(crate) fn block_exits(file: &[u8], i: usize) -> FoundExits
     ensures { λ r. ⌜ (Accepted (now (file .entry)) → foundKeys r ≡ getElem? (map exits (blocksOf (now (file .entry)))) i) ⌝ }
 {

@@ -3,7 +3,9 @@
 use Prim.Native.Nat.{ℕ, zero-le, _+_, _≤_}
 use mathlib.Core.Path.{_≡_, refl, sym, ap, _∙_, subst}
 use mathlib.Core.Bool.{Bool, true, false, not, cond, _&&_, and-true, and-false, true≢false}
-use mathlib.Core.List.{List, [], _∷_, _++_, append-assoc, flatten, List·Memᴰ, List·Memᴰ·head, List·Memᴰ·tail, List·Memᴰ·not-nil, List·Memᴰ·cases-cons, List·Memᴰ·eq-of-singleton}
+use mathlib.Core.List.{List, [], _∷_, _++_, append-assoc, flatten, List·Memᴰ, List·Memᴰ·head}
+use mathlib.Core.List.{List·Memᴰ·tail, List·Memᴰ·not-nil, List·Memᴰ·cases-cons}
+use mathlib.Core.List.{List·Memᴰ·eq-of-singleton}
 use mathlib.Core.Logic.{_⊎_, inl, inr}
 use native.Mathlib.Nat.{zero-add, add-zero, le-trans, le-of-lt}
 use native.Mathlib.Omega.{arith}
@@ -11,7 +13,8 @@ use borrow.Author.Tests.{leb-true, leb-false, le-leb, ltb-false}
 use lib.ListN.{length, getD}
 use lib.Dec.{leb, ltb}
 use Rattle.plan_groups.specs.Plan.{insert, sortByKey, asParts, isEmpty, parts}
-use Rattle.plan_groups.proofs.Listing.{count, count-here, count-cancel, counted, stands, InOrder, Piece, flatten-piece}
+use Rattle.plan_groups.proofs.Listing.{count, count-here, count-cancel, counted, stands}
+use Rattle.plan_groups.proofs.Listing.{InOrder, Piece, flatten-piece}
 
 -- the key of one block is at most that of another
 abbrev pub NoFall : List ℕ → ℕ → ℕ → Type 0
@@ -38,13 +41,17 @@ module _ (keys : List ℕ) where
   pub sort-member : {x : ℕ} (is : List ℕ) → List·Memᴰ x (sortByKey keys is) → List·Memᴰ x is
   sort-member {x} is m = stands x is (omega (arith, counted m, sort-count x is))
 
-  insert-member : {x i : ℕ} (js : List ℕ) → List·Memᴰ x (insert keys i js) → (x ≡ i) ⊎ List·Memᴰ x js
-  insert-member {x} {i} js m = List·Memᴰ·cases-cons (stands x (i ∷ js) (omega (arith, counted m, insert-count x i js)))
+  insert-member : {x i : ℕ} (js : List ℕ) → List·Memᴰ x (insert keys i js)
+      → (x ≡ i) ⊎ List·Memᴰ x js
+  insert-member {x} {i} js m =
+      List·Memᴰ·cases-cons (stands x (i ∷ js) (omega (arith, counted m, insert-count x i js)))
 
-  insert-order : (i : ℕ) (js : List ℕ) → InOrder (NoFall keys) js → InOrder (NoFall keys) (insert keys i js)
+  insert-order : (i : ℕ) (js : List ℕ) → InOrder (NoFall keys) js
+      → InOrder (NoFall keys) (insert keys i js)
   unfolding insert
   insert-order i [] o = (λ y m. absurd (List·Memᴰ·not-nil m), tt)
-  insert-order i (j ∷ js) o = go (leb (getD keys i 0) (getD keys j 0)) refl (insert-order i js (o .1))
+  insert-order i (j ∷ js) o =
+      go (leb (getD keys i 0) (getD keys j 0)) refl (insert-order i js (o .1))
     where
       front : NoFall keys i j → (y : ℕ) → (y ≡ j) ⊎ List·Memᴰ y js → NoFall keys i y
       front h y (inl e) = rw e h
@@ -54,7 +61,8 @@ module _ (keys : List ℕ) where
       later h y (inl e) = rw e h
       later h y (inr m) = o .0 y m
 
-      go : (b : Bool) → leb (getD keys i 0) (getD keys j 0) ≡ b → InOrder (NoFall keys) (insert keys i js)
+      go : (b : Bool) → leb (getD keys i 0) (getD keys j 0) ≡ b
+          → InOrder (NoFall keys) (insert keys i js)
           → InOrder (NoFall keys) (cond b (i ∷ j ∷ js) (j ∷ insert keys i js))
       go true e ih = (λ y m. front (leb-true _ _ e) y (List·Memᴰ·cases-cons m), o)
       go false e ih = (λ y m. later (le-of-lt (leb-false _ _ e)) y (insert-member js m), ih)
@@ -65,7 +73,8 @@ module _ (keys : List ℕ) where
   sort-order [] = tt
   sort-order (i ∷ is) = insert-order i (sortByKey keys is) (sort-order is)
 
-  insert-front : (i : ℕ) (js : List ℕ) → ((y : ℕ) → List·Memᴰ y js → NoFall keys i y) → insert keys i js ≡ i ∷ js
+  insert-front : (i : ℕ) (js : List ℕ) → ((y : ℕ) → List·Memᴰ y js → NoFall keys i y)
+      → insert keys i js ≡ i ∷ js
   unfolding insert
   insert-front i [] h = refl
   insert-front i (j ∷ js) h = rw (le-leb _ _ (h j (List·Memᴰ·head refl)))
@@ -82,7 +91,8 @@ instructions counts [] = 0
 instructions counts (i ∷ is) = getD counts i 0 + instructions counts is
 
 -- the instructions of two names of blocks
-pub instructions-append : (counts is js : List ℕ) → instructions counts (is ++ js) ≡ instructions counts is + instructions counts js
+pub instructions-append : (counts is js : List ℕ)
+    → instructions counts (is ++ js) ≡ instructions counts is + instructions counts js
 unfolding instructions
 instructions-append counts [] js = sym (zero-add _)
 instructions-append counts (i ∷ is) js = omega (arith, instructions-append counts is js)
@@ -109,13 +119,20 @@ without counts {i} (List·Memᴰ·tail {x = x} {xs = xs} m) =
       fewer = omega (arith, w .fewer);
     }
 
--- a way through some blocks that comes to none of them more often than a list holds it has no more instructions than the list
-pub instructions-within : (counts way g : List ℕ) → ((i : ℕ) → count i way ≤ count i g) → instructions counts way ≤ instructions counts g
+-- a way through some blocks that comes to none of them more often than a list holds it has no more
+-- instructions than the list
+pub instructions-within : (counts way g : List ℕ) → ((i : ℕ) → count i way ≤ count i g)
+    → instructions counts way ≤ instructions counts g
 unfolding instructions
 instructions-within counts [] g h = zero-le
 instructions-within counts (i ∷ way) g h =
     let w = without counts (stands i g (omega (arith, h i, count-here i way))) in
-    omega (arith, w .fewer, instructions-within counts way (w .rest) (λ x. count-cancel x i way (w .rest) (omega (arith, w .others x, h x))))
+    omega (
+      arith,
+      w .fewer,
+      instructions-within counts way (w .rest)
+          (λ x. count-cancel x i way (w .rest) (omega (arith, w .others x, h x))),
+    )
 
 module _ (limit : ℕ) (counts : List ℕ) where
   -- a part has a block, and at most `limit` instructions where it has several
@@ -129,17 +146,23 @@ module _ (limit : ℕ) (counts : List ℕ) where
     small : 2 ≤ length part → total ≤ limit
 
   -- the parts of a list are the list
-  pub parts-all : (part : List ℕ) (total : ℕ) (is : List ℕ) → flatten (parts limit counts part total is) ≡ part ++ is
+  pub parts-all : (part : List ℕ) (total : ℕ) (is : List ℕ)
+      → flatten (parts limit counts part total is) ≡ part ++ is
   unfolding parts flatten
   parts-all [] total [] = refl
   parts-all (x ∷ xs) total [] = refl
   parts-all part total (i ∷ is) =
-      go (ltb limit (total + getD counts i 0) && not (isEmpty part)) (parts-all (i ∷ []) (getD counts i 0) is)
+      go (ltb limit (total + getD counts i 0) && not (isEmpty part))
+      (parts-all (i ∷ []) (getD counts i 0) is)
       (parts-all (part ++ (i ∷ [])) (total + getD counts i 0) is)
     where
       go : (b : Bool) → flatten (parts limit counts (i ∷ []) (getD counts i 0) is) ≡ (i ∷ []) ++ is
-          → flatten (parts limit counts (part ++ (i ∷ [])) (total + getD counts i 0) is) ≡ part ++ (i ∷ []) ++ is
-          → flatten (cond b (part ∷ parts limit counts (i ∷ []) (getD counts i 0) is) (parts limit counts (part ++ (i ∷ [])) (total + getD counts i 0) is)) ≡ part ++ (i ∷ is)
+          → flatten (parts limit counts (part ++ (i ∷ [])) (total + getD counts i 0) is)
+          ≡ part ++ (i ∷ []) ++ is
+          → flatten
+          (cond b (part ∷ parts limit counts (i ∷ []) (getD counts i 0) is)
+          (parts limit counts (part ++ (i ∷ [])) (total + getD counts i 0) is))
+          ≡ part ++ (i ∷ is)
       go true e e′ = ap (λ (l : List ℕ). part ++ l) e
       go false e e′ = e′ ∙ append-assoc part (i ∷ []) is
 
@@ -152,7 +175,8 @@ module _ (limit : ℕ) (counts : List ℕ) where
   filling-one i = record { sum = add-zero _; small = λ h. absurd (omega arith) }
 
   -- a block that does not push the part over the limit, or comes first
-  filling-more : (part : List ℕ) (total i : ℕ) → Filling part total → (ltb limit (total + getD counts i 0) && not (isEmpty part)) ≡ false
+  filling-more : (part : List ℕ) (total i : ℕ) → Filling part total
+      → (ltb limit (total + getD counts i 0) && not (isEmpty part)) ≡ false
       → Filling (part ++ (i ∷ [])) (total + getD counts i 0)
   unfolding instructions
   filling-more [] total i f e = subst (Filling (i ∷ [])) (omega (arith, f .sum)) (filling-one i)
@@ -165,31 +189,43 @@ module _ (limit : ℕ) (counts : List ℕ) where
   fits-part : (part : List ℕ) (total : ℕ) → Filling part total → 1 ≤ length part → Fits part
   fits-part part total f h = record { some = h; small = λ l. rw (f .sum) (f .small l) }
 
-  fits-close : (part : List ℕ) (total : ℕ) → Filling part total → (g : List ℕ) → List·Memᴰ g (asParts part) → Fits g
+  fits-close : (part : List ℕ) (total : ℕ) → Filling part total → (g : List ℕ)
+      → List·Memᴰ g (asParts part) → Fits g
   fits-close [] total f g m = absurd (List·Memᴰ·not-nil m)
-  fits-close (x ∷ xs) total f g m = subst Fits (sym (List·Memᴰ·eq-of-singleton m)) (fits-part (x ∷ xs) total f (omega arith))
+  fits-close (x ∷ xs) total f g m =
+      subst Fits (sym (List·Memᴰ·eq-of-singleton m)) (fits-part (x ∷ xs) total f (omega arith))
 
-  closes-some : (part : List ℕ) (over : Bool) → (over && not (isEmpty part)) ≡ true → 1 ≤ length part
+  closes-some : (part : List ℕ) (over : Bool) → (over && not (isEmpty part)) ≡ true
+      → 1 ≤ length part
   closes-some [] over e = absurd (true≢false (sym e ∙ and-false over))
   closes-some (x ∷ xs) over e = omega arith
 
-  parts-fit : (part : List ℕ) (total : ℕ) (is : List ℕ) → Filling part total → (g : List ℕ) → List·Memᴰ g (parts limit counts part total is) → Fits g
+  parts-fit : (part : List ℕ) (total : ℕ) (is : List ℕ) → Filling part total → (g : List ℕ)
+      → List·Memᴰ g (parts limit counts part total is) → Fits g
   unfolding parts
   parts-fit part total [] f g m = fits-close part total f g m
   parts-fit part total (i ∷ is) f g m =
-      go (ltb limit (total + getD counts i 0) && not (isEmpty part)) refl (parts-fit (i ∷ []) (getD counts i 0) is (filling-one i) g)
+      go (ltb limit (total + getD counts i 0) && not (isEmpty part)) refl
+      (parts-fit (i ∷ []) (getD counts i 0) is (filling-one i) g)
       (λ f′. parts-fit (part ++ (i ∷ [])) (total + getD counts i 0) is f′ g) m
     where
-      closed : 1 ≤ length part → (List·Memᴰ g (parts limit counts (i ∷ []) (getD counts i 0) is) → Fits g)
+      closed : 1 ≤ length part
+          → (List·Memᴰ g (parts limit counts (i ∷ []) (getD counts i 0) is) → Fits g)
           → (g ≡ part) ⊎ List·Memᴰ g (parts limit counts (i ∷ []) (getD counts i 0) is) → Fits g
       closed h ih (inl e) = subst Fits (sym e) (fits-part part total f h)
       closed h ih (inr n) = ih n
 
       go : (b : Bool) → (ltb limit (total + getD counts i 0) && not (isEmpty part)) ≡ b
           → (List·Memᴰ g (parts limit counts (i ∷ []) (getD counts i 0) is) → Fits g)
-          → (Filling (part ++ (i ∷ [])) (total + getD counts i 0) → List·Memᴰ g (parts limit counts (part ++ (i ∷ [])) (total + getD counts i 0) is) → Fits g)
-          → List·Memᴰ g (cond b (part ∷ parts limit counts (i ∷ []) (getD counts i 0) is) (parts limit counts (part ++ (i ∷ [])) (total + getD counts i 0) is)) → Fits g
-      go true e ih ih′ n = closed (closes-some part (ltb limit (total + getD counts i 0)) e) ih (List·Memᴰ·cases-cons n)
+          → (Filling (part ++ (i ∷ [])) (total + getD counts i 0)
+          → List·Memᴰ g (parts limit counts (part ++ (i ∷ [])) (total + getD counts i 0) is)
+          → Fits g)
+          → List·Memᴰ g
+          (cond b (part ∷ parts limit counts (i ∷ []) (getD counts i 0) is)
+          (parts limit counts (part ++ (i ∷ [])) (total + getD counts i 0) is)) → Fits g
+      go true e ih ih′ n =
+          closed (closes-some part (ltb limit (total + getD counts i 0)) e) ih
+          (List·Memᴰ·cases-cons n)
       go false e ih ih′ n = ih′ (filling-more part total i f e) n
 
   -- a part of a list fits

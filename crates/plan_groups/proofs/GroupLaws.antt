@@ -1,5 +1,5 @@
--- What every group of a plan has: a limit of instructions, one page, each block once, key order, one root.
--- Assumes nothing of the blocks but what a law takes as an argument.
+-- What every group of a plan has: a limit of instructions, one page, each block once, key order,
+-- one root. Assumes nothing of the blocks but what a law takes as an argument.
 use Prim.Native.Nat.{ℕ, suc, _≤_, _<_}
 use mathlib.Core.Path.{_≡_, refl, sym, ap, _∙_}
 use mathlib.Core.Bool.{Bool, true, false}
@@ -13,14 +13,21 @@ use Rattle.base_forest.specs.Forest.{range, root}
 use Rattle.plan_search.specs.Target.{joinable}
 use Rattle.file_blocks.specs.Address.{page}
 use Rattle.plan_groups.specs.Plan.{parents, groupsFrom, groups}
-use Rattle.plan_groups.proofs.Components.{component, countsOf, component-member, component-rises, components-once, groups-flat, groups-part}
-use Rattle.plan_groups.proofs.Cutting.{NoFall, sort-order, instructions, instructions-within, part-fits, part-piece}
+use Rattle.plan_groups.proofs.Components.{component, countsOf, component-member}
+use Rattle.plan_groups.proofs.Components.{component-rises, components-once, groups-flat}
+use Rattle.plan_groups.proofs.Components.{groups-part}
+use Rattle.plan_groups.proofs.Cutting.{NoFall, sort-order, instructions, instructions-within}
+use Rattle.plan_groups.proofs.Cutting.{part-fits, part-piece}
 use Rattle.plan_groups.proofs.Edges.{joinsAt, root-self, root-alone}
-use Rattle.plan_groups.proofs.Listing.{count, counted, stands, count-in, one-list, one-place, some-list, map-at, member-at, InOrder, order-at, order-once, order-steps, once-apart, Piece, piece-member, piece-order}
+use Rattle.plan_groups.proofs.Listing.{count, counted, stands, count-in, one-list, one-place}
+use Rattle.plan_groups.proofs.Listing.{some-list, map-at, member-at, InOrder, order-at}
+use Rattle.plan_groups.proofs.Listing.{order-once, order-steps, once-apart, Piece}
+use Rattle.plan_groups.proofs.Listing.{piece-member, piece-order}
 
 -- the address of one block is below that of another
 abbrev pub Below : List Block → ℕ → ℕ → Type 0
-Below bs i j = getD (map (λ (b : Block). b .addr) bs) i 0 < getD (map (λ (b : Block). b .addr) bs) j 0
+Below bs i j =
+    getD (map (λ (b : Block). b .addr) bs) i 0 < getD (map (λ (b : Block). b .addr) bs) j 0
 
 module _ (limit : ℕ) (bs : List Block) where
   -- no blocks, no groups
@@ -28,7 +35,8 @@ module _ (limit : ℕ) (bs : List Block) where
   unfolding groups groupsFrom
   groups-none e = rw e
 
-  -- the limit only cuts: the groups, one after the other, are the components by root number, each in key order
+  -- the limit only cuts: the groups, one after the other, are the components by root number, each
+  -- in key order
   pub groups-cut : flatten (groups limit bs) ≡ flatten (map (component bs) (range (length bs) 0))
   groups-cut = groups-flat limit bs
 
@@ -51,7 +59,8 @@ module _ (limit : ℕ) (bs : List Block) where
         let there = groups-part limit bs g m in
         (there .0, there .1, part-piece limit (countsOf bs) (component bs (there .0)) g (there .2))
 
-    in-component : (i : ℕ) → List·Memᴰ i g → (i < length bs) × (root (parents bs) i ≡ group-piece .0)
+    in-component : (i : ℕ) → List·Memᴰ i g
+        → (i < length bs) × (root (parents bs) i ≡ group-piece .0)
     in-component i h = component-member bs (group-piece .0) i (piece-member (group-piece .2) h)
 
     -- a group lists blocks only
@@ -59,15 +68,18 @@ module _ (limit : ℕ) (bs : List Block) where
     group-inside i h = in-component i h .0
 
     -- the blocks of a group have one root
-    pub group-root : (i j : ℕ) → List·Memᴰ i g → List·Memᴰ j g → root (parents bs) i ≡ root (parents bs) j
+    pub group-root : (i j : ℕ) → List·Memᴰ i g → List·Memᴰ j g
+        → root (parents bs) i ≡ root (parents bs) j
     group-root i j a b = in-component i a .1 ∙ sym (in-component j b .1)
 
     -- keys do not fall along a group
     pub group-sorted : InOrder (NoFall (map blockKey bs)) g
-    group-sorted = piece-order (group-piece .2) (NoFall (map blockKey bs)) (sort-order (map blockKey bs) _)
+    group-sorted =
+        piece-order (group-piece .2) (NoFall (map blockKey bs)) (sort-order (map blockKey bs) _)
 
     -- the same by places in the group
-    pub group-keys : (a b : ℕ) → a < b → b < length g → getD (map blockKey bs) (getD g a 0) 0 ≤ getD (map blockKey bs) (getD g b 0) 0
+    pub group-keys : (a b : ℕ) → a < b → b < length g
+        → getD (map blockKey bs) (getD g a 0) 0 ≤ getD (map blockKey bs) (getD g b 0) 0
     group-keys = order-at (NoFall (map blockKey bs)) g group-sorted
 
     -- a group lists no block twice
@@ -82,25 +94,36 @@ module _ (limit : ℕ) (bs : List Block) where
     pub group-apart : (a b : ℕ) → a < b → b < length g → getD g a 0 ≡ getD g b 0 → ⊥
     group-apart = order-at (λ i j. i ≡ j → ⊥) g (once-apart g group-once)
 
-    -- a block that is not joinable has a root of its own, so that all blocks of its group would be that block
+    -- a block that is not joinable has a root of its own, so that all blocks of its group would be
+    -- that block
     joins-of : 2 ≤ length g → (i : ℕ) → List·Memᴰ i g → (c : Bool) → joinsAt bs i ≡ c → c ≡ true
     joins-of several i h true e = refl
     joins-of several i h false e =
-        let only : (k : ℕ) → List·Memᴰ k g → k ≡ i = λ k l. root-alone bs i k (group-inside k l) e (group-root k i l h ∙ root-self bs i (group-inside i h) e) in
-        absurd (group-apart 0 1 (omega arith) several (only _ (member-at g 0 (omega arith)) ∙ sym (only _ (member-at g 1 several))))
+        let only : (k : ℕ) → List·Memᴰ k g
+        → k ≡ i =
+        λ k l. root-alone bs i k (group-inside k l) e
+        (group-root k i l h ∙ root-self bs i (group-inside i h) e) in
+        absurd (group-apart 0 1 (omega arith) several
+        (only _ (member-at g 0 (omega arith)) ∙ sym (only _ (member-at g 1 several))))
 
     -- the blocks of a group of several are joinable
-    pub group-joinable : 2 ≤ length g → (i : ℕ) → List·Memᴰ i g → (d : Block) → joinable (getD bs i d) ≡ true
-    group-joinable several i h d = sym (map-at joinable bs i d false (group-inside i h)) ∙ joins-of several i h (joinsAt bs i) refl
+    pub group-joinable : 2 ≤ length g → (i : ℕ) → List·Memᴰ i g → (d : Block)
+        → joinable (getD bs i d) ≡ true
+    group-joinable several i h d = sym (map-at joinable bs i d false (group-inside i h))
+        ∙ joins-of several i h (joinsAt bs i) refl
 
     -- so their page is 8
-    pub group-page : 2 ≤ length g → (i : ℕ) → List·Memᴰ i g → (d : Block) → page (getD bs i d .addr) ≡ 8
+    pub group-page : 2 ≤ length g → (i : ℕ) → List·Memᴰ i g → (d : Block)
+        → page (getD bs i d .addr) ≡ 8
     group-page several i h d = eqb-true _ _ (group-joinable several i h d)
 
-    -- a way through a group of several that comes to no block twice has at most `limit` instructions
-    pub group-way : 2 ≤ length g → (way : List ℕ) → ((i : ℕ) → List·Memᴰ i way → List·Memᴰ i g) → ((i : ℕ) → count i way ≤ 1)
+    -- a way through a group of several that comes to no block twice has at most `limit`
+    -- instructions
+    pub group-way : 2 ≤ length g → (way : List ℕ) → ((i : ℕ) → List·Memᴰ i way → List·Memᴰ i g)
+        → ((i : ℕ) → count i way ≤ 1)
         → instructions (countsOf bs) way ≤ limit
-    group-way several way within once = omega (arith, group-limit several, instructions-within (countsOf bs) way g few)
+    group-way several way within once =
+        omega (arith, group-limit several, instructions-within (countsOf bs) way g few)
       where
         few : (i : ℕ) → count i way ≤ count i g
         few i =
@@ -111,42 +134,56 @@ module _ (limit : ℕ) (bs : List Block) where
 
     -- so has one that goes to a higher address at each step
     pub group-forward : 2 ≤ length g → (way : List ℕ) → ((i : ℕ) → List·Memᴰ i way → List·Memᴰ i g)
-        → ((a : ℕ) → suc a < length way → Below bs (getD way a 0) (getD way (suc a) 0)) → instructions (countsOf bs) way ≤ limit
+        → ((a : ℕ) → suc a < length way → Below bs (getD way a 0) (getD way (suc a) 0))
+        → instructions (countsOf bs) way ≤ limit
     group-forward several way within steps =
-        group-way several way within (order-once (Below bs) (λ i h. omega arith) way (order-steps (Below bs) (λ i j k a b. omega arith) way steps))
+        group-way several way within
+        (order-once (Below bs) (λ i h. omega arith) way
+        (order-steps (Below bs) (λ i j k a b. omega arith) way steps))
 
     -- where keys rise with the blocks
-    module _ (rising : (i j : ℕ) → i < j → j < length bs → getD (map blockKey bs) i 0 < getD (map blockKey bs) j 0) where
+    module _
+        (rising : (i j : ℕ) → i < j → j < length bs
+        → getD (map blockKey bs) i 0 < getD (map blockKey bs) j 0) where
       -- a group lists its blocks as they stand in the file
       pub group-rises : InOrder (λ i j. i < j) g
-      group-rises = piece-order (group-piece .2) (λ i j. i < j) (component-rises bs rising (group-piece .0))
+      group-rises =
+          piece-order (group-piece .2) (λ i j. i < j) (component-rises bs rising (group-piece .0))
 
       -- the same by places in the group
       pub group-numbers-rise : (a b : ℕ) → a < b → b < length g → getD g a 0 < getD g b 0
       group-numbers-rise = order-at (λ i j. i < j) g group-rises
 
       -- and their keys rise along the group
-      pub group-keys-rise : (a b : ℕ) → a < b → b < length g → getD (map blockKey bs) (getD g a 0) 0 < getD (map blockKey bs) (getD g b 0) 0
-      group-keys-rise a b l h = rising _ _ (group-numbers-rise a b l h) (group-inside _ (member-at g b h))
+      pub group-keys-rise : (a b : ℕ) → a < b → b < length g
+          → getD (map blockKey bs) (getD g a 0) 0 < getD (map blockKey bs) (getD g b 0) 0
+      group-keys-rise a b l h =
+          rising _ _ (group-numbers-rise a b l h) (group-inside _ (member-at g b h))
 
   -- no other number stands in the groups
   pub groups-only : (i : ℕ) → length bs ≤ i → count i (flatten (groups limit bs)) ≡ 0
   groups-only i h =
       elim (decLe 1 (count i (flatten (groups limit bs)))) [
-        | yes l ↦ (let there = some-list i (groups limit bs) l in absurd (omega (arith, group-inside (there .0) (there .1) i (there .2))))
+        | yes l ↦
+            (let there = some-list i (groups limit bs) l in
+            absurd (omega (arith, group-inside (there .0) (there .1) i (there .2))))
         | no n ↦ omega arith
       ]
 
   -- every block has a group
-  pub group-of : (i : ℕ) → i < length bs → (g : List ℕ) × List·Memᴰ g (groups limit bs) × List·Memᴰ i g
+  pub group-of : (i : ℕ) → i < length bs
+      → (g : List ℕ) × List·Memᴰ g (groups limit bs) × List·Memᴰ i g
   group-of i h = some-list i (groups limit bs) (omega (arith, groups-once i h))
 
   -- two groups with a block in common are one
-  pub group-same : (g h : List ℕ) → List·Memᴰ g (groups limit bs) → List·Memᴰ h (groups limit bs) → (i : ℕ) → List·Memᴰ i g → List·Memᴰ i h → g ≡ h
-  group-same g h m n i a b = one-list i (omega (arith, groups-once i (group-inside g m i a))) m n a b
+  pub group-same : (g h : List ℕ) → List·Memᴰ g (groups limit bs) → List·Memᴰ h (groups limit bs)
+      → (i : ℕ) → List·Memᴰ i g → List·Memᴰ i h → g ≡ h
+  group-same g h m n i a b =
+      one-list i (omega (arith, groups-once i (group-inside g m i a))) m n a b
 
   -- a block stands in one place among the groups
-  pub group-number : (a b i : ℕ) → List·Memᴰ i (getD (groups limit bs) a []) → List·Memᴰ i (getD (groups limit bs) b []) → a ≡ b
+  pub group-number : (a b i : ℕ) → List·Memᴰ i (getD (groups limit bs) a [])
+      → List·Memᴰ i (getD (groups limit bs) b []) → a ≡ b
   group-number a b i m n = one-place i (groups limit bs) few a b m n
     where
       few : count i (flatten (groups limit bs)) ≤ 1

@@ -23,15 +23,18 @@ use Rattle.plan_groups.specs.Plan.{joinTo, joinExits}
 use Rattle.plan_search.specs.Search.{targetOf, TargetInside}
 use Rattle.plan_groups.specs.Groups.{quarter1, Joined, joinRecord}
 use Rattle.file_blocks.proofs.IsBlock.{missing, found-record}
-use Rattle.plan_groups.proofs.Lending.{quarter-length, back-length, back-quarter, back-after, back-before}
+use Rattle.plan_groups.proofs.Lending.{quarter-length, back-length, back-quarter, back-after}
+use Rattle.plan_groups.proofs.Lending.{back-before}
 use Rattle.base_forest.proofs.Roots.{deeper, same-deeper}
 
-module _ (f w : List ℕ) (n i key : ℕ) (found : Target) (says : Accepted f → targetOf found ≡ target key (blocksOf f) 0) where
+module _ (f w : List ℕ) (n i key : ℕ) (found : Target)
+    (says : Accepted f → targetOf found ≡ target key (blocksOf f) 0) where
   abbrev joins : List ℕ → List ℕ
   joins q = joinTo i q (target key (blocksOf f) 0)
 
   -- no block to join
-  pub join-nothing : found ≡ Target.Nothing → Joined 1 n w w (λ q. joinTo i q (target key (blocksOf f) 0)) (Accepted f)
+  pub join-nothing : found ≡ Target.Nothing
+      → Joined 1 n w w (λ q. joinTo i q (target key (blocksOf f) 0)) (Accepted f)
   join-nothing e =
       record {
         same = refl;
@@ -39,12 +42,16 @@ module _ (f w : List ℕ) (n i key : ℕ) (found : Target) (says : Accepted f �
         after = λ k h. refl;
         depth = λ d g. deeper g (d + 1) (omega arith);
         roots = λ a d q room g.
-            subst (SameRoots (d + 1) (quarter1 n w)) (ap (joinTo i q) (sym (ap targetOf e) ∙ says a)) (same-deeper g (d + 1) (omega arith));
+            subst (SameRoots (d + 1) (quarter1 n w))
+            (ap (joinTo i q) (sym (ap targetOf e) ∙ says a))
+            (same-deeper g (d + 1) (omega arith));
       }
 
   -- a block to join
-  pub join-at : (j : ℕ) (p′ : List ℕ) → 4 * n ≤ length w → found ≡ Target.At j → Hung (quarter1 n w) i j p′
-      → Joined 1 n w (putMid n (2 * n - n) w p′) (λ q. joinTo i q (target key (blocksOf f) 0)) (Accepted f)
+  pub join-at : (j : ℕ) (p′ : List ℕ) → 4 * n ≤ length w → found ≡ Target.At j
+      → Hung (quarter1 n w) i j p′
+      → Joined 1 n w (putMid n (2 * n - n) w p′) (λ q. joinTo i q (target key (blocksOf f) 0))
+      (Accepted f)
   join-at j p′ room e h =
       let long : length p′ ≡ n = h .lengths ∙ quarter-length n w room in
       let part-is : quarter1 n (putMid n (2 * n - n) w p′) ≡ p′ = back-quarter n w p′ room long in
@@ -55,11 +62,13 @@ module _ (f w : List ℕ) (n i key : ℕ) (found : Target) (says : Accepted f �
         depth = λ d g. subst (Forest (d + 1)) (sym part-is) (h .depth d g);
         roots = λ a d q few g.
             subst (λ (l : List ℕ). SameRoots (d + 1) l (joins q)) (sym part-is)
-            (subst (SameRoots (d + 1) p′) (ap (joinTo i q) (sym (ap targetOf e) ∙ says a)) (h .roots d q (omega (arith, quarter-length n w room)) g));
+            (subst (SameRoots (d + 1) p′) (ap (joinTo i q) (sym (ap targetOf e) ∙ says a))
+            (h .roots d q (omega (arith, quarter-length n w room)) g));
       }
 
 -- the block found is inside
-pub target-inside : (f : List ℕ) (found : Target) (j n : ℕ) → TargetInside f found → found ≡ Target.At j → n ≡ blockCount f → j < n
+pub target-inside : (f : List ℕ) (found : Target) (j n : ℕ) → TargetInside f found
+    → found ≡ Target.At j → n ≡ blockCount f → j < n
 target-inside f found j n h e g = subst (λ (m : ℕ). j < m) (sym g) (subst (TargetInside f) e h)
 
 -- no edge
@@ -75,47 +84,57 @@ joined-none n w accepted =
 
 -- some edges and then some more
 pub joined-then : {e₁ e₂ n : ℕ} {w w₁ w₂ : List ℕ} {j₁ j₂ : List ℕ → List ℕ} {accepted : Type 0}
-    → Joined e₁ n w w₁ j₁ accepted → Joined e₂ n w₁ w₂ j₂ accepted → Joined (e₁ + e₂) n w w₂ (λ q. j₂ (j₁ q)) accepted
+    → Joined e₁ n w w₁ j₁ accepted → Joined e₂ n w₁ w₂ j₂ accepted
+    → Joined (e₁ + e₂) n w w₂ (λ q. j₂ (j₁ q)) accepted
 joined-then {e₁} {e₂} {n} {w} {w₁} {w₂} {j₁} {j₂} a b =
     record {
       same = b .same ∙ a .same;
       before = λ k h. b .before k h ∙ a .before k h;
       after = λ k h. b .after k h ∙ a .after k h;
-      depth = λ d g. subst (λ (m : ℕ). Forest m (quarter1 n w₂)) (add-assoc d e₁ e₂) (b .depth (d + e₁) (a .depth d g));
+      depth =
+          λ d g. subst (λ (m : ℕ). Forest m (quarter1 n w₂)) (add-assoc d e₁ e₂)
+          (b .depth (d + e₁) (a .depth d g));
       roots = λ acc d q few g.
-          subst (λ (m : ℕ). SameRoots m (quarter1 n w₂) (j₂ (j₁ q))) (add-assoc d e₁ e₂) (b .roots acc (d + e₁) (j₁ q) (omega arith) (a .roots acc d q (omega arith) g));
+          subst (λ (m : ℕ). SameRoots m (quarter1 n w₂) (j₂ (j₁ q))) (add-assoc d e₁ e₂)
+          (b .roots acc (d + e₁) (j₁ q) (omega arith) (a .roots acc d q (omega arith) g));
     }
 
 -- edges that make no way longer than more edges would
-pub joined-more : {e₁ n : ℕ} {w w₁ : List ℕ} {j : List ℕ → List ℕ} {accepted : Type 0} (e₂ : ℕ) → e₁ ≤ e₂ → Joined e₁ n w w₁ j accepted → Joined e₂ n w w₁ j accepted
+pub joined-more : {e₁ n : ℕ} {w w₁ : List ℕ} {j : List ℕ → List ℕ} {accepted : Type 0} (e₂ : ℕ)
+    → e₁ ≤ e₂ → Joined e₁ n w w₁ j accepted → Joined e₂ n w w₁ j accepted
 joined-more {e₁} {n} {w} {w₁} e₂ h a =
     record {
       same = a .same;
       before = a .before;
       after = a .after;
       depth = λ d g. deeper (a .depth d g) (d + e₂) (omega arith);
-      roots = λ acc d q few g. same-deeper (a .roots acc d q (omega arith) g) (d + e₂) (omega arith);
+      roots =
+          λ acc d q few g. same-deeper (a .roots acc d q (omega arith) g) (d + e₂) (omega arith);
     }
 
 -- the edges of an exit list, by its case
 module _ (f : List ℕ) (i n : ℕ) (w : List ℕ) (x : Exits) where
-  pub exits-none : x ≡ Exits.None → Joined 2 n w w (λ q. joinExits (blocksOf f) i q (keysOf x)) (Accepted f)
+  pub exits-none : x ≡ Exits.None
+      → Joined 2 n w w (λ q. joinExits (blocksOf f) i q (keysOf x)) (Accepted f)
   unfolding joinExits
   exits-none e = rw e (joined-more 2 (omega arith) (joined-none n w (Accepted f)))
 
-  pub exits-one : (k : ℕ) (w₁ : List ℕ) → x ≡ Exits.One k → Joined 1 n w w₁ (λ q. joinTo i q (target k (blocksOf f) 0)) (Accepted f)
+  pub exits-one : (k : ℕ) (w₁ : List ℕ) → x ≡ Exits.One k
+      → Joined 1 n w w₁ (λ q. joinTo i q (target k (blocksOf f) 0)) (Accepted f)
       → Joined 2 n w w₁ (λ q. joinExits (blocksOf f) i q (keysOf x)) (Accepted f)
   unfolding joinExits
   exits-one k w₁ e a = rw e (joined-more 2 (omega arith) a)
 
-  pub exits-two : (k l : ℕ) (w₁ w₂ : List ℕ) → x ≡ Exits.Two k l → Joined 1 n w w₁ (λ q. joinTo i q (target k (blocksOf f) 0)) (Accepted f)
+  pub exits-two : (k l : ℕ) (w₁ w₂ : List ℕ) → x ≡ Exits.Two k l
+      → Joined 1 n w w₁ (λ q. joinTo i q (target k (blocksOf f) 0)) (Accepted f)
       → Joined 1 n w₁ w₂ (λ q. joinTo i q (target l (blocksOf f) 0)) (Accepted f)
       → Joined 2 n w w₂ (λ q. joinExits (blocksOf f) i q (keysOf x)) (Accepted f)
   unfolding joinExits
   exits-two k l w₁ w₂ e a b = rw e (joined-then a b)
 
 -- block i as a pass over the records has it
-module _ (f : List ℕ) (i n : ℕ) (w : List ℕ) (found : FoundBlock) (reads : found ≡ foundBlock f i) (inside : i < n) (all : n ≡ blockCount f) where
+module _ (f : List ℕ) (i n : ℕ) (w : List ℕ) (found : FoundBlock) (reads : found ≡ foundBlock f i)
+    (inside : i < n) (all : n ≡ blockCount f) where
   -- the reader finds nothing: not in an accepted file
   pub block-missing : found ≡ FoundBlock.Nothing → Joined 2 n w w (joinRecord f i) (Accepted f)
   block-missing e =
@@ -143,13 +162,16 @@ module _ (f : List ℕ) (i n : ℕ) (w : List ℕ) (found : FoundBlock) (reads :
           before = λ k h. refl;
           after = λ k h. refl;
           depth = λ d g. deeper g (d + 2) (omega arith);
-          roots = λ a d q few g. subst (SameRoots (d + 2) (quarter1 n w)) (sym (rw (page-is, off))) (same-deeper g (d + 2) (omega arith));
+          roots =
+              λ a d q few g. subst (SameRoots (d + 2) (quarter1 n w)) (sym (rw (page-is, off)))
+              (same-deeper g (d + 2) (omega arith));
         }
 
     -- a block of page 8 makes those of its exits
     pub block-joins : onPage8 (b .addr) ≡ true → (x : Exits) (w₁ : List ℕ)
         → (Accepted f → keysOf x ≡ exits (blockAt f (blockStart f i) (countSum f i)))
-        → Joined 2 n w w₁ (λ q. joinExits (blocksOf f) i q (keysOf x)) (Accepted f) → Joined 2 n w w₁ (joinRecord f i) (Accepted f)
+        → Joined 2 n w w₁ (λ q. joinExits (blocksOf f) i q (keysOf x)) (Accepted f)
+        → Joined 2 n w w₁ (joinRecord f i) (Accepted f)
     block-joins e x w₁ keys j =
         record {
           same = j .same;
@@ -157,5 +179,7 @@ module _ (f : List ℕ) (i n : ℕ) (w : List ℕ) (found : FoundBlock) (reads :
           after = j .after;
           depth = j .depth;
           roots = λ a d q few g.
-              subst (SameRoots (d + 2) (quarter1 n w₁)) (ap (joinExits (blocksOf f) i q) (keys a) ∙ sym (rw (page-is, e))) (j .roots a d q few g);
+              subst (SameRoots (d + 2) (quarter1 n w₁))
+              (ap (joinExits (blocksOf f) i q) (keys a) ∙ sym (rw (page-is, e)))
+              (j .roots a d q few g);
         }

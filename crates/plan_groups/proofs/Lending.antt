@@ -8,7 +8,8 @@ use native.Mathlib.Nat.{not-suc-le-zero}
 use native.Mathlib.Decide.{ℕ-discrete}
 use borrow.Rule.Slice.PartMut.{putMid, postOf, same-len-mid, mid-len, take-put, drop-put}
 use lib.ListN.{length, getD, set, take, drop, length-set}
-use lib.Seq.{take-at, drop-at, length-take-le, getD-take, getD-drop, getD-set-same, getD-set-other, take-set-le, drop-set-add}
+use lib.Seq.{take-at, drop-at, length-take-le, getD-take, getD-drop, getD-set-same, getD-set-other}
+use lib.Seq.{take-set-le, drop-set-add}
 use Rattle.base_forest.specs.Forest.{Forest, Flatter, RootFound, root}
 use Rattle.plan_groups.specs.Groups.{quarter1, Rooted, AllRooted}
 use Rattle.base_forest.proofs.Roots.{flatter-trans}
@@ -21,19 +22,23 @@ pub lent-is : (n : ℕ) (w : List ℕ) → take (2 * n - n) (drop n w) ≡ quart
 lent-is n w = ap (λ (k : ℕ). take k (drop n w)) (twice n)
 
 pub quarter-length : (n : ℕ) (w : List ℕ) → 4 * n ≤ length w → length (quarter1 n w) ≡ n
-quarter-length n w room = ap length (sym (lent-is n w)) ∙ mid-len n (2 * n) w (omega arith) ∙ twice n
+quarter-length n w room =
+    ap length (sym (lent-is n w)) ∙ mid-len n (2 * n) w (omega arith) ∙ twice n
 
 module _ (n : ℕ) (w ys : List ℕ) (room : 4 * n ≤ length w) (long : length ys ≡ n) where
   abbrev back : List ℕ
   back = putMid n (2 * n - n) w ys
 
   pub back-length : length back ≡ length w
-  back-length = same-len-mid n (2 * n - n) w ys (long ∙ sym (twice n) ∙ sym (mid-len n (2 * n) w (omega arith)))
+  back-length =
+      same-len-mid n (2 * n - n) w ys
+      (long ∙ sym (twice n) ∙ sym (mid-len n (2 * n) w (omega arith)))
 
   -- quarter 1 is what came back
   pub back-quarter : quarter1 n back ≡ ys
   back-quarter =
-      ap (take n) (drop-at (take n w) (ys ++ postOf n (2 * n - n) w) n (length-take-le n w (omega arith)))
+      ap (take n)
+      (drop-at (take n w) (ys ++ postOf n (2 * n - n) w) n (length-take-le n w (omega arith)))
       ∙ take-at ys (postOf n (2 * n - n) w) n long
 
   pub back-after : (k : ℕ) → 2 * n ≤ k → getD back k 0 ≡ getD w k 0
@@ -41,13 +46,16 @@ module _ (n : ℕ) (w ys : List ℕ) (room : 4 * n ≤ length w) (long : length 
       let split : 2 * n + (k - 2 * n) ≡ k = omega arith in
       ap (λ (m : ℕ). getD back m 0) (sym split)
       ∙ sym (getD-drop (2 * n) back (k - 2 * n) 0)
-      ∙ ap (λ (l : List ℕ). getD l (k - 2 * n) 0) (drop-put n (2 * n) w ys (omega arith) (omega arith) (long ∙ sym (twice n)))
+      ∙ ap (λ (l : List ℕ). getD l (k - 2 * n) 0)
+      (drop-put n (2 * n) w ys (omega arith) (omega arith) (long ∙ sym (twice n)))
       ∙ getD-drop (2 * n) w (k - 2 * n) 0
       ∙ ap (λ (m : ℕ). getD w m 0) split
 
   pub back-before : (k : ℕ) → k < n → getD back k 0 ≡ getD w k 0
   back-before k h =
-      sym (getD-take n back k 0 h) ∙ ap (λ (l : List ℕ). getD l k 0) (take-put n (2 * n - n) w ys (omega arith)) ∙ getD-take n w k 0 h
+      sym (getD-take n back k 0 h)
+      ∙ ap (λ (l : List ℕ). getD l k 0) (take-put n (2 * n - n) w ys (omega arith))
+      ∙ getD-take n w k 0 h
 
 -- a store past quarter 1 leaves it as it is
 pub quarter-set : (n : ℕ) (w : List ℕ) (k v : ℕ) → 2 * n ≤ k → quarter1 n (set w k v) ≡ quarter1 n w
@@ -58,17 +66,25 @@ quarter-set n w k v h =
     ∙ take-set-le n (drop n w) (k - n) v (omega arith)
 
 -- what finding a root in the lent quarter makes of the work numbers
-pub rooted : (n i : ℕ) (w p′ : List ℕ) (r : ℕ) → 4 * n ≤ length w → i < n → RootFound (quarter1 n w) i r p′
+pub rooted : (n i : ℕ) (w p′ : List ℕ) (r : ℕ) → 4 * n ≤ length w → i < n
+    → RootFound (quarter1 n w) i r p′
     → Rooted n i w (set (putMid n (2 * n - n) w p′) (2 * n + i) r)
 rooted n i w p′ r room h e =
     let long : length p′ ≡ n = e .kept .lengths ∙ quarter-length n w room in
-    let at : getD (set (putMid n (2 * n - n) w p′) (2 * n + i) r) (2 * n + i) 0 ≡ r = getD-set-same (putMid n (2 * n - n) w p′) (2 * n + i) r 0 (omega (arith, back-length n w p′ room long)) in
+    let at : getD (set (putMid n (2 * n - n) w p′) (2 * n + i) r) (2 * n + i) 0
+    ≡ r =
+    getD-set-same (putMid n (2 * n - n) w p′) (2 * n + i) r 0
+    (omega (arith, back-length n w p′ room long)) in
     record {
       same = length-set (putMid n (2 * n - n) w p′) (2 * n + i) r ∙ back-length n w p′ room long;
-      flatter = subst (Flatter (quarter1 n w)) (sym (quarter-set n (putMid n (2 * n - n) w p′) (2 * n + i) r (omega arith) ∙ back-quarter n w p′ room long)) (e .kept);
+      flatter =
+          subst (Flatter (quarter1 n w))
+          (sym (quarter-set n (putMid n (2 * n - n) w p′) (2 * n + i) r (omega arith)
+          ∙ back-quarter n w p′ room long)) (e .kept);
       here = at ∙ e .is;
       small = subst (λ (m : ℕ). m < n) (sym at) (subst (λ (m : ℕ). r < m) long (e .inside));
-      other = λ k l ne. getD-set-other (putMid n (2 * n - n) w p′) (2 * n + i) k r 0 ne ∙ back-after n w p′ room long k l;
+      other = λ k l ne. getD-set-other (putMid n (2 * n - n) w p′) (2 * n + i) k r 0 ne
+          ∙ back-after n w p′ room long k l;
     }
 
 flatter-self : (p : List ℕ) → Flatter p p
@@ -84,25 +100,30 @@ rooted-none n w =
       after = λ k h. refl;
     }
 
-pub rooted-more : (n m : ℕ) (w w₁ w₂ : List ℕ) → 4 * n ≤ length w → m < n → AllRooted n m w w₁ → Rooted n m w₁ w₂ → AllRooted n (m + 1) w w₂
+pub rooted-more : (n m : ℕ) (w w₁ w₂ : List ℕ) → 4 * n ≤ length w → m < n → AllRooted n m w w₁
+    → Rooted n m w₁ w₂ → AllRooted n (m + 1) w w₂
 rooted-more n m w w₁ w₂ room h a e =
-    let root-is : root (quarter1 n w₁) m ≡ root (quarter1 n w) m = a .flatter .roots m (omega (arith, quarter-length n w room)) in
+    let root-is : root (quarter1 n w₁) m ≡ root (quarter1 n w) m =
+    a .flatter .roots m (omega (arith, quarter-length n w room)) in
     record {
       same = e .same ∙ a .same;
       flatter = flatter-trans (a .flatter) (e .flatter);
       here = λ j l.
           elim (ℕ-discrete j m) [
-            | yes g ↦ subst (λ (k : ℕ). getD w₂ (2 * n + k) 0 ≡ root (quarter1 n w) k) (sym g) (e .here ∙ root-is)
+            | yes g ↦ subst (λ (k : ℕ). getD w₂ (2 * n + k) 0 ≡ root (quarter1 n w) k) (sym g)
+                (e .here ∙ root-is)
             | no g ↦ e .other (2 * n + j) (omega arith) (omega arith) ∙ a .here j (omega arith)
           ];
       small = λ j l.
           elim (ℕ-discrete j m) [
             | yes g ↦ subst (λ (k : ℕ). getD w₂ (2 * n + k) 0 < n) (sym g) (e .small)
-            | no g ↦ subst (λ (k : ℕ). k < n) (sym (e .other (2 * n + j) (omega arith) (omega arith))) (a .small j (omega arith))
+            | no g ↦ subst (λ (k : ℕ). k < n)
+                (sym (e .other (2 * n + j) (omega arith) (omega arith))) (a .small j (omega arith))
           ];
       after = λ k l. e .other k (omega arith) (omega arith) ∙ a .after k l;
     }
 
 -- the forest is still one
-pub rooted-forest : (n m : ℕ) (w w₁ : List ℕ) → AllRooted n m w w₁ → Forest (2 * n) (quarter1 n w) → Forest (2 * n) (quarter1 n w₁)
+pub rooted-forest : (n m : ℕ) (w w₁ : List ℕ) → AllRooted n m w w₁ → Forest (2 * n) (quarter1 n w)
+    → Forest (2 * n) (quarter1 n w₁)
 rooted-forest n m w w₁ a f = a .flatter .depth (2 * n) f

@@ -13,16 +13,26 @@ use lib.Seq.{getD-set-same, getD-set-other}
 use Rattle.plan_groups.specs.Links.{seek, Filled, linkOne, HasRoots, Linked, Outside}
 
 pub filled-none : (n : ℕ) (w : List ℕ) → Filled n 0 w w
-filled-none n w = record { same = refl; full = λ r h. absurd (not-suc-le-zero h); before = λ k h. refl; after = λ k h. refl }
+filled-none n w =
+    record {
+      same = refl;
+      full = λ r h. absurd (not-suc-le-zero h);
+      before = λ k h. refl;
+      after =
+          λ k h. refl;
+    }
 
-pub filled-more : (n m : ℕ) (w w′ : List ℕ) → 4 * n ≤ length w → m < n → Filled n m w w′ → Filled n (m + 1) w (set w′ (3 * n + m) n)
+pub filled-more : (n m : ℕ) (w w′ : List ℕ) → 4 * n ≤ length w → m < n → Filled n m w w′
+    → Filled n (m + 1) w (set w′ (3 * n + m) n)
 filled-more n m w w′ room h e =
     record {
       same = length-set w′ (3 * n + m) n ∙ e .same;
       full = λ r l.
           elim (ℕ-discrete r m) [
-            | yes g ↦ ap (λ (k : ℕ). getD (set w′ (3 * n + m) n) (3 * n + k) 0) g ∙ getD-set-same w′ (3 * n + m) n 0 (omega (arith, e .same))
-            | no g ↦ getD-set-other w′ (3 * n + m) (3 * n + r) n 0 (omega arith) ∙ e .full r (omega arith)
+            | yes g ↦ ap (λ (k : ℕ). getD (set w′ (3 * n + m) n) (3 * n + k) 0) g
+                ∙ getD-set-same w′ (3 * n + m) n 0 (omega (arith, e .same))
+            | no g ↦ getD-set-other w′ (3 * n + m) (3 * n + r) n 0 (omega arith)
+                ∙ e .full r (omega arith)
           ];
       before = λ k l. getD-set-other w′ (3 * n + m) k n 0 (omega arith) ∙ e .before k l;
       after = λ k l. getD-set-other w′ (3 * n + m) k n 0 (omega arith) ∙ e .after k (omega arith);
@@ -46,7 +56,8 @@ linked-none roots n w w′ e =
       first = λ r h. let none-left : n - n ≡ 0 = omega arith in rw none-left (e .full r h);
     }
 
-module _ (n i : ℕ) (w₀ w : List ℕ) (room : 4 * n ≤ length w₀) (h : i < n) (small : getD w₀ (2 * n + i) 0 < n) (o : Outside n w₀ w) where
+module _ (n i : ℕ) (w₀ w : List ℕ) (room : 4 * n ≤ length w₀) (h : i < n)
+    (small : getD w₀ (2 * n + i) 0 < n) (o : Outside n w₀ w) where
   abbrev r₀ : ℕ
   r₀ = getD w (2 * n + i) 0
 
@@ -101,13 +112,20 @@ module _ (n i : ℕ) (w₀ w : List ℕ) (room : 4 * n ≤ length w₀) (h : i <
         record {
           next = λ j l b.
               elim (ℕ-discrete j i) [
-                | yes g ↦ subst (λ (k : ℕ). getD (linkOne n i w) (n + k) 0 ≡ seek roots (getD roots k 0) (n - suc k) (suc k)) (sym g) next-here
-                | no g ↦ other (n + j) (omega arith) (omega (arith, r-small)) ∙ e .next j (omega arith) b
+                | yes g ↦ subst
+                    (λ (k : ℕ). getD (linkOne n i w) (n + k) 0
+                    ≡ seek roots (getD roots k 0) (n - suc k) (suc k)) (sym g) next-here
+                | no g ↦ other (n + j) (omega arith) (omega (arith, r-small))
+                    ∙ e .next j (omega arith) b
               ];
           first = λ r b.
               elim (ℕ-discrete r r₀) [
-                | yes g ↦ subst (λ (k : ℕ). getD (linkOne n i w) (3 * n + k) 0 ≡ seek roots k (n - i) i) (sym g) (getD-set-same w₁ (3 * n + r₀) i 0 (omega (arith, long₁, r-small)) ∙ sym seek-here)
-                | no g ↦ other (3 * n + r) (omega arith) (omega arith) ∙ e .first r b ∙ ap (λ (k : ℕ). seek roots r (n - k) k) (add-one i) ∙ sym (seek-past r g)
+                | yes g ↦ subst
+                    (λ (k : ℕ). getD (linkOne n i w) (3 * n + k) 0 ≡ seek roots k (n - i) i) (sym g)
+                    (getD-set-same w₁ (3 * n + r₀) i 0 (omega (arith, long₁, r-small))
+                    ∙ sym seek-here)
+                | no g ↦ other (3 * n + r) (omega arith) (omega arith) ∙ e .first r b
+                    ∙ ap (λ (k : ℕ). seek roots r (n - k) k) (add-one i) ∙ sym (seek-past r g)
               ];
         }
 
@@ -121,10 +139,12 @@ outside-trans n w w₁ w₂ a b =
     }
 
 pub outside-none : (n : ℕ) (w : List ℕ) → Outside n w w
-outside-none n w = record { same = refl; before = λ k h. refl; middle = λ k l h. refl; after = λ k h. refl }
+outside-none n w =
+    record { same = refl; before = λ k h. refl; middle = λ k l h. refl; after = λ k h. refl }
 
 -- the roots are still there
-pub has-roots : (n : ℕ) (roots w w′ : List ℕ) → Outside n w w′ → HasRoots n roots w → HasRoots n roots w′
+pub has-roots : (n : ℕ) (roots w w′ : List ℕ) → Outside n w w′ → HasRoots n roots w
+    → HasRoots n roots w′
 has-roots n roots w w′ o h i l = o .middle (2 * n + i) (omega arith) (omega arith) ∙ h i l
 
 -- what the loop keeps, with the work numbers as they were before it
@@ -135,17 +155,20 @@ pub record Linking (w₀ : List ℕ) (n i : ℕ) (w : List ℕ) : Type 0 where
   pub outside : Outside n w₀ w
   pub linked : (roots : List ℕ) → HasRoots n roots w₀ → Linked roots n i w
 
-pub linking-none : (n : ℕ) (w w₀ : List ℕ) → 4 * n ≤ length w → ((k : ℕ) → k < n → getD w (2 * n + k) 0 < n) → Filled n n w w₀ → Linking w₀ n n w₀
+pub linking-none : (n : ℕ) (w w₀ : List ℕ) → 4 * n ≤ length w
+    → ((k : ℕ) → k < n → getD w (2 * n + k) 0 < n) → Filled n n w w₀ → Linking w₀ n n w₀
 linking-none n w w₀ room small e =
     record {
       few = le-refl n;
       room = omega (arith, e .same);
-      small = λ k l. subst (λ (m : ℕ). m < n) (sym (e .before (2 * n + k) (omega arith))) (small k l);
+      small =
+          λ k l. subst (λ (m : ℕ). m < n) (sym (e .before (2 * n + k) (omega arith))) (small k l);
       outside = outside-none n w₀;
       linked = λ roots h. linked-none roots n w w₀ e;
     }
 
-pub linking-more : (w₀ : List ℕ) (n i : ℕ) (w : List ℕ) → 0 < i → Linking w₀ n i w → Linking w₀ n (i - 1) (linkOne n (i - 1) w)
+pub linking-more : (w₀ : List ℕ) (n i : ℕ) (w : List ℕ) → 0 < i → Linking w₀ n i w
+    → Linking w₀ n (i - 1) (linkOne n (i - 1) w)
 linking-more w₀ n i w pos e =
     let below : i - 1 < n = omega (arith, e .few) in
     let again : i - 1 + 1 ≡ i = omega arith in
@@ -155,14 +178,19 @@ linking-more w₀ n i w pos e =
       room = e .room;
       small = e .small;
       outside = outside-more n (i - 1) w₀ w (e .room) below small (e .outside);
-      linked = λ roots h. linked-more n (i - 1) w₀ w (e .room) below small (e .outside) roots h (subst (λ (k : ℕ). Linked roots n k w) (sym again) (e .linked roots h));
+      linked =
+          λ roots h. linked-more n (i - 1) w₀ w (e .room) below small (e .outside) roots h
+          (subst (λ (k : ℕ). Linked roots n k w) (sym again) (e .linked roots h));
     }
 
 -- what link_one asks for
-pub linking-asks : (w₀ : List ℕ) (n i : ℕ) (w : List ℕ) → 0 < i → Linking w₀ n i w → (4 * n ≤ length w) × (i - 1 < n) × (getD w (2 * n + (i - 1)) 0 < n)
+pub linking-asks : (w₀ : List ℕ) (n i : ℕ) (w : List ℕ) → 0 < i → Linking w₀ n i w
+    → (4 * n ≤ length w) × (i - 1 < n) × (getD w (2 * n + (i - 1)) 0 < n)
 linking-asks w₀ n i w pos e =
     let below : i - 1 < n = omega (arith, e .few) in (
       omega (arith, e .room, e .outside .same),
       below,
-      subst (λ (m : ℕ). m < n) (sym (e .outside .middle (2 * n + (i - 1)) (omega arith) (omega arith))) (e .small (i - 1) below),
+      subst (λ (m : ℕ). m < n)
+          (sym (e .outside .middle (2 * n + (i - 1)) (omega arith) (omega arith)))
+          (e .small (i - 1) below),
     )

@@ -11,7 +11,8 @@ use lib.ListN.{length, getD, length-append}
 use Rattle.file_blocks.specs.Parse.{Block, blockKey}
 use Rattle.base_forest.specs.Forest.{range, root}
 use Rattle.plan_groups.specs.Order.{withRootIn, orderFrom}
-use Rattle.plan_groups.specs.Plan.{parents, members, insert, sortByKey, groups, groupRows, rowsFrom, plan}
+use Rattle.plan_groups.specs.Plan.{parents, members, insert, sortByKey, groups, groupRows}
+use Rattle.plan_groups.specs.Plan.{rowsFrom, plan}
 use Rattle.plan_groups.proofs.Components.{component, groups-flat}
 use Rattle.plan_groups.proofs.Edges.{root-block}
 use Rattle.plan_groups.proofs.Listing.{map-at}
@@ -40,7 +41,8 @@ unfolding insert
 insert-length keys i [] = refl
 insert-length keys i (j ∷ js) = go (leb (getD keys i 0) (getD keys j 0)) (insert-length keys i js)
   where
-    go : (b : Bool) → length (insert keys i js) ≡ suc (length js) → length (cond b (i ∷ j ∷ js) (j ∷ insert keys i js)) ≡ suc (suc (length js))
+    go : (b : Bool) → length (insert keys i js) ≡ suc (length js)
+        → length (cond b (i ∷ j ∷ js) (j ∷ insert keys i js)) ≡ suc (suc (length js))
     go true e = refl
     go false e = ap suc e
 
@@ -57,24 +59,31 @@ module _ (bs : List Block) where
   roots-at : (j : ℕ) → j < length bs → getD roots j 0 ≡ root (parents bs) j
   unfolding roots
   roots-at j h =
-      map-at (root (parents bs)) (range (length bs) 0) j 0 0 (omega (arith, length-range (length bs) 0))
+      map-at (root (parents bs)) (range (length bs) 0) j 0 0
+      (omega (arith, length-range (length bs) 0))
       ∙ ap (root (parents bs)) (range-own (length bs) j h)
 
-  components-length : (left r : ℕ) → length (flatten (map (component bs) (range left r))) ≡ length (orderFrom roots (length bs) left r)
+  components-length : (left r : ℕ)
+      → length (flatten (map (component bs) (range left r)))
+      ≡ length (orderFrom roots (length bs) left r)
   unfolding flatten orderFrom
   components-length zero r = refl
   components-length (suc left) r =
       length-append (component bs r) (flatten (map (component bs) (range left (suc r))))
       ∙ ap₂ (λ (a b : ℕ). a + b)
       (sort-length (map blockKey bs) (members (parents bs) r (length bs))
-      ∙ ap length (members-rooted (parents bs) roots r (length bs) 0 (λ j l b. roots-at j (rw zero-add at b))))
+      ∙ ap length
+      (members-rooted (parents bs) roots r (length bs) 0
+      (λ j l b. roots-at j (rw zero-add at b))))
       (components-length left (suc r))
-      ∙ sym (length-append (withRootIn roots r (length bs) 0) (orderFrom roots (length bs) left (suc r)))
+      ∙ sym (length-append (withRootIn roots r (length bs) 0)
+      (orderFrom roots (length bs) left (suc r)))
 
   -- all groups together have each block once
   pub groups-length : (limit : ℕ) → length (flatten (groups limit bs)) ≡ length bs
   groups-length limit =
-      ap length (groups-flat limit bs) ∙ components-length (length bs) 0 ∙ order-all roots (length bs) (λ j h. rw (roots-at j h) (root-block bs j h))
+      ap length (groups-flat limit bs) ∙ components-length (length bs) 0
+      ∙ order-all roots (length bs) (λ j h. rw (roots-at j h) (root-block bs j h))
 
   pub plan-length : (limit : ℕ) → length (plan limit bs) ≡ 2 * length bs
   unfolding plan

@@ -1,4 +1,5 @@
--- Public calls that group blocks, and the one for the plan: what each answers, and what every lent buffer holds afterwards.
+-- Public calls that group blocks, and the one for the plan: what each answers, and what every lent
+-- buffer holds afterwards.
 use Prim.Native.Nat.{ℕ, _*_}
 use mathlib.Core.Bool.{cond}
 use mathlib.Core.List.{List, _++_}
@@ -23,7 +24,8 @@ unfoldable pub plannedOf : Planned → Answer ℕ
 plannedOf (Planned.Blocks n) = value n
 plannedOf (Planned.Refused n i) = refusal n i
 
--- what a call makes of the blocks of a file: the values of its answer, and what goes into the lent result, a plan or a text
+-- what a call makes of the blocks of a file: the values of its answer, and what goes into the lent
+-- result, a plan or a text
 pub record Made (A : Type 0) : Type 0 where
   pub values : A
   pub content : List ℕ
@@ -34,21 +36,32 @@ pub record CallOutcome (A : Type 0) : Type 0 where
   pub work : List ℕ
   pub result : List ℕ
 
--- the outcome once 8 is ruled out; `work` is cleared already: 9 where nothing was made, 10 where the result is shorter than what was made, or the result with that in its front
+-- the outcome once 8 is ruled out; `work` is cleared already: 9 where nothing was made, 10 where
+-- the result is shorter than what was made, or the result with that in its front
 abbrev pub handOver : {A : Type 0} → Option (Made A) → List ℕ → List ℕ → CallOutcome A
 handOver none work result = record { answer = refusal 9 0; work = work; result = result }
 handOver (some m) work result =
-    cond (ltb (length result) (length (m .content))) (record { answer = refusal 10 0; work = work; result = result })
-    (record { answer = value (m .values); work = work; result = m .content ++ drop (length (m .content)) result })
+    cond (ltb (length result) (length (m .content)))
+    (record { answer = refusal 10 0; work = work; result = result })
+    (record {
+      answer = value (m .values);
+      work = work;
+      result =
+          m .content ++ drop (length (m .content)) result;
+    })
 
--- a call that groups, for n blocks: 8 with nothing written, or with the first 4 n work numbers (document 01) cleared
+-- a call that groups, for n blocks: 8 with nothing written, or with the first 4 n work numbers
+-- (document 01) cleared
 unfoldable pub callOnBlocks : {A : Type 0} → ℕ → Option (Made A) → List ℕ → List ℕ → CallOutcome A
 callOnBlocks n made work result =
-    cond (ltb (length work) (4 * n)) (record { answer = refusal 8 0; work = work; result = result }) (handOver made (cleared (4 * n) work) result)
+    cond (ltb (length work) (4 * n)) (record { answer = refusal 8 0; work = work; result = result })
+    (handOver made (cleared (4 * n) work) result)
 
 -- a call that groups, for a file: refusals 1 to 7 with nothing written
-unfoldable pub callOnFile : {A : Type 0} → (List Block → Option (Made A)) → Parsed → List ℕ → List ℕ → CallOutcome A
-callOnFile make (Parsed.refused n i) work result = record { answer = refusal n i; work = work; result = result }
+unfoldable pub callOnFile : {A : Type 0} → (List Block → Option (Made A)) → Parsed → List ℕ → List ℕ
+    → CallOutcome A
+callOnFile make (Parsed.refused n i) work result =
+    record { answer = refusal n i; work = work; result = result }
 callOnFile make (Parsed.accepted bs) work result = callOnBlocks (length bs) (make bs) work result
 
 -- what the call for the plan makes: the number of blocks, and two numbers for each

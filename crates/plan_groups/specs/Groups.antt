@@ -27,7 +27,8 @@ rowsIn n work = interleave (take n (drop (2 * n) work)) (take n work)
 abbrev pub quarter1 : ℕ → List ℕ → List ℕ
 quarter1 n work = take n (drop n work)
 
--- quarter 2 has the root of block i, its other numbers and those after it are as they were, and no root changed; quarter 0 is not spoken of
+-- quarter 2 has the root of block i, its other numbers and those after it are as they were, and no
+-- root changed; quarter 0 is not spoken of
 pub record Rooted (n i : ℕ) (work work′ : List ℕ) : Type 0 where
   pub same : length work′ ≡ length work
   pub flatter : Flatter (quarter1 n work) (quarter1 n work′)
@@ -35,8 +36,8 @@ pub record Rooted (n i : ℕ) (work work′ : List ℕ) : Type 0 where
   pub small : getD work′ (2 * n + i) 0 < n
   pub other : (k : ℕ) → 2 * n ≤ k → (k ≡ 2 * n + i → ⊥) → getD work′ k 0 ≡ getD work k 0
 
--- quarter 2 has the roots of the first m blocks, the numbers after it are as they were, and no root changed; quarter 0, and quarter 2 from block m on, are not
--- spoken of
+-- quarter 2 has the roots of the first m blocks, the numbers after it are as they were, and no root
+-- changed; quarter 0, and quarter 2 from block m on, are not spoken of
 pub record AllRooted (n m : ℕ) (work work′ : List ℕ) : Type 0 where
   pub same : length work′ ≡ length work
   pub flatter : Flatter (quarter1 n work) (quarter1 n work′)
@@ -44,14 +45,16 @@ pub record AllRooted (n m : ℕ) (work work′ : List ℕ) : Type 0 where
   pub small : (j : ℕ) → j < m → getD work′ (2 * n + j) 0 < n
   pub after : (k : ℕ) → 3 * n ≤ k → getD work′ k 0 ≡ getD work k 0
 
--- what some edges make of the work numbers of n blocks: only parents may change, each edge makes the path to a root at most one step longer, and the roots are those of the
--- definition
-pub record Joined (edges n : ℕ) (work work′ : List ℕ) (joins : List ℕ → List ℕ) (accepted : Type 0) : Type 0 where
+-- what some edges make of the work numbers of n blocks: only parents may change, each edge makes
+-- the path to a root at most one step longer, and the roots are those of the definition
+pub record Joined (edges n : ℕ) (work work′ : List ℕ) (joins : List ℕ → List ℕ) (accepted : Type 0)
+    : Type 0 where
   pub same : length work′ ≡ length work
   pub before : (k : ℕ) → k < n → getD work′ k 0 ≡ getD work k 0
   pub after : (k : ℕ) → 2 * n ≤ k → getD work′ k 0 ≡ getD work k 0
   pub depth : (d : ℕ) → Forest d (quarter1 n work) → Forest (d + edges) (quarter1 n work′)
-  pub roots : accepted → (d : ℕ) (q : List ℕ) → d + edges ≤ 2 * n → SameRoots d (quarter1 n work) q → SameRoots (d + edges) (quarter1 n work′) (joins q)
+  pub roots : accepted → (d : ℕ) (q : List ℕ) → d + edges ≤ 2 * n → SameRoots d (quarter1 n work) q
+      → SameRoots (d + edges) (quarter1 n work′) (joins q)
 
 -- quarter 0 has the number of each block's first instruction
 abbrev pub HasFirsts : List ℕ → ℕ → List ℕ → Type 0
@@ -67,14 +70,17 @@ pub record Firsts (f : List ℕ) (n : ℕ) (work work′ : List ℕ) : Type 0 wh
 abbrev pub joinRecord : List ℕ → ℕ → List ℕ → List ℕ
 joinRecord f i q = joinBlock (blocksOf f) i (blockAt f (blockStart f i) (countSum f i)) q
 
--- quarter 1 has parents, in an accepted file with the roots of the definition, and the numbers after it are as they were; quarter 0 is not spoken of
+-- quarter 1 has parents, in an accepted file with the roots of the definition, and the numbers
+-- after it are as they were; quarter 0 is not spoken of
 pub record AllJoined (f : List ℕ) (n : ℕ) (work work′ : List ℕ) : Type 0 where
   pub same : length work′ ≡ length work
   pub after : (k : ℕ) → 2 * n ≤ k → getD work′ k 0 ≡ getD work k 0
   pub forest : Forest (2 * n) (quarter1 n work′)
-  pub roots : Accepted f → (k : ℕ) → k < n → root (quarter1 n work′) k ≡ root (parents (blocksOf f)) k
+  pub roots : Accepted f → (k : ℕ) → k < n
+      → root (quarter1 n work′) k ≡ root (parents (blocksOf f)) k
 
--- what grouping makes of the work numbers: quarters 0 and 2 have the blocks in emission order and their group numbers, and nothing past the four quarters changed
+-- what grouping makes of the work numbers: quarters 0 and 2 have the blocks in emission order and
+-- their group numbers, and nothing past the four quarters changed
 pub record Grouped (f : List ℕ) (n limit : ℕ) (work work′ : List ℕ) : Type 0 where
   pub same : length work′ ≡ length work
   pub after : (k : ℕ) → 4 * n ≤ k → getD work′ k 0 ≡ getD work k 0

@@ -1,4 +1,5 @@
--- The definitions that the crate's promises name: Plan and Calls say what document 01 says, the others what the steps of the code do.
+-- The definitions that the crate's promises name: Plan and Calls say what document 01 says, the
+-- others what the steps of the code do.
 pub mod Calls
 pub mod Examples
 pub mod Groups

@@ -21,15 +21,18 @@ pub record Filled (n m : ℕ) (work work′ : List ℕ) : Type 0 where
 -- the work numbers after block i was put in front of its component
 abbrev pub linkOne : ℕ → ℕ → List ℕ → List ℕ
 linkOne n i work =
-    set (set work (n + i) (getD work (3 * n + getD work (2 * n + i) 0) 0)) (3 * n + getD work (2 * n + i) 0) i
+    set (set work (n + i) (getD work (3 * n + getD work (2 * n + i) 0) 0))
+    (3 * n + getD work (2 * n + i) 0) i
 
 -- quarter 2 has these roots
 abbrev pub HasRoots : ℕ → List ℕ → List ℕ → Type 0
 HasRoots n roots work = (i : ℕ) → i < n → getD work (2 * n + i) 0 ≡ getD roots i 0
 
--- for the blocks from block i on, quarter 1 has each one's next member and quarter 3 each component's first
+-- for the blocks from block i on, quarter 1 has each one's next member and quarter 3 each
+-- component's first
 pub record Linked (roots : List ℕ) (n i : ℕ) (work : List ℕ) : Type 0 where
-  pub next : (j : ℕ) → i ≤ j → j < n → getD work (n + j) 0 ≡ seek roots (getD roots j 0) (n - suc j) (suc j)
+  pub next : (j : ℕ) → i ≤ j → j < n
+      → getD work (n + j) 0 ≡ seek roots (getD roots j 0) (n - suc j) (suc j)
   pub first : (r : ℕ) → r < n → getD work (3 * n + r) 0 ≡ seek roots r (n - i) i
 
 -- no number outside quarters 1 and 3 changed

@@ -36,7 +36,8 @@ parents bs = joinBlocks bs (range (length bs) 0) 0 bs
 -- of n blocks from block i on those whose root is r, where rootOf gives a block's root
 unfoldable pub withRoot : (ℕ → ℕ) → ℕ → ℕ → ℕ → List ℕ
 withRoot rootOf r zero i = []
-withRoot rootOf r (suc n) i = cond (eqb (rootOf i) r) (i ∷ withRoot rootOf r n (suc i)) (withRoot rootOf r n (suc i))
+withRoot rootOf r (suc n) i =
+    cond (eqb (rootOf i) r) (i ∷ withRoot rootOf r n (suc i)) (withRoot rootOf r n (suc i))
 
 -- the component (document 01) with root r, among n blocks with these parents
 abbrev pub members : List ℕ → ℕ → ℕ → List ℕ
@@ -45,7 +46,8 @@ members p r n = withRoot (root p) r n 0
 -- a number before the first one whose key is not below its own
 unfoldable pub insert : List ℕ → ℕ → List ℕ → List ℕ
 insert keys i [] = i ∷ []
-insert keys i (j ∷ js) = cond (leb (getD keys i 0) (getD keys j 0)) (i ∷ j ∷ js) (j ∷ insert keys i js)
+insert keys i (j ∷ js) =
+    cond (leb (getD keys i 0) (getD keys j 0)) (i ∷ j ∷ js) (j ∷ insert keys i js)
 
 -- numbers in the order of their keys
 unfoldable pub sortByKey : List ℕ → List ℕ → List ℕ
@@ -62,22 +64,26 @@ abbrev pub isEmpty : {A : Type 0} → List A → Bool
 isEmpty [] = true
 isEmpty (i ∷ is) = false
 
--- whether a part closes before a block with so many instructions: it is open, so not empty, and the block would push its total over the limit
+-- whether a part closes before a block with so many instructions: it is open, so not empty, and the
+-- block would push its total over the limit
 abbrev pub closes : ℕ → ℕ → Bool → ℕ → Bool
 closes limit total isOpen count = ltb limit (total + count) && isOpen
 
--- cuts a component into parts (document 01): one closes before a block that would push it over the limit, unless it is empty
+-- cuts a component into parts (document 01): one closes before a block that would push it over the
+-- limit, unless it is empty
 unfoldable pub parts : ℕ → List ℕ → List ℕ → ℕ → List ℕ → List (List ℕ)
 parts limit counts part total [] = asParts part
 parts limit counts part total (i ∷ is) =
-    cond (closes limit total (not (isEmpty part)) (getD counts i 0)) (part ∷ parts limit counts (i ∷ []) (getD counts i 0) is)
+    cond (closes limit total (not (isEmpty part)) (getD counts i 0))
+    (part ∷ parts limit counts (i ∷ []) (getD counts i 0) is)
     (parts limit counts (part ++ (i ∷ [])) (total + getD counts i 0) is)
 
 -- the groups of the components with the n roots from r on; a number that is no root has no members
 unfoldable pub groupsFrom : ℕ → List Block → List ℕ → ℕ → ℕ → List (List ℕ)
 groupsFrom limit bs p zero r = []
 groupsFrom limit bs p (suc n) r =
-    parts limit (map (λ (b : Block). length (b .instrs)) bs) [] 0 (sortByKey (map blockKey bs) (members p r (length bs)))
+    parts limit (map (λ (b : Block). length (b .instrs)) bs) [] 0
+    (sortByKey (map blockKey bs) (members p r (length bs)))
     ++ groupsFrom limit bs p n (suc r)
 
 -- the groups (document 01) of some blocks, in emission order (document 01)
@@ -94,6 +100,7 @@ unfoldable pub rowsFrom : ℕ → List (List ℕ) → List ℕ
 rowsFrom g [] = []
 rowsFrom g (is ∷ gs) = groupRows g is ++ rowsFrom (suc g) gs
 
--- the plan (document 01): in emission order two numbers for each block, group from 0 and block index
+-- the plan (document 01): in emission order two numbers for each block, group from 0 and block
+-- index
 unfoldable pub plan : ℕ → List Block → List ℕ
 plan limit bs = rowsFrom 0 (groups limit bs)

@@ -22,7 +22,8 @@ ghost use Rattle.plan_exits.specs.Exits.{keysOf};
 ghost use Rattle.base_forest.specs.Forest.{Forest};
 ghost use Rattle.plan_groups.specs.Plan.{joinTo, joinExits};
 ghost use Rattle.plan_search.specs.Target.{target};
-ghost use Rattle.plan_groups.specs.Groups.{quarter1, Joined, HasFirsts, Firsts, joinRecord, AllJoined, Rooted, AllRooted, Grouped, HasRoom};
+ghost use Rattle.plan_groups.specs.Groups.{quarter1, Joined, HasFirsts, Firsts, joinRecord};
+ghost use Rattle.plan_groups.specs.Groups.{AllJoined, Rooted, AllRooted, Grouped, HasRoom};
 
 // The edge from block i to a key, if there is a block of page 8 with that key.
 fn join_key(file: &[u8], work: &mut [u32], n: usize, i: usize, key: u32)
@@ -124,7 +125,8 @@ fn put_roots(work: &mut [u32], n: usize)
     }
 }
 
-// Groups the blocks of a file: quarters 0 and 2 get the blocks in emission order and the number of the group of each.
+// Groups the blocks of a file: quarters 0 and 2 get the blocks in emission order and the number of
+// the group of each.
 pub fn group_blocks(file: &[u8], work: &mut [u32], n: u32, limit: u64)
     requires { ⌜ HasRoom (now file) (now work) n ⌝ }
     ensures { λ _. ⌜ Grouped (now (file .entry)) n limit (now (work .entry)) (now (work .exit)) ⌝ }

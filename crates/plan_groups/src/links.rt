@@ -1,4 +1,5 @@
-// Lists of members in the work numbers. Of four quarters of n numbers each, quarter 2 has the roots; quarter 1 gets each block's next member, quarter 3 each component's first.
+// Lists of members in the work numbers. Of four quarters of n numbers each, quarter 2 has the
+// roots; quarter 1 gets each block's next member, quarter 3 each component's first.
 ghost use mathlib.Core.Path.{_≡_};
 ghost use Prim.Native.Nat.{ℕ, _+_, _*_, _≤_, _<_};
 ghost use lib.ListN.{length, getD};

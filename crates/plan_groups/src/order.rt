@@ -1,4 +1,5 @@
-// The emission order in the work numbers: quarter 0 gets the blocks in order, quarter 2 the number of the group of each.
+// The emission order in the work numbers: quarter 0 gets the blocks in order, quarter 2 the number
+// of the group of each.
 use file_blocks::FoundBlock;
 use file_blocks::block_at;
 ghost use mathlib.Core.Path.{_≡_};
@@ -29,7 +30,8 @@ pub(crate) fn count_of(file: &[u8], i: usize) -> u64
     block.count as u64
 }
 
-// The part that takes a block: the one reached, or a new one where that would go over the limit and is not empty.
+// The part that takes a block: the one reached, or a new one where that would go over the limit and
+// is not empty.
 fn take_block(limit: u64, part: Part, open: bool, count: u64) -> Part
     requires { ⌜ (part .group < 65536) × (part .total < 2 ^ 49) × (count < 2 ^ 32) ⌝ }
     ensures { λ r. ⌜ r ≡ cond (closes limit (part .total) «open» count) (record { group = part .group + 1; total = count }) (record { group = part .group; total = part .total + count }) ⌝ }
@@ -66,7 +68,8 @@ fn close_part(group: u32, open: bool) -> u32
     if open { group + 1 } else { group }
 }
 
-// Places all blocks: goes along the links of each component in turn. `r` counts the components begun, `h` is the next member of the last of them, or n.
+// Places all blocks: goes along the links of each component in turn. `r` counts the components
+// begun, `h` is the next member of the last of them, or n.
 pub(crate) fn place_blocks(file: &[u8], work: &mut [u32], n: u32, limit: u64)
     requires { ⌜ (n ≤ 65536) × (4 * n ≤ length (now work)) ⌝ }
     requires { ⌜ Linked (drop (2 * n) (now work)) n 0 (now work) ⌝ }

@@ -22,20 +22,24 @@ module _ (i : ℕ) where
   among g (j ∷ is) rest h =
       elim (ℕ-discrete j i) [
         | yes e ↦ rw (eq-eqb j i e)
-        | no d ↦ rw (ne-eqb j i d) (among g is rest (omega (arith, count-other i j is (λ e. d (sym e)))))
+        | no d ↦ rw (ne-eqb j i d)
+            (among g is rest (omega (arith, count-other i j is (λ e. d (sym e)))))
       ]
 
   -- the rows of a group that has it not
-  elsewhere : (g : ℕ) (is rest : List ℕ) → count i is ≡ 0 → groupOf i (groupRows g is ++ rest) ≡ groupOf i rest
+  elsewhere : (g : ℕ) (is rest : List ℕ) → count i is ≡ 0
+      → groupOf i (groupRows g is ++ rest) ≡ groupOf i rest
   unfolding groupOf
   elsewhere g [] rest h = refl
   elsewhere g (j ∷ is) rest h =
       elim (ℕ-discrete j i) [
         | yes e ↦ absurd (omega (arith, rw e at h, count-here i is))
-        | no d ↦ rw (ne-eqb j i d) (elsewhere g is rest (sym (count-other i j is (λ e. d (sym e))) ∙ h))
+        | no d ↦ rw (ne-eqb j i d)
+            (elsewhere g is rest (sym (count-other i j is (λ e. d (sym e))) ∙ h))
       ]
 
-  in-rows : (g : ℕ) (gs : List (List ℕ)) (k : ℕ) → count i (flatten gs) ≤ 1 → 1 ≤ count i (getD gs k []) → groupOf i (rowsFrom g gs) ≡ g + k
+  in-rows : (g : ℕ) (gs : List (List ℕ)) (k : ℕ) → count i (flatten gs) ≤ 1
+      → 1 ≤ count i (getD gs k []) → groupOf i (rowsFrom g gs) ≡ g + k
   unfolding rowsFrom flatten count
   in-rows g [] k once h = absurd (omega arith)
   in-rows g (is ∷ gs) zero once h = among g is (rowsFrom (suc g) gs) h ∙ sym (add-zero g)
@@ -51,6 +55,9 @@ module _ (i : ℕ) where
       some-in (js ∷ gs) zero h = omega (arith, count-append i js (flatten gs))
       some-in (js ∷ gs) (suc k) h = omega (arith, some-in gs k h, count-append i js (flatten gs))
 
-pub group-listed : (limit : ℕ) (bs : List Block) (i g : ℕ) → i < length bs → List·Memᴰ i (getD (groups limit bs) g []) → groupOf i (plan limit bs) ≡ g
+pub group-listed : (limit : ℕ) (bs : List Block) (i g : ℕ) → i < length bs
+    → List·Memᴰ i (getD (groups limit bs) g []) → groupOf i (plan limit bs) ≡ g
 unfolding plan
-group-listed limit bs i g h m = in-rows i 0 (groups limit bs) g (omega (arith, groups-once limit bs i h)) (counted m) ∙ zero-add g
+group-listed limit bs i g h m =
+    in-rows i 0 (groups limit bs) g (omega (arith, groups-once limit bs i h)) (counted m)
+    ∙ zero-add g

@@ -7,7 +7,8 @@ use native.Mathlib.Decide.{ℕ-discrete}
 use native.Mathlib.Numerals.{add-one}
 use native.Mathlib.Omega.{arith}
 use borrow.Author.Tests.{eq-eqb, ne-eqb}
-use lib.ListN.{length, getD, set, take, drop, length-set, length-take, length-drop, drop-of-length-le}
+use lib.ListN.{length, getD, set, take, drop, length-set, length-take, length-drop}
+use lib.ListN.{drop-of-length-le}
 use lib.Seq.{length-take-le, drop-cons, getD-take, getD-drop, getD-set-same, getD-set-other}
 use Rattle.file_blocks.specs.Parse.{blocksOf, Accepted}
 use Rattle.plan_groups.specs.Groups.{Grouped, interleave}
@@ -18,11 +19,13 @@ use Rattle.plan_members.specs.Numbers.{groupOf, rowsAt, GroupsFrom}
 rows-end : (n : ℕ) (work : List ℕ) → rowsAt n work n ≡ []
 unfolding interleave
 rows-end n work =
-    let few : length (take n (drop (2 * n) work)) ≤ n = omega (arith, length-take n (drop (2 * n) work)) in
+    let few : length (take n (drop (2 * n) work)) ≤ n =
+    omega (arith, length-take n (drop (2 * n) work)) in
     rw (drop-of-length-le (take n (drop (2 * n) work)) few)
 
 -- row p, and the rows after it
-rows-next : (n : ℕ) (work : List ℕ) (p : ℕ) → p < n → 4 * n ≤ length work → rowsAt n work p ≡ getD work (2 * n + p) 0 ∷ getD work p 0 ∷ rowsAt n work (p + 1)
+rows-next : (n : ℕ) (work : List ℕ) (p : ℕ) → p < n → 4 * n ≤ length work
+    → rowsAt n work p ≡ getD work (2 * n + p) 0 ∷ getD work p 0 ∷ rowsAt n work (p + 1)
 unfolding interleave
 rows-next n work p h room =
     let long : n ≤ length (drop (2 * n) work) = omega (arith, length-drop (2 * n) work) in
@@ -45,9 +48,17 @@ pub record Zeroed (n i : ℕ) (work work′ : List ℕ) : Type 0 where
   pub zeros : (j : ℕ) → j < i → getD work′ (n + j) 0 ≡ 0
 
 pub zeroed-none : (n : ℕ) (work : List ℕ) → Zeroed n 0 work work
-zeroed-none n work = record { same = refl; before = λ k h. refl; after = λ k h. refl; zeros = λ j h. absurd (omega arith) }
+zeroed-none n work =
+    record {
+      same = refl;
+      before = λ k h. refl;
+      after = λ k h. refl;
+      zeros =
+          λ j h. absurd (omega arith);
+    }
 
-pub zeroed-more : (n i : ℕ) (work work′ : List ℕ) → i < n → 4 * n ≤ length work → Zeroed n i work work′ → Zeroed n (i + 1) work (set work′ (n + i) 0)
+pub zeroed-more : (n i : ℕ) (work work′ : List ℕ) → i < n → 4 * n ≤ length work
+    → Zeroed n i work work′ → Zeroed n (i + 1) work (set work′ (n + i) 0)
 zeroed-more n i work work′ h room z =
     record {
       same = length-set work′ (n + i) 0 ∙ z .same;
@@ -59,20 +70,31 @@ zeroed-more n i work work′ h room z =
     zero-at : (j : ℕ) → j < i + 1 → getD (set work′ (n + i) 0) (n + j) 0 ≡ 0
     zero-at j b =
         elim (ℕ-discrete j i) [
-          | yes e ↦ ap (λ (m : ℕ). getD (set work′ (n + i) 0) (n + m) 0) e ∙ getD-set-same work′ (n + i) 0 0 (omega (arith, z .same))
-          | no d ↦ getD-set-other work′ (n + i) (n + j) 0 0 (λ e. d (omega arith)) ∙ z .zeros j (omega arith)
+          | yes e ↦ ap (λ (m : ℕ). getD (set work′ (n + i) 0) (n + m) 0) e
+              ∙ getD-set-same work′ (n + i) 0 0 (omega (arith, z .same))
+          | no d ↦ getD-set-other work′ (n + i) (n + j) 0 0 (λ e. d (omega arith))
+              ∙ z .zeros j (omega arith)
         ]
 
-pub groups-none : (n i : ℕ) (work work′ : List ℕ) → n ≤ i → Zeroed n i work work′ → GroupsFrom n n work work′
+pub groups-none : (n i : ℕ) (work work′ : List ℕ) → n ≤ i → Zeroed n i work work′
+    → GroupsFrom n n work work′
 unfolding groupOf
 groups-none n i work work′ h z =
-    record { same = z .same; before = z .before; after = z .after; groups = λ j b. z .zeros j (omega arith) ∙ ap (groupOf j) (sym (rows-end n work)) }
+    record {
+      same = z .same;
+      before = z .before;
+      after = z .after;
+      groups =
+          λ j b. z .zeros j (omega arith) ∙ ap (groupOf j) (sym (rows-end n work));
+    }
 
-module _ (n p i : ℕ) (work₀ work : List ℕ) (h : p < n) (room : 4 * n ≤ length work) (is : i ≡ getD work p 0) (from : GroupsFrom n (p + 1) work₀ work) where
+module _ (n p i : ℕ) (work₀ work : List ℕ) (h : p < n) (room : 4 * n ≤ length work)
+    (is : i ≡ getD work p 0) (from : GroupsFrom n (p + 1) work₀ work) where
   row : rowsAt n work₀ p ≡ getD work (2 * n + p) 0 ∷ i ∷ rowsAt n work₀ (p + 1)
   row =
       rows-next n work₀ p h (omega (arith, from .same))
-      ∙ ap₂ (λ (g j : ℕ). g ∷ j ∷ rowsAt n work₀ (p + 1)) (sym (from .after (2 * n + p) (omega arith))) (sym (from .before p h) ∙ sym is)
+      ∙ ap₂ (λ (g j : ℕ). g ∷ j ∷ rowsAt n work₀ (p + 1))
+      (sym (from .after (2 * n + p) (omega arith))) (sym (from .before p h) ∙ sym is)
 
   other : (j : ℕ) → j < n → (i ≡ j → ⊥) → getD work (n + j) 0 ≡ groupOf j (rowsAt n work₀ p)
   unfolding groupOf
@@ -92,21 +114,33 @@ module _ (n p i : ℕ) (work₀ work : List ℕ) (h : p < n) (room : 4 * n ≤ l
         groups = group-at;
       }
     where
-      group-at : (j : ℕ) → j < n → getD (set work (n + i) (getD work (2 * n + p) 0)) (n + j) 0 ≡ groupOf j (rowsAt n work₀ p)
+      group-at : (j : ℕ) → j < n
+          → getD (set work (n + i) (getD work (2 * n + p) 0)) (n + j) 0
+          ≡ groupOf j (rowsAt n work₀ p)
       group-at j c =
           elim (ℕ-discrete i j) [
-            | yes e ↦ ap (λ (m : ℕ). getD (set work (n + i) (getD work (2 * n + p) 0)) (n + m) 0) (sym e) ∙ getD-set-same work (n + i) _ 0 (omega arith)
+            | yes e ↦ ap (λ (m : ℕ). getD (set work (n + i) (getD work (2 * n + p) 0)) (n + m) 0)
+                (sym e) ∙ getD-set-same work (n + i) _ 0 (omega arith)
                 ∙ sym here ∙ ap (λ (m : ℕ). groupOf m (rowsAt n work₀ p)) e
             | no d ↦ getD-set-other work (n + i) (n + j) _ 0 (λ e. d (omega arith)) ∙ other j c d
           ]
 
   -- a row of none of them
   pub groups-kept : n ≤ i → GroupsFrom n p work₀ work
-  groups-kept b = record { same = from .same; before = from .before; after = from .after; groups = λ j c. other j c (λ e. omega arith) }
+  groups-kept b =
+      record {
+        same = from .same;
+        before = from .before;
+        after = from .after;
+        groups =
+            λ j c. other j c (λ e. omega arith);
+      }
 
 -- the groups of all rows, where the rows are a plan
-module _ {f : List ℕ} {n limit : ℕ} {work work₁ work₂ : List ℕ} (grouped : Grouped f n limit work work₁) (put : GroupsFrom n 0 work₁ work₂) where
-  pub groups-planned : Accepted f → (i : ℕ) → i < n → getD work₂ (n + i) 0 ≡ groupOf i (plan limit (blocksOf f))
+module _ {f : List ℕ} {n limit : ℕ} {work work₁ work₂ : List ℕ}
+    (grouped : Grouped f n limit work work₁) (put : GroupsFrom n 0 work₁ work₂) where
+  pub groups-planned : Accepted f → (i : ℕ) → i < n
+      → getD work₂ (n + i) 0 ≡ groupOf i (plan limit (blocksOf f))
   groups-planned ok i h = put .groups i h ∙ ap (groupOf i) (grouped .rows ok)
 
   pub groups-room : length work₂ ≡ length work

@@ -1,5 +1,5 @@
--- The first instruction of each block in quarter 3, and the steps of filling the work numbers one after the other.
--- Assumes nothing.
+-- The first instruction of each block in quarter 3, and the steps of filling the work numbers one
+-- after the other. Assumes nothing.
 use Prim.Native.Nat.{ℕ, _+_, _*_, _≤_, _<_}
 use mathlib.Core.Path.{_≡_, refl, sym, ap, ap₂, _∙_, subst}
 use mathlib.Core.List.{List}
@@ -17,15 +17,25 @@ use Rattle.plan_members.specs.Prepared.{FirstsTo, Prepared}
 use Rattle.plan_members.proofs.Groups.{groups-planned, groups-room, groups-past}
 
 pub firsts-none : (f : List ℕ) (n : ℕ) (work : List ℕ) → FirstsTo f n 0 work work
-firsts-none f n work = record { same = refl; before = λ k h. refl; after = λ k h. refl; firsts = λ i h. absurd (omega arith) }
+firsts-none f n work =
+    record {
+      same = refl;
+      before = λ k h. refl;
+      after = λ k h. refl;
+      firsts =
+          λ i h. absurd (omega arith);
+    }
 
-pub firsts-more : (f : List ℕ) (n m : ℕ) (work work′ : List ℕ) (first : ℕ) → m < n → 4 * n ≤ length work → first ≡ countSum f m → FirstsTo f n m work work′
+pub firsts-more : (f : List ℕ) (n m : ℕ) (work work′ : List ℕ) (first : ℕ) → m < n
+    → 4 * n ≤ length work → first ≡ countSum f m → FirstsTo f n m work work′
     → FirstsTo f n (m + 1) work (set work′ (3 * n + m) first)
 firsts-more f n m work work′ first h room is from =
     record {
       same = length-set work′ (3 * n + m) first ∙ from .same;
-      before = λ k b. getD-set-other work′ (3 * n + m) k first 0 (λ e. omega arith) ∙ from .before k b;
-      after = λ k b. getD-set-other work′ (3 * n + m) k first 0 (λ e. omega arith) ∙ from .after k (omega arith);
+      before =
+          λ k b. getD-set-other work′ (3 * n + m) k first 0 (λ e. omega arith) ∙ from .before k b;
+      after = λ k b. getD-set-other work′ (3 * n + m) k first 0 (λ e. omega arith)
+          ∙ from .after k (omega arith);
       firsts = first-at;
     }
   where
@@ -33,29 +43,39 @@ firsts-more f n m work work′ first h room is from =
     first-at i b =
         elim (ℕ-discrete i m) [
           | yes e ↦ ap (λ (j : ℕ). getD (set work′ (3 * n + m) first) (3 * n + j) 0) e
-              ∙ getD-set-same work′ (3 * n + m) first 0 (omega (arith, from .same)) ∙ is ∙ ap (countSum f) (sym e)
-          | no d ↦ getD-set-other work′ (3 * n + m) (3 * n + i) first 0 (λ e. d (omega arith)) ∙ from .firsts i (omega arith)
+              ∙ getD-set-same work′ (3 * n + m) first 0 (omega (arith, from .same)) ∙ is
+              ∙ ap (countSum f) (sym e)
+          | no d ↦ getD-set-other work′ (3 * n + m) (3 * n + i) first 0 (λ e. d (omega arith))
+              ∙ from .firsts i (omega arith)
         ]
 
-pub firsts-all : (f : List ℕ) (n m : ℕ) (work work′ : List ℕ) → m ≡ n → FirstsTo f n m work work′ → FirstsTo f n n work work′
+pub firsts-all : (f : List ℕ) (n m : ℕ) (work work′ : List ℕ) → m ≡ n → FirstsTo f n m work work′
+    → FirstsTo f n n work work′
 firsts-all f n m work work′ e = subst (λ (k : ℕ). FirstsTo f n k work work′) e
 
 -- fronts with the same numbers
-front-same : (n : ℕ) (v w : List ℕ) → n ≤ length v → length w ≡ length v → ((k : ℕ) → k < n → getD w k 0 ≡ getD v k 0) → take n w ≡ take n v
+front-same : (n : ℕ) (v w : List ℕ) → n ≤ length v → length w ≡ length v
+    → ((k : ℕ) → k < n → getD w k 0 ≡ getD v k 0) → take n w ≡ take n v
 front-same n v w room e same =
     let long : length (take n w) ≡ n = length-take-le n w (omega arith) in
-    ext-getD 0 (take n w) (take n v) (long ∙ sym (length-take-le n v room)) (λ k h. getD-take n w k 0 (omega arith) ∙ same k (omega arith) ∙ sym (getD-take n v k 0 (omega arith)))
+    ext-getD 0 (take n w) (take n v) (long ∙ sym (length-take-le n v room))
+    (λ k h. getD-take n w k 0 (omega arith) ∙ same k (omega arith)
+    ∙ sym (getD-take n v k 0 (omega arith)))
 
 -- quarters with the same numbers
-quarter-same : (n at : ℕ) (v w : List ℕ) → at + n ≤ length v → length w ≡ length v → ((k : ℕ) → k < n → getD w (at + k) 0 ≡ getD v (at + k) 0)
+quarter-same : (n at : ℕ) (v w : List ℕ) → at + n ≤ length v → length w ≡ length v
+    → ((k : ℕ) → k < n → getD w (at + k) 0 ≡ getD v (at + k) 0)
     → take n (drop at w) ≡ take n (drop at v)
 quarter-same n at v w room e same =
-    front-same n (drop at v) (drop at w) (omega (arith, length-drop at v)) (omega (arith, length-drop at v, length-drop at w))
+    front-same n (drop at v) (drop at w) (omega (arith, length-drop at v))
+    (omega (arith, length-drop at v, length-drop at w))
     (λ k h. getD-drop at w k 0 ∙ same k h ∙ sym (getD-drop at v k 0))
 
 -- the steps one after the other
-module _ {f : List ℕ} {n limit : ℕ} {work work₁ work₂ work₃ : List ℕ} (ok : Accepted f) (all : n ≡ blockCount f) (room : 4 * n ≤ length work)
-    (grouped : Grouped f n limit work work₁) (put : GroupsFrom n 0 work₁ work₂) (numbered : FirstsTo f n n work₂ work₃) where
+module _ {f : List ℕ} {n limit : ℕ} {work work₁ work₂ work₃ : List ℕ} (ok : Accepted f)
+    (all : n ≡ blockCount f) (room : 4 * n ≤ length work)
+    (grouped : Grouped f n limit work work₁) (put : GroupsFrom n 0 work₁ work₂)
+    (numbered : FirstsTo f n n work₂ work₃) where
   kept : (k : ℕ) → k < n ⊎ ((2 * n ≤ k) × (k < 3 * n)) → getD work₃ k 0 ≡ getD work₁ k 0
   kept k (inl h) = numbered .before k (omega arith) ∙ put .before k h
   kept k (inr h) = numbered .before k (h .1) ∙ put .after k (h .0)
@@ -63,10 +83,12 @@ module _ {f : List ℕ} {n limit : ℕ} {work work₁ work₂ work₃ : List ℕ
   long : length work₃ ≡ length work₁
   long = numbered .same ∙ put .same
 
-  same-rows : interleave (take n (drop (2 * n) work₃)) (take n work₃) ≡ interleave (take n (drop (2 * n) work₁)) (take n work₁)
+  same-rows : interleave (take n (drop (2 * n) work₃)) (take n work₃)
+      ≡ interleave (take n (drop (2 * n) work₁)) (take n work₁)
   same-rows =
       ap₂ interleave
-      (quarter-same n (2 * n) work₁ work₃ (omega (arith, grouped .same)) long (λ k h. kept (2 * n + k) (inr (omega arith, omega arith))))
+      (quarter-same n (2 * n) work₁ work₃ (omega (arith, grouped .same)) long
+      (λ k h. kept (2 * n + k) (inr (omega arith, omega arith))))
       (front-same n work₁ work₃ (omega (arith, grouped .same)) long (λ k h. kept k (inl h)))
 
   pub prepared : Prepared f n limit work work₃
@@ -80,7 +102,8 @@ module _ {f : List ℕ} {n limit : ℕ} {work work₁ work₂ work₃ : List ℕ
               all = all;
               room = omega (arith, numbered .same, groups-room grouped put);
               rows = same-rows ∙ grouped .rows ok;
-              groups = λ i h. numbered .before (n + i) (omega arith) ∙ groups-planned grouped put ok i h;
+              groups =
+                  λ i h. numbered .before (n + i) (omega arith) ∙ groups-planned grouped put ok i h;
               firsts = numbered .firsts;
             };
       }

@@ -18,7 +18,8 @@ memberKeys bs is = map (λ (i : ℕ). getD (map blockKey bs) i 0) is
 abbrev pub groupKeys : ℕ → List ℕ → ℕ → List ℕ
 groupKeys limit f g = memberKeys (blocksOf f) (membersOf limit (blocksOf f) g)
 
--- the keys that a member of group g transfers to by a goto: those of its group where `several` is true, and none where it is false
+-- the keys that a member of group g transfers to by a goto: those of its group where `several` is
+-- true, and none where it is false
 abbrev pub keysWithin : Bool → ℕ → List ℕ → ℕ → List ℕ
 keysWithin several limit f g = cond several (groupKeys limit f g) []
 

@@ -1,4 +1,5 @@
--- What the work numbers hold for the passes over blocks and groups: four quarters of n numbers each.
+-- What the work numbers hold for the passes over blocks and groups: four quarters of n numbers
+-- each.
 use Prim.Native.Nat.{ℕ, _+_, _*_, _≤_, _<_}
 use mathlib.Core.Path.{_≡_}
 use mathlib.Core.List.{List}
@@ -10,15 +11,16 @@ use Rattle.plan_groups.specs.Groups.{rowsIn}
 use Rattle.plan_groups.specs.Plan.{plan}
 use Rattle.plan_members.specs.Numbers.{groupOf}
 
--- quarter 3 has the number of the first instruction of the blocks before block m, and no other number changed
+-- quarter 3 has the number of the first instruction of the blocks before block m, and no other
+-- number changed
 pub record FirstsTo (f : List ℕ) (n m : ℕ) (work work′ : List ℕ) : Type 0 where
   pub same : length work′ ≡ length work
   pub before : (k : ℕ) → k < 3 * n → getD work′ k 0 ≡ getD work k 0
   pub after : (k : ℕ) → 3 * n + m ≤ k → getD work′ k 0 ≡ getD work k 0
   pub firsts : (i : ℕ) → i < m → getD work′ (3 * n + i) 0 ≡ countSum f i
 
--- the work numbers of an accepted file with n blocks: quarters 2 and 0 have the rows of the plan, quarter 1 the group of each block, quarter 3 the number of its first
--- instruction
+-- the work numbers of an accepted file with n blocks: quarters 2 and 0 have the rows of the plan,
+-- quarter 1 the group of each block, quarter 3 the number of its first instruction
 pub record Ready (f : List ℕ) (n limit : ℕ) (work : List ℕ) : Type 0 where
   pub accepted : Accepted f
   pub all : n ≡ blockCount f

@@ -8,7 +8,8 @@ ghost use Rattle.file_blocks.specs.Parse.{Accepted};
 ghost use Rattle.plan_members.specs.Prepared.{FirstsTo, Prepared};
 ghost use Rattle.plan_groups.specs.Groups.{HasRoom};
 
-// Puts the number of each block's first instruction into quarter 3. In an accepted file nothing wraps.
+// Puts the number of each block's first instruction into quarter 3. In an accepted file nothing
+// wraps.
 fn put_firsts(file: &[u8], work: &mut [u32], n: usize)
     requires { ⌜ HasRoom (now file) (now work) n × Accepted (now file) ⌝ }
     ensures { λ _. ⌜ FirstsTo (now (file .entry)) n n (now (work .entry)) (now (work .exit)) ⌝ }
@@ -25,7 +26,8 @@ fn put_firsts(file: &[u8], work: &mut [u32], n: usize)
     }
 }
 
-// Fills the work numbers of an accepted file with n blocks. Grouping needs all four quarters, so the groups of the blocks and their first instructions come after it.
+// Fills the work numbers of an accepted file with n blocks. Grouping needs all four quarters, so
+// the groups of the blocks and their first instructions come after it.
 pub fn prepare(file: &[u8], work: &mut [u32], n: u32, limit: u64)
     requires { ⌜ HasRoom (now file) (now work) n × Accepted (now file) ⌝ }
     ensures { λ _. ⌜ Prepared (now (file .entry)) n limit (now (work .entry)) (now (work .exit)) ⌝ }

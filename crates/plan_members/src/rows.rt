@@ -35,7 +35,8 @@ pub fn first_of(work: &[u32], n: usize, i: usize) -> usize
     work[3 * n + i] as usize
 }
 
-// The row after the last one of the group of row p, where there are n blocks. From a group's first row on it is the first row of the next.
+// The row after the last one of the group of row p, where there are n blocks. From a group's first
+// row on it is the first row of the next.
 pub fn group_end(work: &[u32], n: usize, p: usize) -> usize
     requires { ⌜ (4 * n ≤ length (now work)) × (n ≤ 65536) × (p < n) ⌝ }
     ensures { λ r. ⌜ (p < r) × (r ≤ n) ⌝ }

@@ -5,7 +5,8 @@ use mathlib.Core.Bool.{true, false, and-false}
 use mathlib.Core.List.{List, [], _∷_}
 use mathlib.Core.Option.{none, some}
 use Prim.Native.Nat.{ℕ, zero, suc, suc-le-suc, zero-le, _+_, _≤_, _<_, _^_}
-use native.Mathlib.Nat.{add-zero, zero-add, le-of-suc-le-suc, not-suc-le-zero, lt-trans, le-trans, le-of-lt, le-refl, lt-irrefl, lt-of-le-of-lt}
+use native.Mathlib.Nat.{add-zero, zero-add, le-of-suc-le-suc, not-suc-le-zero, lt-trans, le-trans}
+use native.Mathlib.Nat.{le-of-lt, le-refl, lt-irrefl, lt-of-le-of-lt}
 use native.Mathlib.Omega.{arith}
 use native.Mathlib.Decide.{decLt, ℕ-discrete}
 use borrow.Author.Tests.{eq-eqb, ne-eqb}
@@ -28,25 +29,29 @@ zero-lt n = omega arith
 
 -- no block with the key can be joined
 pub target-none : (k : ℕ) (bs : List Block) (i : ℕ) (d : Block)
-    → ((j : ℕ) → j < length bs → blockKey (getD bs j d) ≡ k → joinable (getD bs j d) ≡ false) → target k bs i ≡ none
+    → ((j : ℕ) → j < length bs → blockKey (getD bs j d) ≡ k → joinable (getD bs j d) ≡ false)
+    → target k bs i ≡ none
 unfolding target
 target-none k [] i d h = refl
 target-none k (b ∷ bs) i d h =
     elim (ℕ-discrete (blockKey b) k) [
-      | yes e ↦ rw (h 0 (zero-lt _) e, and-false) (target-none k bs (suc i) d (λ j l. h (suc j) (suc-le-suc l)))
+      | yes e ↦ rw (h 0 (zero-lt _) e, and-false)
+          (target-none k bs (suc i) d (λ j l. h (suc j) (suc-le-suc l)))
       | no g ↦ rw (ne-eqb _ _ g) (target-none k bs (suc i) d (λ j l. h (suc j) (suc-le-suc l)))
     ]
 
 -- the first block with the key can be joined
 pub target-some : (k : ℕ) (bs : List Block) (i m : ℕ) (d : Block) → m < length bs
-    → ((j : ℕ) → j < m → blockKey (getD bs j d) ≡ k → ⊥) → blockKey (getD bs m d) ≡ k → joinable (getD bs m d) ≡ true
+    → ((j : ℕ) → j < m → blockKey (getD bs j d) ≡ k → ⊥) → blockKey (getD bs m d) ≡ k
+    → joinable (getD bs m d) ≡ true
     → target k bs i ≡ some (i + m)
 unfolding target
 target-some k [] i m d l h e g = absurd (not-suc-le-zero l)
 target-some k (b ∷ bs) i zero d l h e g = rw (eq-eqb _ _ e, g, add-zero)
 target-some k (b ∷ bs) i (suc m) d l h e g =
     rw (ne-eqb _ _ (h 0 (zero-lt m)))
-    (target-some k bs (suc i) m d (le-of-suc-le-suc l) (λ j b′. h (suc j) (suc-le-suc b′)) e g ∙ ap some (let same : suc i + m ≡ i + suc m = omega arith in same))
+    (target-some k bs (suc i) m d (le-of-suc-le-suc l) (λ j b′. h (suc j) (suc-le-suc b′)) e g
+    ∙ ap some (let same : suc i + m ≡ i + suc m = omega arith in same))
 
 pub between-all : (f : List ℕ) (key n : ℕ) → n ≡ blockCount f → n < 2 ^ 32 → Between f key 0 n
 between-all f key n e h =
@@ -58,7 +63,8 @@ between-all f key n e h =
       above = λ a j l b. absurd (omega arith);
     }
 
-module _ (f : List ℕ) (key low high mid : ℕ) (w : Between f key low high) (l : low ≤ mid) (h : mid < high) where
+module _ (f : List ℕ) (key low high mid : ℕ) (w : Between f key low high) (l : low ≤ mid)
+    (h : mid < high) where
   -- the key at mid is below
   pub between-after : (Accepted f → keyAt f (blockStart f mid) < key) → Between f key (mid + 1) high
   between-after e =
@@ -68,8 +74,10 @@ module _ (f : List ℕ) (key low high mid : ℕ) (w : Between f key low high) (l
         few = w .few;
         below = λ a j b.
             elim (decLt j mid) [
-              | yes g ↦ lt-trans (keys-rise f (blocksOf f) a j mid g (omega (arith, w .inside))) (e a)
-              | no g ↦ let same : j ≡ mid = omega arith in subst (λ (m : ℕ). keyAt f (blockStart f m) < key) (sym same) (e a)
+              | yes g ↦ lt-trans (keys-rise f (blocksOf f) a j mid g (omega (arith, w .inside)))
+                  (e a)
+              | no g ↦ let same : j ≡ mid =
+                  omega arith in subst (λ (m : ℕ). keyAt f (blockStart f m) < key) (sym same) (e a)
             ];
         above = w .above;
       }
@@ -85,11 +93,13 @@ module _ (f : List ℕ) (key low high mid : ℕ) (w : Between f key low high) (l
         above = λ a j b c.
             elim (decLt mid j) [
               | yes g ↦ le-trans (e a) (le-of-lt (keys-rise f (blocksOf f) a mid j g c))
-              | no g ↦ let same : mid ≡ j = omega arith in subst (λ (m : ℕ). key ≤ keyAt f (blockStart f m)) same (e a)
+              | no g ↦ let same : mid ≡ j =
+                  omega arith in subst (λ (m : ℕ). key ≤ keyAt f (blockStart f m)) same (e a)
             ];
       }
 
-pub between-none : (f : List ℕ) (key low high : ℕ) → Between f key low high → high ≤ low → Accepted f → FirstFrom f key low
+pub between-none : (f : List ℕ) (key low high : ℕ) → Between f key low high → high ≤ low
+    → Accepted f → FirstFrom f key low
 between-none f key low high w h a =
     let same : high ≡ low = omega (arith, w .order) in
     record {
@@ -99,11 +109,13 @@ between-none f key low high w h a =
     }
 
 -- the key that the code computes from what the reader found
-module _ (f : List ℕ) (i : ℕ) (b : BlockRecord) (found : FoundBlock) (k : ℕ) (reads : found ≡ foundBlock f i) (at : found ≡ FoundBlock.At b)
+module _ (f : List ℕ) (i : ℕ) (b : BlockRecord) (found : FoundBlock) (k : ℕ)
+    (reads : found ≡ foundBlock f i) (at : found ≡ FoundBlock.At b)
     (is : k ≡ keyPlus (b .addr) (b .thumb)) where
   pub key-found : k ≡ keyAt f (blockStart f i)
   unfolding recordAt
-  key-found = is ∙ ap (λ (r : BlockRecord). keyPlus (r .addr) (r .thumb)) (found-record f i b (sym reads ∙ at))
+  key-found = is
+      ∙ ap (λ (r : BlockRecord). keyPlus (r .addr) (r .thumb)) (found-record f i b (sym reads ∙ at))
 
   -- what the code finds of that key holds of the file's
   pub key-below : (key : ℕ) → k < key → keyAt f (blockStart f i) < key
@@ -123,7 +135,11 @@ module _ (f : List ℕ) (key i : ℕ) (accepted : Accepted f) (at : FirstFrom f 
         | yes l ↦ absurd (none-below j l e)
         | no g ↦
             elim (decLt i j) [
-              | yes l ↦ absurd (lt-irrefl key (lt-of-le-of-lt (at .above i (le-refl i) h) (subst (λ (k : ℕ). keyAt f (blockStart f i) < k) e (keys-rise f (blocksOf f) accepted i j l b))))
+              | yes l ↦ absurd
+                  (lt-irrefl key
+                  (lt-of-le-of-lt (at .above i (le-refl i) h)
+                  (subst (λ (k : ℕ). keyAt f (blockStart f i) < k) e
+                  (keys-rise f (blocksOf f) accepted i j l b))))
               | no g′ ↦ omega arith
             ]
       ]
@@ -131,13 +147,15 @@ module _ (f : List ℕ) (key i : ℕ) (accepted : Accepted f) (at : FirstFrom f 
   in-file : (j : ℕ) → j < length (blocksOf f) → j < blockCount f
   in-file j l = omega (arith, length-of f (blocksOf f) accepted)
 
-  key-at : (j : ℕ) → j < length (blocksOf f) → blockKey (getD (blocksOf f) j nowhere) ≡ key → keyAt f (blockStart f j) ≡ key
+  key-at : (j : ℕ) → j < length (blocksOf f) → blockKey (getD (blocksOf f) j nowhere) ≡ key
+      → keyAt f (blockStart f j) ≡ key
   key-at j l e = sym (block-key f (blocksOf f) accepted j nowhere (in-file j l)) ∙ e
 
   pub search-missing : foundBlock f i ≡ FoundBlock.Nothing → none ≡ target key (blocksOf f) 0
   search-missing e =
       let past = missing f accepted i e in
-      sym (target-none key (blocksOf f) 0 nowhere (λ j l g. absurd (none-below j (let b = in-file j l in omega arith) (key-at j l g))))
+      sym (target-none key (blocksOf f) 0 nowhere
+      (λ j l g. absurd (none-below j (let b = in-file j l in omega arith) (key-at j l g))))
 
   module _ (b : BlockRecord) (found : foundBlock f i ≡ FoundBlock.At b) where
     inside : i < blockCount f
@@ -148,20 +166,29 @@ module _ (f : List ℕ) (key i : ℕ) (accepted : Accepted f) (at : FirstFrom f 
 
     page-of : joinable (getD (blocksOf f) i nowhere) ≡ onPage8 (b .addr)
     unfolding blockAt recordAt
-    page-of = ap joinable (nth-block f i nowhere inside) ∙ ap (λ (r : BlockRecord). onPage8 (r .addr)) (sym (found-record f i b found))
+    page-of = ap joinable (nth-block f i nowhere inside)
+        ∙ ap (λ (r : BlockRecord). onPage8 (r .addr)) (sym (found-record f i b found))
 
     pub search-other : (keyPlus (b .addr) (b .thumb) ≡ key → ⊥) → none ≡ target key (blocksOf f) 0
     search-other ne =
         sym (target-none key (blocksOf f) 0 nowhere
-        (λ j l g. absurd (ne (key-of ∙ ap (λ (m : ℕ). keyAt f (blockStart f m)) (sym (only-one j inside (in-file j l) (key-at j l g))) ∙ key-at j l g))))
+        (λ j l g. absurd
+        (ne (key-of
+        ∙ ap (λ (m : ℕ). keyAt f (blockStart f m))
+        (sym (only-one j inside (in-file j l) (key-at j l g))) ∙ key-at j l g))))
 
     pub search-apart : onPage8 (b .addr) ≡ false → none ≡ target key (blocksOf f) 0
     search-apart off =
         sym (target-none key (blocksOf f) 0 nowhere
-        (λ j l g. ap (λ (m : ℕ). joinable (getD (blocksOf f) m nowhere)) (only-one j inside (in-file j l) (key-at j l g)) ∙ page-of ∙ off))
+        (λ j l g. ap (λ (m : ℕ). joinable (getD (blocksOf f) m nowhere))
+        (only-one j inside (in-file j l) (key-at j l g)) ∙ page-of ∙ off))
 
-    pub search-there : keyPlus (b .addr) (b .thumb) ≡ key → onPage8 (b .addr) ≡ true → some i ≡ target key (blocksOf f) 0
+    pub search-there : keyPlus (b .addr) (b .thumb) ≡ key → onPage8 (b .addr) ≡ true
+        → some i ≡ target key (blocksOf f) 0
     search-there e g =
-        sym (target-some key (blocksOf f) 0 i nowhere (omega (arith, length-of f (blocksOf f) accepted, inside))
-        (λ j l h. none-below j l (key-at j (omega (arith, length-of f (blocksOf f) accepted, inside)) h))
-        (block-key f (blocksOf f) accepted i nowhere inside ∙ sym key-of ∙ e) (page-of ∙ g) ∙ ap some (zero-add i))
+        sym (target-some key (blocksOf f) 0 i nowhere
+        (omega (arith, length-of f (blocksOf f) accepted, inside))
+        (λ j l h. none-below j l
+        (key-at j (omega (arith, length-of f (blocksOf f) accepted, inside)) h))
+        (block-key f (blocksOf f) accepted i nowhere inside ∙ sym key-of ∙ e) (page-of ∙ g)
+        ∙ ap some (zero-add i))

@@ -29,7 +29,8 @@ pub fn on_page_8(addr: u32) -> bool
     addr / 16777216 == 8
 }
 
-// Where the search for an exit of block i goes on, by the keys of that block and the next one: most exits lead to the next one.
+// Where the search for an exit of block i goes on, by the keys of that block and the next one: most
+// exits lead to the next one.
 fn near(file: &[u8], key: u64, i: usize) -> Range
     requires { ⌜ i < blockCount (now file) ⌝ }
     ensures { λ r. ⌜ Between (now (file .entry)) key (r .low) (r .high) ⌝ }
@@ -57,7 +58,8 @@ fn near(file: &[u8], key: u64, i: usize) -> Range
     }
 }
 
-// The first block whose key is not below a key, or the number of blocks; by halving, since keys rise.
+// The first block whose key is not below a key, or the number of blocks; by halving, since keys
+// rise.
 fn first_from(file: &[u8], key: u64, i: usize) -> usize
     requires { ⌜ i < blockCount (now file) ⌝ }
     ensures { λ r. ⌜ (Accepted (now (file .entry)) → FirstFrom (now (file .entry)) key r) ⌝ }

@@ -10,7 +10,8 @@ ghost use Rattle.claim_ways.specs.Demand3.{Demand3Of};
 ghost use Rattle.claim_meaning.specs.Meaning.{MeaningOf};
 ghost use Rattle.recomp.specs.Answer.{unitNumbers};
 
-// The text of a unit, its length, the blocks done up to its end, and 1 if it is the last. The answer is 0, or the number of the refusal.
+// The text of a unit, its length, the blocks done up to its end, and 1 if it is the last. The
+// answer is 0, or the number of the refusal.
 #[no_mangle]
 pub extern "C" fn recomp_unit(
     file: &[u8],

@@ -1,5 +1,5 @@
--- `armv4t::fuse_thumb_bl` meets its contract. The arms of both halves are given which operations these are; each `_` answers for each of its variants.
--- Assumes nothing.
+-- `armv4t::fuse_thumb_bl` meets its contract. The arms of both halves are given which operations
+-- these are; each `_` answers for each of its variants. Assumes nothing.
 use Prim.Native.Nat.{ℕ}
 use mathlib.Core.List.{[], _∷_}
 use mathlib.Core.Path.{_≡_}
@@ -15,12 +15,16 @@ use Rattle.armv4t.proofs.fuse_thumb_bl.Statement.{statement}
 use Rattle.armv4t.proofs.fuse_thumb_bl.Tie as tie
 
 -- whatever is no first half, number 6 of the operations, makes nothing
-no-high : (high low : Op) (addr : ℕ) → OneOf (others 15 (6 ∷ [])) (tagOf the-type high) → Nothing ≡ fuseOps high low addr
-no-high high low addr o = arm enum (λ op. Nothing ≡ fuseOps op low addr) (others 15 (6 ∷ [])) high o (search depth 16)
+no-high : (high low : Op) (addr : ℕ) → OneOf (others 15 (6 ∷ [])) (tagOf the-type high)
+    → Nothing ≡ fuseOps high low addr
+no-high high low addr o =
+    arm enum (λ op. Nothing ≡ fuseOps op low addr) (others 15 (6 ∷ [])) high o (search depth 16)
 
 -- whatever is no second half, number 7, makes nothing
-no-low : (lr : ℕ) (low : Op) (addr : ℕ) → OneOf (others 15 (7 ∷ [])) (tagOf the-type low) → Nothing ≡ fuseLow lr low addr
-no-low lr low addr o = arm enum (λ op. Nothing ≡ fuseLow lr op addr) (others 15 (7 ∷ [])) low o (search depth 16)
+no-low : (lr : ℕ) (low : Op) (addr : ℕ) → OneOf (others 15 (7 ∷ [])) (tagOf the-type low)
+    → Nothing ≡ fuseLow lr low addr
+no-low lr low addr o =
+    arm enum (λ op. Nothing ≡ fuseLow lr op addr) (others 15 (7 ∷ [])) low o (search depth 16)
 
 returns : tie.Need-returns
 unfolding fuse
@@ -37,7 +41,9 @@ returns c =
 
 returns-2 : tie.Need-returns-2
 unfolding fuse
-returns-2 c = rw (c .before .before .first .given .1) (no-low _ (c .before .before .before .before .args .low .op) _ (c .match2 .keys2))
+returns-2 c =
+    rw (c .before .before .first .given .1)
+    (no-low _ (c .before .before .before .before .args .low .op) _ (c .match2 .keys2))
 
 returns-3 : tie.Need-returns-3
 unfolding fuse
@@ -46,5 +52,6 @@ returns-3 c = no-high (c .before .args .high .op) (c .before .args .low .op) _ (
 pub fuse-thumb-bl-spec : {M : Type 1} → statement M
 fuse-thumb-bl-spec =
     tie.close
-    (tie.spec (search needs) (search needs) (search needs) (search needs) (search needs) (search needs) (search needs)
+    (tie.spec (search needs) (search needs) (search needs) (search needs) (search needs)
+    (search needs) (search needs)
     returns returns-2 returns-3)

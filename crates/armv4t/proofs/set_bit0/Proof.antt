@@ -1,5 +1,5 @@
--- `armv4t::set_bit0` meets its contract: the lowest bit of `x | 1` is 1, and the others are those of x.
--- Assumes nothing.
+-- `armv4t::set_bit0` meets its contract: the lowest bit of `x | 1` is 1, and the others are those
+-- of x. Assumes nothing.
 use Prim.Native.Nat.{_/_}
 use native.Mathlib.Omega.{arith}
 use lib.Bits.{or-step, or-zero-r}

@@ -1,5 +1,5 @@
--- `find` reaches the root: each turn halves the way, which keeps every root, and comes nearer to it.
--- Assumes nothing.
+-- `find` reaches the root: each turn halves the way, which keeps every root, and comes nearer to
+-- it. Assumes nothing.
 use Prim.Native.Nat.{ℕ, _*_, _<_}
 use mathlib.Core.Path.{_≡_, refl, sym, _∙_}
 use mathlib.Core.List.{List}
@@ -8,7 +8,8 @@ use native.Mathlib.Omega.{arith}
 use lib.ListN.{length, length-set}
 use mir.Facts.{fits-32-64}
 use Rattle.base_forest.specs.Forest.{parent, root, Forest, RootFound}
-use Rattle.base_forest.proofs.Ways.{Leads, start-inside, parent-inside, above, way, forest, ended, halved, halve, steps, nearer}
+use Rattle.base_forest.proofs.Ways.{Leads, start-inside, parent-inside, above, way, forest}
+use Rattle.base_forest.proofs.Ways.{ended, halved, halve, steps, nearer}
 use Rattle.base_forest.proofs.Roots.{root-of}
 use Rattle.base_forest.proofs.find.Statement.{statement}
 use Rattle.base_forest.proofs.find.Tie as tie
@@ -88,5 +89,6 @@ returns c = ends (c .before .before .loop .inv) (c .before .before .before .pre 
 pub find-spec : {M : Type 1} → statement M
 find-spec =
     tie.close
-    (tie.spec Inv-loop μ-loop loop-holds (λ c. omega arith) slice-read-up cast-up mul-next slice-read-next
+    (tie.spec Inv-loop μ-loop loop-holds (λ c. omega arith) slice-read-up cast-up mul-next
+    slice-read-next
     (λ c. omega arith) slice-write-p cast-at loop-less loop-again same-length returns)

@@ -1,5 +1,5 @@
--- `hang_under` makes an edge: after both searches, whose roots are still roots, it does what `hang` does to the parents that they left.
--- Assumes nothing.
+-- `hang_under` makes an edge: after both searches, whose roots are still roots, it does what `hang`
+-- does to the parents that they left. Assumes nothing.
 use Prim.Native.Nat.{ℕ, _*_, _<_}
 use mathlib.Core.Path.{_≡_, sym, _∙_}
 use mathlib.Core.List.{List}
@@ -7,11 +7,13 @@ use borrow.Author.Needs.{needs}
 use native.Mathlib.Omega.{arith}
 use lib.ListN.{length, set, length-set}
 use Rattle.base_forest.specs.Forest.{parent, root, Forest, Flatter, RootFound, Hung}
-use Rattle.base_forest.proofs.Roots.{root-own, forest-hang, flatter-full, flatter-trans, same-flatter, same-hang}
+use Rattle.base_forest.proofs.Roots.{root-own, forest-hang, flatter-full, flatter-trans}
+use Rattle.base_forest.proofs.Roots.{same-flatter, same-hang}
 use Rattle.base_forest.proofs.hang_under.Statement.{statement}
 use Rattle.base_forest.proofs.hang_under.Tie as tie
 
-module _ {p p₁ p₂ : List ℕ} {i j source target : ℕ} (full : Forest (2 * length p) p) (inside-i : i < length p) (inside-j : j < length p)
+module _ {p p₁ p₂ : List ℕ} {i j source target : ℕ} (full : Forest (2 * length p) p)
+    (inside-i : i < length p) (inside-j : j < length p)
     (first : RootFound p i source p₁) (second : RootFound p₁ j target p₂) where
   both : Flatter p p₂
   both = flatter-trans (first .kept) (second .kept)
@@ -28,43 +30,65 @@ module _ {p p₁ p₂ : List ℕ} {i j source target : ℕ} (full : Forest (2 * 
   -- neither search moves a root that the other found
   own-roots : (parent p₂ source ≡ source) × (parent p₂ target ≡ target)
   own-roots =
-      let full₂ = flatter-full both full in
-      (rw source-root (root-own full₂ (here inside-i)), rw target-root (root-own full₂ (here inside-j)))
+      let full₂ = flatter-full both full in (
+        rw source-root (root-own full₂ (here inside-i)),
+        rw target-root
+            (root-own full₂ (here inside-j)),
+      )
 
   joins : Hung p i j (set p₂ source target)
   joins =
       rw (source-root, target-root)
       (record {
         lengths = length-set p₂ _ _ ∙ both .lengths;
-        depth = λ d f. forest-hang (flatter-full both full) (here inside-i) (here inside-j) (both .depth d f);
-        roots = λ d q small same. same-hang (same-flatter both same) (rw (both .lengths) small) (here inside-i) (here inside-j);
+        depth =
+            λ d f. forest-hang (flatter-full both full) (here inside-i) (here inside-j)
+            (both .depth d f);
+        roots =
+            λ d q small same. same-hang (same-flatter both same) (rw (both .lengths) small)
+            (here inside-i) (here inside-j);
       })
 
 find-requires-2 : tie.Need-find-requires-2
 find-requires-2 c κs =
-    let flat = c .before .before .before .find .ensures .kept in
-    (flatter-full flat (c .before .before .before .before .before .before .pre .0), rw (flat .lengths) (c .before .before .before .before .before .before .pre .1 .1))
+    let flat = c .before .before .before .find .ensures .kept in (
+      flatter-full flat (c .before .before .before .before .before .before .pre .0),
+      rw
+          (flat .lengths) (c .before .before .before .before .before .before .pre .1 .1),
+    )
 
 -- both roots are elements of the parents, so they fit
 set-parent-requires : tie.Need-set-parent-requires
 set-parent-requires c κs =
-    let pre = c .before .before .before .before .before .before .before .before .before .before .pre in
+    let pre =
+    c .before .before .before .before .before .before .before .before .before .before .pre in
     let first = c .before .before .before .before .before .before .before .find in
     let second = c .before .before .before .find2 in
     let known = c .before .slice-known3 .given in
     let owned = own-roots (pre .0) (pre .1 .0) (pre .1 .1) (first .ensures) (second .ensures) in
     let kept = both (pre .0) (pre .1 .0) (pre .1 .1) (first .ensures) (second .ensures) in (
-      (omega (arith, first .ensures .inside, kept .lengths), omega (arith, second .ensures .inside, kept .lengths)),
+      (
+        omega (arith, first .ensures .inside, kept .lengths),
+        omega
+            (arith, second .ensures .inside, kept .lengths),
+      ),
       omega (arith, known (first .result), owned .0, known (second .result), owned .1),
     )
 
 returns : tie.Need-returns
 returns c =
-    let pre = c .before .before .before .before .before .before .before .before .before .before .before .before .before .pre in
-    rw (c .before .before .set-parent .ensures) (joins (pre .0) (pre .1 .0) (pre .1 .1) (c .before .before .before .before .before .before .before .before .before .before .find .ensures) (c .before .before .before .before .before .before .find2 .ensures))
+    let pre =
+    c .before .before .before .before .before .before .before .before .before .before .before
+    .before .before .pre in
+    rw (c .before .before .set-parent .ensures)
+    (joins (pre .0) (pre .1 .0) (pre .1 .1)
+    (c .before .before .before .before .before .before .before .before .before .before .find
+    .ensures) (c .before .before .before .before .before .before .find2 .ensures))
 
 same-length : tie.Need-same-length
 same-length c = returns c .lengths
 
 pub hang-under-spec : {M : Type 1} → statement M
-hang-under-spec = tie.close (tie.spec (λ c κs. search needs) find-requires-2 set-parent-requires same-length returns)
+hang-under-spec =
+    tie.close
+    (tie.spec (λ c κs. search needs) find-requires-2 set-parent-requires same-length returns)

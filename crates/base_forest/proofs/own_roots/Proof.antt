@@ -1,5 +1,5 @@
--- `own_roots` leaves each number as its own parent: the numbers passed are their own, and there are as many as before.
--- Assumes nothing.
+-- `own_roots` leaves each number as its own parent: the numbers passed are their own, and there are
+-- as many as before. Assumes nothing.
 use Prim.Native.Nat.{ℕ, zero-le, _+_, _-_, _≤_, _<_}
 use mathlib.Core.Path.{_≡_, refl, sym, _∙_}
 use mathlib.Core.List.{List}
@@ -24,7 +24,10 @@ module _ {n : ℕ} {p : List ℕ} {i : ℕ} (so-far : Passed n p i) where
       record {
         lengths = length-set p i i ∙ so-far .lengths;
         within = omega arith;
-        owned = below-more _ _ (λ k below. getD-set-other p i k i 0 (omega arith) ∙ so-far .owned k below) (getD-set-same p i i 0 (omega arith));
+        owned =
+            below-more _ _
+            (λ k below. getD-set-other p i k i 0 (omega arith) ∙ so-far .owned k below)
+            (getD-set-same p i i 0 (omega arith));
       }
 
   all : n ≤ i → p ≡ range n 0
@@ -52,5 +55,6 @@ returns c = all (c .before .loop .inv) (c .loop-test .left)
 pub own-roots-spec : {M : Type 1} → statement M
 own-roots-spec =
     tie.close
-    (tie.spec Inv-loop μ-loop loop-holds (λ c. omega arith) (λ c. omega arith) (λ c. omega arith) (λ c. omega arith)
+    (tie.spec Inv-loop μ-loop loop-holds (λ c. omega arith) (λ c. omega arith) (λ c. omega arith)
+    (λ c. omega arith)
     (λ c. omega arith) loop-again same-length returns)

@@ -14,7 +14,8 @@ use native.Mathlib.Numerals.{add-one}
 use native.Mathlib.Omega.{arith}
 
 abbrev Inv-loop : tie.InvT-loop
-Inv-loop bytes multiplier h₀ i₀ h i = (i ≤ length bytes) × (fnvFrom multiplier h (drop i bytes) ≡ fnv64 multiplier bytes)
+Inv-loop bytes multiplier h₀ i₀ h i =
+    (i ≤ length bytes) × (fnvFrom multiplier h (drop i bytes) ≡ fnv64 multiplier bytes)
 
 abbrev μ-loop : tie.MeasureT-loop
 μ-loop bytes multiplier h₀ i₀ h i = length bytes - i
@@ -30,16 +31,29 @@ loop-again : tie.Need-loop-again Inv-loop μ-loop
 unfolding fnvFrom
 loop-again c = let i = c .before .before .before .loop .i in
     let bytes = c .before .before .before .before .before .args .bytes .now in
-    let inv = c .before .before .before .loop .inv in
-    (omega arith, ap₂ (λ (h : ℕ) (l : List ℕ). fnvFrom (c .before .before .before .before .before .args .multiplier) h l) (c .wrapping-mul .ensures) (ap (λ (k : ℕ). drop k bytes) (add-one i)) ∙ sym (ap (fnvFrom (c .before .before .before .before .before .args .multiplier) (c .before .before .before .loop .h)) (drop-cons bytes i 0 (omega arith))) ∙ inv .1)
+    let inv = c .before .before .before .loop .inv in (
+      omega arith,
+      ap₂
+          (λ (h : ℕ) (l : List ℕ). fnvFrom
+          (c .before .before .before .before .before .args .multiplier) h l)
+          (c .wrapping-mul .ensures) (ap (λ (k : ℕ). drop k bytes) (add-one i))
+          ∙ sym (ap
+          (fnvFrom (c .before .before .before .before .before .args .multiplier)
+          (c .before .before .before .loop .h)) (drop-cons bytes i 0 (omega arith))) ∙ inv .1,
+    )
 
 returns : tie.Need-returns Inv-loop μ-loop
 unfolding fnvFrom
-returns c = let end : drop (c .before .loop .i) (c .before .before .before .args .bytes .now) ≡ [] = (let past : length (c .before .before .before .args .bytes .now) ≤ c .before .loop .i = omega arith in drop-of-length-le (c .before .before .before .args .bytes .now) past) in
-    ap (fnvFrom (c .before .before .before .args .multiplier) (c .before .loop .h)) (sym end) ∙ c .before .loop .inv .1
+returns c = let end : drop (c .before .loop .i) (c .before .before .before .args .bytes .now)
+    ≡ [] =
+    (let past : length (c .before .before .before .args .bytes .now) ≤ c .before .loop .i =
+    omega arith in drop-of-length-le (c .before .before .before .args .bytes .now) past) in
+    ap (fnvFrom (c .before .before .before .args .multiplier) (c .before .loop .h)) (sym end)
+    ∙ c .before .loop .inv .1
 
 pub hash-spec : {M : Type 1} → statement M
 hash-spec =
     tie.close
-    (tie.spec Inv-loop μ-loop loop-holds (λ c. omega arith) cast-wrapping-mul (search needs) (λ c. omega arith)
+    (tie.spec Inv-loop μ-loop loop-holds (λ c. omega arith) cast-wrapping-mul (search needs)
+    (λ c. omega arith)
     (λ c. omega arith) loop-again returns)

@@ -1,4 +1,5 @@
--- `text::dec` meets its contract: at each turn the digits still to come, laid over the part, give what all digits laid over it would have given.
+-- `text::dec` meets its contract: at each turn the digits still to come, laid over the part, give
+-- what all digits laid over it would have given.
 use mathlib.Core.Path.{_≡_, refl}
 use Prim.Native.Nat.{_%_}
 use native.Mathlib.Omega.{arith}
@@ -14,7 +15,8 @@ use Rattle.base_text.proofs.dec.Tie as tie
 
 abbrev Inv-loop : tie.InvT-loop
 Inv-loop part₀ n k rest₀ at₀ part rest at =
-    (overlay part 0 (lastDigits 10 at rest) ≡ overlay part₀ 0 (lastDigits 10 k n)) × (length part ≡ length part₀)
+    (overlay part 0 (lastDigits 10 at rest) ≡ overlay part₀ 0 (lastDigits 10 k n))
+    × (length part ≡ length part₀)
 
 abbrev μ-loop : tie.MeasureT-loop
 μ-loop part₀ n k rest₀ at₀ part rest at = at
@@ -31,7 +33,8 @@ loop-again c =
     let l = c .before .before .before .before .before .loop in
     let e = c .before .before .store .ensures in (
       rw (e, glyph-ten (l .rest % 10) (omega arith))
-          (store-more 10 (l .at) (l .rest) _ _ (c .before .before .before .before .loop-test .taken) (l .inv .0)),
+          (store-more 10 (l .at) (l .rest) _ _ (c .before .before .before .before .loop-test .taken)
+          (l .inv .0)),
       search needs,
     )
 
@@ -46,5 +49,6 @@ returns-2 c =
 pub dec-spec : {M : Type 1} → statement M
 dec-spec =
     tie.close
-    (tie.spec Inv-loop μ-loop (search needs) returns loop-holds (λ c. omega arith) (λ c. omega arith) (λ c. omega arith)
+    (tie.spec Inv-loop μ-loop (search needs) returns loop-holds (λ c. omega arith)
+    (λ c. omega arith) (λ c. omega arith)
     (search needs) (λ c. omega arith) loop-again (search needs) returns-2)

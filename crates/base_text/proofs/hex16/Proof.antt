@@ -14,7 +14,8 @@ returns c = measured (c .if1 .taken) (sym (length-fixed 16 16 (c .before .before
 returns-2 : tie.Need-returns-2
 unfolding print hexadecimal16
 returns-2 c =
-    spelt 16 16 (c .before .before .before .before .before .before .args .n) refl (c .before .before .last-digits .ensures)
+    spelt 16 16 (c .before .before .before .before .before .before .args .n) refl
+    (c .before .before .last-digits .ensures)
 
 pub hex16-spec : {M : Type 1} → statement M
 hex16-spec = tie.close (tie.spec returns (search needs) (search needs) returns-2)

@@ -1,4 +1,5 @@
--- `text::hex8` meets its contract: after each call the digits still to come, laid over the part, give what all eight laid over it would have given.
+-- `text::hex8` meets its contract: after each call the digits still to come, laid over the part,
+-- give what all eight laid over it would have given.
 use mathlib.Core.Path.{refl, sym}
 use borrow.Author.Needs.{needs}
 use lib.Dec.{lit<, lit≤}
@@ -37,5 +38,6 @@ returns-2 c =
 pub hex8-spec : {M : Type 1} → statement M
 hex8-spec =
     tie.close
-    (tie.spec returns (search needs) (search needs) (search needs) (search needs) (search needs) (search needs)
+    (tie.spec returns (search needs) (search needs) (search needs) (search needs) (search needs)
+    (search needs)
     (search needs) (search needs) (search needs) returns-2)

@@ -18,4 +18,7 @@ unfolding print
 returns-3 c = measured (omega arith) refl
 
 pub line-spec : {M : Type 1} → statement M
-line-spec = tie.close (tie.spec (search needs) (search needs) returns (search needs) (search needs) returns-2 returns-3)
+line-spec =
+    tie.close
+    (tie.spec (search needs) (search needs) returns (search needs) (search needs) returns-2
+    returns-3)

@@ -1,4 +1,5 @@
--- `text::put_dec` meets its contract: what `dec` prints to the part from index at, it writes to the whole.
+-- `text::put_dec` meets its contract: what `dec` prints to the part from index at, it writes to the
+-- whole.
 use borrow.Author.Needs.{needs}
 use Rattle.base_text.proofs.Printers.{lent}
 use Rattle.base_text.proofs.put_dec.Statement.{statement}
@@ -12,5 +13,6 @@ returns c =
 pub put-dec-spec : {M : Type 1} → statement M
 put-dec-spec =
     tie.close
-    (tie.spec (search needs) (search needs) (search needs) (search needs) (search needs) (search needs) (search needs)
+    (tie.spec (search needs) (search needs) (search needs) (search needs) (search needs)
+    (search needs) (search needs)
     returns)

@@ -1,4 +1,5 @@
--- `text::put_hex8` meets its contract: what `hex8` prints to the part from index at, it writes to the whole.
+-- `text::put_hex8` meets its contract: what `hex8` prints to the part from index at, it writes to
+-- the whole.
 use borrow.Author.Needs.{needs}
 use Rattle.base_text.proofs.Printers.{lent}
 use Rattle.base_text.proofs.put_hex8.Statement.{statement}
@@ -12,5 +13,6 @@ returns c =
 pub put-hex8-spec : {M : Type 1} → statement M
 put-hex8-spec =
     tie.close
-    (tie.spec (search needs) (search needs) (search needs) (search needs) (search needs) (search needs) (search needs)
+    (tie.spec (search needs) (search needs) (search needs) (search needs) (search needs)
+    (search needs) (search needs)
     returns)

@@ -12,4 +12,5 @@ returns c =
     said (seq (c1 .put .ensures) (c2 .put-dec .ensures)) refl
 
 pub put-then-dec-spec : {M : Type 1} → statement M
-put-then-dec-spec = tie.close (tie.spec (search needs) (search needs) (λ c. kept (returns c)) returns)
+put-then-dec-spec =
+    tie.close (tie.spec (search needs) (search needs) (λ c. kept (returns c)) returns)

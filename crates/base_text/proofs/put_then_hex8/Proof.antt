@@ -12,4 +12,5 @@ returns c =
     said (seq (c1 .put .ensures) (c2 .put-hex8 .ensures)) refl
 
 pub put-then-hex8-spec : {M : Type 1} → statement M
-put-then-hex8-spec = tie.close (tie.spec (search needs) (search needs) (λ c. kept (returns c)) returns)
+put-then-hex8-spec =
+    tie.close (tie.spec (search needs) (search needs) (λ c. kept (returns c)) returns)

@@ -1,4 +1,5 @@
--- `replay_plan::is_right` meets its contract: what the comparison says of the list, and what the list is.
+-- `replay_plan::is_right` meets its contract: what the comparison says of the list, and what the
+-- list is.
 use borrow.Author.Needs.{needs}
 use Rattle.case_plan.proofs.is_right.Statement.{statement}
 use Rattle.case_plan.proofs.is_right.Tie as tie
@@ -6,5 +7,6 @@ use Rattle.case_plan.proofs.is_right.Tie as tie
 pub is-right-spec : {M : Type 1} → statement M
 is-right-spec =
     tie.close
-    (tie.spec (search needs) (search needs) (search needs) (search needs) (search needs) (λ c. cc) (search needs)
+    (tie.spec (search needs) (search needs) (search needs) (search needs) (search needs) (λ c. cc)
+    (search needs)
     (search needs) (search needs) (search needs) (λ c. cc))

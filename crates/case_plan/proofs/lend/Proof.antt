@@ -1,4 +1,5 @@
--- `replay_plan::lend` is safe and ends. The measure is what is left of the numbers lent, whose length a turn keeps.
+-- `replay_plan::lend` is safe and ends. The measure is what is left of the numbers lent, whose
+-- length a turn keeps.
 use Prim.Native.Nat.{_+_, _≤_, _-_}
 use mathlib.Core.Path.{_≡_}
 use borrow.Author.Needs.{needs}
@@ -7,7 +8,8 @@ use Rattle.case_plan.proofs.lend.Statement.{statement}
 use Rattle.case_plan.proofs.lend.Tie as tie
 
 abbrev Inv-loop : tie.InvT-loop
-Inv-loop lent₀ list at i₀ lent i = (i ≤ length lent₀) × (length lent ≡ length lent₀) × (at + length lent₀ ≤ length list)
+Inv-loop lent₀ list at i₀ lent i =
+    (i ≤ length lent₀) × (length lent ≡ length lent₀) × (at + length lent₀ ≤ length list)
 
 abbrev μ-loop : tie.MeasureT-loop
 μ-loop lent₀ list at i₀ lent i = length lent₀ - i
@@ -15,5 +17,6 @@ abbrev μ-loop : tie.MeasureT-loop
 pub lend-spec : {M : Type 1} → statement M
 lend-spec =
     tie.close
-    (tie.spec Inv-loop μ-loop (search needs) (search needs) (search needs) (search needs) (search needs) (search needs)
+    (tie.spec Inv-loop μ-loop (search needs) (search needs) (search needs) (search needs)
+    (search needs) (search needs)
     (search needs) (search needs) (search needs) (λ c. search needs) (search needs) (search needs))

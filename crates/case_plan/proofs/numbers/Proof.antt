@@ -1,4 +1,5 @@
--- `replay_plan::numbers` meets its contract: each variant has the numbers of the answer that it stands for.
+-- `replay_plan::numbers` meets its contract: each variant has the numbers of the answer that it
+-- stands for.
 use borrow.Author.Needs.{needs}
 use Rattle.plan_groups.specs.Calls.{plannedOf}
 use Rattle.case_plan.proofs.numbers.Statement.{statement}

@@ -1,4 +1,5 @@
--- `replay_plan::put` meets its contract. The loop's invariant: the first i lent numbers stand from place at on, and the rest of the list is as it was.
+-- `replay_plan::put` meets its contract. The loop's invariant: the first i lent numbers stand from
+-- place at on, and the rest of the list is as it was.
 use Prim.Native.Nat.{ℕ, _+_, _≤_, _<_, _-_}
 use native.Mathlib.Numerals.{add-one}
 use mathlib.Core.Path.{_≡_, refl, sym, ap, _∙_}
@@ -13,13 +14,20 @@ use Rattle.case_plan.proofs.put.Tie as tie
 
 abbrev Inv-loop : tie.InvT-loop
 Inv-loop list₀ at lent i₀ list i =
-    (i ≤ length lent) × (at + length lent ≤ length list₀) × (length list ≡ length list₀) × (list ≡ paste list₀ at lent i)
+    (i ≤ length lent) × (at + length lent ≤ length list₀) × (length list ≡ length list₀)
+    × (list ≡ paste list₀ at lent i)
 
 abbrev μ-loop : tie.MeasureT-loop
 μ-loop list₀ at lent i₀ list i = length lent - i
 
 loop-holds : tie.Need-loop-holds Inv-loop μ-loop
-loop-holds c = (omega arith, c .pre, refl, paste-zero (now (c .args .list)) (c .args .at) (now (c .args .lent)))
+loop-holds c = (
+  omega arith,
+  c .pre,
+  refl,
+  paste-zero (now (c .args .list)) (c .args .at)
+      (now (c .args .lent)),
+)
 
 cast-list : tie.Need-cast-list Inv-loop μ-loop
 cast-list c = omega (arith, c .shared-slice-known .given (c .before .before .loop .i))
@@ -35,7 +43,9 @@ loop-again c =
       omega arith,
       inv .1,
       simp length-set (inv .2),
-      ap (λ (l : List ℕ). set l (args .at + i) (getD lent i 0)) (inv .3) ∙ paste-suc list (args .at) lent i 0 inside (omega arith) ∙ ap (paste list (args .at) lent) (sym (add-one i)),
+      ap (λ (l : List ℕ). set l (args .at + i) (getD lent i 0)) (inv .3)
+          ∙ paste-suc list (args .at) lent i 0 inside (omega arith)
+          ∙ ap (paste list (args .at) lent) (sym (add-one i)),
     )
 
 returns : tie.Need-returns Inv-loop μ-loop
@@ -47,5 +57,6 @@ returns c =
 pub put-spec : {M : Type 1} → statement M
 put-spec =
     tie.close
-    (tie.spec Inv-loop μ-loop loop-holds (search needs) (search needs) cast-list (search needs) (search needs)
+    (tie.spec Inv-loop μ-loop loop-holds (search needs) (search needs) cast-list (search needs)
+    (search needs)
     (search needs) (search needs) (search needs) loop-again (search needs) returns)

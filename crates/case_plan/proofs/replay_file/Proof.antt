@@ -1,4 +1,5 @@
--- `replay_plan::replay_file` is safe and ends. The part of the buffer that it lends is what the reading of the file says it filled.
+-- `replay_plan::replay_file` is safe and ends. The part of the buffer that it lends is what the
+-- reading of the file says it filled.
 use Prim.Native.Nat.{_≤_}
 use mathlib.Core.Path.{sym}
 use lib.ListN.{length}
@@ -9,11 +10,18 @@ use Rattle.case_plan.proofs.replay_file.Tie as tie
 
 slice-aggregate-numbers : tie.Need-slice-aggregate-numbers
 slice-aggregate-numbers c =
-    let three : 3 ≤ length (c .before .before .before .before .before .before .before .before .before .before .before .before .before .fill .last .0) = search needs in
-    sym (length-take-le 3 (c .before .before .before .before .before .before .before .before .before .before .before .before .before .fill .last .0) three)
+    let three : 3
+    ≤ length
+    (c .before .before .before .before .before .before .before .before .before .before .before
+    .before .before .fill .last .0) = search needs in
+    sym (length-take-le 3
+    (c .before .before .before .before .before .before .before .before .before .before .before
+    .before .before .fill .last .0) three)
 
 array-share-prefix-buffer : tie.Need-array-share-prefix-buffer
-array-share-prefix-buffer c = rw (c .before .before .n .given .1) at (c .before .before .before .before .before .file .ensures)
+array-share-prefix-buffer c =
+    rw (c .before .before .n .given .1) at
+    (c .before .before .before .before .before .file .ensures)
 
 slice-aggregate-replay-plan : tie.Need-slice-aggregate-replay-plan
 slice-aggregate-replay-plan c = sym (length-take-le _ _ (array-share-prefix-buffer (c .before)))
@@ -21,9 +29,14 @@ slice-aggregate-replay-plan c = sym (length-take-le _ _ (array-share-prefix-buff
 pub replay-file-spec : {M : Type 1} → statement M
 replay-file-spec =
     tie.close
-    (tie.spec (search needs) (search needs) (search needs) (search needs) (search needs) slice-aggregate-numbers
-    (search needs) (search needs) (search needs) (search needs) (search needs) (search needs) (search needs)
-    (search needs) (search needs) (search needs) (search needs) (search needs) (search needs) (search needs)
-    array-share-prefix-buffer slice-aggregate-replay-plan (search needs) (search needs) (search needs) (search needs)
-    (search needs) (search needs) (search needs) (search needs) (search needs) (search needs) (search needs)
+    (tie.spec (search needs) (search needs) (search needs) (search needs) (search needs)
+    slice-aggregate-numbers
+    (search needs) (search needs) (search needs) (search needs) (search needs) (search needs)
+    (search needs)
+    (search needs) (search needs) (search needs) (search needs) (search needs) (search needs)
+    (search needs)
+    array-share-prefix-buffer slice-aggregate-replay-plan (search needs) (search needs)
+    (search needs) (search needs)
+    (search needs) (search needs) (search needs) (search needs) (search needs) (search needs)
+    (search needs)
     (search needs) (search needs) (search needs) (search needs) (search needs) (search needs))

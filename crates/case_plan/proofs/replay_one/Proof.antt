@@ -1,4 +1,5 @@
--- `replay_plan::replay_one` is safe and ends. As many numbers are lent as the vector says, if the buffers have them.
+-- `replay_plan::replay_one` is safe and ends. As many numbers are lent as the vector says, if the
+-- buffers have them.
 use mathlib.Core.Path.{sym}
 use native.Mathlib.Omega.{arith}
 use lib.Seq.{length-take-le}
@@ -34,8 +35,11 @@ replay-file-requires c κs =
 pub replay-one-spec : {M : Type 1} → statement M
 replay-one-spec =
     tie.close
-    (tie.spec (search needs) (search needs) (search needs) (search needs) (search needs) (search needs) (search needs)
-    (search needs) (search needs) (search needs) (search needs) (search needs) (search needs) (search needs)
+    (tie.spec (search needs) (search needs) (search needs) (search needs) (search needs)
+    (search needs) (search needs)
+    (search needs) (search needs) (search needs) (search needs) (search needs) (search needs)
+    (search needs)
     (search needs) array-borrow-prefix-expected slice-aggregate-replay-file array-borrow-prefix-work
-    slice-aggregate-replay-file-2 array-borrow-prefix-result slice-aggregate-replay-file-3 replay-file-requires
+    slice-aggregate-replay-file-2 array-borrow-prefix-result slice-aggregate-replay-file-3
+    replay-file-requires
     (search needs))

@@ -1,4 +1,5 @@
--- `replay_plan::replay_plan` is safe and ends. The expected plan is read only where it is within the expected result.
+-- `replay_plan::replay_plan` is safe and ends. The expected plan is read only where it is within
+-- the expected result.
 use mathlib.Core.Path.{sym, _∙_}
 use lib.Seq.{length-take-le}
 use borrow.Author.Needs.{needs}
@@ -12,12 +13,17 @@ slice-aggregate-is-right : tie.Need-slice-aggregate-is-right
 slice-aggregate-is-right c = sym (length-take-le _ _ (array-borrow-prefix-got (c .before)))
 
 is-right-requires : tie.Need-is-right-requires
-is-right-requires c κs = length-take-le _ _ (array-borrow-prefix-got (c .before .before .before)) ∙ c .before .before .before .before .before .before .before .before .before .before .before .before .before .before .before .pre .0
+is-right-requires c κs = length-take-le _ _ (array-borrow-prefix-got (c .before .before .before))
+    ∙ c .before .before .before .before .before .before .before .before .before .before .before
+    .before .before .before .before .pre .0
 
 pub replay-plan-spec : {M : Type 1} → statement M
 replay-plan-spec =
     tie.close
-    (tie.spec (search needs) (search needs) (search needs) (search needs) (search needs) (search needs) (search needs)
-    (search needs) (search needs) (search needs) (search needs) (search needs) (search needs) (search needs)
-    array-borrow-prefix-got slice-aggregate-is-right is-right-requires (search needs) (search needs) (search needs)
+    (tie.spec (search needs) (search needs) (search needs) (search needs) (search needs)
+    (search needs) (search needs)
+    (search needs) (search needs) (search needs) (search needs) (search needs) (search needs)
+    (search needs)
+    array-borrow-prefix-got slice-aggregate-is-right is-right-requires (search needs) (search needs)
+    (search needs)
     (search needs) (search needs) (search needs) (search needs) (search needs))

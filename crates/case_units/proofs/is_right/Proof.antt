@@ -1,4 +1,6 @@
--- `replay_units::is_right` meets its contract: what the three comparisons say, and that what is compared is what the call left, with what was not lent after it. The arrays lent are `t7` and `t8`, those expected `t5` and `t6`.
+-- `replay_units::is_right` meets its contract: what the three comparisons say, and that what is
+-- compared is what the call left, with what was not lent after it. The arrays lent are `t7` and
+-- `t8`, those expected `t5` and `t6`.
 use mathlib.Core.Path.{refl, sym, _∙_}
 use denote.Ref.{now}
 use lib.ListN.{take, drop}
@@ -25,8 +27,11 @@ slice-aggregate-unit-2 c = sym (length-take-le _ _ (array-borrow-prefix-text (c 
 
 returns : tie.Need-returns
 returns c =
-    let args = c .before .before .before .before .before .before .before .before .before .before .before .before .before .before .args in
-    let call = c .before .before .before .before .before .before .before .before .before .before .unit in
+    let args =
+    c .before .before .before .before .before .before .before .before .before .before .before
+    .before .before .before .args in
+    let call =
+    c .before .before .before .before .before .before .before .before .before .before .unit in
     let answered = c .before .before .before .before .before .before .before .answer in
     compared
     (now (args .expected))
@@ -38,31 +43,44 @@ returns c =
     (drop (args .asked .text) (args .t8))
     (translatedOf (call .result))
     (answered .result)
-    (unitCall (args .asked .size) (args .asked .unit) (parse (now (args .file))) (take (args .asked .work) (args .t7)) (take (args .asked .text) (args .t8)))
+    (unitCall (args .asked .size) (args .asked .unit) (parse (now (args .file)))
+    (take (args .asked .work) (args .t7)) (take (args .asked .text) (args .t8)))
     (answered .ensures)
     (call .ensures .0)
-    (sym (not-true _ (c .before .before .before .if1 .taken)) ∙ c .before .before .before .before .same .ensures)
+    (sym (not-true _ (c .before .before .before .if1 .taken))
+    ∙ c .before .before .before .before .same .ensures)
     refl
     refl
 
 slice-aggregate-same-work-2 : tie.Need-slice-aggregate-same-work-2
 slice-aggregate-same-work-2 c =
-    let start = c .before .before .before .before .before .before .before .before .before .before .before .before .before in
+    let start =
+    c .before .before .before .before .before .before .before .before .before .before .before
+    .before .before in
     let args = start .args in
     let call = c .before .before .before .before .before .before .before .before .before .unit in
-    sym (length-front (args .t7) (call .last .1 .1 .1 .0) (args .asked .work) (call .kept .1 .1 .1 .0) ∙ start .good .1 .1 .1 .1 .1 .1 .0 .1 .0 .1)
+    sym (length-front (args .t7) (call .last .1 .1 .1 .0) (args .asked .work)
+    (call .kept .1 .1 .1 .0) ∙ start .good .1 .1 .1 .1 .1 .1 .0 .1 .0 .1)
 
 same-work-requires : tie.Need-same-work-requires
 same-work-requires c κs =
-    let start = c .before .before .before .before .before .before .before .before .before .before .before .before .before in
+    let start =
+    c .before .before .before .before .before .before .before .before .before .before .before
+    .before .before in
     let args = start .args in
     let call = c .before .before .before .before .before .before .before .before .before .unit in
-    start .good .1 .1 .1 .1 .0 .1 .0 .1 ∙ sym (length-front (args .t7) (call .last .1 .1 .1 .0) (args .asked .work) (call .kept .1 .1 .1 .0) ∙ start .good .1 .1 .1 .1 .1 .1 .0 .1 .0 .1)
+    start .good .1 .1 .1 .1 .0 .1 .0 .1
+    ∙ sym (length-front (args .t7) (call .last .1 .1 .1 .0) (args .asked .work)
+    (call .kept .1 .1 .1 .0) ∙ start .good .1 .1 .1 .1 .1 .1 .0 .1 .0 .1)
 
 returns-2 : tie.Need-returns-2
 returns-2 c =
-    let args = c .before .before .before .before .before .before .before .before .before .before .before .before .before .before .before .args in
-    let call = c .before .before .before .before .before .before .before .before .before .before .before .unit in
+    let args =
+    c .before .before .before .before .before .before .before .before .before .before .before
+    .before .before .before .before .args in
+    let call =
+    c .before .before .before .before .before .before .before .before .before .before .before
+    .unit in
     let answered = c .before .before .before .before .before .before .before .before .answer in
     compared
     (now (args .expected))
@@ -74,32 +92,51 @@ returns-2 c =
     (drop (args .asked .text) (args .t8))
     (translatedOf (call .result))
     (answered .result)
-    (unitCall (args .asked .size) (args .asked .unit) (parse (now (args .file))) (take (args .asked .work) (args .t7)) (take (args .asked .text) (args .t8)))
+    (unitCall (args .asked .size) (args .asked .unit) (parse (now (args .file)))
+    (take (args .asked .work) (args .t7)) (take (args .asked .text) (args .t8)))
     (answered .ensures)
     (call .ensures .0)
-    (sym (not-false _ (c .before .before .before .before .if1 .left)) ∙ c .before .before .before .before .before .same .ensures)
+    (sym (not-false _ (c .before .before .before .before .if1 .left))
+    ∙ c .before .before .before .before .before .same .ensures)
     (sym (not-true _ (c .if2 .taken)) ∙ c .before .same-work .ensures)
     refl
 
 slice-aggregate-same-text-2 : tie.Need-slice-aggregate-same-text-2
 slice-aggregate-same-text-2 c =
-    let start = c .before .before .before .before .before .before .before .before .before .before .before .before .before .before .before .before .before in
+    let start =
+    c .before .before .before .before .before .before .before .before .before .before .before
+    .before .before .before .before .before .before in
     let args = start .args in
-    let call = c .before .before .before .before .before .before .before .before .before .before .before .before .before .unit in
-    sym (length-front (args .t8) (call .last .1 .1 .1 .1 .0) (args .asked .text) (call .kept .1 .1 .1 .1 .0) ∙ start .good .1 .1 .1 .1 .1 .1 .1 .0 .1 .0 .1)
+    let call =
+    c .before .before .before .before .before .before .before .before .before .before .before
+    .before .before .unit in
+    sym (length-front (args .t8) (call .last .1 .1 .1 .1 .0) (args .asked .text)
+    (call .kept .1 .1 .1 .1 .0) ∙ start .good .1 .1 .1 .1 .1 .1 .1 .0 .1 .0 .1)
 
 same-text-requires : tie.Need-same-text-requires
 same-text-requires c κs =
-    let start = c .before .before .before .before .before .before .before .before .before .before .before .before .before .before .before .before .before in
+    let start =
+    c .before .before .before .before .before .before .before .before .before .before .before
+    .before .before .before .before .before .before in
     let args = start .args in
-    let call = c .before .before .before .before .before .before .before .before .before .before .before .before .before .unit in
-    start .good .1 .1 .1 .1 .1 .0 .1 .0 .1 ∙ sym (length-front (args .t8) (call .last .1 .1 .1 .1 .0) (args .asked .text) (call .kept .1 .1 .1 .1 .0) ∙ start .good .1 .1 .1 .1 .1 .1 .1 .0 .1 .0 .1)
+    let call =
+    c .before .before .before .before .before .before .before .before .before .before .before
+    .before .before .unit in
+    start .good .1 .1 .1 .1 .1 .0 .1 .0 .1
+    ∙ sym (length-front (args .t8) (call .last .1 .1 .1 .1 .0) (args .asked .text)
+    (call .kept .1 .1 .1 .1 .0) ∙ start .good .1 .1 .1 .1 .1 .1 .1 .0 .1 .0 .1)
 
 returns-3 : tie.Need-returns-3
 returns-3 c =
-    let args = c .before .before .before .before .before .before .before .before .before .before .before .before .before .before .before .before .before .before .args in
-    let call = c .before .before .before .before .before .before .before .before .before .before .before .before .before .before .unit in
-    let answered = c .before .before .before .before .before .before .before .before .before .before .before .answer in
+    let args =
+    c .before .before .before .before .before .before .before .before .before .before .before
+    .before .before .before .before .before .before .before .args in
+    let call =
+    c .before .before .before .before .before .before .before .before .before .before .before
+    .before .before .before .unit in
+    let answered =
+    c .before .before .before .before .before .before .before .before .before .before .before
+    .answer in
     compared
     (now (args .expected))
     (args .t5)
@@ -110,17 +147,23 @@ returns-3 c =
     (drop (args .asked .text) (args .t8))
     (translatedOf (call .result))
     (answered .result)
-    (unitCall (args .asked .size) (args .asked .unit) (parse (now (args .file))) (take (args .asked .work) (args .t7)) (take (args .asked .text) (args .t8)))
+    (unitCall (args .asked .size) (args .asked .unit) (parse (now (args .file)))
+    (take (args .asked .work) (args .t7)) (take (args .asked .text) (args .t8)))
     (answered .ensures)
     (call .ensures .0)
-    (sym (not-false _ (c .before .before .before .before .before .before .before .if1 .left)) ∙ c .before .before .before .before .before .before .before .before .same .ensures)
-    (sym (not-false _ (c .before .before .before .if2 .left)) ∙ c .before .before .before .before .same-work .ensures)
+    (sym (not-false _ (c .before .before .before .before .before .before .before .if1 .left))
+    ∙ c .before .before .before .before .before .before .before .before .same .ensures)
+    (sym (not-false _ (c .before .before .before .if2 .left))
+    ∙ c .before .before .before .before .same-work .ensures)
     (c .same-text .ensures)
 
 pub is-right-spec : {M : Type 1} → statement M
 is-right-spec =
     tie.close
-    (tie.spec array-borrow-prefix-work slice-aggregate-unit array-borrow-prefix-text slice-aggregate-unit-2
-    (search needs) (search needs) (search needs) (search needs) (search needs) (search needs) returns (search needs)
-    slice-aggregate-same-work-2 same-work-requires returns-2 (search needs) slice-aggregate-same-text-2
+    (tie.spec array-borrow-prefix-work slice-aggregate-unit array-borrow-prefix-text
+    slice-aggregate-unit-2
+    (search needs) (search needs) (search needs) (search needs) (search needs) (search needs)
+    returns (search needs)
+    slice-aggregate-same-work-2 same-work-requires returns-2 (search needs)
+    slice-aggregate-same-text-2
     same-text-requires returns-3)

@@ -15,5 +15,6 @@ abbrev μ-loop : tie.MeasureT-loop
 pub no-text-spec : {M : Type 1} → statement M
 no-text-spec =
     tie.close
-    (tie.spec Inv-loop μ-loop (search needs) (search needs) (search needs) (search needs) (search needs) (search needs)
+    (tie.spec Inv-loop μ-loop (search needs) (search needs) (search needs) (search needs)
+    (search needs) (search needs)
     (λ c. search needs) (search needs))

@@ -1,4 +1,5 @@
--- `replay_units::replay_file` is safe and ends. The part of the buffer that it lends is what the reading of the file says it filled.
+-- `replay_units::replay_file` is safe and ends. The part of the buffer that it lends is what the
+-- reading of the file says it filled.
 use mathlib.Core.Path.{sym}
 use lib.Seq.{length-take-le}
 use borrow.Author.Needs.{needs}
@@ -6,7 +7,9 @@ use Rattle.case_units.proofs.replay_file.Statement.{statement}
 use Rattle.case_units.proofs.replay_file.Tie as tie
 
 array-share-prefix-buffer : tie.Need-array-share-prefix-buffer
-array-share-prefix-buffer c = rw (c .before .before .n .given .1) at (c .before .before .before .before .before .file .ensures)
+array-share-prefix-buffer c =
+    rw (c .before .before .n .given .1) at
+    (c .before .before .before .before .before .file .ensures)
 
 slice-aggregate-replay-text : tie.Need-slice-aggregate-replay-text
 slice-aggregate-replay-text c = sym (length-take-le _ _ (array-share-prefix-buffer (c .before)))
@@ -14,6 +17,8 @@ slice-aggregate-replay-text c = sym (length-take-le _ _ (array-share-prefix-buff
 pub replay-file-spec : {M : Type 1} → statement M
 replay-file-spec =
     tie.close
-    (tie.spec (search needs) (search needs) (search needs) (search needs) (search needs) (search needs) (search needs)
-    array-share-prefix-buffer slice-aggregate-replay-text (search needs) (search needs) (search needs) (search needs)
+    (tie.spec (search needs) (search needs) (search needs) (search needs) (search needs)
+    (search needs) (search needs)
+    array-share-prefix-buffer slice-aggregate-replay-text (search needs) (search needs)
+    (search needs) (search needs)
     (search needs) (search needs) (search needs) (search needs))

@@ -1,4 +1,5 @@
--- `replay_units::replay_text` is safe and ends. The expected text is read only where it is within the expected bytes.
+-- `replay_units::replay_text` is safe and ends. The expected text is read only where it is within
+-- the expected bytes.
 use mathlib.Core.Path.{sym}
 use lib.Seq.{length-take-le}
 use borrow.Author.Needs.{needs}
@@ -14,6 +15,8 @@ slice-aggregate-bytes c = sym (length-take-le _ _ (array-borrow-prefix-expected-
 pub replay-text-spec : {M : Type 1} → statement M
 replay-text-spec =
     tie.close
-    (tie.spec (search needs) (search needs) (search needs) (search needs) array-borrow-prefix-expected-text
-    slice-aggregate-bytes (search needs) (search needs) (search needs) (search needs) (search needs) (search needs)
+    (tie.spec (search needs) (search needs) (search needs) (search needs)
+    array-borrow-prefix-expected-text
+    slice-aggregate-bytes (search needs) (search needs) (search needs) (search needs) (search needs)
+    (search needs)
     (search needs) (search needs) (search needs))

@@ -1,4 +1,5 @@
--- `replay_units::same_work` meets its contract. The places passed had equal numbers, so whether the lists are the same is whether they are from `i` on.
+-- `replay_units::same_work` meets its contract. The places passed had equal numbers, so whether the
+-- lists are the same is whether they are from `i` on.
 use Prim.Native.Nat.{_≤_, _-_}
 use mathlib.Core.Path.{_≡_, refl, _∙_, sym}
 use borrow.Author.Needs.{needs}
@@ -23,12 +24,17 @@ loop-holds c = (search needs, search needs, refl)
 returns : tie.Need-returns Inv-loop μ-loop
 returns c =
     let at = c .before .before .before .before .before .before .before .loop in
-    place-differs _ _ (at .i) (search needs) (search needs) (c .before .before .before .if1 .taken) ∙ sym (at .inv .2)
+    place-differs _ _ (at .i) (search needs) (search needs) (c .before .before .before .if1 .taken)
+    ∙ sym (at .inv .2)
 
 loop-again : tie.Need-loop-again Inv-loop μ-loop
 loop-again c =
-    let at = c .before .before .before .before .loop in
-    (search needs, search needs, at .inv .2 ∙ place-same _ _ (at .i) (search needs) (search needs) (c .if1 .left))
+    let at = c .before .before .before .before .loop in (
+      search needs,
+      search needs,
+      at .inv .2
+          ∙ place-same _ _ (at .i) (search needs) (search needs) (c .if1 .left),
+    )
 
 returns-2 : tie.Need-returns-2 Inv-loop μ-loop
 returns-2 c =
@@ -38,6 +44,8 @@ returns-2 c =
 pub same-work-spec : {M : Type 1} → statement M
 same-work-spec =
     tie.close
-    (tie.spec Inv-loop μ-loop loop-holds (search needs) (search needs) (search needs) (search needs) (search needs)
-    (search needs) (search needs) (search needs) (search needs) returns (search needs) (search needs) loop-again
+    (tie.spec Inv-loop μ-loop loop-holds (search needs) (search needs) (search needs) (search needs)
+    (search needs)
+    (search needs) (search needs) (search needs) (search needs) returns (search needs)
+    (search needs) loop-again
     returns-2)

@@ -15,5 +15,6 @@ abbrev μ-loop : tie.MeasureT-loop
 pub work-numbers-spec : {M : Type 1} → statement M
 work-numbers-spec =
     tie.close
-    (tie.spec Inv-loop μ-loop (search needs) (search needs) (search needs) (search needs) (search needs) (search needs)
+    (tie.spec Inv-loop μ-loop (search needs) (search needs) (search needs) (search needs)
+    (search needs) (search needs)
     (search needs) (λ c. search needs) (search needs))

@@ -20,4 +20,5 @@ returns-4 c = λ e. rw (c .enum-told4 .given .1) (ror-has e (c .before .before .
 pub kind-has-carry-spec : {M : Type 1} → statement M
 kind-has-carry-spec =
     tie.close
-    (tie.spec (search needs) (search needs) (search needs) (search needs) returns returns-2 returns-3 returns-4)
+    (tie.spec (search needs) (search needs) (search needs) (search needs) returns returns-2
+    returns-3 returns-4)

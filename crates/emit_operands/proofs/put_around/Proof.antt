@@ -1,4 +1,5 @@
--- `emit_operands::put_around` meets its contract: what its calls write, one after another. Assumes nothing.
+-- `emit_operands::put_around` meets its contract: what its calls write, one after another. Assumes
+-- nothing.
 use mathlib.Core.Path.{refl}
 use borrow.Author.Needs.{needs}
 use Rattle.base_text.proofs.Laws.{seq, said, kept}
@@ -13,4 +14,6 @@ returns c =
     said (seq (c1 .put .ensures) (seq (c2 .put-reg .ensures) (c3 .put2 .ensures))) refl
 
 pub put-around-spec : {M : Type 1} → statement M
-put-around-spec = tie.close (tie.spec (search needs) (search needs) (search needs) (λ c. kept (returns c)) returns)
+put-around-spec =
+    tie.close
+    (tie.spec (search needs) (search needs) (search needs) (λ c. kept (returns c)) returns)

@@ -1,4 +1,5 @@
--- `emit_operands::put_carry_in` meets its contract: what its calls write, one after another. Assumes nothing.
+-- `emit_operands::put_carry_in` meets its contract: what its calls write, one after another.
+-- Assumes nothing.
 use mathlib.Core.List.{[]}
 use borrow.Author.Needs.{needs}
 use Rattle.emit_operands.proofs.Operands.{carry-in-text}
@@ -12,4 +13,5 @@ returns c =
     said (c1 .put .ensures) (carry-in-text [])
 
 pub put-carry-in-spec : {M : Type 1} → statement M
-put-carry-in-spec = tie.close (tie.spec (search needs) (search needs) (λ c. kept (returns c)) returns)
+put-carry-in-spec =
+    tie.close (tie.spec (search needs) (search needs) (λ c. kept (returns c)) returns)

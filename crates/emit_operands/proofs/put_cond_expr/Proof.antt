@@ -1,4 +1,5 @@
--- `emit_operands::put_cond_expr` meets its contract: what its calls write, one after another. Assumes nothing.
+-- `emit_operands::put_cond_expr` meets its contract: what its calls write, one after another.
+-- Assumes nothing.
 use mathlib.Core.Path.{refl}
 use mathlib.Core.List.{[]}
 use borrow.Author.Needs.{needs}
@@ -106,15 +107,27 @@ returns-16 c =
 pub put-cond-expr-spec : {M : Type 1} → statement M
 put-cond-expr-spec =
     tie.close
-    (tie.spec (search needs) (search needs) (search needs) (search needs) (search needs) (search needs) (search needs)
-    (search needs) (search needs) (search needs) (search needs) (search needs) (search needs) (search needs)
-    (search needs) (search needs) (search needs) (search needs) (search needs) (search needs) (search needs)
-    (search needs) (search needs) (search needs) (search needs) (search needs) (search needs) (search needs)
-    (search needs) (search needs) (search needs) (search needs) (search needs) (search needs) (search needs)
-    (search needs) (search needs) (search needs) (search needs) (search needs) (search needs) (search needs)
-    (search needs) (search needs) (search needs) (search needs) (search needs) (search needs) (λ c. kept (returns c))
-    returns (λ c. kept (returns-2 c)) returns-2 (λ c. kept (returns-3 c)) returns-3 (λ c. kept (returns-4 c)) returns-4
-    (λ c. kept (returns-5 c)) returns-5 (λ c. kept (returns-6 c)) returns-6 (λ c. kept (returns-7 c)) returns-7
-    (λ c. kept (returns-8 c)) returns-8 (λ c. kept (returns-9 c)) returns-9 (λ c. kept (returns-10 c)) returns-10
-    (λ c. kept (returns-11 c)) returns-11 (λ c. kept (returns-12 c)) returns-12 (λ c. kept (returns-13 c)) returns-13
-    (λ c. kept (returns-14 c)) returns-14 (λ c. kept (returns-15 c)) returns-15 (λ c. kept (returns-16 c)) returns-16)
+    (tie.spec (search needs) (search needs) (search needs) (search needs) (search needs)
+    (search needs) (search needs)
+    (search needs) (search needs) (search needs) (search needs) (search needs) (search needs)
+    (search needs)
+    (search needs) (search needs) (search needs) (search needs) (search needs) (search needs)
+    (search needs)
+    (search needs) (search needs) (search needs) (search needs) (search needs) (search needs)
+    (search needs)
+    (search needs) (search needs) (search needs) (search needs) (search needs) (search needs)
+    (search needs)
+    (search needs) (search needs) (search needs) (search needs) (search needs) (search needs)
+    (search needs)
+    (search needs) (search needs) (search needs) (search needs) (search needs) (search needs)
+    (λ c. kept (returns c))
+    returns (λ c. kept (returns-2 c)) returns-2 (λ c. kept (returns-3 c)) returns-3
+    (λ c. kept (returns-4 c)) returns-4
+    (λ c. kept (returns-5 c)) returns-5 (λ c. kept (returns-6 c)) returns-6
+    (λ c. kept (returns-7 c)) returns-7
+    (λ c. kept (returns-8 c)) returns-8 (λ c. kept (returns-9 c)) returns-9
+    (λ c. kept (returns-10 c)) returns-10
+    (λ c. kept (returns-11 c)) returns-11 (λ c. kept (returns-12 c)) returns-12
+    (λ c. kept (returns-13 c)) returns-13
+    (λ c. kept (returns-14 c)) returns-14 (λ c. kept (returns-15 c)) returns-15
+    (λ c. kept (returns-16 c)) returns-16)

@@ -1,4 +1,5 @@
--- `emit_operands::put_reg` meets its contract: what its calls write, one after another. Assumes nothing.
+-- `emit_operands::put_reg` meets its contract: what its calls write, one after another. Assumes
+-- nothing.
 use mathlib.Core.Path.{refl}
 use borrow.Author.Needs.{needs}
 use borrow.Author.Tests.{eq-eqb, ne-eqb}
@@ -21,4 +22,5 @@ returns-2 c =
 pub put-reg-spec : {M : Type 1} → statement M
 put-reg-spec =
     tie.close
-    (tie.spec (search needs) (search needs) (λ c. kept (returns c)) returns (λ c. kept (returns-2 c)) returns-2)
+    (tie.spec (search needs) (search needs) (λ c. kept (returns c)) returns
+    (λ c. kept (returns-2 c)) returns-2)

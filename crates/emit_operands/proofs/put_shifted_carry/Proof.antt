@@ -1,4 +1,5 @@
--- `emit_operands::put_shifted_carry` meets its contract: what its calls write, one after another. Assumes nothing.
+-- `emit_operands::put_shifted_carry` meets its contract: what its calls write, one after another.
+-- Assumes nothing.
 use mathlib.Core.Path.{refl}
 use borrow.Author.Needs.{needs}
 use Rattle.base_text.proofs.Laws.{none, said, kept}
@@ -19,4 +20,5 @@ returns-2 c =
 pub put-shifted-carry-spec : {M : Type 1} → statement M
 put-shifted-carry-spec =
     tie.close
-    (tie.spec (search needs) (search needs) (search needs) (λ c. kept (returns c)) returns returns-2)
+    (tie.spec (search needs) (search needs) (search needs) (λ c. kept (returns c)) returns
+    returns-2)

@@ -1,4 +1,5 @@
--- `emit_operands::put_sign` meets its contract: what its calls write, one after another. Assumes nothing.
+-- `emit_operands::put_sign` meets its contract: what its calls write, one after another. Assumes
+-- nothing.
 use mathlib.Core.Path.{refl}
 use borrow.Author.Needs.{needs}
 use borrow.Author.Tests.{eq-eqb, ne-eqb}
@@ -20,4 +21,5 @@ returns-2 c =
 pub put-sign-spec : {M : Type 1} → statement M
 put-sign-spec =
     tie.close
-    (tie.spec returns (search needs) (search needs) (search needs) (search needs) (λ c. kept (returns-2 c)) returns-2)
+    (tie.spec returns (search needs) (search needs) (search needs) (search needs)
+    (λ c. kept (returns-2 c)) returns-2)

@@ -12,4 +12,5 @@ returns-2 : tie.Need-returns-2
 returns-2 c = λ pc rm. rw (c .before .shift2 .given .1) refl
 
 pub shift-has-carry-spec : {M : Type 1} → statement M
-shift-has-carry-spec = tie.close (tie.spec (search needs) (search needs) (search needs) returns returns-2)
+shift-has-carry-spec =
+    tie.close (tie.spec (search needs) (search needs) (search needs) returns returns-2)

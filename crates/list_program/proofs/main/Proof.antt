@@ -12,5 +12,6 @@ slice-aggregate-write-all c = sym (length-take-le _ _ (c .before .before .put-ou
 pub main-spec : {M : Type 1} → statement M
 main-spec =
     tie.close
-    (tie.spec (search needs) (search needs) (search needs) (search needs) (search needs) (search needs) (search needs)
+    (tie.spec (search needs) (search needs) (search needs) (search needs) (search needs)
+    (search needs) (search needs)
     slice-aggregate-write-all (search needs) (search needs))

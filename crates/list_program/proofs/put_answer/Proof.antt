@@ -1,5 +1,5 @@
--- Either the listing stands in the front of the buffer, or it is as it was and the line of the refusal is put there.
--- Assumes nothing.
+-- Either the listing stands in the front of the buffer, or it is as it was and the line of the
+-- refusal is put there. Assumes nothing.
 use Prim.Native.Nat.{ℕ}
 use Rattle.file_blocks.specs.Answer.{Answer}
 use Rattle.call_listing.specs.Calls.{listedOf}
@@ -12,16 +12,42 @@ use native.Mathlib.Omega.{arith}
 
 returns : tie.Need-returns
 unfolding listedOf
-returns c = let pre = c .before .before .before .before .before .before .before .before .before .before .before .pre in
-    listing-shown _ (pre .0) _ _ (omega arith) (pre .1) _ refl _ _ _ (ap (λ (a : Answer ℕ). record { answer = a; work = c .before .before .before .before .before .before .listing-of .last .1 .0; result = c .before .before .before .before .before .before .listing-of .last .1 .1 .0 }) (sym (ap listedOf (c .before .n .given .1))) ∙ c .before .before .before .before .before .before .listing-of .ensures)
+returns c = let pre =
+    c .before .before .before .before .before .before .before .before .before .before .before
+    .pre in
+    listing-shown _ (pre .0) _ _ (omega arith) (pre .1) _ refl _ _ _
+    (ap (λ (a : Answer ℕ). record {
+      answer = a;
+      work =
+          c .before .before .before .before .before .before .listing-of .last .1 .0;
+      result =
+          c .before .before .before .before .before .before .listing-of .last .1 .1 .0;
+    })
+    (sym (ap listedOf (c .before .n .given .1)))
+    ∙ c .before .before .before .before .before .before .listing-of .ensures)
 
 returns-2 : tie.Need-returns-2
 unfolding listedOf
-returns-2 c = let pre = c .before .before .before .before .before .before .before .before .before .before .before .before .before .before .before .pre in
-    refusal-shown _ (pre .0) _ _ (omega arith) (pre .1) _ refl _ _ _ _ _ _ (ap (λ (a : Answer ℕ). record { answer = a; work = c .before .before .before .before .before .before .before .before .before .before .listing-of .last .1 .0; result = c .before .before .before .before .before .before .before .before .before .before .listing-of .last .1 .1 .0 }) (sym (ap listedOf (c .before .before .before .before .before .number .given .1))) ∙ c .before .before .before .before .before .before .before .before .before .before .listing-of .ensures) (c .before .before .put-refusal .ensures)
+returns-2 c = let pre =
+    c .before .before .before .before .before .before .before .before .before .before .before
+    .before .before .before .before .pre in
+    refusal-shown _ (pre .0) _ _ (omega arith) (pre .1) _ refl _ _ _ _ _ _
+    (ap (λ (a : Answer ℕ). record {
+      answer = a;
+      work =
+          c .before .before .before .before .before .before .before .before .before .before
+          .listing-of .last .1 .0;
+      result =
+          c .before .before .before .before .before .before .before .before .before .before
+          .listing-of .last .1 .1 .0;
+    })
+    (sym (ap listedOf (c .before .before .before .before .before .number .given .1)))
+    ∙ c .before .before .before .before .before .before .before .before .before .before
+    .listing-of .ensures) (c .before .before .put-refusal .ensures)
 
 pub put-answer-spec : {M : Type 1} → statement M
 put-answer-spec =
     tie.close
-    (tie.spec (search needs) (search needs) (search needs) (search needs) (search needs) (search needs) returns
+    (tie.spec (search needs) (search needs) (search needs) (search needs) (search needs)
+    (search needs) returns
     (search needs) returns-2)

@@ -9,7 +9,9 @@ use mathlib.Core.Path.{refl}
 use native.Mathlib.Omega.{arith}
 
 returns : tie.Need-returns
-returns c = long-shown _ (c .before .before .before .before .before .before .before .before .pre) (omega arith) (said (c .before .before .put .ensures) refl)
+returns c =
+    long-shown _ (c .before .before .before .before .before .before .before .before .pre)
+    (omega arith) (said (c .before .before .put .ensures) refl)
 
 returns-2 : tie.Need-returns-2
 returns-2 c = short-shown _ _ _ (omega arith) (c .before .before .put-answer .ensures)
@@ -17,4 +19,5 @@ returns-2 c = short-shown _ _ _ (omega arith) (c .before .before .put-answer .en
 pub put-output-spec : {M : Type 1} → statement M
 put-output-spec =
     tie.close
-    (tie.spec (search needs) (search needs) (search needs) returns (search needs) (search needs) returns-2)
+    (tie.spec (search needs) (search needs) (search needs) returns (search needs) (search needs)
+    returns-2)

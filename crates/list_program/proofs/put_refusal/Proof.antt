@@ -7,10 +7,16 @@ use borrow.Author.Needs.{needs}
 use mathlib.Core.Path.{refl}
 
 returns : tie.Need-returns
-returns c = said (seq (c .before .before .before .before .before .before .before .before .before .before .before .before .put-then-dec .ensures) (seq (c .before .before .before .before .before .before .before .put-then-dec2 .ensures) (c .before .before .put .ensures))) refl
+returns c =
+    said (seq
+    (c .before .before .before .before .before .before .before .before .before .before .before
+    .before .put-then-dec .ensures)
+    (seq (c .before .before .before .before .before .before .before .put-then-dec2 .ensures)
+    (c .before .before .put .ensures))) refl
 
 pub put-refusal-spec : {M : Type 1} → statement M
 put-refusal-spec =
     tie.close
-    (tie.spec (search needs) (search needs) (search needs) (search needs) (search needs) (search needs) (search needs)
+    (tie.spec (search needs) (search needs) (search needs) (search needs) (search needs)
+    (search needs) (search needs)
     returns)

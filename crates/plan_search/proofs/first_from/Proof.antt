@@ -1,5 +1,5 @@
--- `search::first_from` meets its contract: what is between low and high halves, and what the search keeps at the end is the answer.
--- Assumes nothing.
+-- `search::first_from` meets its contract: what is between low and high halves, and what the search
+-- keeps at the end is the answer. Assumes nothing.
 use Prim.Native.Nat.{_+_, _-_, _/_}
 use Rattle.file_blocks.proofs.IsBlock.{missing}
 use Rattle.plan_search.proofs.Searching as searching
@@ -27,11 +27,19 @@ returns c = λ a.
 
 loop-again : tie.Need-loop-again Inv-loop μ-loop
 loop-again c = let at = c .before .before .before .before .before .before .before .loop in
-    searching.between-after _ _ _ _ _ (at .inv) (omega arith) (omega arith) (λ _. searching.key-below _ (at .low + (at .high - at .low) / 2) _ _ _ (c .before .before .before .before .before .block-at .ensures) (c .before .before .before .block .given .1) (c .before .key-plus .ensures .0) _ (c .if1 .taken))
+    searching.between-after _ _ _ _ _ (at .inv) (omega arith) (omega arith)
+    (λ _. searching.key-below _ (at .low + (at .high - at .low) / 2) _ _ _
+    (c .before .before .before .before .before .block-at .ensures)
+    (c .before .before .before .block .given .1) (c .before .key-plus .ensures .0) _
+    (c .if1 .taken))
 
 loop-again-2 : tie.Need-loop-again-2 Inv-loop μ-loop
 loop-again-2 c = let at = c .before .before .before .before .before .before .before .loop in
-    searching.between-before _ _ _ _ _ (at .inv) (omega arith) (omega arith) (λ _. searching.key-not-below _ (at .low + (at .high - at .low) / 2) _ _ _ (c .before .before .before .before .before .block-at .ensures) (c .before .before .before .block .given .1) (c .before .key-plus .ensures .0) _ (c .if1 .left))
+    searching.between-before _ _ _ _ _ (at .inv) (omega arith) (omega arith)
+    (λ _. searching.key-not-below _ (at .low + (at .high - at .low) / 2) _ _ _
+    (c .before .before .before .before .before .block-at .ensures)
+    (c .before .before .before .block .given .1) (c .before .key-plus .ensures .0) _
+    (c .if1 .left))
 
 returns-2 : tie.Need-returns-2 Inv-loop μ-loop
 returns-2 c = searching.between-none _ _ _ _ (c .before .loop .inv) (c .loop-test .left)
@@ -39,6 +47,8 @@ returns-2 c = searching.between-none _ _ _ _ (c .before .loop .inv) (c .loop-tes
 pub first-from-spec : {M : Type 1} → statement M
 first-from-spec =
     tie.close
-    (tie.spec Inv-loop μ-loop (search needs) loop-holds (λ c. omega arith) (λ c. omega arith) (search needs)
-    (search needs) (search needs) returns (search needs) (λ c. omega arith) (λ c. omega arith) loop-again
+    (tie.spec Inv-loop μ-loop (search needs) loop-holds (λ c. omega arith) (λ c. omega arith)
+    (search needs)
+    (search needs) (search needs) returns (search needs) (λ c. omega arith) (λ c. omega arith)
+    loop-again
     (λ c. omega arith) loop-again-2 returns-2)

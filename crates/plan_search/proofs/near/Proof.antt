@@ -14,8 +14,11 @@ returns-2 : tie.Need-returns-2
 returns-2 c =
     let count = c .before .before .before .before .before .before .block-count .ensures in
     let start = c .before .before .before .before .before .before .before .before in
-    searching.between-before _ _ _ _ (start .args .i) (searching.between-all _ _ _ (count .0) (count .1)) zero-le (omega arith)
-    (λ _. searching.key-not-below _ _ _ _ _ (c .before .before .before .before .before .block-at .ensures) (c .before .before .before .block .given .1)
+    searching.between-before _ _ _ _ (start .args .i)
+    (searching.between-all _ _ _ (count .0) (count .1)) zero-le (omega arith)
+    (λ _. searching.key-not-below _ _ _ _ _
+    (c .before .before .before .before .before .block-at .ensures)
+    (c .before .before .before .block .given .1)
     (c .before .key-plus .ensures .0) _ (c .if1 .taken))
 
 returns-3 : tie.Need-returns-3
@@ -25,8 +28,10 @@ returns-3 c =
     let reads = own .before .before .before .before .before .block-at .ensures in
     let count = own .before .before .before .before .before .before .block-count .ensures in
     let start = own .before .before .before .before .before .before .before .before in
-    searching.between-after _ _ _ _ (start .args .i) (searching.between-all _ _ _ (count .0) (count .1)) zero-le (omega arith)
-    (λ _. searching.key-below _ _ _ _ _ reads found (own .before .key-plus .ensures .0) _ (own .if1 .left))
+    searching.between-after _ _ _ _ (start .args .i)
+    (searching.between-all _ _ _ (count .0) (count .1)) zero-le (omega arith)
+    (λ _. searching.key-below _ _ _ _ _ reads found (own .before .key-plus .ensures .0) _
+    (own .if1 .left))
 
 returns-4 : tie.Need-returns-4
 returns-4 c =
@@ -38,10 +43,14 @@ returns-4 c =
     let next = c .before .before .before .after .given .1 in
     let read = c .before .before .before .before .before .block-at2 .ensures in
     let inside = found-inside _ _ _ (sym read ∙ next) in
-    let past = searching.between-after _ _ _ _ (start .args .i) (searching.between-all _ _ _ (count .0) (count .1)) zero-le (omega arith)
-    (λ _. searching.key-below _ _ _ _ _ reads found (own .before .key-plus .ensures .0) _ (own .if1 .left)) in
+    let past =
+    searching.between-after _ _ _ _ (start .args .i)
+    (searching.between-all _ _ _ (count .0) (count .1)) zero-le (omega arith)
+    (λ _. searching.key-below _ _ _ _ _ reads found (own .before .key-plus .ensures .0) _
+    (own .if1 .left)) in
     searching.between-before _ _ _ _ _ past (le-refl _) (omega (arith, inside))
-    (λ _. searching.key-not-below _ _ _ _ _ read next (c .before .key-plus2 .ensures .0) _ (c .if2 .taken))
+    (λ _. searching.key-not-below _ _ _ _ _ read next (c .before .key-plus2 .ensures .0) _
+    (c .if2 .taken))
 
 returns-5 : tie.Need-returns-5
 returns-5 c =
@@ -53,14 +62,20 @@ returns-5 c =
     let next = c .before .before .before .after .given .1 in
     let read = c .before .before .before .before .before .block-at2 .ensures in
     let inside = found-inside _ _ _ (sym read ∙ next) in
-    let past = searching.between-after _ _ _ _ (start .args .i) (searching.between-all _ _ _ (count .0) (count .1)) zero-le (omega arith)
-    (λ _. searching.key-below _ _ _ _ _ reads found (own .before .key-plus .ensures .0) _ (own .if1 .left)) in
+    let past =
+    searching.between-after _ _ _ _ (start .args .i)
+    (searching.between-all _ _ _ (count .0) (count .1)) zero-le (omega arith)
+    (λ _. searching.key-below _ _ _ _ _ reads found (own .before .key-plus .ensures .0) _
+    (own .if1 .left)) in
     searching.between-after _ _ _ _ _ past (le-refl _) (omega (arith, inside))
-    (λ _. searching.key-below _ _ _ _ _ read next (c .before .key-plus2 .ensures .0) _ (c .if2 .left))
+    (λ _. searching.key-below _ _ _ _ _ read next (c .before .key-plus2 .ensures .0) _
+    (c .if2 .left))
 
 pub near-spec : {M : Type 1} → statement M
 near-spec =
     tie.close
-    (tie.spec (search needs) (search needs) (search needs) (search needs) (search needs) (search needs) returns-2
-    (search needs) (search needs) (search needs) (search needs) returns-3 (search needs) returns-4 (search needs)
+    (tie.spec (search needs) (search needs) (search needs) (search needs) (search needs)
+    (search needs) returns-2
+    (search needs) (search needs) (search needs) (search needs) returns-3 (search needs) returns-4
+    (search needs)
     returns-5)

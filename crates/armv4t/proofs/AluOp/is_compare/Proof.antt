@@ -10,10 +10,14 @@ use Rattle.armv4t.proofs.AluOp.is_compare.Statement.{statement}
 use Rattle.armv4t.proofs.AluOp.is_compare.Tie as tie
 
 returns : tie.Need-returns
-returns c = arm enum (λ op. true ≡ isCompare op) (8 ∷ 9 ∷ 10 ∷ 11 ∷ []) (c .before .args .self) (c .match .keys1) (search depth 16)
+returns c =
+    arm enum (λ op. true ≡ isCompare op) (8 ∷ 9 ∷ 10 ∷ 11 ∷ []) (c .before .args .self)
+    (c .match .keys1) (search depth 16)
 
 returns-2 : tie.Need-returns-2
-returns-2 c = arm enum (λ op. false ≡ isCompare op) (others 16 (8 ∷ 9 ∷ 10 ∷ 11 ∷ [])) (c .before .args .self) (c .match .keys2) (search depth 16)
+returns-2 c =
+    arm enum (λ op. false ≡ isCompare op) (others 16 (8 ∷ 9 ∷ 10 ∷ 11 ∷ [])) (c .before .args .self)
+    (c .match .keys2) (search depth 16)
 
 pub is-compare-spec : {M : Type 1} → statement M
 is-compare-spec = tie.close (tie.spec returns returns-2)

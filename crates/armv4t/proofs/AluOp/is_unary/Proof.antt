@@ -10,10 +10,14 @@ use Rattle.armv4t.proofs.AluOp.is_unary.Statement.{statement}
 use Rattle.armv4t.proofs.AluOp.is_unary.Tie as tie
 
 returns : tie.Need-returns
-returns c = arm enum (λ op. true ≡ isUnary op) (13 ∷ 15 ∷ []) (c .before .args .self) (c .match .keys1) (search depth 16)
+returns c =
+    arm enum (λ op. true ≡ isUnary op) (13 ∷ 15 ∷ []) (c .before .args .self) (c .match .keys1)
+    (search depth 16)
 
 returns-2 : tie.Need-returns-2
-returns-2 c = arm enum (λ op. false ≡ isUnary op) (others 16 (13 ∷ 15 ∷ [])) (c .before .args .self) (c .match .keys2) (search depth 16)
+returns-2 c =
+    arm enum (λ op. false ≡ isUnary op) (others 16 (13 ∷ 15 ∷ [])) (c .before .args .self)
+    (c .match .keys2) (search depth 16)
 
 pub is-unary-spec : {M : Type 1} → statement M
 is-unary-spec = tie.close (tie.spec returns returns-2)

@@ -8,7 +8,8 @@ use Rattle.armv4t.proofs.Instr.pc_value.Tie as tie
 returns : tie.Need-returns
 returns c =
     let e = c .wrapping-add-u32 .ensures in
-    ⊎-elim (λ w. rw (w .0 .taken) (rw (w .1) at e)) (λ w. rw (w .0 .left) (rw (w .1) at e)) (c .before .if1 .came)
+    ⊎-elim (λ w. rw (w .0 .taken) (rw (w .1) at e)) (λ w. rw (w .0 .left) (rw (w .1) at e))
+    (c .before .if1 .came)
 
 pub pc-value-spec : {M : Type 1} → statement M
 pc-value-spec = tie.close (tie.spec (search needs) returns)

@@ -55,7 +55,8 @@ returns-15 : tie.Need-returns-15
 returns-15 c = rw (c .match .keys15)
 
 returns-16 : tie.Need-returns-16
-returns-16 c = let e : c .before .args .d ≡ 15 = last _ (none-below _ 15 (c .match .rest)) (c .before .pre) in rw e
+returns-16 c = let e : c .before .args .d
+    ≡ 15 = last _ (none-below _ 15 (c .match .rest)) (c .before .pre) in rw e
 
 pub glyph-spec : {M : Type 1} → statement M
 glyph-spec =

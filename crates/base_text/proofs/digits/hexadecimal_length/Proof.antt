@@ -1,4 +1,5 @@
--- `text::digits::hexadecimal_length` meets its contract: the digits counted and those of what is left are the digits of n.
+-- `text::digits::hexadecimal_length` meets its contract: the digits counted and those of what is
+-- left are the digits of n.
 use mathlib.Core.Path.{_≡_, sym, _∙_}
 use Prim.Native.Nat.{_+_, _-_, _^_, _<_}
 use native.Mathlib.Nat.{zero-add}
@@ -13,7 +14,8 @@ use Rattle.base_text.proofs.digits.hexadecimal_length.Tie as tie
 
 abbrev Inv-loop : tie.InvT-loop
 Inv-loop n k₀ rest₀ k rest =
-    (k < 16) × (rest < 16 ^ (16 - k)) × (length (numeral 16 16 n) ≡ k + length (numeral 16 (16 - k) rest))
+    (k < 16) × (rest < 16 ^ (16 - k))
+    × (length (numeral 16 16 n) ≡ k + length (numeral 16 (16 - k) rest))
 
 abbrev μ-loop : tie.MeasureT-loop
 μ-loop n k₀ rest₀ k rest = 16 - k
@@ -24,7 +26,9 @@ loop-holds c = (lit< tt, c .fits .n .fits, sym (zero-add _))
 loop-again : tie.Need-loop-again Inv-loop μ-loop
 loop-again c =
     let i = c .before .loop .inv in
-    let m = count-more 16 16 (c .before .loop .k) (c .before .loop .rest) (lit< tt) (omega arith) (i .1) in
+    let m =
+    count-more 16 16 (c .before .loop .k) (c .before .loop .rest) (lit< tt) (omega arith)
+    (i .1) in
     (m .0, m .1, i .2 ∙ m .2)
 
 returns : tie.Need-returns Inv-loop μ-loop
@@ -32,9 +36,11 @@ unfolding hexadecimal
 returns c =
     sym
     (c .before .loop .inv .2
-    ∙ count-end 16 16 (c .before .loop .k) (c .before .loop .rest) (omega arith) (c .before .loop .inv .0))
+    ∙ count-end 16 16 (c .before .loop .k) (c .before .loop .rest) (omega arith)
+    (c .before .loop .inv .0))
 
 pub hexadecimal-length-spec : {M : Type 1} → statement M
 hexadecimal-length-spec =
     tie.close
-    (tie.spec Inv-loop μ-loop loop-holds (λ c. omega arith) (λ c. omega arith) loop-again (λ c. omega arith) returns)
+    (tie.spec Inv-loop μ-loop loop-holds (λ c. omega arith) (λ c. omega arith) loop-again
+    (λ c. omega arith) returns)

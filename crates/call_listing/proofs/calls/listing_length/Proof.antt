@@ -1,5 +1,5 @@
--- A text that is written to no bytes is measured, and a listing is short enough for its length to be exact.
--- Assumes nothing.
+-- A text that is written to no bytes is measured, and a listing is short enough for its length to
+-- be exact. Assumes nothing.
 use Prim.Native.Nat.{ℕ, _<_, _≤_}
 use Rattle.file_blocks.proofs.Accepted.{length-of}
 use Rattle.call_listing.proofs.Lengths.{listing-short}
@@ -14,7 +14,18 @@ use mathlib.Core.Path.{sym, _∙_, subst}
 use native.Mathlib.Omega.{arith}
 
 returns : tie.Need-returns
-returns c = exact (c .before .put-listing .ensures) (subst (λ (k : ℕ). k < maxUsize) (sym (counted (c .before .put-listing .ensures))) (omega (arith, listing-short partLimit (blocksOf (c .before .before .before .before .before .args .file .now)) (subst (λ (k : ℕ). k ≤ 65536) (c .before .before .before .before .before .pre .0 .2 ∙ sym (length-of _ _ (c .before .before .before .before .before .pre .1 .0))) (c .before .before .before .before .before .pre .0 .1)))))
+returns c =
+    exact (c .before .put-listing .ensures)
+    (subst (λ (k : ℕ). k < maxUsize) (sym (counted (c .before .put-listing .ensures)))
+    (omega (
+      arith,
+      listing-short partLimit
+          (blocksOf (c .before .before .before .before .before .args .file .now))
+          (subst (λ (k : ℕ). k ≤ 65536)
+          (c .before .before .before .before .before .pre .0 .2
+          ∙ sym (length-of _ _ (c .before .before .before .before .before .pre .1 .0)))
+          (c .before .before .before .before .before .pre .0 .1)),
+    )))
 
 pub listing-length-spec : {M : Type 1} → statement M
 listing-length-spec = tie.close (tie.spec (search needs) (λ c κs. search needs) returns)

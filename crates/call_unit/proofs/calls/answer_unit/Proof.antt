@@ -18,15 +18,21 @@ use Rattle.call_unit.proofs.calls.answer_unit.Tie as tie
 
 find-unit-requires : tie.Need-find-unit-requires
 find-unit-requires c κs =
-    let ready = c .before .before .before .pre in
-    ((ready .room, omega (arith, few-blocks _ _ (ready .accepted), ready .all), ready .all), ready .accepted)
+    let ready = c .before .before .before .pre in (
+      (ready .room, omega (arith, few-blocks _ _ (ready .accepted), ready .all), ready .all),
+      ready
+          .accepted,
+    )
 
 returns : tie.Need-returns
 unfolding describes translatedOf
 returns c = λ w.
     let a = c .before .before .before .before .before .before .args in
     let f = a .file .now in
-    unit-none f partLimit (a .max) (a .k) w _ (subst (describes f partLimit (a .max) (a .k)) (c .enum-told .given .1) (c .before .before .find-unit .ensures partLimit (c .before .before .before .before .before .before .pre)))
+    unit-none f partLimit (a .max) (a .k) w _
+    (subst (describes f partLimit (a .max) (a .k)) (c .enum-told .given .1)
+    (c .before .before .find-unit .ensures partLimit
+    (c .before .before .before .before .before .before .pre)))
 
 returns-2 : tie.Need-returns-2
 unfolding describes translatedOf
@@ -34,30 +40,53 @@ returns-2 c = λ w.
     let a = c .before .before .before .before .before .before .before .before .before .args in
     let f = a .file .now in
     let ready = c .before .before .before .before .before .before .before .before .before .pre in
-    let is : IsUnit f partLimit (a .max) (a .k) _ = subst (describes f partLimit (a .max) (a .k)) (c .before .before .before .e .given .1) (c .before .before .before .before .before .find-unit .ensures partLimit ready) in
+    let is : IsUnit f partLimit (a .max) (a .k) _ =
+    subst (describes f partLimit (a .max) (a .k)) (c .before .before .before .e .given .1)
+    (c .before .before .before .before .before .find-unit .ensures partLimit ready) in
     unit-long f partLimit (a .max) (a .k) w _ is (omega arith)
 
 write-unit-requires : tie.Need-write-unit-requires
 unfolding describes
 write-unit-requires c κs =
-    let a = c .before .before .before .before .before .before .before .before .before .before .args in
+    let a =
+    c .before .before .before .before .before .before .before .before .before .before .args in
     let f = a .file .now in
-    let ready = c .before .before .before .before .before .before .before .before .before .before .pre in
-    let is : IsUnit f partLimit (a .max) (a .k) _ = subst (describes f partLimit (a .max) (a .k)) (c .before .before .before .before .e .given .1) (c .before .before .before .before .before .before .find-unit .ensures partLimit ready) in
-    (((ready .room, omega (arith, few-blocks _ _ (ready .accepted), ready .all), ready .all), omega (arith, is .takes .end, start-inside ready (is .group + is .size))), ready .accepted)
+    let ready =
+    c .before .before .before .before .before .before .before .before .before .before .pre in
+    let is : IsUnit f partLimit (a .max) (a .k) _ =
+    subst (describes f partLimit (a .max) (a .k))
+    (c .before .before .before .before .e .given .1)
+    (c .before .before .before .before .before .before .find-unit .ensures partLimit ready) in (
+      (
+        (ready .room, omega (arith, few-blocks _ _ (ready .accepted), ready .all), ready .all),
+        omega
+            (arith, is .takes .end, start-inside ready (is .group + is .size)),
+      ),
+      ready .accepted,
+    )
 
 returns-3 : tie.Need-returns-3
 unfolding describes translatedOf textOf
 returns-3 c = λ w.
-    let a = c .before .before .before .before .before .before .before .before .before .before .before .before .before .args in
+    let a =
+    c .before .before .before .before .before .before .before .before .before .before .before
+    .before .before .args in
     let f = a .file .now in
-    let ready = c .before .before .before .before .before .before .before .before .before .before .before .before .before .pre in
-    let is : IsUnit f partLimit (a .max) (a .k) _ = subst (describes f partLimit (a .max) (a .k)) (c .before .before .before .before .before .before .before .e .given .1) (c .before .before .before .before .before .before .before .before .before .find-unit .ensures partLimit ready) in
+    let ready =
+    c .before .before .before .before .before .before .before .before .before .before .before
+    .before .before .pre in
+    let is : IsUnit f partLimit (a .max) (a .k) _ =
+    subst (describes f partLimit (a .max) (a .k))
+    (c .before .before .before .before .before .before .before .e .given .1)
+    (c .before .before .before .before .before .before .before .before .before .find-unit
+    .ensures partLimit ready) in
     let fits : length (textOf (is .unit .tree)) ≤ length (a .out .now) = omega (arith, is .bytes) in
-    unit-made f partLimit (a .max) (a .k) w _ is _ (omega arith) (whole (c .before .before .write-unit .ensures partLimit (a .max) (a .k) ready is) fits .0)
+    unit-made f partLimit (a .max) (a .k) w _ is _ (omega arith)
+    (whole (c .before .before .write-unit .ensures partLimit (a .max) (a .k) ready is) fits .0)
 
 pub answer-unit-spec : {M : Type 1} → statement M
 answer-unit-spec =
     tie.close
-    (tie.spec find-unit-requires (search needs) (search needs) returns returns-2 write-unit-requires (search needs)
+    (tie.spec find-unit-requires (search needs) (search needs) returns returns-2 write-unit-requires
+    (search needs)
     returns-3)

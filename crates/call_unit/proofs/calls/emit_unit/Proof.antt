@@ -21,7 +21,8 @@ unfolding translatedOf
 returns c =
     let pre = c .before .before .before .before .pre in
     let a = c .before .before .before .before .args in
-    refused-8 (λ (bs : List Block). unit hashMultiplier partLimit (a .max) bs (a .k)) _ (pre .0) _ (pre .1) _ _ (omega arith)
+    refused-8 (λ (bs : List Block). unit hashMultiplier partLimit (a .max) bs (a .k)) _ (pre .0) _
+    (pre .1) _ _ (omega arith)
 
 prepare-requires : tie.Need-prepare-requires
 prepare-requires c κs =
@@ -35,16 +36,21 @@ returns-2 : tie.Need-returns-2
 returns-2 c =
     let made = c .before .before .before .before .before .before in
     let prepared = made .before .before .before .before .before .prepare .ensures in
-    let start = made .before .before .before .before .before .before .before .before .before .before .before in
+    let start =
+    made .before .before .before .before .before .before .before .before .before .before
+    .before in
     let a = start .args in
     let f = a .file .now in
     made .answer-unit .ensures _
-    ∙ ap (λ (w : List ℕ). handOver (unit hashMultiplier partLimit (a .max) (blocksOf f) (a .k)) w (a .out .now))
+    ∙ ap (λ (w : List ℕ). handOver (unit hashMultiplier partLimit (a .max) (blocksOf f) (a .k)) w
+    (a .out .now))
     (c .before .before .clear .ensures ∙ cleared-same _ _ _ (prepared .same) (prepared .after))
-    ∙ cleared-call (λ (bs : List Block). unit hashMultiplier partLimit (a .max) bs (a .k)) f (start .pre .0) (a .n) (start .pre .1) (a .work .now) (a .out .now) (omega arith)
+    ∙ cleared-call (λ (bs : List Block). unit hashMultiplier partLimit (a .max) bs (a .k)) f
+    (start .pre .0) (a .n) (start .pre .1) (a .work .now) (a .out .now) (omega arith)
 
 pub emit-unit-spec : {M : Type 1} → statement M
 emit-unit-spec =
     tie.close
-    (tie.spec (search needs) returns prepare-requires answer-unit-requires (search needs) (search needs) (search needs)
+    (tie.spec (search needs) returns prepare-requires answer-unit-requires (search needs)
+    (search needs) (search needs)
     (search needs) returns-2)

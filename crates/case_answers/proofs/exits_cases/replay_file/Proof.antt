@@ -1,4 +1,5 @@
--- `replay_answers::exits_cases::replay_file` is safe and ends. The part of the buffer that it lends is what the reading of the file says it filled.
+-- `replay_answers::exits_cases::replay_file` is safe and ends. The part of the buffer that it lends
+-- is what the reading of the file says it filled.
 use mathlib.Core.Path.{sym}
 use lib.Seq.{length-take-le}
 use borrow.Author.Needs.{needs}
@@ -6,7 +7,8 @@ use Rattle.case_answers.proofs.exits_cases.replay_file.Statement.{state
 use Rattle.case_answers.proofs.exits_cases.replay_file.Tie as tie
 
 array-share-prefix-buffer : tie.Need-array-share-prefix-buffer
-array-share-prefix-buffer c = rw (c .before .n .given .1) at (c .before .before .before .before .file .ensures)
+array-share-prefix-buffer c =
+    rw (c .before .n .given .1) at (c .before .before .before .before .file .ensures)
 
 slice-aggregate-is-right : tie.Need-slice-aggregate-is-right
 slice-aggregate-is-right c = sym (length-take-le _ _ (array-share-prefix-buffer (c .before)))
@@ -14,6 +16,8 @@ slice-aggregate-is-right c = sym (length-take-le _ _ (array-share-prefix-buffer 
 pub replay-file-spec : {M : Type 1} → statement M
 replay-file-spec =
     tie.close
-    (tie.spec (search needs) (search needs) (search needs) array-share-prefix-buffer slice-aggregate-is-right
-    (search needs) (search needs) (search needs) (search needs) (search needs) (search needs) (search needs)
+    (tie.spec (search needs) (search needs) (search needs) array-share-prefix-buffer
+    slice-aggregate-is-right
+    (search needs) (search needs) (search needs) (search needs) (search needs) (search needs)
+    (search needs)
     (search needs) (search needs))

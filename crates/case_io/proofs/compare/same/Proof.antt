@@ -1,4 +1,5 @@
--- `case_io::compare::same` meets its contract. The places passed had equal numbers, so whether the lists are the same is whether they are from `i` on.
+-- `case_io::compare::same` meets its contract. The places passed had equal numbers, so whether the
+-- lists are the same is whether they are from `i` on.
 use Prim.Native.Nat.{_≤_, _-_}
 use mathlib.Core.Path.{_≡_, refl, _∙_, sym}
 use borrow.Author.Needs.{needs}
@@ -18,7 +19,8 @@ abbrev μ-loop : tie.MeasureT-loop
 μ-loop expected got i₀ i = length expected - i
 
 returns : tie.Need-returns Inv-loop μ-loop
-returns c = lengths-differ (c .before .args .expected .now) (c .before .args .got .now) (c .if1 .taken)
+returns c =
+    lengths-differ (c .before .args .expected .now) (c .before .args .got .now) (c .if1 .taken)
 
 loop-holds : tie.Need-loop-holds Inv-loop μ-loop
 loop-holds c = (c .if1 .left, search needs, refl)
@@ -30,8 +32,12 @@ returns-2 c =
 
 loop-again : tie.Need-loop-again Inv-loop μ-loop
 loop-again c =
-    let at = c .before .before .before .before .loop in
-    (search needs, search needs, at .inv .2 ∙ place-same _ _ (at .i) (search needs) (search needs) (c .if2 .left))
+    let at = c .before .before .before .before .loop in (
+      search needs,
+      search needs,
+      at .inv .2
+          ∙ place-same _ _ (at .i) (search needs) (search needs) (c .if2 .left),
+    )
 
 returns-3 : tie.Need-returns-3 Inv-loop μ-loop
 returns-3 c =
@@ -41,5 +47,6 @@ returns-3 c =
 pub same-spec : {M : Type 1} → statement M
 same-spec =
     tie.close
-    (tie.spec Inv-loop μ-loop returns loop-holds (search needs) (search needs) (search needs) (search needs) returns-2
+    (tie.spec Inv-loop μ-loop returns loop-holds (search needs) (search needs) (search needs)
+    (search needs) returns-2
     (search needs) (search needs) loop-again returns-3)

@@ -1,4 +1,5 @@
--- `case_io::report::numbers` is safe and ends. The measure is what is left of the list. `t3` is the space.
+-- `case_io::report::numbers` is safe and ends. The measure is what is left of the list. `t3` is the
+-- space.
 use Prim.Native.Nat.{_≤_, _-_}
 use mathlib.Core.Path.{_≡_}
 use borrow.Author.Needs.{needs}
@@ -15,5 +16,6 @@ abbrev μ-loop : tie.MeasureT-loop
 pub numbers-spec : {M : Type 1} → statement M
 numbers-spec =
     tie.close
-    (tie.spec Inv-loop μ-loop (search needs) (search needs) (search needs) (search needs) (search needs) (search needs)
+    (tie.spec Inv-loop μ-loop (search needs) (search needs) (search needs) (search needs)
+    (search needs) (search needs)
     (search needs) (search needs) (search needs) (search needs))

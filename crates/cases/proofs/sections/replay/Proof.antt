@@ -1,4 +1,5 @@
--- `cases::sections::replay` is safe and ends. The measure is how many vectors are left; no vector is counted as a mismatch twice, so the count fits.
+-- `cases::sections::replay` is safe and ends. The measure is how many vectors are left; no vector
+-- is counted as a mismatch twice, so the count fits.
 use Prim.Native.Nat.{_≤_, _-_}
 use mathlib.Core.Logic.{⊎-elim}
 use borrow.Author.Needs.{needs}
@@ -17,6 +18,8 @@ loop-again c = ⊎-elim (λ w. search needs) (λ w. search needs) (c .match2 .ca
 pub replay-spec : {M : Type 1} → statement M
 replay-spec =
     tie.close
-    (tie.spec Inv-loop μ-loop (search needs) (search needs) (search needs) (search needs) (search needs) (search needs)
-    (search needs) (search needs) (search needs) (search needs) (search needs) (search needs) (search needs)
+    (tie.spec Inv-loop μ-loop (search needs) (search needs) (search needs) (search needs)
+    (search needs) (search needs)
+    (search needs) (search needs) (search needs) (search needs) (search needs) (search needs)
+    (search needs)
     (search needs) loop-again (search needs) (search needs))

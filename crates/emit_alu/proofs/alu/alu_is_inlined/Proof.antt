@@ -13,7 +13,8 @@ returns c = λ thumb i op s rn. rw (eq-eqb _ _ (c .if1 .taken)) refl
 returns-2 : tie.Need-returns-2
 returns-2 c =
     let a = c .before .before .args in
-    λ thumb i op s rn. rw (ne-eqb _ _ (c .before .if1 .left)) (c .op2-is-native .ensures i ∙ alu-has i op s (a .rd) rn (a .op2))
+    λ thumb i op s rn. rw (ne-eqb _ _ (c .before .if1 .left))
+    (c .op2-is-native .ensures i ∙ alu-has i op s (a .rd) rn (a .op2))
 
 pub alu-is-inlined-spec : {M : Type 1} → statement M
 alu-is-inlined-spec = tie.close (tie.spec (search needs) returns returns-2)

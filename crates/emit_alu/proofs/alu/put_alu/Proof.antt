@@ -1,4 +1,5 @@
--- `emit_alu::alu::put_alu` meets its contract: what its calls write, one after another. Assumes nothing.
+-- `emit_alu::alu::put_alu` meets its contract: what its calls write, one after another. Assumes
+-- nothing.
 use mathlib.Core.Path.{refl}
 use Rattle.emit_alu.proofs.Texts.{one-u}
 use Rattle.emit_operands.proofs.Operands.{zero-text as zero-u}
@@ -27,7 +28,9 @@ returns-3 c =
     let c2 = c .before .before in
     let c1 = c2 .before .before .before .before in
     let a = c1 .before .before .before .args in
-    rw (c1 .enum-told3 .given .1) (c2 .put-sum .ensures (un compl (operandOf (a .pc) (a .op2) .0)) (lit udec 1) (λ k. refl) one-u)
+    rw (c1 .enum-told3 .given .1)
+    (c2 .put-sum .ensures (un compl (operandOf (a .pc) (a .op2) .0)) (lit udec 1) (λ k. refl)
+    one-u)
 
 returns-4 : tie.Need-returns-4
 returns-4 c =
@@ -40,21 +43,25 @@ returns-5 c =
     let c2 = c .before .before in
     let c1 = c2 .before .before .before .before in
     let a = c1 .before .before .before .args in
-    rw (c1 .enum-told5 .given .1) (c2 .put-sum2 .ensures (operandOf (a .pc) (a .op2) .0) (lit udec 0) (λ k. refl) zero-u)
+    rw (c1 .enum-told5 .given .1)
+    (c2 .put-sum2 .ensures (operandOf (a .pc) (a .op2) .0) (lit udec 0) (λ k. refl) zero-u)
 
 returns-6 : tie.Need-returns-6
 returns-6 c =
     let c2 = c .before .before in
     let c1 = c2 .before .before .before .before in
     let a = c1 .before .before .before .args in
-    rw (c1 .enum-told6 .given .1) (c2 .put-sum3 .ensures (operandOf (a .pc) (a .op2) .0) carryIn (λ k. refl) carry-in-text)
+    rw (c1 .enum-told6 .given .1)
+    (c2 .put-sum3 .ensures (operandOf (a .pc) (a .op2) .0) carryIn (λ k. refl) carry-in-text)
 
 returns-7 : tie.Need-returns-7
 returns-7 c =
     let c2 = c .before .before in
     let c1 = c2 .before .before .before .before in
     let a = c1 .before .before .before .args in
-    rw (c1 .enum-told7 .given .1) (c2 .put-sum4 .ensures (un compl (operandOf (a .pc) (a .op2) .0)) carryIn (λ k. refl) carry-in-text)
+    rw (c1 .enum-told7 .given .1)
+    (c2 .put-sum4 .ensures (un compl (operandOf (a .pc) (a .op2) .0)) carryIn (λ k. refl)
+    carry-in-text)
 
 returns-8 : tie.Need-returns-8
 returns-8 c =
@@ -79,14 +86,17 @@ returns-11 c =
     let c2 = c .before .before in
     let c1 = c2 .before .before .before .before in
     let a = c1 .before .before .before .args in
-    rw (c1 .enum-told11 .given .1) (c2 .put-sum5 .ensures (un compl (operandOf (a .pc) (a .op2) .0)) (lit udec 1) (λ k. refl) one-u)
+    rw (c1 .enum-told11 .given .1)
+    (c2 .put-sum5 .ensures (un compl (operandOf (a .pc) (a .op2) .0)) (lit udec 1) (λ k. refl)
+    one-u)
 
 returns-12 : tie.Need-returns-12
 returns-12 c =
     let c2 = c .before .before in
     let c1 = c2 .before .before .before .before in
     let a = c1 .before .before .before .args in
-    rw (c1 .enum-told12 .given .1) (c2 .put-sum6 .ensures (operandOf (a .pc) (a .op2) .0) (lit udec 0) (λ k. refl) zero-u)
+    rw (c1 .enum-told12 .given .1)
+    (c2 .put-sum6 .ensures (operandOf (a .pc) (a .op2) .0) (lit udec 0) (λ k. refl) zero-u)
 
 returns-13 : tie.Need-returns-13
 returns-13 c =
@@ -115,17 +125,30 @@ returns-16 c =
 pub put-alu-spec : {M : Type 1} → statement M
 put-alu-spec =
     tie.close
-    (tie.spec (search needs) (search needs) (search needs) (search needs) (search needs) (search needs) (search needs)
-    (search needs) (search needs) (search needs) (search needs) (search needs) (search needs) (search needs)
-    (search needs) (search needs) (search needs) (search needs) (search needs) (search needs) (search needs)
-    (search needs) (search needs) (search needs) (search needs) (search needs) (search needs) (search needs)
-    (search needs) (search needs) (search needs) (search needs) (search needs) (search needs) (search needs)
-    (search needs) (search needs) (search needs) (search needs) (search needs) (search needs) (search needs)
-    (search needs) (search needs) (search needs) (search needs) (search needs) (search needs) (search needs)
-    (search needs) (search needs) (search needs) (search needs) (search needs) (search needs) (search needs)
-    (λ c. kept (returns c)) returns (λ c. kept (returns-2 c)) returns-2 (λ c. kept (returns-3 c)) returns-3
-    (λ c. kept (returns-4 c)) returns-4 (λ c. kept (returns-5 c)) returns-5 (λ c. kept (returns-6 c)) returns-6
-    (λ c. kept (returns-7 c)) returns-7 (λ c. kept (returns-8 c)) returns-8 (λ c. kept (returns-9 c)) returns-9
-    (λ c. kept (returns-10 c)) returns-10 (λ c. kept (returns-11 c)) returns-11 (λ c. kept (returns-12 c)) returns-12
-    (λ c. kept (returns-13 c)) returns-13 (λ c. kept (returns-14 c)) returns-14 (λ c. kept (returns-15 c)) returns-15
+    (tie.spec (search needs) (search needs) (search needs) (search needs) (search needs)
+    (search needs) (search needs)
+    (search needs) (search needs) (search needs) (search needs) (search needs) (search needs)
+    (search needs)
+    (search needs) (search needs) (search needs) (search needs) (search needs) (search needs)
+    (search needs)
+    (search needs) (search needs) (search needs) (search needs) (search needs) (search needs)
+    (search needs)
+    (search needs) (search needs) (search needs) (search needs) (search needs) (search needs)
+    (search needs)
+    (search needs) (search needs) (search needs) (search needs) (search needs) (search needs)
+    (search needs)
+    (search needs) (search needs) (search needs) (search needs) (search needs) (search needs)
+    (search needs)
+    (search needs) (search needs) (search needs) (search needs) (search needs) (search needs)
+    (search needs)
+    (λ c. kept (returns c)) returns (λ c. kept (returns-2 c)) returns-2 (λ c. kept (returns-3 c))
+    returns-3
+    (λ c. kept (returns-4 c)) returns-4 (λ c. kept (returns-5 c)) returns-5
+    (λ c. kept (returns-6 c)) returns-6
+    (λ c. kept (returns-7 c)) returns-7 (λ c. kept (returns-8 c)) returns-8
+    (λ c. kept (returns-9 c)) returns-9
+    (λ c. kept (returns-10 c)) returns-10 (λ c. kept (returns-11 c)) returns-11
+    (λ c. kept (returns-12 c)) returns-12
+    (λ c. kept (returns-13 c)) returns-13 (λ c. kept (returns-14 c)) returns-14
+    (λ c. kept (returns-15 c)) returns-15
     (λ c. kept (returns-16 c)) returns-16)

@@ -1,4 +1,5 @@
--- `emit_alu::logical::put_flags` meets its contract: what its calls write, one after another. Assumes nothing.
+-- `emit_alu::logical::put_flags` meets its contract: what its calls write, one after another.
+-- Assumes nothing.
 use mathlib.Core.Path.{refl}
 use borrow.Author.Needs.{needs}
 use Rattle.base_text.proofs.Laws.{none, seq, said, kept}
@@ -19,4 +20,5 @@ returns-2 c =
 pub put-flags-spec : {M : Type 1} → statement M
 put-flags-spec =
     tie.close
-    (tie.spec (search needs) (search needs) (search needs) (λ c. kept (returns c)) returns returns-2)
+    (tie.spec (search needs) (search needs) (search needs) (λ c. kept (returns c)) returns
+    returns-2)

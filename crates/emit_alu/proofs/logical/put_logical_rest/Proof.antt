@@ -1,4 +1,5 @@
--- `emit_alu::logical::put_logical_rest` meets its contract: what its calls write, one after another. Assumes nothing.
+-- `emit_alu::logical::put_logical_rest` meets its contract: what its calls write, one after
+-- another. Assumes nothing.
 use Rattle.emit_alu.proofs.Texts.{rows-append}
 use mathlib.Core.Bool.{cond}
 use mathlib.Core.List.{[], _∷_}
@@ -18,7 +19,9 @@ returns c =
     let c1 = c2 .before .before .before .before in
     let a = c1 .before .before .before .args in
     said (seq (c1 .put-flags .ensures) (c2 .put-result .ensures))
-    (rows-append (cond (a .s) (run f-nz (v32 x-r) ∷ logicalC (operandOf (a .pc) (a .op2) .1)) []) (result (a .op) (a .rd) ∷ []) [])
+    (rows-append (cond (a .s) (run f-nz (v32 x-r) ∷ logicalC (operandOf (a .pc) (a .op2) .1)) [])
+    (result (a .op) (a .rd) ∷ []) [])
 
 pub put-logical-rest-spec : {M : Type 1} → statement M
-put-logical-rest-spec = tie.close (tie.spec (search needs) (search needs) (λ c. kept (returns c)) returns)
+put-logical-rest-spec =
+    tie.close (tie.spec (search needs) (search needs) (λ c. kept (returns c)) returns)

@@ -1,4 +1,5 @@
--- `emit_alu::logical::put_one` meets its contract: what its calls write, one after another. Assumes nothing.
+-- `emit_alu::logical::put_one` meets its contract: what its calls write, one after another. Assumes
+-- nothing.
 use mathlib.Core.Path.{refl}
 use borrow.Author.Needs.{needs}
 use Rattle.base_text.proofs.Laws.{seq, said, kept}
@@ -11,9 +12,12 @@ returns c =
     let c3 = c4 .before .before .before .before in
     let c2 = c3 .before .before .before .before in
     let c1 = c2 .before .before .before .before in
-    said (seq (c1 .put .ensures) (seq (c2 .put-op2-value .ensures) (seq (c3 .put2 .ensures) (c4 .put-logical-rest .ensures)))) refl
+    said (seq (c1 .put .ensures)
+    (seq (c2 .put-op2-value .ensures)
+    (seq (c3 .put2 .ensures) (c4 .put-logical-rest .ensures)))) refl
 
 pub put-one-spec : {M : Type 1} → statement M
 put-one-spec =
     tie.close
-    (tie.spec (search needs) (search needs) (search needs) (search needs) (λ c. kept (returns c)) returns)
+    (tie.spec (search needs) (search needs) (search needs) (search needs) (λ c. kept (returns c))
+    returns)

@@ -1,4 +1,5 @@
--- `emit_alu::logical::put_result` meets its contract: what its calls write, one after another. Assumes nothing.
+-- `emit_alu::logical::put_result` meets its contract: what its calls write, one after another.
+-- Assumes nothing.
 use mathlib.Core.Path.{refl, sym, _∙_}
 use borrow.Author.Needs.{needs}
 use Rattle.base_text.proofs.Laws.{seq, said, kept}
@@ -18,10 +19,12 @@ returns-2 c =
     let c3 = c4 .before .before .before .before .before in
     let c2 = c3 .before .before .before in
     let c1 = c2 .before in
-    rw (sym (c1 .is-compare .ensures) ∙ c2 .if1 .left) (said (seq (c3 .put-then-dec .ensures) (c4 .put2 .ensures)) refl)
+    rw (sym (c1 .is-compare .ensures) ∙ c2 .if1 .left)
+    (said (seq (c3 .put-then-dec .ensures) (c4 .put2 .ensures)) refl)
 
 pub put-result-spec : {M : Type 1} → statement M
 put-result-spec =
     tie.close
-    (tie.spec (search needs) (search needs) (search needs) (λ c. kept (returns c)) returns (search needs) (search needs)
+    (tie.spec (search needs) (search needs) (search needs) (λ c. kept (returns c)) returns
+    (search needs) (search needs)
     (search needs) (search needs) (λ c. kept (returns-2 c)) returns-2)

@@ -1,4 +1,5 @@
--- `emit_alu::logical::put_two` meets its contract: what its calls write, one after another. Assumes nothing.
+-- `emit_alu::logical::put_two` meets its contract: what its calls write, one after another. Assumes
+-- nothing.
 use mathlib.Core.Path.{refl}
 use borrow.Author.Needs.{needs}
 use Rattle.base_text.proofs.Laws.{seq, said, kept}
@@ -13,10 +14,15 @@ returns c =
     let c3 = c4 .before .before .before .before in
     let c2 = c3 .before .before .before .before in
     let c1 = c2 .before .before .before .before in
-    said (seq (c1 .put .ensures) (seq (c2 .put-reg .ensures) (seq (c3 .put2 .ensures) (seq (c4 .put-op2-value .ensures) (seq (c5 .put3 .ensures) (c6 .put-logical-rest .ensures)))))) refl
+    said (seq (c1 .put .ensures)
+    (seq (c2 .put-reg .ensures)
+    (seq (c3 .put2 .ensures)
+    (seq (c4 .put-op2-value .ensures)
+    (seq (c5 .put3 .ensures) (c6 .put-logical-rest .ensures)))))) refl
 
 pub put-two-spec : {M : Type 1} → statement M
 put-two-spec =
     tie.close
-    (tie.spec (search needs) (search needs) (search needs) (search needs) (search needs) (search needs) (search needs)
+    (tie.spec (search needs) (search needs) (search needs) (search needs) (search needs)
+    (search needs) (search needs)
     (search needs) (λ c. kept (returns c)) returns)

@@ -7,7 +7,8 @@ use Rattle.emit_alu.proofs.mul.mul_is_inlined.Statement.{statement}
 use Rattle.emit_alu.proofs.mul.mul_is_inlined.Tie as tie
 
 returns : tie.Need-returns
-returns c = let rd = c .args .rd in λ thumb i acc s rn rs rm. cond-has (eqb rd 15) (apart (mulBody acc s rd rn rs rm))
+returns c = let rd = c .args .rd in
+    λ thumb i acc s rn rs rm. cond-has (eqb rd 15) (apart (mulBody acc s rd rn rs rm))
 
 pub mul-is-inlined-spec : {M : Type 1} → statement M
 mul-is-inlined-spec = tie.close (tie.spec returns)

@@ -1,4 +1,5 @@
--- `emit_alu::mul::put_mul` meets its contract: what its calls write, one after another. Assumes nothing.
+-- `emit_alu::mul::put_mul` meets its contract: what its calls write, one after another. Assumes
+-- nothing.
 use Rattle.emit_alu.proofs.Texts.{mul-text}
 use mathlib.Core.List.{[]}
 use borrow.Author.Needs.{needs}
@@ -13,9 +14,12 @@ returns c =
     let c2 = c3 .before .before .before .before in
     let c1 = c2 .before .before .before .before in
     let a = c1 .before .before .before .args in
-    said (seq (c1 .put-product .ensures) (seq (c2 .put-more .ensures) (seq (c3 .put-low .ensures) (c4 .put-nz .ensures)))) (mul-text (a .acc) (a .s) (a .rd) (a .rn) (a .rs) (a .rm) [])
+    said (seq (c1 .put-product .ensures)
+    (seq (c2 .put-more .ensures) (seq (c3 .put-low .ensures) (c4 .put-nz .ensures))))
+    (mul-text (a .acc) (a .s) (a .rd) (a .rn) (a .rs) (a .rm) [])
 
 pub put-mul-spec : {M : Type 1} → statement M
 put-mul-spec =
     tie.close
-    (tie.spec (search needs) (search needs) (search needs) (search needs) (λ c. kept (returns c)) returns)
+    (tie.spec (search needs) (search needs) (search needs) (search needs) (λ c. kept (returns c))
+    returns)

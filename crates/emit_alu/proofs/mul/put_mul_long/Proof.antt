@@ -1,4 +1,5 @@
--- `emit_alu::mul::put_mul_long` meets its contract: what its calls write, one after another. Assumes nothing.
+-- `emit_alu::mul::put_mul_long` meets its contract: what its calls write, one after another.
+-- Assumes nothing.
 use Rattle.emit_alu.proofs.Texts.{mul-long-text}
 use mathlib.Core.List.{[]}
 use borrow.Author.Needs.{needs}
@@ -13,9 +14,12 @@ returns c =
     let c2 = c3 .before .before .before .before in
     let c1 = c2 .before .before .before .before in
     let a = c1 .before .before .before .args in
-    said (seq (c1 .put-long-product .ensures) (seq (c2 .put-long-more .ensures) (seq (c3 .put-halves .ensures) (c4 .put-nz64 .ensures)))) (mul-long-text (a .signed) (a .acc) (a .s) (a .hi) (a .lo) (a .rs) (a .rm) [])
+    said (seq (c1 .put-long-product .ensures)
+    (seq (c2 .put-long-more .ensures) (seq (c3 .put-halves .ensures) (c4 .put-nz64 .ensures))))
+    (mul-long-text (a .signed) (a .acc) (a .s) (a .hi) (a .lo) (a .rs) (a .rm) [])
 
 pub put-mul-long-spec : {M : Type 1} → statement M
 put-mul-long-spec =
     tie.close
-    (tie.spec (search needs) (search needs) (search needs) (search needs) (λ c. kept (returns c)) returns)
+    (tie.spec (search needs) (search needs) (search needs) (search needs) (λ c. kept (returns c))
+    returns)

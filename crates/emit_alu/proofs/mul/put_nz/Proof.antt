@@ -1,4 +1,5 @@
--- `emit_alu::mul::put_nz` meets its contract: what its calls write, one after another. Assumes nothing.
+-- `emit_alu::mul::put_nz` meets its contract: what its calls write, one after another. Assumes
+-- nothing.
 use mathlib.Core.Path.{refl}
 use borrow.Author.Needs.{needs}
 use Rattle.base_text.proofs.Laws.{none, said, kept}
@@ -16,4 +17,5 @@ returns-2 c =
     rw (c .if1 .left) (none (search needs) (search needs))
 
 pub put-nz-spec : {M : Type 1} → statement M
-put-nz-spec = tie.close (tie.spec (search needs) (search needs) (λ c. kept (returns c)) returns returns-2)
+put-nz-spec =
+    tie.close (tie.spec (search needs) (search needs) (λ c. kept (returns c)) returns returns-2)

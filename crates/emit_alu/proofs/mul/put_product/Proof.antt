@@ -1,4 +1,5 @@
--- `emit_alu::mul::put_product` meets its contract: what its calls write, one after another. Assumes nothing.
+-- `emit_alu::mul::put_product` meets its contract: what its calls write, one after another. Assumes
+-- nothing.
 use mathlib.Core.Path.{refl}
 use borrow.Author.Needs.{needs}
 use Rattle.base_text.proofs.Laws.{seq, said, kept}
@@ -10,10 +11,12 @@ returns c =
     let c3 = c .before .before in
     let c2 = c3 .before .before .before .before .before in
     let c1 = c2 .before .before .before .before .before in
-    said (seq (c1 .put-then-dec .ensures) (seq (c2 .put-then-dec2 .ensures) (c3 .put .ensures))) refl
+    said (seq (c1 .put-then-dec .ensures) (seq (c2 .put-then-dec2 .ensures) (c3 .put .ensures)))
+    refl
 
 pub put-product-spec : {M : Type 1} → statement M
 put-product-spec =
     tie.close
-    (tie.spec (search needs) (search needs) (search needs) (search needs) (search needs) (search needs)
+    (tie.spec (search needs) (search needs) (search needs) (search needs) (search needs)
+    (search needs)
     (λ c. kept (returns c)) returns)

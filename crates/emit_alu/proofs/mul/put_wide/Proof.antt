@@ -1,4 +1,5 @@
--- `emit_alu::mul::put_wide` meets its contract: what its calls write, one after another. Assumes nothing.
+-- `emit_alu::mul::put_wide` meets its contract: what its calls write, one after another. Assumes
+-- nothing.
 use mathlib.Core.Path.{refl}
 use borrow.Author.Needs.{needs}
 use Rattle.base_text.proofs.Laws.{seq, said, kept}
@@ -22,5 +23,6 @@ returns-2 c =
 pub put-wide-spec : {M : Type 1} → statement M
 put-wide-spec =
     tie.close
-    (tie.spec (search needs) (search needs) (search needs) (search needs) (λ c. kept (returns c)) returns (search needs)
+    (tie.spec (search needs) (search needs) (search needs) (search needs) (λ c. kept (returns c))
+    returns (search needs)
     (search needs) (search needs) (search needs) (λ c. kept (returns-2 c)) returns-2)

@@ -1,4 +1,5 @@
--- `emit_alu::sum::put_reversed` meets its contract: what its calls write, one after another. Assumes nothing.
+-- `emit_alu::sum::put_reversed` meets its contract: what its calls write, one after another.
+-- Assumes nothing.
 use mathlib.Core.Path.{refl}
 use Rattle.emit_alu.proofs.Texts.{sum-of}
 use Rattle.lower_forms.specs.Operands.{regOf, operandOf}
@@ -21,8 +22,13 @@ returns c =
     let c1 = c2 .before .before .before .before in
     let a = c1 .before .before .before .before .args in
     let e = regOf (a .pc) (a .rn) in
-    λ z q. said (seq (c1 .put-before .ensures) (seq (c2 .put-op2-value .ensures) (seq (c3 .put-between .ensures) (seq (c4 .put .ensures) (seq (c5 .put-reg .ensures) (c6 .put-sum-rest .ensures))))))
-    (sum-of (a .op) (a .s) (a .rd) (operandOf (a .pc) (a .op2) .0) (un compl e) z (text "~" ▸ exprText e) (raw (a .carry .now)) (λ k. refl) q [])
+    λ z q. said
+    (seq (c1 .put-before .ensures)
+    (seq (c2 .put-op2-value .ensures)
+    (seq (c3 .put-between .ensures)
+    (seq (c4 .put .ensures) (seq (c5 .put-reg .ensures) (c6 .put-sum-rest .ensures))))))
+    (sum-of (a .op) (a .s) (a .rd) (operandOf (a .pc) (a .op2) .0) (un compl e) z
+    (text "~" ▸ exprText e) (raw (a .carry .now)) (λ k. refl) q [])
 
 same-length : tie.Need-same-length
 same-length c =
@@ -32,10 +38,14 @@ same-length c =
     let c3 = c4 .before .before .before .before .before in
     let c2 = c3 .before .before .before .before in
     let c1 = c2 .before .before .before .before in
-    kept (seq (c1 .put-before .ensures) (seq (c2 .put-op2-value .ensures) (seq (c3 .put-between .ensures) (seq (c4 .put .ensures) (seq (c5 .put-reg .ensures) (c6 .put-sum-rest .ensures))))))
+    kept (seq (c1 .put-before .ensures)
+    (seq (c2 .put-op2-value .ensures)
+    (seq (c3 .put-between .ensures)
+    (seq (c4 .put .ensures) (seq (c5 .put-reg .ensures) (c6 .put-sum-rest .ensures))))))
 
 pub put-reversed-spec : {M : Type 1} → statement M
 put-reversed-spec =
     tie.close
-    (tie.spec (search needs) (search needs) (search needs) (search needs) (search needs) (search needs) (search needs)
+    (tie.spec (search needs) (search needs) (search needs) (search needs) (search needs)
+    (search needs) (search needs)
     same-length returns)

@@ -1,4 +1,5 @@
--- `emit_alu::sum::put_sum` meets its contract: what its calls write, one after another. Assumes nothing.
+-- `emit_alu::sum::put_sum` meets its contract: what its calls write, one after another. Assumes
+-- nothing.
 use Rattle.emit_alu.proofs.Texts.{sum-of}
 use Rattle.lower_forms.specs.Operands.{regOf, operandOf}
 use Rattle.c_tree.specs.Print.{exprText}
@@ -18,8 +19,13 @@ returns c =
     let c2 = c3 .before .before .before .before in
     let c1 = c2 .before .before .before .before in
     let a = c1 .before .before .before .before .before .args in
-    λ y z p q. said (seq (c1 .put-before .ensures) (seq (c2 .put-reg .ensures) (seq (c3 .put-between .ensures) (seq (c4 .put .ensures) (seq (c5 .put-op2-value .ensures) (c6 .put-sum-rest .ensures))))))
-    (sum-of (a .op) (a .s) (a .rd) (regOf (a .pc) (a .rn)) y z (raw (a .t .now) ▸ exprText (operandOf (a .pc) (a .op2) .0)) (raw (a .carry .now)) p q [])
+    λ y z p q. said
+    (seq (c1 .put-before .ensures)
+    (seq (c2 .put-reg .ensures)
+    (seq (c3 .put-between .ensures)
+    (seq (c4 .put .ensures) (seq (c5 .put-op2-value .ensures) (c6 .put-sum-rest .ensures))))))
+    (sum-of (a .op) (a .s) (a .rd) (regOf (a .pc) (a .rn)) y z
+    (raw (a .t .now) ▸ exprText (operandOf (a .pc) (a .op2) .0)) (raw (a .carry .now)) p q [])
 
 same-length : tie.Need-same-length
 same-length c =
@@ -29,10 +35,14 @@ same-length c =
     let c3 = c4 .before .before .before .before in
     let c2 = c3 .before .before .before .before in
     let c1 = c2 .before .before .before .before in
-    kept (seq (c1 .put-before .ensures) (seq (c2 .put-reg .ensures) (seq (c3 .put-between .ensures) (seq (c4 .put .ensures) (seq (c5 .put-op2-value .ensures) (c6 .put-sum-rest .ensures))))))
+    kept (seq (c1 .put-before .ensures)
+    (seq (c2 .put-reg .ensures)
+    (seq (c3 .put-between .ensures)
+    (seq (c4 .put .ensures) (seq (c5 .put-op2-value .ensures) (c6 .put-sum-rest .ensures))))))
 
 pub put-sum-spec : {M : Type 1} → statement M
 put-sum-spec =
     tie.close
-    (tie.spec (search needs) (search needs) (search needs) (search needs) (search needs) (search needs) same-length
+    (tie.spec (search needs) (search needs) (search needs) (search needs) (search needs)
+    (search needs) same-length
     returns)

@@ -1,4 +1,5 @@
--- `emit_alu::sum::put_sum_rest` meets its contract: what its calls write, one after another. Assumes nothing.
+-- `emit_alu::sum::put_sum_rest` meets its contract: what its calls write, one after another.
+-- Assumes nothing.
 use mathlib.Core.Path.{refl}
 use borrow.Author.Needs.{needs}
 use Rattle.base_text.proofs.Laws.{seq, said, kept}
@@ -11,9 +12,11 @@ returns c =
     let c3 = c4 .before .before .before .before in
     let c2 = c3 .before .before .before .before in
     let c1 = c2 .before .before .before .before in
-    said (seq (c1 .put-between .ensures) (seq (c2 .put .ensures) (seq (c3 .put-after .ensures) (c4 .put-result .ensures)))) refl
+    said (seq (c1 .put-between .ensures)
+    (seq (c2 .put .ensures) (seq (c3 .put-after .ensures) (c4 .put-result .ensures)))) refl
 
 pub put-sum-rest-spec : {M : Type 1} → statement M
 put-sum-rest-spec =
     tie.close
-    (tie.spec (search needs) (search needs) (search needs) (search needs) (λ c. kept (returns c)) returns)
+    (tie.spec (search needs) (search needs) (search needs) (search needs) (λ c. kept (returns c))
+    returns)

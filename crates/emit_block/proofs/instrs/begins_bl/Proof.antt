@@ -20,13 +20,17 @@ use Rattle.emit_block.proofs.instrs.begins_bl.Statement.{statement}
 use Rattle.emit_block.proofs.instrs.begins_bl.Tie as tie
 
 -- an operation that is no ThumbBlHigh, number 6, makes no pair
-alone-op : (high low : Op) (addr : ℕ) → OneOf (others 15 (6 ∷ [])) (tagOf the-type high) → fuseOps high low addr ≡ Fused.Nothing
-alone-op high low addr o = arm enum (λ x. fuseOps x low addr ≡ Fused.Nothing) (others 15 (6 ∷ [])) high o (search depth 16)
+alone-op : (high low : Op) (addr : ℕ) → OneOf (others 15 (6 ∷ [])) (tagOf the-type high)
+    → fuseOps high low addr ≡ Fused.Nothing
+alone-op high low addr o =
+    arm enum (λ x. fuseOps x low addr ≡ Fused.Nothing) (others 15 (6 ∷ [])) high o (search depth 16)
 
-alone : (x : Instr) (ys : List TimedInstr) → OneOf (others 15 (6 ∷ [])) (tagOf the-type (x .op)) → nextOf x ys ≡ Next.Alone
+alone : (x : Instr) (ys : List TimedInstr) → OneOf (others 15 (6 ∷ [])) (tagOf the-type (x .op))
+    → nextOf x ys ≡ Next.Alone
 unfolding fuse
 alone x [] o = refl
-alone x (y ∷ ys) o = ap (λ (z : Fused). fusedNext z (y .cost)) (alone-op (x .op) (y .instr .op) (y .instr .addr) o)
+alone x (y ∷ ys) o =
+    ap (λ (z : Fused). fusedNext z (y .cost)) (alone-op (x .op) (y .instr .op) (y .instr .addr) o)
 
 returns : tie.Need-returns
 returns c = λ e. absurd (true≢false e)

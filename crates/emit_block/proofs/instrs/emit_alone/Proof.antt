@@ -27,9 +27,14 @@ returns c =
     λ ks b first here at alone small few.
     let fs : List Form = formsFrom (now (v .file)) (v .block) first (suc (v .j)) (s .cycles) .0 in
     let step =
-    same-form _ (emitInstr (v .block .thumb) (region (v .block .addr)) (v .cycles) (v .x)) (ap (λ (n : ℕ). emitInstr (v .block .thumb) n (v .cycles) (v .x)) (c1 .region-of .ensures))
-    (c2 .emit-instr .ensures ks b (v .j) fs (empty-after (now (v .file)) (v .block .thumb) (v .block .count) first (v .block .addr) (v .j) (region (v .block .addr)) (s .cycles) (at-start .pre .2)) (here .body .addr) (omega arith) (c0 .branch-inside .ensures ks (here .stands))) in
-    alone-recorded (now (v .file)) (v .block) first ks b (v .j) (v .cycles) (v .x) (now (v .out)) (v .at) (c2 .emit-instr .last .0) s at alone small (step .cycles) (step .onward)
+    same-form _ (emitInstr (v .block .thumb) (region (v .block .addr)) (v .cycles) (v .x))
+    (ap (λ (n : ℕ). emitInstr (v .block .thumb) n (v .cycles) (v .x)) (c1 .region-of .ensures))
+    (c2 .emit-instr .ensures ks b (v .j) fs
+    (empty-after (now (v .file)) (v .block .thumb) (v .block .count) first (v .block .addr)
+    (v .j) (region (v .block .addr)) (s .cycles) (at-start .pre .2)) (here .body .addr)
+    (omega arith) (c0 .branch-inside .ensures ks (here .stands))) in
+    alone-recorded (now (v .file)) (v .block) first ks b (v .j) (v .cycles) (v .x) (now (v .out))
+    (v .at) (c2 .emit-instr .last .0) s at alone small (step .cycles) (step .onward)
 
 pub emit-alone-spec : {M : Type 1} → statement M
 emit-alone-spec =

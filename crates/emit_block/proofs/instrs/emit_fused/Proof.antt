@@ -15,11 +15,20 @@ use Rattle.emit_block.proofs.instrs.emit_fused.Statement.{statement}
 use Rattle.emit_block.proofs.instrs.emit_fused.Tie as tie
 
 returns : tie.Need-returns
-returns c = let v = c .before .before .before .before .before .before .before .before .before .args in
+returns c =
+    let v = c .before .before .before .before .before .before .before .before .before .args in
     λ ks b j fs s e.
     same-from _ (code-native ks b j (emitPair (v .cycles) (v .target) (v .ret)) fs)
-    (subst (λ (a : ℕ). Onward (now (v .out)) (v .at) (nativeText ks a (Owner.native (bodyKey b)) (emitPair (v .cycles) (v .target) (v .ret)) (codeFrom ks b (j + 2) fs)) end (c .before .before .emit-pair .last .0) (c .before .before .emit-pair .result)) (sym e)
-    (start (c .before .before .emit-pair .ensures ks (Owner.native (bodyKey b)) (codeFrom ks b (j + 2) fs) (ap (λ (k : ℕ). among k ks) (sym (c .before .before .before .before .before .set-bit0 .ensures)) ∙ c .before .before .before .before .is-inside .ensures ks s))))
+    (subst (λ (a : ℕ). Onward (now (v .out)) (v .at)
+    (nativeText ks a (Owner.native (bodyKey b)) (emitPair (v .cycles) (v .target) (v .ret))
+    (codeFrom ks b (j + 2) fs)) end (c .before .before .emit-pair .last .0)
+    (c .before .before .emit-pair .result)) (sym e)
+    (start (c .before .before .emit-pair .ensures ks (Owner.native (bodyKey b))
+    (codeFrom ks b (j + 2) fs)
+    (ap (λ (k : ℕ). among k ks)
+    (sym (c .before .before .before .before .before .set-bit0 .ensures))
+    ∙ c .before .before .before .before .is-inside .ensures ks s))))
 
 pub emit-fused-spec : {M : Type 1} → statement M
-emit-fused-spec = tie.close (tie.spec (search needs) (search needs) (search needs) (search needs) returns)
+emit-fused-spec =
+    tie.close (tie.spec (search needs) (search needs) (search needs) (search needs) returns)

@@ -8,10 +8,15 @@ use Rattle.emit_block.proofs.instrs.fused_next.Statement.{statement}
 use Rattle.emit_block.proofs.instrs.fused_next.Tie as tie
 
 returns : tie.Need-returns
-returns c = sym (ap (λ (o : Fused). fusedNext o (c .before .before .before .before .args .y .cost)) (sym (c .before .before .before .fuse-thumb-bl .ensures) ∙ c .before .target .given .1))
+returns c =
+    sym (ap (λ (o : Fused). fusedNext o (c .before .before .before .before .args .y .cost))
+    (sym (c .before .before .before .fuse-thumb-bl .ensures) ∙ c .before .target .given .1))
 
 returns-2 : tie.Need-returns-2
-returns-2 c = sym (ap (λ (o : Fused). fusedNext o (c .before .before .before .args .y .cost)) (sym (c .before .before .fuse-thumb-bl .ensures) ∙ c .enum-told .given .1))
+returns-2 c =
+    sym (ap (λ (o : Fused). fusedNext o (c .before .before .before .args .y .cost))
+    (sym (c .before .before .fuse-thumb-bl .ensures) ∙ c .enum-told .given .1))
 
 pub fused-next-spec : {M : Type 1} → statement M
-fused-next-spec = tie.close (tie.spec (search needs) (search needs) (search needs) returns returns-2)
+fused-next-spec =
+    tie.close (tie.spec (search needs) (search needs) (search needs) returns returns-2)

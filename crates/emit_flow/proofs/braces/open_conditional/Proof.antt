@@ -1,4 +1,5 @@
--- `emit_flow::braces::open_conditional` meets its contract: what its calls write, one after another. Assumes nothing.
+-- `emit_flow::braces::open_conditional` meets its contract: what its calls write, one after
+-- another. Assumes nothing.
 use mathlib.Core.Path.{refl}
 use borrow.Author.Needs.{needs}
 use Rattle.base_text.specs.Digits.{numeral}
@@ -14,4 +15,5 @@ returns c =
     said (c1 .put .ensures) refl
 
 pub open-conditional-spec : {M : Type 1} → statement M
-open-conditional-spec = tie.close (tie.spec (search needs) (search needs) (λ c. kept (returns c)) returns)
+open-conditional-spec =
+    tie.close (tie.spec (search needs) (search needs) (λ c. kept (returns c)) returns)

@@ -1,4 +1,5 @@
--- `emit_flow::exits::branch_always` meets its contract: what its calls write, one after another. Assumes nothing.
+-- `emit_flow::exits::branch_always` meets its contract: what its calls write, one after another.
+-- Assumes nothing.
 use borrow.Author.Needs.{needs}
 use Rattle.emit_flow.proofs.Pieces.{jumped}
 use Rattle.base_text.proofs.Laws.{seq, said}
@@ -12,7 +13,10 @@ returns c =
     let c2 = c3 .before .before .before .before in
     let c1 = c2 .before .before .before .before in
     let v = c1 .before .before .before .args in
-    λ ks o d h. said (seq (c1 .flush-ticks .ensures) (seq (c2 .set-link .ensures) (seq (c3 .set-pc .ensures) (c4 .transfer .ensures ks o h)))) (jumped ks (v .src) o (v .cycles) (v .link) (v .ret) (v .target) (v .key) d)
+    λ ks o d h. said
+    (seq (c1 .flush-ticks .ensures)
+    (seq (c2 .set-link .ensures) (seq (c3 .set-pc .ensures) (c4 .transfer .ensures ks o h))))
+    (jumped ks (v .src) o (v .cycles) (v .link) (v .ret) (v .target) (v .key) d)
 
 pub branch-always-spec : {M : Type 1} → statement M
 branch-always-spec =

@@ -1,4 +1,5 @@
--- `emit_flow::exits::branch_taken` meets its contract: what its calls write, one after another. Assumes nothing.
+-- `emit_flow::exits::branch_taken` meets its contract: what its calls write, one after another.
+-- Assumes nothing.
 use borrow.Author.Needs.{needs}
 use Rattle.emit_flow.proofs.Pieces.{taken}
 use Rattle.lower_forms.specs.Block.{branchRegs}
@@ -12,7 +13,9 @@ returns c =
     let c2 = c3 .before .before .before .before .before in
     let c1 = c2 .before .before .before .before in
     let v = c1 .before .before .before .args in
-    λ ks o h. said (seq (c1 .put-taken .ensures) (seq (c2 .transfer .ensures ks o h) (c3 .put .ensures))) (taken ks (v .src) o (branchRegs (v .link) (v .ret) (v .target)) (v .key))
+    λ ks o h. said
+    (seq (c1 .put-taken .ensures) (seq (c2 .transfer .ensures ks o h) (c3 .put .ensures)))
+    (taken ks (v .src) o (branchRegs (v .link) (v .ret) (v .target)) (v .key))
 
 pub branch-taken-spec : {M : Type 1} → statement M
 branch-taken-spec =

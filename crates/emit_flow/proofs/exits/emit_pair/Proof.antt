@@ -1,4 +1,5 @@
--- `emit_flow::exits::emit_pair` meets its contract: what its calls write, one after another. Assumes nothing.
+-- `emit_flow::exits::emit_pair` meets its contract: what its calls write, one after another.
+-- Assumes nothing.
 use mathlib.Core.Path.{ap, _∙_}
 use Prim.Native.Nat.{ℕ}
 use borrow.Author.Needs.{needs}
@@ -17,10 +18,17 @@ returns c =
     let c2 = c3 .before .before .before .before in
     let c1 = c2 .before .before .before .before in
     let v = c1 .before .before .before .args in
-    λ ks o d h. said (seq (c1 .flush-ticks .ensures) (seq (c2 .set-lr .ensures) (seq (c4 .set-pc .ensures) (c6 .transfer .ensures ks o (ap (λ (n : ℕ). among n ks) (c5 .set-bit0 .ensures) ∙ h))))) (paired ks (v .src) o (v .cycles) (v .target) (v .ret) d _ _ (c3 .clear-bit0 .ensures) (c5 .set-bit0 .ensures))
+    λ ks o d h. said
+    (seq (c1 .flush-ticks .ensures)
+    (seq (c2 .set-lr .ensures)
+    (seq (c4 .set-pc .ensures)
+    (c6 .transfer .ensures ks o (ap (λ (n : ℕ). among n ks) (c5 .set-bit0 .ensures) ∙ h)))))
+    (paired ks (v .src) o (v .cycles) (v .target) (v .ret) d _ _ (c3 .clear-bit0 .ensures)
+    (c5 .set-bit0 .ensures))
 
 pub emit-pair-spec : {M : Type 1} → statement M
 emit-pair-spec =
     tie.close
-    (tie.spec (search needs) (search needs) (search needs) (search needs) (search needs) (search needs) (search needs)
+    (tie.spec (search needs) (search needs) (search needs) (search needs) (search needs)
+    (search needs) (search needs)
     returns)

@@ -1,4 +1,5 @@
--- `emit_flow::exits::put_closing` meets its contract: what its calls write, one after another. Assumes nothing.
+-- `emit_flow::exits::put_closing` meets its contract: what its calls write, one after another.
+-- Assumes nothing.
 use borrow.Author.Needs.{needs}
 use Rattle.emit_flow.proofs.Pieces.{lines-after}
 use mathlib.Core.Path.{sym}
@@ -15,7 +16,9 @@ returns c =
     let c2 = c .before .before in
     let c1 = c2 .before .before .before .before in
     let v = c1 .before .before .before .args in
-    λ ks h. said (seq (c1 .set-pc .ensures) (c2 .transfer .ensures ks common h)) (sym (lines-after common common 4 (pcLine (v .next)) (transfer ks (v .src) common 4 (v .key) end) []))
+    λ ks h. said (seq (c1 .set-pc .ensures) (c2 .transfer .ensures ks common h))
+    (sym (lines-after common common 4 (pcLine (v .next))
+    (transfer ks (v .src) common 4 (v .key) end) []))
 
 pub put-closing-spec : {M : Type 1} → statement M
 put-closing-spec = tie.close (tie.spec (search needs) (search needs) (search needs) returns)

@@ -1,4 +1,5 @@
--- `emit_flow::exits::put_taken` meets its contract: what its calls write, one after another. Assumes nothing.
+-- `emit_flow::exits::put_taken` meets its contract: what its calls write, one after another.
+-- Assumes nothing.
 use mathlib.Core.Path.{refl}
 use borrow.Author.Needs.{needs}
 use Rattle.base_text.specs.Digits.{numeral}
@@ -14,7 +15,9 @@ returns c =
     let c3 = c4 .before .before .before .before .before in
     let c2 = c3 .before .before .before .before .before in
     let c1 = c2 .before .before .before in
-    rw (c1 .if1 .taken) (said (seq (c2 .put-then-hex8 .ensures) (seq (c3 .put-then-hex82 .ensures) (c4 .put .ensures))) refl)
+    rw (c1 .if1 .taken)
+    (said (seq (c2 .put-then-hex8 .ensures)
+    (seq (c3 .put-then-hex82 .ensures) (c4 .put .ensures))) refl)
 
 returns-2 : tie.Need-returns-2
 unfolding decimal numeral
@@ -27,5 +30,7 @@ returns-2 c =
 pub put-taken-spec : {M : Type 1} → statement M
 put-taken-spec =
     tie.close
-    (tie.spec (search needs) (search needs) (search needs) (search needs) (search needs) (search needs) (search needs)
-    (search needs) (search needs) (search needs) (λ c. kept (returns c)) returns (λ c. kept (returns-2 c)) returns-2)
+    (tie.spec (search needs) (search needs) (search needs) (search needs) (search needs)
+    (search needs) (search needs)
+    (search needs) (search needs) (search needs) (λ c. kept (returns c)) returns
+    (λ c. kept (returns-2 c)) returns-2)

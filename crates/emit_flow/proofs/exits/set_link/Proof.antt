@@ -1,4 +1,5 @@
--- `emit_flow::exits::set_link` meets its contract: what its calls write, one after another. Assumes nothing.
+-- `emit_flow::exits::set_link` meets its contract: what its calls write, one after another. Assumes
+-- nothing.
 use mathlib.Core.Path.{refl}
 use borrow.Author.Needs.{needs}
 use Rattle.base_text.proofs.Laws.{none, said, kept}

@@ -1,4 +1,5 @@
--- `emit_flow::flow::flush_ticks` meets its contract: what its calls write, one after another. Assumes nothing.
+-- `emit_flow::flow::flush_ticks` meets its contract: what its calls write, one after another.
+-- Assumes nothing.
 use borrow.Author.Needs.{needs}
 use Rattle.emit_flow.proofs.Pieces.{ticks}
 use Rattle.base_text.proofs.Laws.{none, seq, said, kept}
@@ -19,4 +20,5 @@ returns-2 c =
 pub flush-ticks-spec : {M : Type 1} → statement M
 flush-ticks-spec =
     tie.close
-    (tie.spec returns (search needs) (search needs) (search needs) (search needs) (λ c. kept (returns-2 c)) returns-2)
+    (tie.spec returns (search needs) (search needs) (search needs) (search needs)
+    (λ c. kept (returns-2 c)) returns-2)

@@ -1,4 +1,5 @@
--- `emit_flow::flow::put_gate` meets its contract: what its calls write, one after another. Assumes nothing.
+-- `emit_flow::flow::put_gate` meets its contract: what its calls write, one after another. Assumes
+-- nothing.
 use mathlib.Core.Path.{refl}
 use borrow.Author.Needs.{needs}
 use Rattle.base_text.proofs.Laws.{seq, said, kept}
@@ -15,4 +16,5 @@ returns c =
 pub put-gate-spec : {M : Type 1} → statement M
 put-gate-spec =
     tie.close
-    (tie.spec (search needs) (search needs) (search needs) (search needs) (search needs) (λ c. kept (returns c)) returns)
+    (tie.spec (search needs) (search needs) (search needs) (search needs) (search needs)
+    (λ c. kept (returns c)) returns)

@@ -1,4 +1,5 @@
--- `emit_flow::flow::put_goto` meets its contract: what its calls write, one after another. Assumes nothing.
+-- `emit_flow::flow::put_goto` meets its contract: what its calls write, one after another. Assumes
+-- nothing.
 use mathlib.Core.Path.{refl}
 use borrow.Author.Needs.{needs}
 use Rattle.lower_units.specs.Block.{gotoCode}
@@ -17,4 +18,5 @@ returns c =
 pub put-goto-spec : {M : Type 1} → statement M
 put-goto-spec =
     tie.close
-    (tie.spec (search needs) (search needs) (search needs) (search needs) (search needs) (λ c. kept (returns c)) returns)
+    (tie.spec (search needs) (search needs) (search needs) (search needs) (search needs)
+    (λ c. kept (returns c)) returns)

@@ -1,4 +1,5 @@
--- `emit_flow::flow::put_indent` meets its contract: what its calls write, one after another. Assumes nothing.
+-- `emit_flow::flow::put_indent` meets its contract: what its calls write, one after another.
+-- Assumes nothing.
 use mathlib.Core.Path.{refl}
 use borrow.Author.Needs.{needs}
 use Rattle.base_text.proofs.Laws.{said, kept}
@@ -20,5 +21,6 @@ returns-2 c =
 pub put-indent-spec : {M : Type 1} → statement M
 put-indent-spec =
     tie.close
-    (tie.spec (search needs) (search needs) (search needs) (search needs) (λ c. kept (returns c)) returns
+    (tie.spec (search needs) (search needs) (search needs) (search needs) (λ c. kept (returns c))
+    returns
     (λ c. kept (returns-2 c)) returns-2)

@@ -1,4 +1,5 @@
--- `emit_flow::flow::set_lr` meets its contract: what its calls write, one after another. Assumes nothing.
+-- `emit_flow::flow::set_lr` meets its contract: what its calls write, one after another. Assumes
+-- nothing.
 use borrow.Author.Needs.{needs}
 use Rattle.emit_flow.proofs.Pieces.{lr-set}
 use Rattle.base_text.proofs.Laws.{seq, said, kept}
@@ -14,4 +15,5 @@ returns c =
 pub set-lr-spec : {M : Type 1} → statement M
 set-lr-spec =
     tie.close
-    (tie.spec (search needs) (search needs) (search needs) (search needs) (λ c. kept (returns c)) returns)
+    (tie.spec (search needs) (search needs) (search needs) (search needs) (λ c. kept (returns c))
+    returns)

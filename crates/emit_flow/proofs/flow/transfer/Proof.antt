@@ -1,4 +1,5 @@
--- `emit_flow::flow::transfer` meets its contract: what its calls write, one after another. Assumes nothing.
+-- `emit_flow::flow::transfer` meets its contract: what its calls write, one after another. Assumes
+-- nothing.
 use mathlib.Core.Path.{sym, ap, _∙_}
 use Prim.Native.Nat.{ℕ}
 use native.Mathlib.Omega.{arith}
@@ -25,7 +26,10 @@ returns-2 c =
     let c2 = c3 .before in
     let c1 = c2 .before in
     let v = c1 .before .before .args in
-    λ ks o h. said (seq (c4 .put-gate .ensures) (c5 .put-goto .ensures)) (gated ks (v .src) o (indent (v .deep)) (v .key) (h ∙ not-false _ (c1 .if1 .left)) (ap (λ (n : ℕ). leb n (v .src)) (sym (c2 .clear-bit0 .ensures)) ∙ le-leb (c2 .clear-bit0 .result) (v .src) (omega (arith, c3 .if2 .taken))))
+    λ ks o h. said (seq (c4 .put-gate .ensures) (c5 .put-goto .ensures))
+    (gated ks (v .src) o (indent (v .deep)) (v .key) (h ∙ not-false _ (c1 .if1 .left))
+    (ap (λ (n : ℕ). leb n (v .src)) (sym (c2 .clear-bit0 .ensures))
+    ∙ le-leb (c2 .clear-bit0 .result) (v .src) (omega (arith, c3 .if2 .taken))))
 
 returns-3 : tie.Need-returns-3
 returns-3 c =
@@ -34,10 +38,14 @@ returns-3 c =
     let c2 = c3 .before in
     let c1 = c2 .before in
     let v = c1 .before .before .args in
-    λ ks o h. said (c4 .put-goto2 .ensures) (ungated ks (v .src) o (indent (v .deep)) (v .key) (h ∙ not-false _ (c1 .if1 .left)) (ap (λ (n : ℕ). leb n (v .src)) (sym (c2 .clear-bit0 .ensures)) ∙ lt-leb (c2 .clear-bit0 .result) (v .src) (omega (arith, c3 .if2 .left))))
+    λ ks o h. said (c4 .put-goto2 .ensures)
+    (ungated ks (v .src) o (indent (v .deep)) (v .key) (h ∙ not-false _ (c1 .if1 .left))
+    (ap (λ (n : ℕ). leb n (v .src)) (sym (c2 .clear-bit0 .ensures))
+    ∙ lt-leb (c2 .clear-bit0 .result) (v .src) (omega (arith, c3 .if2 .left))))
 
 pub transfer-spec : {M : Type 1} → statement M
 transfer-spec =
     tie.close
-    (tie.spec (search needs) (search needs) returns (search needs) (search needs) (search needs) (search needs)
+    (tie.spec (search needs) (search needs) returns (search needs) (search needs) (search needs)
+    (search needs)
     (search needs) returns-2 (search needs) returns-3)

@@ -1,4 +1,5 @@
--- `emit_flow::guards::emit_defer` meets its contract: what its calls write, one after another. Assumes nothing.
+-- `emit_flow::guards::emit_defer` meets its contract: what its calls write, one after another.
+-- Assumes nothing.
 use borrow.Author.Needs.{needs}
 use Rattle.emit_flow.proofs.Pieces.{alone}
 use Rattle.base_text.proofs.Laws.{seq, said}

@@ -1,4 +1,5 @@
--- `emit_flow::guards::emit_guard` meets its contract: what its calls write, one after another. Assumes nothing.
+-- `emit_flow::guards::emit_guard` meets its contract: what its calls write, one after another.
+-- Assumes nothing.
 use borrow.Author.Needs.{needs}
 use Rattle.emit_flow.proofs.Pieces.{guarding}
 use Rattle.base_text.proofs.Laws.{seq, said}
@@ -13,10 +14,16 @@ returns c =
     let c3 = c4 .before .before .before .before in
     let c2 = c3 .before .before .before .before .before in
     let c1 = c2 .before .before .before .before .before in
-    λ b e. said (seq (c1 .put-then-hex8 .ensures) (seq (c2 .put-then-dec .ensures) (seq (c3 .put .ensures) (seq (c4 .put-hex16 .ensures) (seq (c5 .put-then-hex82 .ensures) (c6 .put2 .ensures)))))) (guarding b _ _ _ e)
+    λ b e. said
+    (seq (c1 .put-then-hex8 .ensures)
+    (seq (c2 .put-then-dec .ensures)
+    (seq (c3 .put .ensures)
+    (seq (c4 .put-hex16 .ensures) (seq (c5 .put-then-hex82 .ensures) (c6 .put2 .ensures))))))
+    (guarding b _ _ _ e)
 
 pub emit-guard-spec : {M : Type 1} → statement M
 emit-guard-spec =
     tie.close
-    (tie.spec (search needs) (search needs) (search needs) (search needs) (search needs) (search needs) (search needs)
+    (tie.spec (search needs) (search needs) (search needs) (search needs) (search needs)
+    (search needs) (search needs)
     (search needs) (search needs) (search needs) (search needs) (search needs) returns)

@@ -1,4 +1,5 @@
--- `emit_flow::heads::put_block_head` meets its contract: what its calls write, one after another. Assumes nothing.
+-- `emit_flow::heads::put_block_head` meets its contract: what its calls write, one after another.
+-- Assumes nothing.
 use mathlib.Core.Path.{refl}
 use borrow.Author.Needs.{needs}
 use Rattle.lower_units.specs.Units.{withLocals}
@@ -16,4 +17,5 @@ returns c =
 pub put-block-head-spec : {M : Type 1} → statement M
 put-block-head-spec =
     tie.close
-    (tie.spec (search needs) (search needs) (search needs) (search needs) (λ c. kept (returns c)) returns)
+    (tie.spec (search needs) (search needs) (search needs) (search needs) (λ c. kept (returns c))
+    returns)

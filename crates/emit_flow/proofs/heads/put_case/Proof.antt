@@ -1,4 +1,5 @@
--- `emit_flow::heads::put_case` meets its contract: what its calls write, one after another. Assumes nothing.
+-- `emit_flow::heads::put_case` meets its contract: what its calls write, one after another. Assumes
+-- nothing.
 use mathlib.Core.Path.{refl}
 use borrow.Author.Needs.{needs}
 use Rattle.base_text.proofs.Laws.{seq, said, kept}
@@ -15,5 +16,6 @@ returns c =
 pub put-case-spec : {M : Type 1} → statement M
 put-case-spec =
     tie.close
-    (tie.spec (search needs) (search needs) (search needs) (search needs) (search needs) (search needs)
+    (tie.spec (search needs) (search needs) (search needs) (search needs) (search needs)
+    (search needs)
     (λ c. kept (returns c)) returns)

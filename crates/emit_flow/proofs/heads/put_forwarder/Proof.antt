@@ -1,4 +1,5 @@
--- `emit_flow::heads::put_forwarder` meets its contract: what its calls write, one after another. Assumes nothing.
+-- `emit_flow::heads::put_forwarder` meets its contract: what its calls write, one after another.
+-- Assumes nothing.
 use mathlib.Core.Path.{refl}
 use borrow.Author.Needs.{needs}
 use Rattle.base_text.proofs.Laws.{seq, said, kept}
@@ -11,10 +12,13 @@ returns c =
     let c3 = c4 .before .before .before .before .before in
     let c2 = c3 .before .before .before .before .before in
     let c1 = c2 .before .before .before .before .before in
-    said (seq (c1 .put-then-key .ensures) (seq (c2 .put-then-hex8 .ensures) (seq (c3 .put-then-dec .ensures) (c4 .put .ensures)))) refl
+    said (seq (c1 .put-then-key .ensures)
+    (seq (c2 .put-then-hex8 .ensures) (seq (c3 .put-then-dec .ensures) (c4 .put .ensures))))
+    refl
 
 pub put-forwarder-spec : {M : Type 1} → statement M
 put-forwarder-spec =
     tie.close
-    (tie.spec (search needs) (search needs) (search needs) (search needs) (search needs) (search needs) (search needs)
+    (tie.spec (search needs) (search needs) (search needs) (search needs) (search needs)
+    (search needs) (search needs)
     (search needs) (λ c. kept (returns c)) returns)

@@ -1,4 +1,5 @@
--- `emit_flow::heads::put_switch_end` meets its contract: what its calls write, one after another. Assumes nothing.
+-- `emit_flow::heads::put_switch_end` meets its contract: what its calls write, one after another.
+-- Assumes nothing.
 use mathlib.Core.Path.{refl}
 use borrow.Author.Needs.{needs}
 use Rattle.base_text.proofs.Laws.{said, kept}
@@ -11,4 +12,5 @@ returns c =
     said (c1 .put .ensures) refl
 
 pub put-switch-end-spec : {M : Type 1} → statement M
-put-switch-end-spec = tie.close (tie.spec (search needs) (search needs) (λ c. kept (returns c)) returns)
+put-switch-end-spec =
+    tie.close (tie.spec (search needs) (search needs) (λ c. kept (returns c)) returns)

@@ -1,4 +1,5 @@
--- `emit_flow::keys::put_key` meets its contract: what its calls write, one after another. Assumes nothing.
+-- `emit_flow::keys::put_key` meets its contract: what its calls write, one after another. Assumes
+-- nothing.
 use mathlib.Core.Path.{ap}
 use mathlib.Core.List.{[]}
 use Prim.Native.Nat.{ℕ}
@@ -15,7 +16,9 @@ returns c =
     let c3 = c4 .before .before .before in
     let c2 = c3 .before .before .before in
     let c1 = c2 .before in
-    rw (eq-eqb _ _ (c3 .if1 .taken)) (said (seq (c2 .put-hex8 .ensures) (c4 .put .ensures)) (ap (λ (n : ℕ). flat (hex8 n ▸ text "_t") []) (c1 .clear-bit0 .ensures)))
+    rw (eq-eqb _ _ (c3 .if1 .taken))
+    (said (seq (c2 .put-hex8 .ensures) (c4 .put .ensures))
+    (ap (λ (n : ℕ). flat (hex8 n ▸ text "_t") []) (c1 .clear-bit0 .ensures)))
 
 returns-2 : tie.Need-returns-2
 returns-2 c =
@@ -23,10 +26,13 @@ returns-2 c =
     let c3 = c4 .before .before .before in
     let c2 = c3 .before .before .before in
     let c1 = c2 .before in
-    rw (ne-eqb _ _ (c3 .if1 .left)) (said (seq (c2 .put-hex8 .ensures) (c4 .put2 .ensures)) (ap (λ (n : ℕ). flat (hex8 n ▸ text "_a") []) (c1 .clear-bit0 .ensures)))
+    rw (ne-eqb _ _ (c3 .if1 .left))
+    (said (seq (c2 .put-hex8 .ensures) (c4 .put2 .ensures))
+    (ap (λ (n : ℕ). flat (hex8 n ▸ text "_a") []) (c1 .clear-bit0 .ensures)))
 
 pub put-key-spec : {M : Type 1} → statement M
 put-key-spec =
     tie.close
-    (tie.spec (search needs) (search needs) (search needs) (search needs) (search needs) (search needs)
+    (tie.spec (search needs) (search needs) (search needs) (search needs) (search needs)
+    (search needs)
     (λ c. kept (returns c)) returns (λ c. kept (returns-2 c)) returns-2)

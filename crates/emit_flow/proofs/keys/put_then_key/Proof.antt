@@ -1,4 +1,5 @@
--- `emit_flow::keys::put_then_key` meets its contract: what its calls write, one after another. Assumes nothing.
+-- `emit_flow::keys::put_then_key` meets its contract: what its calls write, one after another.
+-- Assumes nothing.
 use mathlib.Core.Path.{refl}
 use borrow.Author.Needs.{needs}
 use Rattle.base_text.proofs.Laws.{seq, said, kept}
@@ -12,4 +13,5 @@ returns c =
     said (seq (c1 .put .ensures) (c2 .put-key .ensures)) refl
 
 pub put-then-key-spec : {M : Type 1} → statement M
-put-then-key-spec = tie.close (tie.spec (search needs) (search needs) (λ c. kept (returns c)) returns)
+put-then-key-spec =
+    tie.close (tie.spec (search needs) (search needs) (λ c. kept (returns c)) returns)

@@ -1,4 +1,5 @@
--- `emit_flow::opening::put_preamble` meets its contract: what its calls write, one after another. Assumes nothing.
+-- `emit_flow::opening::put_preamble` meets its contract: what its calls write, one after another.
+-- Assumes nothing.
 use borrow.Author.Needs.{needs}
 use Rattle.emit_flow.proofs.Pieces.{head-text}
 use Rattle.base_text.proofs.Laws.{said, kept}
@@ -11,4 +12,5 @@ returns c =
     said (c1 .put .ensures) head-text
 
 pub put-preamble-spec : {M : Type 1} → statement M
-put-preamble-spec = tie.close (tie.spec (search needs) (search needs) (λ c. kept (returns c)) returns)
+put-preamble-spec =
+    tie.close (tie.spec (search needs) (search needs) (λ c. kept (returns c)) returns)

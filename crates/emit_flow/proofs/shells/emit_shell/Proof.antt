@@ -1,4 +1,5 @@
--- `emit_flow::shells::emit_shell` meets its contract: what its calls write, one after another. Assumes nothing.
+-- `emit_flow::shells::emit_shell` meets its contract: what its calls write, one after another.
+-- Assumes nothing.
 use borrow.Author.Needs.{needs}
 use Rattle.emit_flow.proofs.Pieces.{ticked}
 use Rattle.c_tree.specs.Stmt.{common, end}
@@ -15,10 +16,14 @@ returns c =
     let c2 = c3 .before .before .before .before .before in
     let c1 = c2 .before .before .before .before in
     let v = c1 .before .before .before .args in
-    λ b i. said (seq (c1 .flush-ticks .ensures) (seq (c2 .set-pc .ensures) (seq (c3 .put-then-hex8 .ensures) (c4 .put .ensures)))) (ticked common (v .cycles) (pcLine (v .addr)) (shellCode b i (v .expect) end))
+    λ b i. said
+    (seq (c1 .flush-ticks .ensures)
+    (seq (c2 .set-pc .ensures) (seq (c3 .put-then-hex8 .ensures) (c4 .put .ensures))))
+    (ticked common (v .cycles) (pcLine (v .addr)) (shellCode b i (v .expect) end))
 
 pub emit-shell-spec : {M : Type 1} → statement M
 emit-shell-spec =
     tie.close
-    (tie.spec (search needs) (search needs) (search needs) (search needs) (search needs) (search needs) (search needs)
+    (tie.spec (search needs) (search needs) (search needs) (search needs) (search needs)
+    (search needs) (search needs)
     returns)

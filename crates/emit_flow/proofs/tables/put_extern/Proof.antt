@@ -1,4 +1,5 @@
--- `emit_flow::tables::put_extern` meets its contract: what its calls write, one after another. Assumes nothing.
+-- `emit_flow::tables::put_extern` meets its contract: what its calls write, one after another.
+-- Assumes nothing.
 use mathlib.Core.Path.{refl}
 use borrow.Author.Needs.{needs}
 use Rattle.base_text.proofs.Laws.{seq, said, kept}
@@ -14,4 +15,5 @@ returns c =
 pub put-extern-spec : {M : Type 1} → statement M
 put-extern-spec =
     tie.close
-    (tie.spec (search needs) (search needs) (search needs) (search needs) (λ c. kept (returns c)) returns)
+    (tie.spec (search needs) (search needs) (search needs) (search needs) (λ c. kept (returns c))
+    returns)

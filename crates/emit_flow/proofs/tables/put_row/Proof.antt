@@ -1,4 +1,5 @@
--- `emit_flow::tables::put_row` meets its contract: what its calls write, one after another. Assumes nothing.
+-- `emit_flow::tables::put_row` meets its contract: what its calls write, one after another. Assumes
+-- nothing.
 use mathlib.Core.Path.{refl}
 use borrow.Author.Needs.{needs}
 use Rattle.base_text.proofs.Laws.{seq, said, kept}
@@ -10,10 +11,12 @@ returns c =
     let c3 = c .before .before in
     let c2 = c3 .before .before .before .before .before in
     let c1 = c2 .before .before .before .before .before in
-    said (seq (c1 .put-then-hex8 .ensures) (seq (c2 .put-then-key .ensures) (c3 .put .ensures))) refl
+    said (seq (c1 .put-then-hex8 .ensures) (seq (c2 .put-then-key .ensures) (c3 .put .ensures)))
+    refl
 
 pub put-row-spec : {M : Type 1} → statement M
 put-row-spec =
     tie.close
-    (tie.spec (search needs) (search needs) (search needs) (search needs) (search needs) (search needs)
+    (tie.spec (search needs) (search needs) (search needs) (search needs) (search needs)
+    (search needs)
     (λ c. kept (returns c)) returns)

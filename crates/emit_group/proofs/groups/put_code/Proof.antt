@@ -20,7 +20,8 @@ returns c = λ limit g k ready is inside some.
     let put = c .before .before in
     let number = put .before .before in
     let block = number .before .before in
-    let a = c .before .before .before .before .before .before .before .before .before .before .args in
+    let a =
+    c .before .before .before .before .before .before .before .before .before .before .args in
     let f = a .file .now in
     let same = number .row-group .ensures .1 f limit g k ready is inside in
     said
@@ -28,14 +29,18 @@ returns c = λ limit g k ready is inside some.
     (record {
       limit = limit;
       ready = ready;
-      several = λ e. subst (λ (h : ℕ). 2 ≤ length (membersOf limit (blocksOf f) h)) (sym same) (some e);
+      several =
+          λ e. subst (λ (h : ℕ). 2 ≤ length (membersOf limit (blocksOf f) h)) (sym same) (some e);
       keys = ap (λ (h : ℕ). keysWithin (a .several) limit f h) (sym same);
     }))
-    (ap (λ (i : ℕ). flat (memberText (a .hashing) f (keysWithin (a .several) limit f g) i) []) (block .row-block .ensures .1 f _ limit g k ready is inside))
+    (ap (λ (i : ℕ). flat (memberText (a .hashing) f (keysWithin (a .several) limit f g) i) [])
+    (block .row-block .ensures .1 f _ limit g k ready is inside))
 
 returns-2 : tie.Need-returns-2
 returns-2 c = λ limit g k ready is inside some.
     absurd (omega (arith, row-block-inside ready _ g k is inside, c .before .row-block .ensures .0))
 
 pub put-code-spec : {M : Type 1} → statement M
-put-code-spec = tie.close (tie.spec (search needs) (search needs) (search needs) (search needs) returns returns-2)
+put-code-spec =
+    tie.close
+    (tie.spec (search needs) (search needs) (search needs) (search needs) returns returns-2)

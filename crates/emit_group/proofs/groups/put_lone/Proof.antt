@@ -19,14 +19,21 @@ returns c = λ limit g is.
     let close = c .before .before in
     let code = close .before .before .before .before in
     let head = code .before .before .before .before in
-    let a = c .before .before .before .before .before .before .before .before .before .before .before .before .before .before .before .before .args in
+    let a =
+    c .before .before .before .before .before .before .before .before .before .before .before
+    .before .before .before .before .before .args in
     let f = a .file .now in
     let ms = membersOf limit (blocksOf f) g in
     let one : length (membersOf limit (blocksOf f) g) ≡ 1 = omega (arith, group-size is) in
-    lone-wrote (a .hashing) f ms (groupKeys limit f g) _ one (hashed-member-keys (a .hashing) hashMultiplier (blocksOf f) ms)
-    (head .before .row-key .ensures _ limit g 0 (is .ready) (omega (arith, is .first)) (omega arith)) (head .put-block-head .ensures)
-    (code .put-code .ensures limit g 0 (is .ready) (omega (arith, is .first)) (omega arith) (λ e. absurd (true≢false (sym e))))
+    lone-wrote (a .hashing) f ms (groupKeys limit f g) _ one
+    (hashed-member-keys (a .hashing) hashMultiplier (blocksOf f) ms)
+    (head .before .row-key .ensures _ limit g 0 (is .ready) (omega (arith, is .first))
+    (omega arith)) (head .put-block-head .ensures)
+    (code .put-code .ensures limit g 0 (is .ready) (omega (arith, is .first)) (omega arith)
+    (λ e. absurd (true≢false (sym e))))
     (close .put-function-end .ensures)
 
 pub put-lone-spec : {M : Type 1} → statement M
-put-lone-spec = tie.close (tie.spec (search needs) (search needs) (search needs) (search needs) (search needs) returns)
+put-lone-spec =
+    tie.close
+    (tie.spec (search needs) (search needs) (search needs) (search needs) (search needs) returns)

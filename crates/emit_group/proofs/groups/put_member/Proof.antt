@@ -18,10 +18,15 @@ returns c = λ limit g k ready is inside some.
     let close = c .before .before in
     let code = close .before .before .before .before in
     let head = code .before .before .before .before in
-    let f = c .before .before .before .before .before .before .before .before .before .before .before .before .before .before .before .before .args .file .now in
-    let key = head .before .row-key .ensures _ limit g k ready is inside ∙ member-key limit f g k inside in
-    seq (said (head .put-label .ensures) (ap (λ (j : ℕ). flat (codeText (label j ⨾ nl ⨾ end)) []) key))
-    (seq (code .put-code .ensures limit g k ready is inside (λ _. some)) (close .put-member-end .ensures))
+    let f =
+    c .before .before .before .before .before .before .before .before .before .before .before
+    .before .before .before .before .before .args .file .now in
+    let key = head .before .row-key .ensures _ limit g k ready is inside
+    ∙ member-key limit f g k inside in
+    seq (said (head .put-label .ensures)
+    (ap (λ (j : ℕ). flat (codeText (label j ⨾ nl ⨾ end)) []) key))
+    (seq (code .put-code .ensures limit g k ready is inside (λ _. some))
+    (close .put-member-end .ensures))
 
 pub put-member-spec : {M : Type 1} → statement M
 put-member-spec =

@@ -22,8 +22,11 @@ abbrev Inv-loop : tie.InvT-loop
 Inv-loop out₀ at file work n p end hashing size q₀ k₀ out q k =
     (k ≤ size)
     × (length out ≡ length out₀)
-    × ((limit g : ℕ) → IsGroup file n limit work g p end → 2 ≤ length (membersOf limit (blocksOf file) g)
-    → Wrote out₀ at (each (labelledText hashing file (groupKeys limit file g)) (take k (membersOf limit (blocksOf file) g))) out q)
+    × ((limit g : ℕ) → IsGroup file n limit work g p end
+    → 2 ≤ length (membersOf limit (blocksOf file) g)
+    → Wrote out₀ at
+    (each (labelledText hashing file (groupKeys limit file g))
+    (take k (membersOf limit (blocksOf file) g))) out q)
 
 abbrev μ-loop : tie.MeasureT-loop
 μ-loop out₀ at file work n p end hashing size q₀ k₀ out q k = size - k
@@ -43,7 +46,8 @@ loop-again c =
       put .put-member .kept .0 ∙ inv .1,
       λ limit g is some.
           let inside : k < length (membersOf limit (blocksOf f) g) = omega (arith, group-size is) in
-          each-more (labelledText (a .hashing) f (groupKeys limit f g)) (membersOf limit (blocksOf f) g) 0 k inside (inv .2 limit g is some)
+          each-more (labelledText (a .hashing) f (groupKeys limit f g))
+          (membersOf limit (blocksOf f) g) 0 k inside (inv .2 limit g is some)
           (put .put-member .ensures limit g k (is .ready) (omega (arith, is .first)) inside some),
     )
 
@@ -55,11 +59,13 @@ returns c = λ limit g is some.
     let a = c .before .before .before .before .before .args in
     let f = a .file .now in
     let ms = membersOf limit (blocksOf f) g in
-    said (each-all (labelledText (a .hashing) f (groupKeys limit f g)) ms (c .before .loop .k) (omega (arith, group-size is)) (c .before .loop .inv .2 limit g is some))
+    said (each-all (labelledText (a .hashing) f (groupKeys limit f g)) ms (c .before .loop .k)
+    (omega (arith, group-size is)) (c .before .loop .inv .2 limit g is some))
     (members-each (a .hashing) f (groupKeys limit f g) ms [])
 
 pub put-members-spec : {M : Type 1} → statement M
 put-members-spec =
     tie.close
-    (tie.spec Inv-loop μ-loop (λ c. omega arith) loop-holds (λ c. omega arith) (search needs) (λ c. omega arith)
+    (tie.spec Inv-loop μ-loop (λ c. omega arith) loop-holds (λ c. omega arith) (search needs)
+    (λ c. omega arith)
     (λ c. omega arith) loop-again same-length returns)

@@ -28,12 +28,15 @@ returns c = λ limit g is some.
     let ms = map (hashedIf (a .hashing)) (bodiesOf (fileBodies f) is′) in
     let keys = hashed-member-keys (a .hashing) hashMultiplier (blocksOf f) is′ in
     several-wrote ms (groupKeys limit f g) _ (omega (arith, members-count (a .hashing) f is′)) keys
-    (c1 .before .row-key .ensures _ limit g 0 (is .ready) (omega (arith, is .first)) (omega arith)) (c1 .put-group-head .ensures)
-    (c2 .put-cases .ensures limit g is ms keys) (c3 .put-switch-end .ensures) (c4 .put-members .ensures limit g is some) (c5 .put-function-end .ensures)
+    (c1 .before .row-key .ensures _ limit g 0 (is .ready) (omega (arith, is .first)) (omega arith))
+    (c1 .put-group-head .ensures)
+    (c2 .put-cases .ensures limit g is ms keys) (c3 .put-switch-end .ensures)
+    (c4 .put-members .ensures limit g is some) (c5 .put-function-end .ensures)
     (c6 .put-forwarders .ensures limit g is)
 
 pub put-several-spec : {M : Type 1} → statement M
 put-several-spec =
     tie.close
-    (tie.spec (search needs) (search needs) (search needs) (search needs) (search needs) (search needs) (λ c κs. search needs)
+    (tie.spec (search needs) (search needs) (search needs) (search needs) (search needs)
+    (search needs) (λ c κs. search needs)
     (search needs) returns)

@@ -1,4 +1,5 @@
--- `bodies::is_inlined` meets its contract: an arm of one operation is given its fields, and `_` answers for all that have no lines. Assumes nothing.
+-- `bodies::is_inlined` meets its contract: an arm of one operation is given its fields, and `_`
+-- answers for all that have no lines. Assumes nothing.
 use mathlib.Core.Path.{refl, sym, ap, _∙_}
 use Rattle.emit_operands.specs.Operands.{isSome}
 use Rattle.emit_mem.proofs.Offsets.{mem-inlined, block-mem-inlined}
@@ -15,7 +16,8 @@ returns c =
     let known = c .before .before in
     let a = known .before .before .args in
     let v = known .op .given .0 in
-    c .alu-is-inlined .ensures (a .thumb) (a .i) (v .0) (v .1 .0) (v .1 .1 .1 .0) ∙ sym (ap (λ (x : Op). isSome (opBody (a .thumb) (a .i) x)) (known .op .given .1))
+    c .alu-is-inlined .ensures (a .thumb) (a .i) (v .0) (v .1 .0) (v .1 .1 .1 .0)
+    ∙ sym (ap (λ (x : Op). isSome (opBody (a .thumb) (a .i) x)) (known .op .given .1))
 
 returns-2 : tie.Need-returns-2
 unfolding inlineBody
@@ -23,7 +25,9 @@ returns-2 c =
     let known = c .before .before in
     let a = known .before .before .args in
     let v = known .op2 .given .0 in
-    c .mul-is-inlined .ensures (a .thumb) (a .i) (v .0) (v .1 .0) (v .1 .1 .1 .0) (v .1 .1 .1 .1 .0) (v .1 .1 .1 .1 .1 .0) ∙ sym (ap (λ (x : Op). isSome (opBody (a .thumb) (a .i) x)) (known .op2 .given .1))
+    c .mul-is-inlined .ensures (a .thumb) (a .i) (v .0) (v .1 .0) (v .1 .1 .1 .0) (v .1 .1 .1 .1 .0)
+    (v .1 .1 .1 .1 .1 .0)
+    ∙ sym (ap (λ (x : Op). isSome (opBody (a .thumb) (a .i) x)) (known .op2 .given .1))
 
 returns-3 : tie.Need-returns-3
 unfolding inlineBody
@@ -35,7 +39,11 @@ returns-4 c =
     let known = c .before .before in
     let a = known .before .before .args in
     let v = known .op3 .given .0 in
-    c .mem-is-inlined .ensures (a .i) ∙ sym (mem-inlined (a .thumb) (a .i) (v .0) (v .1 .0) (v .1 .1 .0) (v .1 .1 .1 .0) (v .1 .1 .1 .1 .0) (v .1 .1 .1 .1 .1 .0) (v .1 .1 .1 .1 .1 .1 .0) (v .1 .1 .1 .1 .1 .1 .1 .0) (v .1 .1 .1 .1 .1 .1 .1 .1 .0)) ∙ sym (ap (λ (x : Op). isSome (opBody (a .thumb) (a .i) x)) (known .op3 .given .1))
+    c .mem-is-inlined .ensures (a .i)
+    ∙ sym (mem-inlined (a .thumb) (a .i) (v .0) (v .1 .0) (v .1 .1 .0) (v .1 .1 .1 .0)
+    (v .1 .1 .1 .1 .0) (v .1 .1 .1 .1 .1 .0) (v .1 .1 .1 .1 .1 .1 .0)
+    (v .1 .1 .1 .1 .1 .1 .1 .0) (v .1 .1 .1 .1 .1 .1 .1 .1 .0))
+    ∙ sym (ap (λ (x : Op). isSome (opBody (a .thumb) (a .i) x)) (known .op3 .given .1))
 
 returns-5 : tie.Need-returns-5
 unfolding inlineBody
@@ -43,14 +51,21 @@ returns-5 c =
     let known = c .before .before in
     let a = known .before .before .args in
     let v = known .op4 .given .0 in
-    c .block-mem-is-inlined .ensures ∙ sym (block-mem-inlined (a .thumb) (a .i) (v .0) (v .1 .0) (v .1 .1 .0) (v .1 .1 .1 .0) (v .1 .1 .1 .1 .0) (v .1 .1 .1 .1 .1 .0) (v .1 .1 .1 .1 .1 .1 .0)) ∙ sym (ap (λ (x : Op). isSome (opBody (a .thumb) (a .i) x)) (known .op4 .given .1))
+    c .block-mem-is-inlined .ensures
+    ∙ sym (block-mem-inlined (a .thumb) (a .i) (v .0) (v .1 .0) (v .1 .1 .0) (v .1 .1 .1 .0)
+    (v .1 .1 .1 .1 .0) (v .1 .1 .1 .1 .1 .0) (v .1 .1 .1 .1 .1 .1 .0))
+    ∙ sym (ap (λ (x : Op). isSome (opBody (a .thumb) (a .i) x)) (known .op4 .given .1))
 
 returns-6 : tie.Need-returns-6
 unfolding inlineBody
-returns-6 c = sym (ap isSome (no-lines (c .before .args .thumb) (c .before .args .i) (c .before .args .i .op) (c .match .keys6)))
+returns-6 c =
+    sym (ap isSome
+    (no-lines (c .before .args .thumb) (c .before .args .i) (c .before .args .i .op)
+    (c .match .keys6)))
 
 pub is-inlined-spec : {M : Type 1} → statement M
 is-inlined-spec =
     tie.close
-    (tie.spec (search needs) (search needs) (search needs) (search needs) (search needs) (search needs) (search needs)
+    (tie.spec (search needs) (search needs) (search needs) (search needs) (search needs)
+    (search needs) (search needs)
     (search needs) (search needs) returns returns-2 returns-3 returns-4 returns-5 returns-6)

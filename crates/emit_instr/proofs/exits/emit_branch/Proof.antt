@@ -1,4 +1,5 @@
--- `exits::emit_branch` meets its contract: its calls write the text of a branch, by its condition. Assumes nothing.
+-- `exits::emit_branch` meets its contract: its calls write the text of a branch, by its condition.
+-- Assumes nothing.
 use Prim.Native.Nat.{ℕ, _+_}
 use mathlib.Core.Path.{refl, sym, ap, _∙_}
 use mathlib.Core.List.{_++_}
@@ -27,13 +28,17 @@ returns c =
     let regs = branchRegs (a .link) (back .wrapping-add-u32 .result) (a .target) in
     λ ks b j fs h e.
     same-form _ _
-    (ap (λ n. (Form.native n, 0)) (branch-form (a .thumb) (a .cycles) (a .i) (a .link) (a .target) _ _ (back .wrapping-add-u32 .ensures) (key .key-of .ensures)))
+    (ap (λ n. (Form.native n, 0))
+    (branch-form (a .thumb) (a .cycles) (a .i) (a .link) (a .target) _ _
+    (back .wrapping-add-u32 .ensures) (key .key-of .ensures)))
     (record {
       onward =
-          jump-step ks b j (isAl (a .i .cond)) (flushTicks (a .cycles) ++ apart regs) (flushTicks (a .cycles)) (condExpr (a .i .cond)) regs
+          jump-step ks b j (isAl (a .i .cond)) (flushTicks (a .cycles) ++ apart regs)
+          (flushTicks (a .cycles)) (condExpr (a .i .cond)) regs
           (key .key-of .result) (a .src) fs
           (sym (c1 .before .is-al .ensures) ∙ c1 .if1 .taken) e
-          (c2 .branch-always .ensures ks (Owner.native (bodyKey b)) (codeFrom ks b (j + 1) fs) (ap (λ (n : ℕ). among n ks) (key .key-of .ensures) ∙ h));
+          (c2 .branch-always .ensures ks (Owner.native (bodyKey b)) (codeFrom ks b (j + 1) fs)
+          (ap (λ (n : ℕ). among n ks) (key .key-of .ensures) ∙ h));
       cycles = refl;
     })
 
@@ -48,18 +53,24 @@ returns-2 c =
     let regs = branchRegs (a .link) (back .wrapping-add-u32 .result) (a .target) in
     λ ks b j fs h e.
     same-form _ _
-    (ap (λ n. (Form.native n, 0)) (branch-form (a .thumb) (a .cycles) (a .i) (a .link) (a .target) _ _ (back .wrapping-add-u32 .ensures) (key .key-of .ensures)))
+    (ap (λ n. (Form.native n, 0))
+    (branch-form (a .thumb) (a .cycles) (a .i) (a .link) (a .target) _ _
+    (back .wrapping-add-u32 .ensures) (key .key-of .ensures)))
     (record {
       onward =
-          branch-step ks b j (isAl (a .i .cond)) (flushTicks (a .cycles) ++ apart regs) (flushTicks (a .cycles)) (condExpr (a .i .cond)) regs
+          branch-step ks b j (isAl (a .i .cond)) (flushTicks (a .cycles) ++ apart regs)
+          (flushTicks (a .cycles)) (condExpr (a .i .cond)) regs
           (key .key-of .result) (a .src) fs
           (sym (c1 .before .is-al .ensures) ∙ c1 .if1 .left) e
-          (seq (c2 .put-condition .ensures) (c3 .branch-taken .ensures ks (Owner.native (bodyKey b)) (ap (λ (n : ℕ). among n ks) (key .key-of .ensures) ∙ h)));
+          (seq (c2 .put-condition .ensures)
+          (c3 .branch-taken .ensures ks (Owner.native (bodyKey b))
+          (ap (λ (n : ℕ). among n ks) (key .key-of .ensures) ∙ h)));
       cycles = refl;
     })
 
 pub emit-branch-spec : {M : Type 1} → statement M
 emit-branch-spec =
     tie.close
-    (tie.spec (search needs) (search needs) (search needs) (search needs) (search needs) returns (search needs)
+    (tie.spec (search needs) (search needs) (search needs) (search needs) (search needs) returns
+    (search needs)
     (search needs) (search needs) returns-2)

@@ -1,4 +1,5 @@
--- `emit_instr::exits::emit_bx` meets its contract: what its calls write, one after another. Assumes nothing.
+-- `emit_instr::exits::emit_bx` meets its contract: what its calls write, one after another. Assumes
+-- nothing.
 use borrow.Author.Needs.{needs}
 use Rattle.emit_flow.proofs.Pieces.{bx-text}
 use Rattle.lower_forms.specs.Operands.{regOf}
@@ -13,10 +14,14 @@ returns c =
     let c2 = c3 .before .before .before .before in
     let c1 = c2 .before .before .before .before .before in
     let v = c1 .before .before .before .args in
-    λ ks a o d. said (seq (c1 .flush-ticks .ensures) (seq (c2 .put .ensures) (seq (c3 .put-reg .ensures) (c4 .put2 .ensures)))) (bx-text ks a o (v .cycles) (regOf (v .pc) (v .r)) d)
+    λ ks a o d. said
+    (seq (c1 .flush-ticks .ensures)
+    (seq (c2 .put .ensures) (seq (c3 .put-reg .ensures) (c4 .put2 .ensures))))
+    (bx-text ks a o (v .cycles) (regOf (v .pc) (v .r)) d)
 
 pub emit-bx-spec : {M : Type 1} → statement M
 emit-bx-spec =
     tie.close
-    (tie.spec (search needs) (search needs) (search needs) (search needs) (search needs) (search needs) (search needs)
+    (tie.spec (search needs) (search needs) (search needs) (search needs) (search needs)
+    (search needs) (search needs)
     returns)

@@ -1,4 +1,5 @@
--- `exits::is_native_exit` meets its contract: it tests what the definition does, in its order. Assumes nothing.
+-- `exits::is_native_exit` meets its contract: it tests what the definition does, in its order.
+-- Assumes nothing.
 use mathlib.Core.Path.{refl, sym, _∙_}
 use borrow.Author.Needs.{needs}
 use Rattle.emit_instr.proofs.exits.is_native_exit.Statement.{statement}

@@ -1,4 +1,5 @@
--- `exits::leave_by_bx` meets its contract: its call writes the whole text of an exit. Assumes nothing.
+-- `exits::leave_by_bx` meets its contract: its call writes the whole text of an exit. Assumes
+-- nothing.
 use Prim.Native.Nat.{ℕ, _+_}
 use mathlib.Core.Path.{refl, ap}
 use mathlib.Core.List.{[]}
@@ -24,8 +25,13 @@ returns c =
     record {
       onward =
           exit-step ks b j (bx (flushTicks (a .cycles)) (regExpr (a .i) (a .rm))) (b .addr) fs refl
-          (said (c2 .emit-bx .ensures ks (b .addr) (Owner.native (bodyKey b)) (codeFrom ks b (j + 1) fs))
-          (ap (λ (n : ℕ). flat (codeText (nativeText ks (b .addr) (Owner.native (bodyKey b)) (bx (flushTicks (a .cycles)) (regOf n (a .rm))) (codeFrom ks b (j + 1) fs))) []) (c1 .pc-value .ensures)));
+          (said (c2 .emit-bx .ensures ks (b .addr) (Owner.native (bodyKey b))
+          (codeFrom ks b (j + 1) fs))
+          (ap (λ (n : ℕ). flat
+          (codeText
+          (nativeText ks (b .addr) (Owner.native (bodyKey b))
+          (bx (flushTicks (a .cycles)) (regOf n (a .rm))) (codeFrom ks b (j + 1) fs))) [])
+          (c1 .pc-value .ensures)));
       cycles = refl;
     }
 

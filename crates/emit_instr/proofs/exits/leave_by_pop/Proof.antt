@@ -1,4 +1,5 @@
--- `exits::leave_by_pop` meets its contract: its calls write the whole text of an exit, one after the other. Assumes nothing.
+-- `exits::leave_by_pop` meets its contract: its calls write the whole text of an exit, one after
+-- the other. Assumes nothing.
 use Prim.Native.Nat.{_+_}
 use mathlib.Core.Path.{refl, sym}
 use mathlib.Core.List.{[]}
@@ -21,9 +22,11 @@ returns c =
     λ ks b j fs.
     record {
       onward =
-          exit-step ks b j (emitPop (a .thumb) (a .cycles) (a .rn) (listed (a .rlist) 15)) (b .addr) fs refl
+          exit-step ks b j (emitPop (a .thumb) (a .cycles) (a .rn) (listed (a .rlist) 15)) (b .addr)
+          fs refl
           (said (seq (c1 .flush-ticks .ensures) (c2 .put-pop .ensures))
-          (sym (ticks-then-pop ks (b .addr) (Owner.native (bodyKey b)) (a .thumb) (a .cycles) (a .rn) (listed (a .rlist) 15) (codeFrom ks b (j + 1) fs) [])));
+          (sym (ticks-then-pop ks (b .addr) (Owner.native (bodyKey b)) (a .thumb) (a .cycles)
+          (a .rn) (listed (a .rlist) 15) (codeFrom ks b (j + 1) fs) [])));
       cycles = refl;
     }
 

@@ -18,8 +18,11 @@ returns c =
     let a = c1 .before .before .before .before .args in
     λ ks b j fs h g.
     same-form _ _
-    (ap (λ (n : ℕ). (Form.native (bx (flushTicks n) (regExpr (a .x .instr) (a .rm))), 0)) (c2 .before .with-cost .ensures g)
-    ∙ chosen (nativeExit (a .region) (a .x .instr)) _ (emitStraight (a .thumb) false (a .cycles) (a .x)) (sym (c1 .before .is-native-exit .ensures) ∙ c1 .if1 .taken))
+    (ap (λ (n : ℕ). (Form.native (bx (flushTicks n) (regExpr (a .x .instr) (a .rm))), 0))
+    (c2 .before .with-cost .ensures g)
+    ∙ chosen (nativeExit (a .region) (a .x .instr)) _
+    (emitStraight (a .thumb) false (a .cycles) (a .x))
+    (sym (c1 .before .is-native-exit .ensures) ∙ c1 .if1 .taken))
     (c2 .leave-by-bx .ensures ks b j fs)
 
 returns-2 : tie.Need-returns-2
@@ -28,11 +31,15 @@ returns-2 c =
     let c1 = c2 .before .before in
     let a = c1 .before .before .before .before .args in
     λ ks b j fs h g.
-    same-form _ _ (refused (nativeExit (a .region) (a .x .instr)) _ (emitStraight (a .thumb) false (a .cycles) (a .x)) (sym (c1 .before .is-native-exit .ensures) ∙ c1 .if1 .left))
+    same-form _ _
+    (refused (nativeExit (a .region) (a .x .instr)) _
+    (emitStraight (a .thumb) false (a .cycles) (a .x))
+    (sym (c1 .before .is-native-exit .ensures) ∙ c1 .if1 .left))
     (c2 .emit-straight .ensures ks b j fs h g)
 
 pub emit-any-bx-spec : {M : Type 1} → statement M
 emit-any-bx-spec =
     tie.close
-    (tie.spec (search needs) (search needs) (search needs) (search needs) (search needs) returns (search needs)
+    (tie.spec (search needs) (search needs) (search needs) (search needs) (search needs) returns
+    (search needs)
     returns-2)

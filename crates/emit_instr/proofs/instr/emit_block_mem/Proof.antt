@@ -18,8 +18,13 @@ returns c =
     let a = c1 .before .before .before .before .before .args in
     λ ks b j fs h g.
     same-form _ _
-    (ap (λ (n : ℕ). (Form.native (emitPop (a .thumb) n (a .rn) (listed (a .rlist) 15)), 0)) (c2 .before .with-cost .ensures g)
-    ∙ chosen (isPop (a .region) (a .x .instr) (a .load) (a .rn) (a .rlist) (a .pre) (a .up) (a .s-bit) (a .writeback)) _ (emitStraight (a .thumb) true (a .cycles) (a .x)) (sym (c1 .before .is-pop .ensures (a .x .instr) (c1 .before .before .is-al .ensures)) ∙ c1 .if1 .taken))
+    (ap (λ (n : ℕ). (Form.native (emitPop (a .thumb) n (a .rn) (listed (a .rlist) 15)), 0))
+    (c2 .before .with-cost .ensures g)
+    ∙ chosen
+    (isPop (a .region) (a .x .instr) (a .load) (a .rn) (a .rlist) (a .pre) (a .up) (a .s-bit)
+    (a .writeback)) _ (emitStraight (a .thumb) true (a .cycles) (a .x))
+    (sym (c1 .before .is-pop .ensures (a .x .instr) (c1 .before .before .is-al .ensures))
+    ∙ c1 .if1 .taken))
     (c2 .leave-by-pop .ensures ks b j fs)
 
 returns-2 : tie.Need-returns-2
@@ -28,11 +33,17 @@ returns-2 c =
     let c1 = c2 .before .before in
     let a = c1 .before .before .before .before .before .args in
     λ ks b j fs h g.
-    same-form _ _ (refused (isPop (a .region) (a .x .instr) (a .load) (a .rn) (a .rlist) (a .pre) (a .up) (a .s-bit) (a .writeback)) _ (emitStraight (a .thumb) true (a .cycles) (a .x)) (sym (c1 .before .is-pop .ensures (a .x .instr) (c1 .before .before .is-al .ensures)) ∙ c1 .if1 .left))
+    same-form _ _
+    (refused
+    (isPop (a .region) (a .x .instr) (a .load) (a .rn) (a .rlist) (a .pre) (a .up) (a .s-bit)
+    (a .writeback)) _ (emitStraight (a .thumb) true (a .cycles) (a .x))
+    (sym (c1 .before .is-pop .ensures (a .x .instr) (c1 .before .before .is-al .ensures))
+    ∙ c1 .if1 .left))
     (c2 .emit-straight .ensures ks b j fs h g)
 
 pub emit-block-mem-spec : {M : Type 1} → statement M
 emit-block-mem-spec =
     tie.close
-    (tie.spec (search needs) (search needs) (search needs) (search needs) (search needs) (search needs) returns
+    (tie.spec (search needs) (search needs) (search needs) (search needs) (search needs)
+    (search needs) returns
     (search needs) returns-2)

@@ -1,4 +1,5 @@
--- `instr::emit_instr` meets its contract: an arm of one operation is given its fields, and `_` answers for all that go on to the next instruction and do not touch memory. Assumes nothing.
+-- `instr::emit_instr` meets its contract: an arm of one operation is given its fields, and `_`
+-- answers for all that go on to the next instruction and do not touch memory. Assumes nothing.
 use Prim.Native.Nat.{ℕ}
 use mathlib.Core.Path.{sym, ap, subst, _∙_}
 use Rattle.lower_forms.specs.Forms.{Form}
@@ -17,7 +18,8 @@ returns c =
     let known = done .before .before .before in
     let a = known .before .before .before .before .args in
     λ ks b j fs h e g reach.
-    same-form _ _ (ap (emitOp (a .thumb) (a .region) (a .cycles) (a .x)) (sym (known .op .given .1)))
+    same-form _ _
+    (ap (emitOp (a .thumb) (a .region) (a .cycles) (a .x)) (sym (known .op .given .1)))
     (done .emit-any-bx .ensures ks b j fs h g)
 
 returns-2 : tie.Need-returns-2
@@ -29,9 +31,11 @@ returns-2 c =
     let v = known .op2 .given .0 in
     λ ks b j fs h e g reach.
     same-form _ _
-    (ap (λ (n : ℕ). (Form.native (emitBranch (a .thumb) n (a .x .instr) (v .0) (v .1 .0)), 0)) (done .before .with-cost .ensures g)
+    (ap (λ (n : ℕ). (Form.native (emitBranch (a .thumb) n (a .x .instr) (v .0) (v .1 .0)), 0))
+    (done .before .with-cost .ensures g)
     ∙ ap (emitOp (a .thumb) (a .region) (a .cycles) (a .x)) (sym (known .op2 .given .1)))
-    (done .emit-branch .ensures ks b j fs (subst (BranchInside ks (a .thumb) (a .inside)) (known .op2 .given .1) reach) e)
+    (done .emit-branch .ensures ks b j fs
+    (subst (BranchInside ks (a .thumb) (a .inside)) (known .op2 .given .1) reach) e)
 
 returns-3 : tie.Need-returns-3
 unfolding emitInstr
@@ -40,7 +44,8 @@ returns-3 c =
     let known = done .before .before in
     let a = known .before .before .before .before .args in
     λ ks b j fs h e g reach.
-    same-form _ _ (ap (emitOp (a .thumb) (a .region) (a .cycles) (a .x)) (sym (known .enum-told .given .1)))
+    same-form _ _
+    (ap (emitOp (a .thumb) (a .region) (a .cycles) (a .x)) (sym (known .enum-told .given .1)))
     (done .emit-half .ensures ks b j fs h)
 
 returns-4 : tie.Need-returns-4
@@ -50,7 +55,8 @@ returns-4 c =
     let known = done .before .before in
     let a = known .before .before .before .before .args in
     λ ks b j fs h e g reach.
-    same-form _ _ (ap (emitOp (a .thumb) (a .region) (a .cycles) (a .x)) (sym (known .enum-told2 .given .1)))
+    same-form _ _
+    (ap (emitOp (a .thumb) (a .region) (a .cycles) (a .x)) (sym (known .enum-told2 .given .1)))
     (done .emit-straight .ensures ks b j fs h g)
 
 returns-5 : tie.Need-returns-5
@@ -60,7 +66,8 @@ returns-5 c =
     let known = done .before .before .before in
     let a = known .before .before .before .before .args in
     λ ks b j fs h e g reach.
-    same-form _ _ (ap (emitOp (a .thumb) (a .region) (a .cycles) (a .x)) (sym (known .op3 .given .1)))
+    same-form _ _
+    (ap (emitOp (a .thumb) (a .region) (a .cycles) (a .x)) (sym (known .op3 .given .1)))
     (done .emit-block-mem .ensures ks b j fs h g)
 
 returns-6 : tie.Need-returns-6
@@ -70,11 +77,16 @@ returns-6 c =
     let known = done .before .before in
     let a = known .before .before .before .args in
     λ ks b j fs h e g reach.
-    same-form _ _ (sym (straight-on (a .thumb) (a .region) (a .cycles) (a .x) (a .x .instr .op) (known .match .keys6))) (done .emit-straight2 .ensures ks b j fs h g)
+    same-form _ _
+    (sym (straight-on (a .thumb) (a .region) (a .cycles) (a .x) (a .x .instr .op)
+    (known .match .keys6))) (done .emit-straight2 .ensures ks b j fs h g)
 
 pub emit-instr-spec : {M : Type 1} → statement M
 emit-instr-spec =
     tie.close
-    (tie.spec (search needs) (search needs) (search needs) (search needs) (search needs) (search needs) (search needs)
-    (search needs) (search needs) (search needs) (search needs) (search needs) (search needs) returns (search needs)
-    returns-2 (search needs) returns-3 (search needs) returns-4 (search needs) returns-5 (search needs) returns-6)
+    (tie.spec (search needs) (search needs) (search needs) (search needs) (search needs)
+    (search needs) (search needs)
+    (search needs) (search needs) (search needs) (search needs) (search needs) (search needs)
+    returns (search needs)
+    returns-2 (search needs) returns-3 (search needs) returns-4 (search needs) returns-5
+    (search needs) returns-6)

@@ -7,7 +7,8 @@ use Rattle.emit_instr.proofs.shells.emit_half.Tie as tie
 
 returns : tie.Need-returns
 returns c =
-    λ ks b j fs h. record { onward = c .before .before .put-shell .ensures true ks b j fs h; cycles = refl }
+    λ ks b j fs h. record
+    { onward = c .before .before .put-shell .ensures true ks b j fs h; cycles = refl }
 
 pub emit-half-spec : {M : Type 1} → statement M
 emit-half-spec = tie.close (tie.spec (search needs) (search needs) returns)

@@ -7,7 +7,8 @@ use Rattle.emit_instr.proofs.shells.emit_interpreted.Tie as tie
 
 returns : tie.Need-returns
 returns c =
-    λ ks b j fs h. record { onward = c .before .before .put-shell .ensures false ks b j fs h; cycles = refl }
+    λ ks b j fs h. record
+    { onward = c .before .before .put-shell .ensures false ks b j fs h; cycles = refl }
 
 pub emit-interpreted-spec : {M : Type 1} → statement M
 emit-interpreted-spec = tie.close (tie.spec (search needs) (search needs) returns)

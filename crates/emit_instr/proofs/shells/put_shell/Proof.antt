@@ -1,4 +1,5 @@
--- `shells::put_shell` meets its contract: its call writes the text of a shell, the last or not. Assumes nothing.
+-- `shells::put_shell` meets its contract: its call writes the text of a shell, the last or not.
+-- Assumes nothing.
 use Prim.Native.Nat.{ℕ}
 use mathlib.Core.Path.{ap}
 use mathlib.Core.List.{[], _++_}
@@ -22,7 +23,8 @@ returns c =
     let a = c1 .before .before .args in
     let t : Lines = flushTicks (a .cycles) ++ pcLine (a .i .addr) in
     λ high ks b j fs h.
-    last-step ks b j high (a .last) t (fallThrough (a .thumb) (a .i)) fs h (c1 .if1 .taken) (c2 .emit-last-shell .ensures (bodyKey b) j)
+    last-step ks b j high (a .last) t (fallThrough (a .thumb) (a .i)) fs h (c1 .if1 .taken)
+    (c2 .emit-last-shell .ensures (bodyKey b) j)
 
 returns-2 : tie.Need-returns-2
 returns-2 c =
@@ -33,9 +35,12 @@ returns-2 c =
     let t : Lines = flushTicks (a .cycles) ++ pcLine (a .i .addr) in
     λ high ks b j fs h.
     shell-step ks b j high (a .last) t (fallThrough (a .thumb) (a .i)) fs h (c1 .if1 .left)
-    (said (c3 .emit-shell .ensures b j) (ap (λ (n : ℕ). flat (codeText (lines common 4 t (shellCode b j n end))) []) (c2 .fall-through .ensures)))
+    (said (c3 .emit-shell .ensures b j)
+    (ap (λ (n : ℕ). flat (codeText (lines common 4 t (shellCode b j n end))) [])
+    (c2 .fall-through .ensures)))
 
 pub put-shell-spec : {M : Type 1} → statement M
 put-shell-spec =
     tie.close
-    (tie.spec (search needs) (search needs) (search needs) (search needs) returns (search needs) returns-2)
+    (tie.spec (search needs) (search needs) (search needs) (search needs) returns (search needs)
+    returns-2)

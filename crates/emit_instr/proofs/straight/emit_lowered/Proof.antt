@@ -1,4 +1,5 @@
--- `straight::emit_lowered` meets its contract: what its calls write, one after the other, is a form with lines. Assumes nothing.
+-- `straight::emit_lowered` meets its contract: what its calls write, one after the other, is a form
+-- with lines. Assumes nothing.
 use mathlib.Core.Bool.{cond}
 use mathlib.Core.List.{[]}
 use Rattle.base_text.proofs.Laws.{seq}
@@ -18,10 +19,13 @@ returns c =
     λ body e ks b j fs h.
     record {
       onward =
-          lowered-step ks b j (isAl (a .x .instr .cond)) (cond (a .touches-bus) (flushTicks (a .cycles)) []) (condExpr (a .x .instr .cond)) body fs
+          lowered-step ks b j (isAl (a .x .instr .cond))
+          (cond (a .touches-bus) (flushTicks (a .cycles)) []) (condExpr (a .x .instr .cond))
+          body fs
           (seq (c1 .put-ticks .ensures) (c2 .put-lowered .ensures body e));
       cycles = c .pending .ensures h;
     }
 
 pub emit-lowered-spec : {M : Type 1} → statement M
-emit-lowered-spec = tie.close (tie.spec (search needs) (search needs) (search needs) (search needs) returns)
+emit-lowered-spec =
+    tie.close (tie.spec (search needs) (search needs) (search needs) (search needs) returns)

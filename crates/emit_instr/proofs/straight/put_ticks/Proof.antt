@@ -1,4 +1,5 @@
--- `straight::put_ticks` meets its contract: its call writes the text, or there is none. Assumes nothing.
+-- `straight::put_ticks` meets its contract: its call writes the text, or there is none. Assumes
+-- nothing.
 use Rattle.base_text.proofs.Laws.{none}
 use borrow.Author.Needs.{needs}
 use Rattle.emit_instr.proofs.straight.put_ticks.Statement.{statement}

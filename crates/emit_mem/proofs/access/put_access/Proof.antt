@@ -21,4 +21,5 @@ returns-2 c =
 pub put-access-spec : {M : Type 1} → statement M
 put-access-spec =
     tie.close
-    (tie.spec (search needs) (search needs) (λ c. kept (returns c)) returns (λ c. kept (returns-2 c)) returns-2)
+    (tie.spec (search needs) (search needs) (λ c. kept (returns c)) returns
+    (λ c. kept (returns-2 c)) returns-2)

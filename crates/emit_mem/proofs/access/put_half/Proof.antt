@@ -25,5 +25,6 @@ returns-2 c =
 pub put-half-spec : {M : Type 1} → statement M
 put-half-spec =
     tie.close
-    (tie.spec (search needs) (search needs) (search needs) (search needs) (λ c. kept (returns c)) returns
+    (tie.spec (search needs) (search needs) (search needs) (search needs) (λ c. kept (returns c))
+    returns
     (λ c. kept (returns-2 c)) returns-2)

@@ -12,10 +12,12 @@ returns c =
     let c3 = c4 .before .before .before .before .before in
     let c2 = c3 .before .before .before .before in
     let c1 = c2 .before .before .before .before .before in
-    said (seq (c1 .put-then-dec .ensures) (seq (c2 .put .ensures) (seq (c3 .put-loaded .ensures) (c4 .put2 .ensures)))) refl
+    said (seq (c1 .put-then-dec .ensures)
+    (seq (c2 .put .ensures) (seq (c3 .put-loaded .ensures) (c4 .put2 .ensures)))) refl
 
 pub put-load-line-spec : {M : Type 1} → statement M
 put-load-line-spec =
     tie.close
-    (tie.spec (search needs) (search needs) (search needs) (search needs) (search needs) (search needs) (search needs)
+    (tie.spec (search needs) (search needs) (search needs) (search needs) (search needs)
+    (search needs) (search needs)
     (λ c. kept (returns c)) returns)

@@ -32,5 +32,7 @@ returns-3 c =
 pub put-loaded-spec : {M : Type 1} → statement M
 put-loaded-spec =
     tie.close
-    (tie.spec (search needs) (search needs) (search needs) (search needs) (search needs) (search needs) (search needs)
-    (λ c. kept (returns c)) returns (λ c. kept (returns-2 c)) returns-2 (λ c. kept (returns-3 c)) returns-3)
+    (tie.spec (search needs) (search needs) (search needs) (search needs) (search needs)
+    (search needs) (search needs)
+    (λ c. kept (returns c)) returns (λ c. kept (returns-2 c)) returns-2 (λ c. kept (returns-3 c))
+    returns-3)

@@ -18,9 +18,12 @@ returns c =
     let c2 = c .before .before in
     let c1 = c2 .before .before .before .before in
     let a = c1 .before .before .before .args in
-    let back : List Plain = only (a .wb && not (eqb (a .rn) (a .rd)) && not (eqb (a .rn) 15)) (setReg (a .rn) (v32 x-ob)) in
+    let back : List Plain =
+    only (a .wb && not (eqb (a .rn) (a .rd)) && not (eqb (a .rn) 15))
+    (setReg (a .rn) (v32 x-ob)) in
     let load : List Plain = setReg (a .rd) (loaded (a .width) (a .signed)) ∷ [] in
     said (seq (c1 .put-load-ob .ensures) (c2 .put-load-line .ensures)) (apart-both 8 back load)
 
 pub put-mem-load-spec : {M : Type 1} → statement M
-put-mem-load-spec = tie.close (tie.spec (search needs) (search needs) (λ c. kept (returns c)) returns)
+put-mem-load-spec =
+    tie.close (tie.spec (search needs) (search needs) (λ c. kept (returns c)) returns)

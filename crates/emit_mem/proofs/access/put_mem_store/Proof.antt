@@ -23,4 +23,5 @@ returns c =
     said (seq (c1 .put-store-line .ensures) (c2 .put-store-ob .ensures)) (apart-both 8 store back)
 
 pub put-mem-store-spec : {M : Type 1} → statement M
-put-mem-store-spec = tie.close (tie.spec (search needs) (search needs) (λ c. kept (returns c)) returns)
+put-mem-store-spec =
+    tie.close (tie.spec (search needs) (search needs) (λ c. kept (returns c)) returns)

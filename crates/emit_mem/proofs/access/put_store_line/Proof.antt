@@ -35,7 +35,10 @@ returns-3 c =
 pub put-store-line-spec : {M : Type 1} → statement M
 put-store-line-spec =
     tie.close
-    (tie.spec (search needs) (search needs) (search needs) (search needs) (search needs) (search needs) (search needs)
-    (search needs) (search needs) (search needs) (search needs) (search needs) (search needs) (search needs)
-    (search needs) (λ c. kept (returns c)) returns (λ c. kept (returns-2 c)) returns-2 (λ c. kept (returns-3 c))
+    (tie.spec (search needs) (search needs) (search needs) (search needs) (search needs)
+    (search needs) (search needs)
+    (search needs) (search needs) (search needs) (search needs) (search needs) (search needs)
+    (search needs)
+    (search needs) (λ c. kept (returns c)) returns (λ c. kept (returns-2 c)) returns-2
+    (λ c. kept (returns-3 c))
     returns-3)

@@ -18,9 +18,15 @@ returns c =
     let c2 = c3 .before .before .before .before in
     let c1 = c2 .before .before in
     let a = c1 .before .before .args in
-    let back : Lines = apart (only (a .writeback && not (c1 .is-listed .result)) (setReg (a .rn) (movedBase (a .up) (a .total)))) in
+    let back : Lines =
+    apart (only (a .writeback && not (c1 .is-listed .result))
+    (setReg (a .rn) (movedBase (a .up) (a .total)))) in
     let rest : Lines = loads (listed (a .rlist) 16) in
-    rw (sym (c1 .is-listed .ensures)) (said (seq (c2 .put-load-back .ensures) (c3 .put-loads .ensures)) (lines-both 8 back rest end []))
+    rw (sym (c1 .is-listed .ensures))
+    (said (seq (c2 .put-load-back .ensures) (c3 .put-loads .ensures))
+    (lines-both 8 back rest end []))
 
 pub put-block-loads-spec : {M : Type 1} → statement M
-put-block-loads-spec = tie.close (tie.spec (search needs) (search needs) (search needs) (λ c. kept (returns c)) returns)
+put-block-loads-spec =
+    tie.close
+    (tie.spec (search needs) (search needs) (search needs) (λ c. kept (returns c)) returns)

@@ -21,10 +21,17 @@ returns c =
     let c1 = c2 .before .before in
     let a = c1 .before .before .args in
     let total : ℕ = c1 .bytes-listed .result in
-    let first : Lines = apart (let32 x-base (get (reg (a .rn))) ∷ let32 x-addr (start (a .up) (a .pre) total) ∷ []) in
+    let first : Lines =
+    apart (let32 x-base (get (reg (a .rn))) ∷ let32 x-addr (start (a .up) (a .pre) total)
+    ∷ []) in
     let rest : Lines =
-    loadsOrStores (a .load) (a .i) (a .rn) (a .writeback) (isListed (a .rlist) (a .rn)) (movedBase (a .up) total) (listed (a .rlist) 16) in
-    rw (sym (c1 .bytes-listed .ensures .0)) (said (seq (c2 .put-block-base .ensures) (c3 .put-transfers .ensures)) (lines-both 8 first rest end []))
+    loadsOrStores (a .load) (a .i) (a .rn) (a .writeback) (isListed (a .rlist) (a .rn))
+    (movedBase (a .up) total) (listed (a .rlist) 16) in
+    rw (sym (c1 .bytes-listed .ensures .0))
+    (said (seq (c2 .put-block-base .ensures) (c3 .put-transfers .ensures))
+    (lines-both 8 first rest end []))
 
 pub put-block-mem-spec : {M : Type 1} → statement M
-put-block-mem-spec = tie.close (tie.spec (search needs) (search needs) (search needs) (λ c. kept (returns c)) returns)
+put-block-mem-spec =
+    tie.close
+    (tie.spec (search needs) (search needs) (search needs) (λ c. kept (returns c)) returns)

@@ -17,9 +17,14 @@ returns c =
     let c2 = c3 .before .before .before .before in
     let c1 = c2 .before .before in
     let a = c1 .before .before .args in
-    let first : Lines = stores (storedReg (a .i) (a .rn) (c1 .lowest-listed .result) (movedBase (a .up) (a .total))) (listed (a .rlist) 16) in
-    let back : Lines = apart (only (a .writeback) (setReg (a .rn) (movedBase (a .up) (a .total)))) in
-    rw (sym (c1 .lowest-listed .ensures)) (said (seq (c2 .put-stores .ensures) (c3 .put-store-back .ensures)) (lines-both 8 first back end []))
+    let first : Lines =
+    stores (storedReg (a .i) (a .rn) (c1 .lowest-listed .result) (movedBase (a .up) (a .total)))
+    (listed (a .rlist) 16) in
+    let back : Lines =
+    apart (only (a .writeback) (setReg (a .rn) (movedBase (a .up) (a .total)))) in
+    rw (sym (c1 .lowest-listed .ensures))
+    (said (seq (c2 .put-stores .ensures) (c3 .put-store-back .ensures))
+    (lines-both 8 first back end []))
 
 pub put-block-stores-spec : {M : Type 1} → statement M
 put-block-stores-spec =

@@ -27,5 +27,6 @@ returns-2 c =
 pub put-down-spec : {M : Type 1} → statement M
 put-down-spec =
     tie.close
-    (tie.spec (search needs) (search needs) (search needs) (search needs) (search needs) (search needs)
+    (tie.spec (search needs) (search needs) (search needs) (search needs) (search needs)
+    (search needs)
     (λ c. kept (returns c)) returns (λ c. kept (returns-2 c)) returns-2)

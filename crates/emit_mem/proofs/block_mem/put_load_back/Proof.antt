@@ -23,4 +23,5 @@ returns-3 c =
     rw (c .if1 .left) (none (search needs) (search needs))
 
 pub put-load-back-spec : {M : Type 1} → statement M
-put-load-back-spec = tie.close (tie.spec returns (search needs) (λ c. kept (returns-2 c)) returns-2 returns-3)
+put-load-back-spec =
+    tie.close (tie.spec returns (search needs) (λ c. kept (returns-2 c)) returns-2 returns-3)

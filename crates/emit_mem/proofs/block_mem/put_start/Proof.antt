@@ -34,5 +34,6 @@ returns-3 c =
 pub put-start-spec : {M : Type 1} → statement M
 put-start-spec =
     tie.close
-    (tie.spec (search needs) (search needs) (λ c. kept (returns c)) returns (search needs) (search needs)
+    (tie.spec (search needs) (search needs) (λ c. kept (returns c)) returns (search needs)
+    (search needs)
     (λ c. kept (returns-2 c)) returns-2 (search needs) (λ c. kept (returns-3 c)) returns-3)

@@ -21,4 +21,5 @@ returns-4 c = λ e. rw (c .enum-told4 .given .1) (ror-inlined e (c .before .befo
 pub kind-is-inlined-spec : {M : Type 1} → statement M
 kind-is-inlined-spec =
     tie.close
-    (tie.spec (search needs) (search needs) (search needs) (search needs) returns returns-2 returns-3 returns-4)
+    (tie.spec (search needs) (search needs) (search needs) (search needs) returns returns-2
+    returns-3 returns-4)

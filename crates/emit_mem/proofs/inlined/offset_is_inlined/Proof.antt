@@ -9,7 +9,10 @@ returns : tie.Need-returns
 returns c = λ i. rw (c .before .offset .given .1) refl
 
 returns-2 : tie.Need-returns-2
-returns-2 c = λ i. rw (c .before .before .offset2 .given .1) (c .shift-is-inlined .ensures i (c .before .before .offset2 .given .0 .0))
+returns-2 c =
+    λ i. rw (c .before .before .offset2 .given .1)
+    (c .shift-is-inlined .ensures i (c .before .before .offset2 .given .0 .0))
 
 pub offset-is-inlined-spec : {M : Type 1} → statement M
-offset-is-inlined-spec = tie.close (tie.spec (search needs) (search needs) (search needs) returns returns-2)
+offset-is-inlined-spec =
+    tie.close (tie.spec (search needs) (search needs) (search needs) returns returns-2)

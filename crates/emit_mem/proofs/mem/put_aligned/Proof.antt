@@ -15,4 +15,5 @@ returns c =
 pub put-aligned-spec : {M : Type 1} → statement M
 put-aligned-spec =
     tie.close
-    (tie.spec (search needs) (search needs) (search needs) (search needs) (search needs) (λ c. kept (returns c)) returns)
+    (tie.spec (search needs) (search needs) (search needs) (search needs) (search needs)
+    (λ c. kept (returns c)) returns)

@@ -13,7 +13,8 @@ returns c =
     let c3 = c4 .before .before in
     let c2 = c3 .before in
     let c1 = c2 .before in
-    rw (sym (c1 .pc-value .ensures), c2 .if1 .taken, eq-eqb _ _ (c3 .if2 .taken)) (said (c4 .put-aligned .ensures) refl)
+    rw (sym (c1 .pc-value .ensures), c2 .if1 .taken, eq-eqb _ _ (c3 .if2 .taken))
+    (said (c4 .put-aligned .ensures) refl)
 
 returns-2 : tie.Need-returns-2
 returns-2 c =
@@ -21,7 +22,8 @@ returns-2 c =
     let c3 = c4 .before .before in
     let c2 = c3 .before in
     let c1 = c2 .before in
-    rw (sym (c1 .pc-value .ensures), c2 .if1 .taken, ne-eqb _ _ (c3 .if2 .left)) (said (c4 .put-place .ensures) refl)
+    rw (sym (c1 .pc-value .ensures), c2 .if1 .taken, ne-eqb _ _ (c3 .if2 .left))
+    (said (c4 .put-place .ensures) refl)
 
 returns-3 : tie.Need-returns-3
 returns-3 c =
@@ -33,5 +35,6 @@ returns-3 c =
 pub put-base-spec : {M : Type 1} → statement M
 put-base-spec =
     tie.close
-    (tie.spec (search needs) (search needs) (λ c. kept (returns c)) returns (search needs) (λ c. kept (returns-2 c))
+    (tie.spec (search needs) (search needs) (λ c. kept (returns c)) returns (search needs)
+    (λ c. kept (returns-2 c))
     returns-2 (search needs) (λ c. kept (returns-3 c)) returns-3)

@@ -19,7 +19,9 @@ returns c = λ ls e.
     let a = c1 .before .before .before .args in
     said (c1 .put-mem-lines .ensures)
     (ap (λ (ks : Lines). flat (linesText 8 ks) [])
-    (mem-lines (a .i) (baseExpr (a .thumb) (a .i) (a .rn)) (a .up) (a .pre) (access (a .load) (a .width) (a .signed) (a .rd) (a .rn) (not (a .pre) || a .writeback)) (a .offset) ls e))
+    (mem-lines (a .i) (baseExpr (a .thumb) (a .i) (a .rn)) (a .up) (a .pre)
+    (access (a .load) (a .width) (a .signed) (a .rd) (a .rn) (not (a .pre) || a .writeback))
+    (a .offset) ls e))
 
 same-length : tie.Need-same-length
 same-length c = kept (c .before .before .put-mem-lines .ensures)

@@ -19,9 +19,16 @@ returns c =
     let c2 = c3 .before .before .before .before in
     let c1 = c2 .before .before in
     let a = c1 .before .before .args in
-    let first : Lines = memLines (baseExpr (a .thumb) (a .i) (a .rn)) (a .up) (a .pre) [] (offsetOf (pcValue (a .i)) (a .offset)) in
-    let rest : Lines = apart (access (a .load) (a .width) (a .signed) (a .rd) (a .rn) (c1 .writes-back .result)) in
-    rw (sym (c1 .writes-back .ensures)) (said (seq (c2 .put-address .ensures) (c3 .put-access .ensures)) (lines-both 8 first rest end []))
+    let first : Lines =
+    memLines (baseExpr (a .thumb) (a .i) (a .rn)) (a .up) (a .pre) []
+    (offsetOf (pcValue (a .i)) (a .offset)) in
+    let rest : Lines =
+    apart (access (a .load) (a .width) (a .signed) (a .rd) (a .rn) (c1 .writes-back .result)) in
+    rw (sym (c1 .writes-back .ensures))
+    (said (seq (c2 .put-address .ensures) (c3 .put-access .ensures))
+    (lines-both 8 first rest end []))
 
 pub put-mem-lines-spec : {M : Type 1} → statement M
-put-mem-lines-spec = tie.close (tie.spec (search needs) (search needs) (search needs) (λ c. kept (returns c)) returns)
+put-mem-lines-spec =
+    tie.close
+    (tie.spec (search needs) (search needs) (search needs) (λ c. kept (returns c)) returns)

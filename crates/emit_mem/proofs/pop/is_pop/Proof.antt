@@ -12,12 +12,16 @@ returns : tie.Need-returns
 returns c = λ i e.
     let t = c .before in
     let up = t .before in
-    rw (sym (up .before .is-upward-load .ensures) ∙ up .if1 .taken, sym e ∙ t .if2 .taken) (c .loads-pc .ensures)
+    rw (sym (up .before .is-upward-load .ensures) ∙ up .if1 .taken, sym e ∙ t .if2 .taken)
+    (c .loads-pc .ensures)
 
 returns-2 : tie.Need-returns-2
 returns-2 c = λ i e.
     let up = c .before in
-    rw (sym (up .before .is-upward-load .ensures) ∙ up .if1 .taken, sym e ∙ c .if2 .left) (sym (and-false (isListed (up .before .before .args .rlist) 15 && not (eqb (up .before .before .args .rn) 15))))
+    rw (sym (up .before .is-upward-load .ensures) ∙ up .if1 .taken, sym e ∙ c .if2 .left)
+    (sym (and-false
+    (isListed (up .before .before .args .rlist) 15
+    && not (eqb (up .before .before .args .rn) 15))))
 
 returns-3 : tie.Need-returns-3
 returns-3 c = λ i e. rw (sym (c .before .is-upward-load .ensures) ∙ c .if1 .left) refl

@@ -8,10 +8,22 @@ returns : tie.Need-returns
 returns c = rw (c .before .if1 .taken, c .if2 .taken) refl
 
 returns-2 : tie.Need-returns-2
-returns-2 c = rw (c .before .before .before .if1 .taken, c .before .before .if2 .left, c .before .if3 .taken, c .if4 .taken) refl
+returns-2 c =
+    rw (
+      c .before .before .before .if1 .taken,
+      c .before .before .if2 .left,
+      c .before .if3 .taken,
+      c .if4 .taken,
+    ) refl
 
 returns-3 : tie.Need-returns-3
-returns-3 c = rw (c .before .before .before .if1 .taken, c .before .before .if2 .left, c .before .if3 .taken, c .if4 .left) refl
+returns-3 c =
+    rw (
+      c .before .before .before .if1 .taken,
+      c .before .before .if2 .left,
+      c .before .if3 .taken,
+      c .if4 .left,
+    ) refl
 
 returns-4 : tie.Need-returns-4
 returns-4 c = rw (c .before .before .if1 .taken, c .before .if2 .left, c .if3 .left) refl

@@ -7,10 +7,20 @@ use Rattle.emit_mem.proofs.pop.loads_pc.Statement.{statement}
 use Rattle.emit_mem.proofs.pop.loads_pc.Tie as tie
 
 returns : tie.Need-returns
-returns c = rw (sym (c .before .before .is-listed .ensures) ∙ c .before .if1 .taken, eq-eqb _ _ (c .if2 .taken)) refl
+returns c =
+    rw (
+      sym (c .before .before .is-listed .ensures)
+          ∙ c .before .if1 .taken,
+      eq-eqb _ _ (c .if2 .taken),
+    ) refl
 
 returns-2 : tie.Need-returns-2
-returns-2 c = rw (sym (c .before .before .is-listed .ensures) ∙ c .before .if1 .taken, ne-eqb _ _ (c .if2 .left)) refl
+returns-2 c =
+    rw (
+      sym (c .before .before .is-listed .ensures)
+          ∙ c .before .if1 .taken,
+      ne-eqb _ _ (c .if2 .left),
+    ) refl
 
 returns-3 : tie.Need-returns-3
 returns-3 c = rw (sym (c .before .is-listed .ensures) ∙ c .if1 .left) refl

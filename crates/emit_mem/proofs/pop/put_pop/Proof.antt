@@ -15,7 +15,10 @@ returns c =
     let c2 = c3 .before .before .before in
     let c1 = c2 .before .before .before .before in
     let a = c1 .before .before .before .args in
-    rw (c3 .if1 .taken) (said (seq (c1 .put-pop-loads .ensures) (seq (c2 .put-pop-base .ensures) (c4 .put .ensures))) (pop-text true (a .rn) (listed (a .rlist) 15)))
+    rw (c3 .if1 .taken)
+    (said (seq (c1 .put-pop-loads .ensures)
+    (seq (c2 .put-pop-base .ensures) (c4 .put .ensures)))
+    (pop-text true (a .rn) (listed (a .rlist) 15)))
 
 returns-2 : tie.Need-returns-2
 returns-2 c =
@@ -24,10 +27,14 @@ returns-2 c =
     let c2 = c3 .before .before .before in
     let c1 = c2 .before .before .before .before in
     let a = c1 .before .before .before .args in
-    rw (c3 .if1 .left) (said (seq (c1 .put-pop-loads .ensures) (seq (c2 .put-pop-base .ensures) (c4 .put2 .ensures))) (pop-text false (a .rn) (listed (a .rlist) 15)))
+    rw (c3 .if1 .left)
+    (said (seq (c1 .put-pop-loads .ensures)
+    (seq (c2 .put-pop-base .ensures) (c4 .put2 .ensures)))
+    (pop-text false (a .rn) (listed (a .rlist) 15)))
 
 pub put-pop-spec : {M : Type 1} → statement M
 put-pop-spec =
     tie.close
-    (tie.spec (search needs) (search needs) (search needs) (search needs) (search needs) (search needs)
+    (tie.spec (search needs) (search needs) (search needs) (search needs) (search needs)
+    (search needs)
     (λ c. kept (returns c)) returns (λ c. kept (returns-2 c)) returns-2)

@@ -20,11 +20,16 @@ returns c =
     let c3 = c4 .before .before .before .before .before in
     let c2 = c3 .before .before .before .before .before in
     let c1 = c2 .before .before .before in
-    let e : (length (listed (c1 .before .before .args .rlist) 15) + 1) * 4 ≡ c1 .bytes-listed .result + 4 = omega (arith, c1 .bytes-listed .ensures .0) in
-    rw (e) (said (seq (c2 .put-then-dec .ensures) (seq (c3 .put-then-dec2 .ensures) (seq (c4 .put-then-dec3 .ensures) (c5 .put .ensures)))) refl)
+    let e : (length (listed (c1 .before .before .args .rlist) 15) + 1) * 4
+    ≡ c1 .bytes-listed .result + 4 = omega (arith, c1 .bytes-listed .ensures .0) in
+    rw (e) (said
+    (seq (c2 .put-then-dec .ensures)
+    (seq (c3 .put-then-dec2 .ensures) (seq (c4 .put-then-dec3 .ensures) (c5 .put .ensures))))
+    refl)
 
 pub put-pop-base-spec : {M : Type 1} → statement M
 put-pop-base-spec =
     tie.close
-    (tie.spec (search needs) add-total (search needs) (search needs) (search needs) (search needs) (search needs)
+    (tie.spec (search needs) add-total (search needs) (search needs) (search needs) (search needs)
+    (search needs)
     (search needs) (search needs) (search needs) (search needs) (λ c. kept (returns c)) returns)

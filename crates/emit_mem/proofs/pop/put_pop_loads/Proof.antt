@@ -16,4 +16,5 @@ returns c =
 pub put-pop-loads-spec : {M : Type 1} → statement M
 put-pop-loads-spec =
     tie.close
-    (tie.spec (search needs) (search needs) (search needs) (search needs) (search needs) (λ c. kept (returns c)) returns)
+    (tie.spec (search needs) (search needs) (search needs) (search needs) (search needs)
+    (λ c. kept (returns c)) returns)

@@ -1,5 +1,5 @@
--- `bytes_listed` counts the bytes of the registers listed. The loop's invariant: n is the bytes of those below r.
--- Assumes nothing.
+-- `bytes_listed` counts the bytes of the registers listed. The loop's invariant: n is the bytes of
+-- those below r. Assumes nothing.
 use Prim.Native.Nat.{_-_, _*_, _≤_}
 use borrow.Author.Needs.{needs}
 use lib.ListN.{length}
@@ -26,8 +26,18 @@ loop-again c =
     let asked = c .before in
     let inv = asked .before .before .loop .inv in
     ⊎-elim
-    (λ w. (omega arith, omega (arith, w .1), w .1 ∙ bytes-more _ _ _ (sym (asked .is-listed .ensures) ∙ w .0 .taken) (inv .2)))
-    (λ w. (omega arith, omega (arith, w .1), w .1 ∙ bytes-same _ _ _ (sym (asked .is-listed .ensures) ∙ w .0 .left) (inv .2)))
+    (λ w. (
+      omega arith,
+      omega (arith, w .1),
+      w .1
+          ∙ bytes-more _ _ _ (sym (asked .is-listed .ensures) ∙ w .0 .taken) (inv .2),
+    ))
+    (λ w. (
+      omega arith,
+      omega (arith, w .1),
+      w .1
+          ∙ bytes-same _ _ _ (sym (asked .is-listed .ensures) ∙ w .0 .left) (inv .2),
+    ))
     (c .if1 .came)
 
 returns : tie.Need-returns Inv-loop μ-loop
@@ -38,5 +48,6 @@ returns c =
 pub bytes-listed-spec : {M : Type 1} → statement M
 bytes-listed-spec =
     tie.close
-    (tie.spec Inv-loop μ-loop loop-holds (search needs) (λ c. omega arith) (λ c. omega arith) (λ c. omega arith)
+    (tie.spec Inv-loop μ-loop loop-holds (search needs) (λ c. omega arith) (λ c. omega arith)
+    (λ c. omega arith)
     loop-again returns)

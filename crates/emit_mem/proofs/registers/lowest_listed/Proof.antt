@@ -23,12 +23,16 @@ loop-holds c = (omega arith, refl)
 returns : tie.Need-returns Inv-loop μ-loop
 returns c =
     let asked = c .before in
-    lowest-is _ _ (asked .before .loop-test .taken) (sym (asked .is-listed .ensures) ∙ c .if1 .taken) (asked .before .before .loop .inv .1)
+    lowest-is _ _ (asked .before .loop-test .taken)
+    (sym (asked .is-listed .ensures) ∙ c .if1 .taken) (asked .before .before .loop .inv .1)
 
 loop-again : tie.Need-loop-again Inv-loop μ-loop
 loop-again c =
-    let asked = c .before in
-    (omega arith, listed-not _ _ (sym (asked .is-listed .ensures) ∙ c .if1 .left) (asked .before .before .loop .inv .1))
+    let asked = c .before in (
+      omega arith,
+      listed-not _ _ (sym (asked .is-listed .ensures) ∙ c .if1 .left)
+          (asked .before .before .loop .inv .1),
+    )
 
 returns-2 : tie.Need-returns-2 Inv-loop μ-loop
 returns-2 c = lowest-none _ _ (omega arith) (c .before .loop .inv .1)
@@ -36,5 +40,6 @@ returns-2 c = lowest-none _ _ (omega arith) (c .before .loop .inv .1)
 pub lowest-listed-spec : {M : Type 1} → statement M
 lowest-listed-spec =
     tie.close
-    (tie.spec Inv-loop μ-loop loop-holds (search needs) returns (λ c. omega arith) (λ c. omega arith) loop-again
+    (tie.spec Inv-loop μ-loop loop-holds (search needs) returns (λ c. omega arith)
+    (λ c. omega arith) loop-again
     returns-2)

@@ -19,4 +19,5 @@ returns-2 c =
     rw (sym (c1 .is-listed .ensures) ∙ c .if1 .left) (none (search needs) (search needs))
 
 pub put-listed-store-spec : {M : Type 1} → statement M
-put-listed-store-spec = tie.close (tie.spec (search needs) (search needs) (λ c. kept (returns c)) returns returns-2)
+put-listed-store-spec =
+    tie.close (tie.spec (search needs) (search needs) (λ c. kept (returns c)) returns returns-2)

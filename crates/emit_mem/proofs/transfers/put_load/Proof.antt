@@ -16,4 +16,6 @@ returns c =
     said (seq (c1 .put-target .ensures) (c2 .put .ensures)) refl
 
 pub put-load-spec : {M : Type 1} → statement M
-put-load-spec = tie.close (tie.spec (search needs) (search needs) (search needs) (λ c. kept (returns c)) returns)
+put-load-spec =
+    tie.close
+    (tie.spec (search needs) (search needs) (search needs) (λ c. kept (returns c)) returns)

@@ -1,5 +1,5 @@
--- `put_loads` writes the loads of the registers listed. The loop's invariant: those below r are written.
--- Assumes nothing.
+-- `put_loads` writes the loads of the registers listed. The loop's invariant: those below r are
+-- written. Assumes nothing.
 use Prim.Native.Nat.{_-_, _≤_}
 use native.Mathlib.Omega.{arith}
 use borrow.Author.Needs.{needs}
@@ -16,7 +16,8 @@ use Rattle.base_text.proofs.Laws.{none, seq, said, kept}
 use Rattle.base_text.specs.Wrote.{Wrote}
 
 abbrev Inv-loop : tie.InvT-loop
-Inv-loop out₀ at pop rlist limit p₀ r₀ out p r = (r ≤ limit) × Wrote out₀ at (codeText (lines common (cond pop 6 8) (loads (listed rlist r)) end)) out p
+Inv-loop out₀ at pop rlist limit p₀ r₀ out p r = (r ≤ limit)
+    × Wrote out₀ at (codeText (lines common (cond pop 6 8) (loads (listed rlist r)) end)) out p
 
 abbrev μ-loop : tie.MeasureT-loop
 μ-loop out₀ at pop rlist limit p₀ r₀ out p r = limit - r
@@ -32,10 +33,12 @@ loop-again c =
     (omega arith, said (seq (t .loop .inv .1) (b .put-listed-load .ensures)) (loads-more _ _ _))
 
 returns : tie.Need-returns Inv-loop μ-loop
-returns c = let e : c .before .loop .r ≡ c .before .before .before .args .limit = omega arith in rw (sym e) (c .before .loop .inv .1)
+returns c = let e : c .before .loop .r ≡ c .before .before .before .args .limit = omega arith in
+    rw (sym e) (c .before .loop .inv .1)
 
 pub put-loads-spec : {M : Type 1} → statement M
 put-loads-spec =
     tie.close
-    (tie.spec Inv-loop μ-loop loop-holds (search needs) (λ c. omega arith) (λ c. omega arith) loop-again
+    (tie.spec Inv-loop μ-loop loop-holds (search needs) (λ c. omega arith) (λ c. omega arith)
+    loop-again
     (λ c. kept (returns c)) returns)

@@ -19,4 +19,5 @@ returns c =
 pub put-store-spec : {M : Type 1} → statement M
 put-store-spec =
     tie.close
-    (tie.spec (search needs) (search needs) (search needs) (search needs) (search needs) (λ c. kept (returns c)) returns)
+    (tie.spec (search needs) (search needs) (search needs) (search needs) (search needs)
+    (λ c. kept (returns c)) returns)

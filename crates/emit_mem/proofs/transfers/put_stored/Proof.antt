@@ -19,7 +19,8 @@ returns-2 c =
     let c3 = c4 .before .before .before in
     let c2 = c3 .before in
     let c1 = c2 .before in
-    rw (ne-eqb _ _ (c1 .if1 .left), eq-eqb _ _ (c2 .if2 .taken), eq-eqb _ _ (c3 .if3 .taken)) (said (c4 .put .ensures) refl)
+    rw (ne-eqb _ _ (c1 .if1 .left), eq-eqb _ _ (c2 .if2 .taken), eq-eqb _ _ (c3 .if3 .taken))
+    (said (c4 .put .ensures) refl)
 
 returns-3 : tie.Need-returns-3
 returns-3 c =
@@ -27,7 +28,8 @@ returns-3 c =
     let c3 = c4 .before .before in
     let c2 = c3 .before in
     let c1 = c2 .before in
-    rw (ne-eqb _ _ (c1 .if1 .left), eq-eqb _ _ (c2 .if2 .taken), ne-eqb _ _ (c3 .if3 .left)) (said (c4 .put-moved .ensures) refl)
+    rw (ne-eqb _ _ (c1 .if1 .left), eq-eqb _ _ (c2 .if2 .taken), ne-eqb _ _ (c3 .if3 .left))
+    (said (c4 .put-moved .ensures) refl)
 
 returns-4 : tie.Need-returns-4
 returns-4 c =
@@ -39,5 +41,7 @@ returns-4 c =
 pub put-stored-spec : {M : Type 1} → statement M
 put-stored-spec =
     tie.close
-    (tie.spec (search needs) (λ c. kept (returns c)) returns (search needs) (search needs) (λ c. kept (returns-2 c))
-    returns-2 (search needs) (λ c. kept (returns-3 c)) returns-3 (search needs) (λ c. kept (returns-4 c)) returns-4)
+    (tie.spec (search needs) (λ c. kept (returns c)) returns (search needs) (search needs)
+    (λ c. kept (returns-2 c))
+    returns-2 (search needs) (λ c. kept (returns-3 c)) returns-3 (search needs)
+    (λ c. kept (returns-4 c)) returns-4)

@@ -11,7 +11,10 @@ returns c =
     let c3 = c .before .before in
     let c2 = c3 .before .before in
     let c1 = c2 .before in
-    rw (sym (c1 .pc-value .ensures), sym (c2 .wrapping-add-u32 .ensures)) (said (c3 .put-word .ensures) refl)
+    rw (sym (c1 .pc-value .ensures), sym (c2 .wrapping-add-u32 .ensures))
+    (said (c3 .put-word .ensures) refl)
 
 pub put-stored-pc-spec : {M : Type 1} → statement M
-put-stored-pc-spec = tie.close (tie.spec (search needs) (search needs) (search needs) (λ c. kept (returns c)) returns)
+put-stored-pc-spec =
+    tie.close
+    (tie.spec (search needs) (search needs) (search needs) (λ c. kept (returns c)) returns)

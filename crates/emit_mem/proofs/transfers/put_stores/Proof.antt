@@ -1,5 +1,5 @@
--- `put_stores` writes the stores of the registers listed. The loop's invariant: those below r are written.
--- Assumes nothing.
+-- `put_stores` writes the stores of the registers listed. The loop's invariant: those below r are
+-- written. Assumes nothing.
 use Prim.Native.Nat.{_-_, _≤_}
 use native.Mathlib.Omega.{arith}
 use borrow.Author.Needs.{needs}
@@ -13,7 +13,9 @@ use Rattle.base_text.proofs.Laws.{none, seq, said, kept}
 use Rattle.base_text.specs.Wrote.{Wrote}
 
 abbrev Inv-loop : tie.InvT-loop
-Inv-loop out₀ at i rn rlist lowest up total p₀ r₀ out p r = (r ≤ 16) × Wrote out₀ at (linesText 8 (stores (storedReg i rn lowest (movedBase up total)) (listed rlist r))) out p
+Inv-loop out₀ at i rn rlist lowest up total p₀ r₀ out p r = (r ≤ 16)
+    × Wrote out₀ at
+    (linesText 8 (stores (storedReg i rn lowest (movedBase up total)) (listed rlist r))) out p
 
 abbrev μ-loop : tie.MeasureT-loop
 μ-loop out₀ at i rn rlist lowest up total p₀ r₀ out p r = 16 - r
@@ -34,5 +36,6 @@ returns c = let e : c .before .loop .r ≡ 16 = omega arith in rw (sym e) (c .be
 pub put-stores-spec : {M : Type 1} → statement M
 put-stores-spec =
     tie.close
-    (tie.spec Inv-loop μ-loop loop-holds (search needs) (λ c. omega arith) (λ c. omega arith) loop-again
+    (tie.spec Inv-loop μ-loop loop-holds (search needs) (λ c. omega arith) (λ c. omega arith)
+    loop-again
     (λ c. kept (returns c)) returns)

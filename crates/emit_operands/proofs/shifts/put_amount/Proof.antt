@@ -1,4 +1,5 @@
--- `emit_operands::shifts::put_amount` meets its contract: what its calls write, one after another. Assumes nothing.
+-- `emit_operands::shifts::put_amount` meets its contract: what its calls write, one after another.
+-- Assumes nothing.
 use mathlib.Core.Path.{refl}
 use borrow.Author.Needs.{needs}
 use Rattle.base_text.proofs.Laws.{seq, said, kept}
@@ -13,4 +14,6 @@ returns c =
     said (seq (c1 .put-around .ensures) (seq (c2 .put-dec .ensures) (c3 .put .ensures))) refl
 
 pub put-amount-spec : {M : Type 1} → statement M
-put-amount-spec = tie.close (tie.spec (search needs) (search needs) (search needs) (λ c. kept (returns c)) returns)
+put-amount-spec =
+    tie.close
+    (tie.spec (search needs) (search needs) (search needs) (λ c. kept (returns c)) returns)

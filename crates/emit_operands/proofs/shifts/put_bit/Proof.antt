@@ -1,4 +1,5 @@
--- `emit_operands::shifts::put_bit` meets its contract: what its calls write, one after another. Assumes nothing.
+-- `emit_operands::shifts::put_bit` meets its contract: what its calls write, one after another.
+-- Assumes nothing.
 use mathlib.Core.List.{[]}
 use Rattle.lower_forms.specs.Operands.{regOf}
 use borrow.Author.Needs.{needs}
@@ -16,4 +17,5 @@ returns c =
 pub put-bit-spec : {M : Type 1} → statement M
 put-bit-spec =
     tie.close
-    (tie.spec (search needs) (search needs) (search needs) (search needs) (λ c. kept (returns c)) returns)
+    (tie.spec (search needs) (search needs) (search needs) (search needs) (λ c. kept (returns c))
+    returns)

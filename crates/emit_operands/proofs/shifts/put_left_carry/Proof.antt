@@ -1,4 +1,5 @@
--- `emit_operands::shifts::put_left_carry` meets its contract: what its calls write, one after another. Assumes nothing.
+-- `emit_operands::shifts::put_left_carry` meets its contract: what its calls write, one after
+-- another. Assumes nothing.
 use mathlib.Core.List.{[]}
 use borrow.Author.Needs.{needs}
 use Rattle.emit_operands.proofs.Operands.{left-carry}
@@ -18,4 +19,5 @@ returns-2 c =
     said (rw (c2 .last-out .ensures) at (c3 .put-bit .ensures)) (left-carry _ _ (c1 .if1 .left) [])
 
 pub put-left-carry-spec : {M : Type 1} → statement M
-put-left-carry-spec = tie.close (tie.spec returns (search needs) (search needs) (λ c. kept (returns-2 c)) returns-2)
+put-left-carry-spec =
+    tie.close (tie.spec returns (search needs) (search needs) (λ c. kept (returns-2 c)) returns-2)

@@ -1,4 +1,5 @@
--- `emit_operands::shifts::put_lsl` meets its contract: what its calls write, one after another. Assumes nothing.
+-- `emit_operands::shifts::put_lsl` meets its contract: what its calls write, one after another.
+-- Assumes nothing.
 use mathlib.Core.Path.{refl}
 use mathlib.Core.List.{[]}
 use borrow.Author.Needs.{needs}
@@ -22,5 +23,6 @@ returns-2 c =
 pub put-lsl-spec : {M : Type 1} → statement M
 put-lsl-spec =
     tie.close
-    (tie.spec (search needs) (λ c. kept (returns c)) returns (search needs) (search needs) (search needs) (search needs)
+    (tie.spec (search needs) (λ c. kept (returns c)) returns (search needs) (search needs)
+    (search needs) (search needs)
     (λ c. kept (returns-2 c)) returns-2)

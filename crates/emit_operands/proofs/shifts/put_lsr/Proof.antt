@@ -1,4 +1,5 @@
--- `emit_operands::shifts::put_lsr` meets its contract: what its calls write, one after another. Assumes nothing.
+-- `emit_operands::shifts::put_lsr` meets its contract: what its calls write, one after another.
+-- Assumes nothing.
 use mathlib.Core.List.{[]}
 use borrow.Author.Needs.{needs}
 use Rattle.emit_operands.proofs.Operands.{zero-text, lsr-text}
@@ -21,5 +22,6 @@ returns-2 c =
 pub put-lsr-spec : {M : Type 1} → statement M
 put-lsr-spec =
     tie.close
-    (tie.spec (search needs) (search needs) (λ c. kept (returns c)) returns (search needs) (search needs) (search needs)
+    (tie.spec (search needs) (search needs) (λ c. kept (returns c)) returns (search needs)
+    (search needs) (search needs)
     (search needs) (λ c. kept (returns-2 c)) returns-2)

@@ -1,4 +1,5 @@
--- `emit_operands::shifts::put_ror` meets its contract: what its calls write, one after another. Assumes nothing.
+-- `emit_operands::shifts::put_ror` meets its contract: what its calls write, one after another.
+-- Assumes nothing.
 use mathlib.Core.List.{[]}
 use Rattle.lower_forms.specs.Operands.{regOf}
 use borrow.Author.Needs.{needs}
@@ -23,5 +24,6 @@ returns-2 c =
 pub put-ror-spec : {M : Type 1} → statement M
 put-ror-spec =
     tie.close
-    (tie.spec (search needs) (search needs) (search needs) (λ c. kept (returns c)) returns (search needs) (search needs)
+    (tie.spec (search needs) (search needs) (search needs) (λ c. kept (returns c)) returns
+    (search needs) (search needs)
     (search needs) (search needs) (λ c. kept (returns-2 c)) returns-2)

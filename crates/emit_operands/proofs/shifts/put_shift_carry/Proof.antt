@@ -1,4 +1,5 @@
--- `emit_operands::shifts::put_shift_carry` meets its contract: what its calls write, one after another. Assumes nothing.
+-- `emit_operands::shifts::put_shift_carry` meets its contract: what its calls write, one after
+-- another. Assumes nothing.
 use mathlib.Core.Path.{refl, ap}
 use Rattle.emit_operands.specs.Operands.{carryText}
 use Rattle.lower_forms.specs.Operands.{regOf}
@@ -30,7 +31,9 @@ returns-3 c =
     let c1 = c2 .before .before in
     let a = c1 .before .before .before .args in
     rw (c1 .enum-told3 .given .1)
-    (said (c2 .put-right-carry2 .ensures) (ap (λ (o : Option Expr). flat (carryText o) []) (asr-carry (regOf (a .pc) (a .rm)) (a .amount))))
+    (said (c2 .put-right-carry2 .ensures)
+    (ap (λ (o : Option Expr). flat (carryText o) [])
+    (asr-carry (regOf (a .pc) (a .rm)) (a .amount))))
 
 returns-4 : tie.Need-returns-4
 returns-4 c =
@@ -41,6 +44,8 @@ returns-4 c =
 pub put-shift-carry-spec : {M : Type 1} → statement M
 put-shift-carry-spec =
     tie.close
-    (tie.spec (search needs) (search needs) (search needs) (search needs) (search needs) (search needs) (search needs)
-    (search needs) (λ c. kept (returns c)) returns (λ c. kept (returns-2 c)) returns-2 (λ c. kept (returns-3 c))
+    (tie.spec (search needs) (search needs) (search needs) (search needs) (search needs)
+    (search needs) (search needs)
+    (search needs) (λ c. kept (returns c)) returns (λ c. kept (returns-2 c)) returns-2
+    (λ c. kept (returns-3 c))
     returns-3 (λ c. kept (returns-4 c)) returns-4)

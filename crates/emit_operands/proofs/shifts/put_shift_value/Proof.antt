@@ -1,4 +1,5 @@
--- `emit_operands::shifts::put_shift_value` meets its contract: what its calls write, one after another. Assumes nothing.
+-- `emit_operands::shifts::put_shift_value` meets its contract: what its calls write, one after
+-- another. Assumes nothing.
 use mathlib.Core.Path.{refl}
 use borrow.Author.Needs.{needs}
 use Rattle.base_text.proofs.Laws.{said, kept}
@@ -32,6 +33,8 @@ returns-4 c =
 pub put-shift-value-spec : {M : Type 1} → statement M
 put-shift-value-spec =
     tie.close
-    (tie.spec (search needs) (search needs) (search needs) (search needs) (search needs) (search needs) (search needs)
-    (search needs) (λ c. kept (returns c)) returns (λ c. kept (returns-2 c)) returns-2 (λ c. kept (returns-3 c))
+    (tie.spec (search needs) (search needs) (search needs) (search needs) (search needs)
+    (search needs) (search needs)
+    (search needs) (λ c. kept (returns c)) returns (λ c. kept (returns-2 c)) returns-2
+    (λ c. kept (returns-3 c))
     returns-3 (λ c. kept (returns-4 c)) returns-4)

@@ -1,5 +1,5 @@
--- `put_externs` writes the declarations. The loop's invariant: those of the blocks before block i are written.
--- Assumes nothing.
+-- `put_externs` writes the declarations. The loop's invariant: those of the blocks before block i
+-- are written. Assumes nothing.
 use Prim.Native.Nat.{ℕ, _-_, _≤_}
 use borrow.Author.Needs.{needs}
 use mathlib.Core.List.{[]}
@@ -17,7 +17,8 @@ use Rattle.emit_tables.proofs.ends.put_externs.Tie as tie
 use Rattle.emit_tables.specs.Tables.{fileKeys}
 
 abbrev Inv-loop : tie.InvT-loop
-Inv-loop out₀ at file n p₀ i₀ out p i = (i ≤ n) × Wrote out₀ at (each (λ (k : ℕ). topText (extern k)) (take i (fileKeys file))) out p
+Inv-loop out₀ at file n p₀ i₀ out p i =
+    (i ≤ n) × Wrote out₀ at (each (λ (k : ℕ). topText (extern k)) (take i (fileKeys file))) out p
 
 abbrev μ-loop : tie.MeasureT-loop
 μ-loop out₀ at file n p₀ i₀ out p i = n - i
@@ -31,17 +32,25 @@ loop-again c =
     let key = put .before in
     let turn = key .before .before .before in
     let pre = turn .before .before .before .pre in
-    let ks = fileKeys (turn .before .before .before .args .file .now) in
-    (omega arith, each-more (λ (k : ℕ). topText (extern k)) ks 0 _ (omega (arith, pre .0, file-length _ (pre .1))) (turn .loop .inv .1) (said (put .put-extern .ensures) (ap (λ (k : ℕ). flat (topText (extern k)) []) (key .block-key .ensures (pre .1)))))
+    let ks = fileKeys (turn .before .before .before .args .file .now) in (
+      omega arith,
+      each-more (λ (k : ℕ). topText (extern k)) ks 0 _
+          (omega (arith, pre .0, file-length _ (pre .1))) (turn .loop .inv .1)
+          (said (put .put-extern .ensures)
+          (ap (λ (k : ℕ). flat (topText (extern k)) []) (key .block-key .ensures (pre .1)))),
+    )
 
 returns : tie.Need-returns Inv-loop μ-loop
 returns c =
     let start = c .before .before .before .before in
     let pre = start .pre in
-    each-all (λ (k : ℕ). topText (extern k)) (fileKeys (start .args .file .now)) (c .before .loop .i) (omega (arith, pre .0, file-length _ (pre .1))) (c .before .loop .inv .1)
+    each-all (λ (k : ℕ). topText (extern k)) (fileKeys (start .args .file .now))
+    (c .before .loop .i) (omega (arith, pre .0, file-length _ (pre .1)))
+    (c .before .loop .inv .1)
 
 pub put-externs-spec : {M : Type 1} → statement M
 put-externs-spec =
     tie.close
-    (tie.spec Inv-loop μ-loop loop-holds (search needs) (search needs) (λ c. omega arith) (λ c. omega arith) loop-again
+    (tie.spec Inv-loop μ-loop loop-holds (search needs) (search needs) (λ c. omega arith)
+    (λ c. omega arith) loop-again
     (λ c. kept (returns c)) returns)

@@ -16,7 +16,8 @@ use Rattle.emit_tables.proofs.ends.put_rows.Tie as tie
 use Rattle.emit_tables.specs.Tables.{fileKeys}
 
 abbrev Inv-loop : tie.InvT-loop
-Inv-loop out₀ at file n p₀ i₀ out p i = (i ≤ n) × Wrote out₀ at (each rowText (take i (fileKeys file))) out p
+Inv-loop out₀ at file n p₀ i₀ out p i =
+    (i ≤ n) × Wrote out₀ at (each rowText (take i (fileKeys file))) out p
 
 abbrev μ-loop : tie.MeasureT-loop
 μ-loop out₀ at file n p₀ i₀ out p i = n - i
@@ -30,17 +31,24 @@ loop-again c =
     let key = put .before in
     let turn = key .before .before .before in
     let pre = turn .before .before .before .pre in
-    let ks = fileKeys (turn .before .before .before .args .file .now) in
-    (omega arith, each-more rowText ks 0 _ (omega (arith, pre .0, file-length _ (pre .1))) (turn .loop .inv .1) (said (put .put-row .ensures) (ap (λ (k : ℕ). flat (rowText k) []) (key .block-key .ensures (pre .1)))))
+    let ks = fileKeys (turn .before .before .before .args .file .now) in (
+      omega arith,
+      each-more rowText ks 0 _ (omega (arith, pre .0, file-length _ (pre .1)))
+          (turn .loop .inv .1)
+          (said (put .put-row .ensures)
+          (ap (λ (k : ℕ). flat (rowText k) []) (key .block-key .ensures (pre .1)))),
+    )
 
 returns : tie.Need-returns Inv-loop μ-loop
 returns c =
     let start = c .before .before .before .before in
     let pre = start .pre in
-    each-all rowText (fileKeys (start .args .file .now)) (c .before .loop .i) (omega (arith, pre .0, file-length _ (pre .1))) (c .before .loop .inv .1)
+    each-all rowText (fileKeys (start .args .file .now)) (c .before .loop .i)
+    (omega (arith, pre .0, file-length _ (pre .1))) (c .before .loop .inv .1)
 
 pub put-rows-spec : {M : Type 1} → statement M
 put-rows-spec =
     tie.close
-    (tie.spec Inv-loop μ-loop loop-holds (search needs) (search needs) (λ c. omega arith) (λ c. omega arith) loop-again
+    (tie.spec Inv-loop μ-loop loop-holds (search needs) (search needs) (λ c. omega arith)
+    (λ c. omega arith) loop-again
     (λ c. kept (returns c)) returns)

@@ -18,10 +18,13 @@ returns c = λ bs keys.
     let c1 = c2 .before .before .before .before in
     let pre = c1 .before .before .before .before .pre in
     said
-    (seq (c1 .put-externs .ensures) (seq (c2 .put-table-head .ensures) (seq (c3 .put-rows .ensures) (seq (c4 .put-table-end .ensures) (c5 .put-count .ensures)))))
+    (seq (c1 .put-externs .ensures)
+    (seq (c2 .put-table-head .ensures)
+    (seq (c3 .put-rows .ensures) (seq (c4 .put-table-end .ensures) (c5 .put-count .ensures)))))
     (end-keys bs _ _ [] keys (pre .0 ∙ sym (file-length _ (pre .1))))
 
 pub put-tail-spec : {M : Type 1} → statement M
 put-tail-spec =
     tie.close
-    (tie.spec (λ c κs. search needs) (search needs) (λ c κs. search needs) (search needs) (search needs) (search needs) returns)
+    (tie.spec (λ c κs. search needs) (search needs) (λ c κs. search needs) (search needs)
+    (search needs) (search needs) returns)

@@ -1,5 +1,5 @@
--- `put_cases` writes the cases of a group's members. The loop's invariant: those of the first k are written.
--- Assumes nothing.
+-- `put_cases` writes the cases of a group's members. The loop's invariant: those of the first k are
+-- written. Assumes nothing.
 use Prim.Native.Nat.{ℕ, _-_, _≤_, _<_}
 use borrow.Author.Needs.{needs}
 use lib.ListN.{length, take}
@@ -25,7 +25,8 @@ abbrev Inv-loop : tie.InvT-loop
 Inv-loop out₀ at file work n p end size q₀ k₀ out q k =
     (k ≤ size)
     × (length out ≡ length out₀)
-    × ((limit g : ℕ) → IsGroup file n limit work g p end → Wrote out₀ at (numbered case 0 (take k (groupKeys limit file g))) out q)
+    × ((limit g : ℕ) → IsGroup file n limit work g p end
+    → Wrote out₀ at (numbered case 0 (take k (groupKeys limit file g))) out q)
 
 abbrev μ-loop : tie.MeasureT-loop
 μ-loop out₀ at file work n p end size q₀ k₀ out q k = size - k
@@ -44,8 +45,11 @@ loop-again c =
       omega arith,
       kept (put .put-case .ensures) ∙ inv .1,
       λ limit g is.
-          let inside : k < length (membersOf limit (blocksOf file) g) = omega (arith, group-size is) in
-          numbered-more case (groupKeys limit file g) k _ (omega (arith, keys-size is)) (key .row-key .ensures _ limit g k (is .ready) (omega (arith, is .first)) inside) (inv .2 limit g is) (put .put-case .ensures),
+          let inside : k < length (membersOf limit (blocksOf file) g) =
+          omega (arith, group-size is) in
+          numbered-more case (groupKeys limit file g) k _ (omega (arith, keys-size is))
+          (key .row-key .ensures _ limit g k (is .ready) (omega (arith, is .first)) inside)
+          (inv .2 limit g is) (put .put-case .ensures),
     )
 
 same-length : tie.Need-same-length Inv-loop μ-loop
@@ -54,10 +58,13 @@ same-length c = c .before .loop .inv .1
 returns : tie.Need-returns Inv-loop μ-loop
 returns c = λ limit g is bs keys.
     let file = c .before .before .before .before .before .args .file .now in
-    said (c .before .loop .inv .2 limit g is) (cases-keys bs (groupKeys limit file g) (c .before .loop .k) [] keys (omega (arith, keys-size is, group-size is)))
+    said (c .before .loop .inv .2 limit g is)
+    (cases-keys bs (groupKeys limit file g) (c .before .loop .k) [] keys
+    (omega (arith, keys-size is, group-size is)))
 
 pub put-cases-spec : {M : Type 1} → statement M
 put-cases-spec =
     tie.close
-    (tie.spec Inv-loop μ-loop (λ c. omega arith) loop-holds (λ c. omega arith) (λ c κs. omega arith) (search needs)
+    (tie.spec Inv-loop μ-loop (λ c. omega arith) loop-holds (λ c. omega arith) (λ c κs. omega arith)
+    (search needs)
     (λ c. omega arith) (λ c. omega arith) loop-again same-length returns)

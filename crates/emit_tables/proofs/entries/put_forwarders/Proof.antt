@@ -1,5 +1,5 @@
--- `put_forwarders` writes the functions of a group's members. The loop's invariant: those of the first k are written.
--- Assumes nothing.
+-- `put_forwarders` writes the functions of a group's members. The loop's invariant: those of the
+-- first k are written. Assumes nothing.
 use Prim.Native.Nat.{ℕ, _-_, _≤_, _<_}
 use borrow.Author.Needs.{needs}
 use lib.ListN.{length, take}
@@ -20,7 +20,8 @@ abbrev Inv-loop : tie.InvT-loop
 Inv-loop out₀ at file work n p end group size q₀ k₀ t12 out q k =
     (k ≤ size)
     × (length out ≡ length out₀)
-    × ((limit g : ℕ) → IsGroup file n limit work g p end → Wrote out₀ at (numbered (entry group) 0 (take k (groupKeys limit file g))) out q)
+    × ((limit g : ℕ) → IsGroup file n limit work g p end
+    → Wrote out₀ at (numbered (entry group) 0 (take k (groupKeys limit file g))) out q)
 
 abbrev μ-loop : tie.MeasureT-loop
 μ-loop out₀ at file work n p end group size q₀ k₀ t12 out q k = size - k
@@ -40,8 +41,12 @@ loop-again c =
       omega arith,
       kept (put .put-forwarder .ensures) ∙ inv .1,
       λ limit g is.
-          let inside : k < length (membersOf limit (blocksOf file) g) = omega (arith, group-size is) in
-          numbered-more (entry (group .row-key .result)) (groupKeys limit file g) k _ (omega (arith, keys-size is)) (key .row-key2 .ensures _ limit g k (is .ready) (omega (arith, is .first)) inside) (inv .2 limit g is) (put .put-forwarder .ensures),
+          let inside : k < length (membersOf limit (blocksOf file) g) =
+          omega (arith, group-size is) in
+          numbered-more (entry (group .row-key .result)) (groupKeys limit file g) k _
+          (omega (arith, keys-size is))
+          (key .row-key2 .ensures _ limit g k (is .ready) (omega (arith, is .first)) inside)
+          (inv .2 limit g is) (put .put-forwarder .ensures),
     )
 
 same-length : tie.Need-same-length Inv-loop μ-loop
@@ -57,12 +62,14 @@ returns c = λ limit g is b bs keys.
     let file = group .before .before .before .before .args .file .now in
     let inside : 0 < length (membersOf limit (blocksOf file) g) = omega (arith, group-size is) in
     said (seq (turn .loop .inv .2 limit g is) (put .put .ensures))
-    (forwarders-keys b bs (groupKeys limit file g) (group .row-key .result) (turn .loop .k) [] keys (group .row-key .ensures _ limit g 0 (is .ready) (omega (arith, is .first)) inside)
+    (forwarders-keys b bs (groupKeys limit file g) (group .row-key .result) (turn .loop .k) [] keys
+    (group .row-key .ensures _ limit g 0 (is .ready) (omega (arith, is .first)) inside)
     (omega (arith, keys-size is, group-size is)))
 
 pub put-forwarders-spec : {M : Type 1} → statement M
 put-forwarders-spec =
     tie.close
     (tie.spec Inv-loop μ-loop (λ c κs. omega arith) (λ c. omega arith) loop-holds (λ c. omega arith)
-    (λ c κs. omega arith) (search needs) (λ c. omega arith) (λ c. omega arith) loop-again (search needs) (search needs)
+    (λ c κs. omega arith) (search needs) (λ c. omega arith) (λ c. omega arith) loop-again
+    (search needs) (search needs)
     same-length returns)

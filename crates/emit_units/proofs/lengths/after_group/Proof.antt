@@ -17,7 +17,9 @@ unfolding textOf
 returns c = λ limit g is.
     let a = c .before .before .before .before .before .args in
     let f = a .file .now in
-    c .before .emit-group .ensures limit g is .next ∙ ap (λ (m : ℕ). min (a .at + m) maxUsize) (measured-length (bodiesOf (fileBodies f) (membersOf limit (blocksOf f) g)))
+    c .before .emit-group .ensures limit g is .next
+    ∙ ap (λ (m : ℕ). min (a .at + m) maxUsize)
+    (measured-length (bodiesOf (fileBodies f) (membersOf limit (blocksOf f) g)))
 
 pub after-group-spec : {M : Type 1} → statement M
 after-group-spec = tie.close (tie.spec (search needs) (search needs) returns)

@@ -14,7 +14,8 @@ use Rattle.emit_units.proofs.writing.put_groups.Tie as tie
 abbrev Inv-loop : tie.InvT-loop
 Inv-loop out₀ at file work n e q₀ p₀ out q p =
     (length out ≡ length out₀)
-    × ((limit g size : ℕ) → Ready file n limit work → Takes file limit g size e → PutTo file limit g size p out₀ at out q)
+    × ((limit g size : ℕ) → Ready file n limit work → Takes file limit g size e
+    → PutTo file limit g size p out₀ at out q)
 
 abbrev μ-loop : tie.MeasureT-loop
 μ-loop out₀ at file work n e q₀ p₀ out q p = e .end - p
@@ -33,16 +34,21 @@ loop-again c =
       λ limit g size ready t.
           let w = inv .1 limit g size ready t in
           let ends = next .group-end .ensures .1 f limit (g + w .count) ready (w .here) in
-          put-more ready t w (omega arith) _ _ _ ends (put .emit-group .ensures limit (g + w .count) (record { ready = ready; first = w .here; next = ends })),
+          put-more ready t w (omega arith) _ _ _ ends
+          (put .emit-group .ensures limit (g + w .count)
+          (record { ready = ready; first = w .here; next = ends })),
     )
 
 same-length : tie.Need-same-length Inv-loop μ-loop
 same-length c = c .before .before .loop .inv .0
 
 returns : tie.Need-returns Inv-loop μ-loop
-returns c = λ limit g size ready t. put-all ready t (c .before .before .loop .inv .1 limit g size ready t) (omega arith)
+returns c =
+    λ limit g size ready t. put-all ready t (c .before .before .loop .inv .1 limit g size ready t)
+    (omega arith)
 
 pub put-groups-spec : {M : Type 1} → statement M
 put-groups-spec =
     tie.close
-    (tie.spec Inv-loop μ-loop loop-holds (search needs) (search needs) (λ c. omega arith) loop-again same-length returns)
+    (tie.spec Inv-loop μ-loop loop-holds (search needs) (search needs) (λ c. omega arith) loop-again
+    same-length returns)

@@ -1,5 +1,8 @@
--- `block_writer::writer::flush` meets its contract: a walk of its MIR, by hand. The text is lent again to `flush_ticks`, for a lifetime that is made for the call, and comes back at the list that `flush_ticks` left (`Again.antt`). It goes into the result, beside the place that `flush_ticks` returned and no cycles.
--- All that the proof knows of `flush_ticks` is that it meets its contract. The parameter is spent, since the result names its lifetime (`Held.antt`'s `writer-spent`).
+-- `block_writer::writer::flush` meets its contract: a walk of its MIR, by hand. The text is lent
+-- again to `flush_ticks`, for a lifetime that is made for the call, and comes back at the list that
+-- `flush_ticks` left (`Again.antt`). It goes into the result, beside the place that `flush_ticks`
+-- returned and no cycles. All that the proof knows of `flush_ticks` is that it meets its contract.
+-- The parameter is spent, since the result names its lifetime (`Held.antt`'s `writer-spent`).
 -- Assumes nothing.
 use mathlib.Core.Path.{_≡_, refl, ap}
 use Prim.Native.Nat.{ℕ, _<_, _^_}
@@ -18,8 +21,11 @@ use prog.Wp.{Heap, Calls, Loops, WpFn, Tables}
 use ghost.Atoms.{Atoms, sem}
 use contract.Monad.{Fun, fact}
 use contract.Running.{givenOf, tables, tablesOf}
-use types.Kit.{Given, ‵, raw, given, _⊛_, some, later, _$_, _∵_, !, qed, by, move, keep, use1, use2, use3, rewrite, split, join, pick, learn, fsplit, fjoin, feqL, suffices, frame, await, done}
-use types.Run.{look, init, forget, stop, hop, fld, from, load, lit, addr, of-opd, and-then, no-more, assigns, land, returns, enter, alloc1, alloc0, params1, pass1, pass0, free1, free0}
+use types.Kit.{Given, ‵, raw, given, _⊛_, some, later, _$_, _∵_, !, qed, by, move, keep, use1, use2}
+use types.Kit.{use3, rewrite, split, join, pick, learn, fsplit, fjoin, feqL, suffices, frame, await}
+use types.Kit.{done}
+use types.Run.{look, init, forget, stop, hop, fld, from, load, lit, addr, of-opd, and-then, no-more}
+use types.Run.{assigns, land, returns, enter, alloc1, alloc0, params1, pass1, pass0, free1, free0}
 use types.Part.{agg, whole, sub, look-in}
 use types.Tokens.{lft-new, lft-end}
 use sound.WpLaws.{FmC, fmOf, WpFn-mono}
@@ -61,10 +67,13 @@ abbrev stayed : Stays (flush.ended .signature .params) (flush.ended .kept)
 stayed = (writer-spent, tt)
 
 -- the contract that the proof cites
-abbrev FlushTicks : {M : Type 1} (𝓤 : URA M) (H : Heap 𝓤) (A : Atoms 𝓤) (mem : Memory → SProp 𝓤) (run : Routine → Fun 𝓤) → Contract 𝓤
+abbrev FlushTicks : {M : Type 1} (𝓤 : URA M) (H : Heap 𝓤) (A : Atoms 𝓤) (mem : Memory → SProp 𝓤)
+    (run : Routine → Fun 𝓤) → Contract 𝓤
 FlushTicks 𝓤 H A mem run = tripleOf 𝓤 H A flush-ticks.signature (flush-ticks.spec 𝓤 H A mem run)
 
-module _ {M : Type 1} (𝓤 : URA M) (H : Heap 𝓤) (A : Atoms 𝓤) (W : Given 𝓤 H A) (mem : Memory → SProp 𝓤) (run : Routine → Fun 𝓤) (κ : Lft) (q : Share) (b o : ℕ) (γ : GName) (ys : List ℕ) (n c : ℕ) (n-fits : n < 2 ^ 64) (c-fits : c < 2 ^ 64) where
+module _ {M : Type 1} (𝓤 : URA M) (H : Heap 𝓤) (A : Atoms 𝓤) (W : Given 𝓤 H A)
+    (mem : Memory → SProp 𝓤) (run : Routine → Fun 𝓤) (κ : Lft) (q : Share) (b o : ℕ) (γ : GName)
+    (ys : List ℕ) (n c : ℕ) (n-fits : n < 2 ^ 64) (c-fits : c < 2 ^ 64) where
   abbrev α : NamedLft
   α = record { mir = named 0; lft = κ }
 
@@ -92,16 +101,34 @@ module _ {M : Type 1} (𝓤 : URA M) (H : Heap 𝓤) (A : Atoms 𝓤) (W : Given
   vals = (mach n c ∷ [], tt)
 
   abbrev Post : Val → SProp 𝓤
-  Post = walkOf 𝓤 H A flush.ended stayed (flush.clauses 𝓤 H A mem run) .post (((κ, tt), (q, tt), tt, a, vals), tt)
+  Post =
+      walkOf 𝓤 H A flush.ended stayed (flush.clauses 𝓤 H A mem run) .post
+      (((κ, tt), (q, tt), tt, a, vals), tt)
 
-  -- what `flush_ticks`'s triple binds outside: the slice lent again for the lifetime ν, under the name δ
+  -- what `flush_ticks`'s triple binds outside: the slice lent again for the lifetime ν, under the
+  -- name δ
   abbrev to-ticks : ℕ → GName → FlushTicks 𝓤 H A mem run .Ghost
-  to-ticks ν δ = (((ν ∷ [], tt), (fullShare, tt), tt, (x δ ys, (n, (c, tt))), (s ∷ [], (vint w64 n ∷ [], (vint w64 c ∷ [], tt)))), tt)
+  to-ticks ν δ = (
+    (
+      (ν ∷ [], tt),
+      (fullShare, tt),
+      tt,
+      (x δ ys, (n, (c, tt))),
+      (s ∷ [], (vint w64 n ∷ [], (vint w64 c ∷ [], tt))),
+    ),
+    tt,
+  )
 
-  goes : (ν : ℕ) (δ : GName) → ent 𝓤 (sep 𝓤 (A .lft (ν ∷ []) fullShare) (sem 𝓤 H A (MutSlice (named 0) (ν ∷ []) u8 .own (x δ ys) (s ∷ [])))) (FlushTicks 𝓤 H A mem run .pre (to-ticks ν δ))
+  goes : (ν : ℕ) (δ : GName)
+      → ent 𝓤 (sep 𝓤 (A .lft (ν ∷ []) fullShare)
+      (sem 𝓤 H A (MutSlice (named 0) (ν ∷ []) u8 .own (x δ ys) (s ∷ []))))
+      (FlushTicks 𝓤 H A mem run .pre (to-ticks ν δ))
   goes ν δ =
-      qed W (‵ (flft (ν ∷ []) fullShare) ∷ ‵ (MutSlice (named 0) (ν ∷ []) u8 .own (x δ ys) (s ∷ [])) ∷ []) ∵ nothing ! $ move ! (1 ∷ 0 ∷ []) $ join ! $
-      nothing ! $ owned ! u64 (Is u64) (uint-makes 𝓤 H A W w64) c _ (refl, c-fits) $ fjoin ! $ owned ! usize (Is usize) (uint-makes 𝓤 H A W w64) n _ (refl, n-fits) $ fjoin ! $ move ! (2 ∷ 0 ∷ []) $ fjoin ! $
+      qed W (‵ (flft (ν ∷ []) fullShare) ∷ ‵ (MutSlice (named 0) (ν ∷ []) u8 .own (x δ ys) (s ∷ []))
+      ∷ []) ∵ nothing ! $ move ! (1 ∷ 0 ∷ []) $ join ! $
+      nothing ! $ owned ! u64 (Is u64) (uint-makes 𝓤 H A W w64) c _ (refl, c-fits) $ fjoin ! $ owned
+      ! usize (Is usize) (uint-makes 𝓤 H A W w64) n _ (refl, n-fits) $ fjoin ! $ move !
+      (2 ∷ 0 ∷ []) $ fjoin ! $
       move ! (1 ∷ 0 ∷ []) $ join ! $ frame ! $ done !
 
   -- what is had at exit of the parameter's fields, and of the result's, at their machine values
@@ -109,72 +136,183 @@ module _ {M : Type 1} (𝓤 : URA M) (H : Heap 𝓤) (A : Atoms 𝓤) (W : Given
   had vss = fsep ftrue (fsep (usize .own n (vss .1 .0)) (fsep (u64 .own c (vss .1 .1 .0)) ftrue))
 
   abbrev given-on : ℕ → List ℕ → List Val × (List Val × (List Val × Unit {0})) → Fml
-  given-on r zs vss = fsep (MutSlice (named 0) κ u8 .own (x γ zs) (vss .0)) (fsep (usize .own r (vss .1 .0)) (fsep (u64 .own 0 (vss .1 .1 .0)) ftrue))
+  given-on r zs vss =
+      fsep (MutSlice (named 0) κ u8 .own (x γ zs) (vss .0))
+      (fsep (usize .own r (vss .1 .0)) (fsep (u64 .own 0 (vss .1 .1 .0)) ftrue))
 
-  exits : (r : ℕ) (zs : List ℕ) → Wrote ys n (ticks c) zs r → r < 2 ^ 64 → ent 𝓤 (sep 𝓤 (A .lft κ q) (sem 𝓤 H A (MutSlice (named 0) κ u8 .own (x γ zs) (s ∷ [])))) (Post (mach r 0))
+  exits : (r : ℕ) (zs : List ℕ) → Wrote ys n (ticks c) zs r → r < 2 ^ 64
+      → ent 𝓤 (sep 𝓤 (A .lft κ q) (sem 𝓤 H A (MutSlice (named 0) κ u8 .own (x γ zs) (s ∷ []))))
+      (Post (mach r 0))
   exits r zs e r-fits =
       qed W (‵ (flft κ q) ∷ ‵ (MutSlice (named 0) κ u8 .own (x γ zs) (s ∷ [])) ∷ []) ∵
-      suffices ! _ (ends-at 𝓤 H A flush.ended stayed (flush.clauses 𝓤 H A mem run) W (((κ, tt), (q, tt), tt, a, vals), tt) (mach r 0) (record { text = x γ zs; at = r; cycles = 0 }) ((tt, tt), tt) ((tt, (tt, (tt, tt))), tt)) $
+      suffices ! _
+      (ends-at 𝓤 H A flush.ended stayed (flush.clauses 𝓤 H A mem run) W
+      (((κ, tt), (q, tt), tt, a, vals), tt) (mach r 0)
+      (record { text = x γ zs; at = r; cycles = 0 }) ((tt, tt), tt) ((tt, (tt, (tt, tt))), tt))
+      $
       says ! (λ i. record { text = x γ (e .bytes i); at = e .next i; cycles = 0 }) $
       nothing ! $ move ! (1 ∷ 0 ∷ []) $ join ! $ frame ! $
-      nothing ! $ owned ! u64 (Is u64) (uint-makes 𝓤 H A W w64) 0 _ (refl, lit< tt) $ fjoin ! $ owned ! usize (Is usize) (uint-makes 𝓤 H A W w64) r _ (refl, r-fits) $ fjoin ! $ move ! (1 ∷ 0 ∷ []) $ fjoin ! $
-      use1 W (‵ (T.the-row α .own (record { text = x γ zs; at = r; cycles = 0 }) (mach r 0 ∷ []))) (makes 𝓤 H A W (MutSlice (named 0) κ u8 ∷ usize ∷ u64 ∷ []) (given-on r zs) (s ∷ [], (vint w64 r ∷ [], (vint w64 0 ∷ [], tt)))) $
-      nothing ! $ owned ! u64 (Is u64) (uint-makes 𝓤 H A W w64) c _ (refl, c-fits) $ fjoin ! $ owned ! usize (Is usize) (uint-makes 𝓤 H A W w64) n _ (refl, n-fits) $ fjoin ! $ nothing ! $ fjoin ! $
-      use1 W (‵ (inStruct (MutSlice (named 0) κ u8 ∷ usize ∷ u64 ∷ []) (mach n c ∷ []) had)) (makes 𝓤 H A W (MutSlice (named 0) κ u8 ∷ usize ∷ u64 ∷ []) had (s ∷ [], (vint w64 n ∷ [], (vint w64 c ∷ [], tt)))) $
+      nothing ! $ owned ! u64 (Is u64) (uint-makes 𝓤 H A W w64) 0 _ (refl, lit< tt) $ fjoin !
+      $ owned ! usize (Is usize) (uint-makes 𝓤 H A W w64) r _ (refl, r-fits) $ fjoin ! $ move !
+      (1 ∷ 0 ∷ []) $ fjoin ! $
+      use1 W (‵ (T.the-row α .own (record { text = x γ zs; at = r; cycles = 0 }) (mach r 0 ∷ [])))
+      (makes 𝓤 H A W (MutSlice (named 0) κ u8 ∷ usize ∷ u64 ∷ []) (given-on r zs)
+      (s ∷ [], (vint w64 r ∷ [], (vint w64 0 ∷ [], tt)))) $
+      nothing ! $ owned ! u64 (Is u64) (uint-makes 𝓤 H A W w64) c _ (refl, c-fits) $ fjoin ! $ owned
+      ! usize (Is usize) (uint-makes 𝓤 H A W w64) n _ (refl, n-fits) $ fjoin ! $ nothing !
+      $ fjoin ! $
+      use1 W (‵ (inStruct (MutSlice (named 0) κ u8 ∷ usize ∷ u64 ∷ []) (mach n c ∷ []) had))
+      (makes 𝓤 H A W (MutSlice (named 0) κ u8 ∷ usize ∷ u64 ∷ []) had
+      (s ∷ [], (vint w64 n ∷ [], (vint w64 c ∷ [], tt)))) $
       nothing ! $ move ! (1 ∷ 0 ∷ []) $ fjoin ! $ done !
 
-  module _ (C : Calls 𝓤 H) (Λ : Loops 𝓤 H) (fm : FmC 𝓤 H (W .laws) C) (known : Triple 𝓤 (C #flush-ticks) (FlushTicks 𝓤 H A mem run)) where
-    walk : Is (T.the-row α) h (mach n c ∷ []) → Room u8 (length ys) → ent 𝓤 (onEntry 𝓤 H A flush.signature (κ, tt) (q, tt) a vals) (WpFn 𝓤 H C Λ code.function (mach n c ∷ []) Post)
+  module _ (C : Calls 𝓤 H) (Λ : Loops 𝓤 H) (fm : FmC 𝓤 H (W .laws) C)
+      (known : Triple 𝓤 (C #flush-ticks) (FlushTicks 𝓤 H A mem run)) where
+    walk : Is (T.the-row α) h (mach n c ∷ []) → Room u8 (length ys)
+        → ent 𝓤 (onEntry 𝓤 H A flush.signature (κ, tt) (q, tt) a vals)
+        (WpFn 𝓤 H C Λ code.function (mach n c ∷ []) Post)
     walk g room =
-        qed W ((‵ (flft κ q) ⊛ ‵ ftrue) ∷ ‵ (owns (T.the-row α ∷ []) a vals) ∷ []) ∵ enter ! C Λ code.function (mach n c ∷ []) _ $
-        alloc1 ! (λ l₀. alloc1 ! (λ l₁. alloc1 ! (λ l₂. alloc1 ! (λ l₃. alloc1 ! (λ l₄. alloc1 ! (λ l₅. alloc1 ! (λ l₆. alloc1 ! (λ l₇. alloc1 ! (λ l₈. alloc0 ! $ params1 ! $
-        pass1 ! (init ! 14 refl (LL.lawful (T.the-type α) (T′.the-laws α) 𝓤 H A W .typed h _ g .0)) $ pass0 ! $
-        -- [_8; …; _7; …; _6; …; _5; …; _4; …; _3; …; _2; …; _1; …; room for _0; …; the token; what w owns]
-        assigns ! (of-opd ! (load ! (from ! (fld ! refl (stop !))) (look-in ! 14 (sub ! 1 refl (whole !))))) (from ! (stop !)) (init ! 12 refl (tt, record { fits = n-fits })) $
-        assigns ! (of-opd ! (load ! (from ! (fld ! refl (stop !))) (look-in ! 14 (sub ! 2 refl (whole !))))) (from ! (stop !)) (init ! 10 refl (tt, record { fits = c-fits })) $
-        assigns ! (addr ! (from ! (fld ! refl (fld ! refl (hop ! (look-in ! 14 (sub ! 0 refl (sub ! 0 refl (whole !)))) (stop !)))))) (from ! (stop !)) (init ! 6 refl (tt, tt)) $
-        assigns ! (agg ! (and-then ! (load ! (from ! (stop !)) (look ! 6 refl)) (and-then ! (load ! (from ! (fld ! refl (fld ! refl (stop !)))) (look-in ! 14 (sub ! 1 refl (sub ! 0 refl (whole !))))) (no-more !)))) (from ! (stop !)) (init ! 4 refl (tt, (tt, (record { fits = room .0 }, tt)))) $
-        move ! (19 ∷ []) $ fsplit ! $ use1 W (given (mach n c ∷ [] ≡ mach n c ∷ []) (‵ (all-own (T.the-type α .parts) (T′.the-laws α) (x γ ys, (n, (c, tt)))))) (own-open 𝓤 H A W (T.the-type α) (T′.the-laws α) (x γ ys, (n, (c, tt))) (mach n c)) $ learn ! (λ _. fsplit ! $
+        qed W ((‵ (flft κ q) ⊛ ‵ ftrue) ∷ ‵ (owns (T.the-row α ∷ []) a vals) ∷ []) ∵ enter ! C Λ
+        code.function (mach n c ∷ []) _ $
+        alloc1 !
+        (λ l₀. alloc1 !
+        (λ l₁. alloc1 !
+        (λ l₂. alloc1 !
+        (λ l₃. alloc1 !
+        (λ l₄. alloc1 !
+        (λ l₅. alloc1 ! (λ l₆. alloc1 ! (λ l₇. alloc1 ! (λ l₈. alloc0 ! $ params1 ! $
+        pass1 ! (init ! 14 refl (LL.lawful (T.the-type α) (T′.the-laws α) 𝓤 H A W .typed h _ g .0))
+        $ pass0 ! $
+        -- [_8; …; _7; …; _6; …; _5; …; _4; …; _3; …; _2; …; _1; …; room for _0; …; the token; what
+        -- w owns]
+        assigns !
+        (of-opd !
+        (load ! (from ! (fld ! refl (stop !))) (look-in ! 14 (sub ! 1 refl (whole !)))))
+        (from ! (stop !)) (init ! 12 refl (tt, record { fits = n-fits })) $
+        assigns !
+        (of-opd !
+        (load ! (from ! (fld ! refl (stop !))) (look-in ! 14 (sub ! 2 refl (whole !)))))
+        (from ! (stop !)) (init ! 10 refl (tt, record { fits = c-fits })) $
+        assigns !
+        (addr ! (from !
+        (fld ! refl
+        (fld ! refl (hop ! (look-in ! 14 (sub ! 0 refl (sub ! 0 refl (whole !)))) (stop !))))))
+        (from ! (stop !)) (init ! 6 refl (tt, tt)) $
+        assigns !
+        (agg ! (and-then ! (load ! (from ! (stop !)) (look ! 6 refl))
+        (and-then !
+        (load ! (from ! (fld ! refl (fld ! refl (stop !))))
+        (look-in ! 14 (sub ! 1 refl (sub ! 0 refl (whole !))))) (no-more !)))) (from ! (stop !))
+        (init ! 4 refl (tt, (tt, (record { fits = room .0 }, tt)))) $
+        move ! (19 ∷ []) $ fsplit ! $ use1 W
+        (given (mach n c ∷ [] ≡ mach n c ∷ [])
+        (‵ (all-own (T.the-type α .parts) (T′.the-laws α) (x γ ys, (n, (c, tt))))))
+        (own-open 𝓤 H A W (T.the-type α) (T′.the-laws α) (x γ ys, (n, (c, tt))) (mach n c))
+        $ learn ! (λ _. fsplit ! $
         -- the slice is lent again, for a lifetime ν of the call
         move ! (21 ∷ []) $ split ! $ lft-new ! tt (λ ν. move ! (3 ∷ 1 ∷ []) $
-        use2 W (later (some (λ (δ : GName). ‵ (MutSlice (named 0) (ν ∷ []) u8 .own (x δ ys) (s ∷ [])) ⊛ ‵ (LentAgain u8 κ (ν ∷ []) q γ b o δ ys)))) (lends-again u8 κ (ν ∷ []) q γ b o 𝓤 H A W (named 0) (named 0) ys) $ await ! tt $ pick ! (λ δ. split ! $
-        move ! (2 ∷ 0 ∷ []) $ use2 W (raw (FlushTicks 𝓤 H A mem run .pre (to-ticks ν δ))) (goes ν δ) $
-        calls-at ! fm (FlushTicks 𝓤 H A mem run) known (to-ticks ν δ) (and-then ! (load ! (from ! (stop !)) (look ! 9 refl)) (and-then ! (load ! (from ! (stop !)) (look ! 17 refl)) (and-then ! (load ! (from ! (stop !)) (look ! 15 refl)) (no-more !)))) (λ w.
-        use1 W (later (some (λ (r : ℕ). ((‵ (flft (ν ∷ []) fullShare) ⊛ ‵ ftrue) ⊛ ‵ (usize .own r (w ∷ []))) ⊛ raw (ensured 𝓤 H A flush-ticks.ended (flush-ticks.clauses 𝓤 H A mem run) (ν ∷ [], tt) (x δ ys, (n, (c, tt))) tt r)))) (id⊢ 𝓤 _) $ await ! tt $ pick ! (λ r.
+        use2 W (later
+        (some (λ (δ : GName). ‵ (MutSlice (named 0) (ν ∷ []) u8 .own (x δ ys) (s ∷ [])) ⊛ ‵
+        (LentAgain u8 κ (ν ∷ []) q γ b o δ ys))))
+        (lends-again u8 κ (ν ∷ []) q γ b o 𝓤 H A W (named 0) (named 0) ys) $ await ! tt $ pick !
+        (λ δ. split ! $
+        move ! (2 ∷ 0 ∷ []) $ use2 W (raw (FlushTicks 𝓤 H A mem run .pre (to-ticks ν δ))) (goes ν δ)
+        $
+        calls-at ! fm (FlushTicks 𝓤 H A mem run) known (to-ticks ν δ)
+        (and-then ! (load ! (from ! (stop !)) (look ! 9 refl))
+        (and-then ! (load ! (from ! (stop !)) (look ! 17 refl))
+        (and-then ! (load ! (from ! (stop !)) (look ! 15 refl)) (no-more !)))) (λ w.
+        use1 W (later
+        (some (λ (r : ℕ). ((‵ (flft (ν ∷ []) fullShare) ⊛ ‵ ftrue) ⊛ ‵ (usize .own r (w ∷ [])))
+        ⊛ raw (ensured 𝓤 H A flush-ticks.ended (flush-ticks.clauses 𝓤 H A mem run) (ν ∷ [], tt)
+        (x δ ys, (n, (c, tt))) tt r)))) (id⊢ 𝓤 _) $ await ! tt $ pick ! (λ r.
         -- what `flush_ticks` ensures, at some last list
-        split ! $ move ! (1 ∷ []) $ use1 W (some (λ (zs : List ℕ × (Unit {0} × (Unit {0} × Unit {0}))). ‵ (lasts flush-ticks.ended (ν ∷ [], tt) (x δ ys, (n, (c, tt))) zs) ⊛ raw (fact 𝓤 (Wrote ys n (ticks c) (zs .0) r)))) (id⊢ 𝓤 _) $ pick ! (λ zs.
-        split ! $ move ! (1 ∷ []) $ heard ! (Wrote ys n (ticks c) (zs .0) r) (λ e. fsplit ! $ fsplit ! $ move ! (1 ∷ []) $ feqL ! (λ l.
-        move ! (2 ∷ []) $ split ! $ move ! (1 ∷ []) $ peeks ! usize (Is usize) (shows 𝓤 H A usize) r (w ∷ []) (λ is.
-        land ! (from ! (stop !)) (init ! 16 refl (uint-lawful 𝓤 H A W w64 .typed r _ is .0)) $ rewrite ! 16 (λ (u : Val). ‵ (fat fullShare (tyInt w64) l₄ 0 u)) (ap only (is .0)) refl $
+        split ! $ move ! (1 ∷ []) $ use1 W
+        (some (λ (zs : List ℕ × (Unit {0} × (Unit {0} × Unit {0}))). ‵
+        (lasts flush-ticks.ended (ν ∷ [], tt) (x δ ys, (n, (c, tt))) zs) ⊛ raw
+        (fact 𝓤 (Wrote ys n (ticks c) (zs .0) r)))) (id⊢ 𝓤 _) $ pick ! (λ zs.
+        split ! $ move ! (1 ∷ []) $ heard ! (Wrote ys n (ticks c) (zs .0) r)
+        (λ e. fsplit ! $ fsplit ! $ move ! (1 ∷ []) $ feqL ! (λ l.
+        move ! (2 ∷ []) $ split ! $ move ! (1 ∷ []) $ peeks ! usize (Is usize) (shows 𝓤 H A usize) r
+        (w ∷ []) (λ is.
+        land ! (from ! (stop !)) (init ! 16 refl (uint-lawful 𝓤 H A W w64 .typed r _ is .0))
+        $ rewrite ! 16 (λ (u : Val). ‵ (fat fullShare (tyInt w64) l₄ 0 u)) (ap only (is .0))
+        refl $
         -- the lifetime is ended, and the slice comes back at that list
         move ! (1 ∷ []) $ split ! $ lft-end ! tt $ move ! (0 ∷ 5 ∷ 3 ∷ []) $
-        use3 W (later (‵ (MutSlice (named 0) κ u8 .own (x γ (zs .0)) (s ∷ [])) ⊛ ‵ (flft κ q))) (comes-back u8 κ (ν ∷ []) q γ b o 𝓤 H A W (named 0) (named 0) ys δ (zs .0) room l) $ await ! tt $ split ! $
-        -- [what text's borrow owns; the token; …; _8; …; _7; …; _6; …; _5; …; _4; …; _3; …; _2; …; _1; …; room for _0; …]
-        assigns ! (addr ! (from ! (fld ! refl (fld ! refl (hop ! (look-in ! 22 (sub ! 0 refl (sub ! 0 refl (whole !)))) (stop !)))))) (from ! (stop !)) (init ! 10 refl (tt, tt)) $
-        assigns ! (agg ! (and-then ! (load ! (from ! (stop !)) (look ! 10 refl)) (and-then ! (load ! (from ! (fld ! refl (fld ! refl (stop !)))) (look-in ! 22 (sub ! 1 refl (sub ! 0 refl (whole !))))) (no-more !)))) (from ! (stop !)) (init ! 8 refl (tt, (tt, (record { fits = room .0 }, tt)))) $
-        assigns ! (agg ! (and-then ! (load ! (from ! (stop !)) (look ! 8 refl)) (and-then ! (load ! (from ! (stop !)) (look ! 16 refl)) (and-then ! (lit ! tt) (no-more !))))) (from ! (stop !)) (init ! 24 refl (tt, ((tt, (record { fits = room .0 }, tt)), (record { fits = is .1 }, (record { fits = lit< tt }, tt))))) $
-        returns ! (look ! 24 refl) $ forget ! 8 refl $ forget ! 10 refl $ forget ! 12 refl $ forget ! 14 refl $ forget ! 16 refl $ forget ! 18 refl $ forget ! 20 refl $ forget ! 22 refl $ forget ! 24 refl $
-        move ! (24 ∷ 25 ∷ []) $ free1 ! $ move ! (22 ∷ 23 ∷ []) $ free1 ! $ move ! (20 ∷ 21 ∷ []) $ free1 ! $ move ! (18 ∷ 19 ∷ []) $ free1 ! $ move ! (16 ∷ 17 ∷ []) $ free1 ! $ move ! (14 ∷ 15 ∷ []) $ free1 ! $ move ! (12 ∷ 13 ∷ []) $ free1 ! $ move ! (10 ∷ 11 ∷ []) $ free1 ! $ move ! (8 ∷ 9 ∷ []) $ free1 ! $ free0 ! $
+        use3 W (later (‵ (MutSlice (named 0) κ u8 .own (x γ (zs .0)) (s ∷ [])) ⊛ ‵ (flft κ q)))
+        (comes-back u8 κ (ν ∷ []) q γ b o 𝓤 H A W (named 0) (named 0) ys δ (zs .0) room l)
+        $ await ! tt $ split ! $
+        -- [what text's borrow owns; the token; …; _8; …; _7; …; _6; …; _5; …; _4; …; _3; …; _2; …;
+        -- _1; …; room for _0; …]
+        assigns !
+        (addr ! (from !
+        (fld ! refl
+        (fld ! refl (hop ! (look-in ! 22 (sub ! 0 refl (sub ! 0 refl (whole !)))) (stop !))))))
+        (from ! (stop !)) (init ! 10 refl (tt, tt)) $
+        assigns !
+        (agg ! (and-then ! (load ! (from ! (stop !)) (look ! 10 refl))
+        (and-then !
+        (load ! (from ! (fld ! refl (fld ! refl (stop !))))
+        (look-in ! 22 (sub ! 1 refl (sub ! 0 refl (whole !))))) (no-more !)))) (from ! (stop !))
+        (init ! 8 refl (tt, (tt, (record { fits = room .0 }, tt)))) $
+        assigns !
+        (agg ! (and-then ! (load ! (from ! (stop !)) (look ! 8 refl))
+        (and-then ! (load ! (from ! (stop !)) (look ! 16 refl))
+        (and-then ! (lit ! tt) (no-more !))))) (from ! (stop !))
+        (init ! 24 refl (
+          tt,
+          (
+            (tt, (record { fits = room .0 }, tt)),
+            (record { fits = is .1 }, (record { fits = lit< tt }, tt)),
+          ),
+        )) $
+        returns ! (look ! 24 refl) $ forget ! 8 refl $ forget ! 10 refl $ forget ! 12 refl $ forget
+        ! 14 refl $ forget ! 16 refl $ forget ! 18 refl $ forget ! 20 refl $ forget ! 22 refl
+        $ forget ! 24 refl $
+        move ! (24 ∷ 25 ∷ []) $ free1 ! $ move ! (22 ∷ 23 ∷ []) $ free1 ! $ move ! (20 ∷ 21 ∷ [])
+        $ free1 ! $ move ! (18 ∷ 19 ∷ []) $ free1 ! $ move ! (16 ∷ 17 ∷ []) $ free1 ! $ move !
+        (14 ∷ 15 ∷ []) $ free1 ! $ move ! (12 ∷ 13 ∷ []) $ free1 ! $ move ! (10 ∷ 11 ∷ [])
+        $ free1 ! $ move ! (8 ∷ 9 ∷ []) $ free1 ! $ free0 ! $
         keep ! (1 ∷ 0 ∷ []) $ by ! (exits r (zs .0) e (is .1))))))))))))))))))))
 
-module _ {M : Type 1} (𝓤 : URA M) (H : Heap 𝓤) (A : Atoms 𝓤) (W : Given 𝓤 H A) (mem : Memory → SProp 𝓤) (run : Routine → Fun 𝓤) where
-  flush-walks : (C : Calls 𝓤 H) (Λ : Loops 𝓤 H) → FmC 𝓤 H (W .laws) C → Triple 𝓤 (C #flush-ticks) (FlushTicks 𝓤 H A mem run) → Walks 𝓤 H A flush.ended stayed (WpFn 𝓤 H C Λ code.function) (flush.clauses 𝓤 H A mem run)
-  flush-walks C Λ fm known = walked 𝓤 H A flush.ended stayed (flush.clauses 𝓤 H A mem run) (WpFn 𝓤 H C Λ code.function)
-      (λ κs. (LL.vals (T.the-type (namedLft 1 0 tt κs)) (T′.the-laws (namedLft 1 0 tt κs)), tt)) (λ κs. (LL.tells (T.the-type (namedLft 1 0 tt κs)) (T′.the-laws (namedLft 1 0 tt κs)), tt))
+module _ {M : Type 1} (𝓤 : URA M) (H : Heap 𝓤) (A : Atoms 𝓤) (W : Given 𝓤 H A)
+    (mem : Memory → SProp 𝓤) (run : Routine → Fun 𝓤) where
+  flush-walks : (C : Calls 𝓤 H) (Λ : Loops 𝓤 H) → FmC 𝓤 H (W .laws) C
+      → Triple 𝓤 (C #flush-ticks) (FlushTicks 𝓤 H A mem run)
+      → Walks 𝓤 H A flush.ended stayed (WpFn 𝓤 H C Λ code.function) (flush.clauses 𝓤 H A mem run)
+  flush-walks C Λ fm known =
+      walked 𝓤 H A flush.ended stayed (flush.clauses 𝓤 H A mem run) (WpFn 𝓤 H C Λ code.function)
+      (λ κs. (LL.vals (T.the-type (namedLft 1 0 tt κs)) (T′.the-laws (namedLft 1 0 tt κs)), tt))
+      (λ κs. (
+        LL.tells (T.the-type (namedLft 1 0 tt κs)) (T′.the-laws (namedLft 1 0 tt κs)),
+        tt,
+      ))
       (λ κs qs bounds a g are. via 𝓤 _ (fst∗ 𝓤 _ (emp 𝓤))
-      (let fields = LL.owed (T.the-type (namedLft 1 0 tt κs)) (T′.the-laws (namedLft 1 0 tt κs)) (a .0) _ (are .0) in
-      walk 𝓤 H A W mem run (κs .0) (qs .0) (a .0 .text .ptr .0) (a .0 .text .ptr .1) (a .0 .text .name) (a .0 .text .now) (a .0 .at) (a .0 .cycles) (fields .1 .0 .1) (fields .1 .1 .0 .1) C Λ fm known (are .0) (fields .0 .0 .1)))
+      (let fields =
+      LL.owed (T.the-type (namedLft 1 0 tt κs)) (T′.the-laws (namedLft 1 0 tt κs)) (a .0) _
+      (are .0) in
+      walk 𝓤 H A W mem run (κs .0) (qs .0) (a .0 .text .ptr .0) (a .0 .text .ptr .1)
+      (a .0 .text .name) (a .0 .text .now) (a .0 .at) (a .0 .cycles) (fields .1 .0 .1)
+      (fields .1 .1 .0 .1) C Λ fm known (are .0) (fields .0 .0 .1)))
 
-flush-meets : {M : Type 1} (𝓤 : URA M) (H : Heap 𝓤) (A : Atoms 𝓤) → Given 𝓤 H A → (mem : Memory → SProp 𝓤) (run : Routine → Fun 𝓤) (𝓣 : Tables 𝓤 H) → Triple 𝓤 (𝓣 .C #flush-ticks) (FlushTicks 𝓤 H A mem run)
+flush-meets : {M : Type 1} (𝓤 : URA M) (H : Heap 𝓤) (A : Atoms 𝓤) → Given 𝓤 H A
+    → (mem : Memory → SProp 𝓤) (run : Routine → Fun 𝓤) (𝓣 : Tables 𝓤 H)
+    → Triple 𝓤 (𝓣 .C #flush-ticks) (FlushTicks 𝓤 H A mem run)
     → Meets 𝓤 H A flush.signature (WpFn 𝓤 H (𝓣 .C) (𝓣 .Λ) code.function) (flush.spec 𝓤 H A mem run)
 flush-meets 𝓤 H A W mem run 𝓣 known =
-    walk-meets 𝓤 H A flush.ended stayed W (writer-spent-goes 𝓤 H A W, tt) (flush.clauses 𝓤 H A mem run)
-    (WpFn 𝓤 H (𝓣 .C) (𝓣 .Λ) code.function) (WpFn-mono 𝓤 H (W .laws) 𝓣 code.function) (flush-walks 𝓤 H A W mem run (𝓣 .C) (𝓣 .Λ) (fmOf 𝓤 H (W .laws) 𝓣) known)
+    walk-meets 𝓤 H A flush.ended stayed W (writer-spent-goes 𝓤 H A W, tt)
+    (flush.clauses 𝓤 H A mem run)
+    (WpFn 𝓤 H (𝓣 .C) (𝓣 .Λ) code.function) (WpFn-mono 𝓤 H (W .laws) 𝓣 code.function)
+    (flush-walks 𝓤 H A W mem run (𝓣 .C) (𝓣 .Λ) (fmOf 𝓤 H (W .laws) 𝓣) known)
 
 pub flush-spec : {M : Type 1} → stated.statement M
 unfolding code.routine tablesOf
 flush-spec 𝓤 H 𝓜 𝓖 𝓡 =
     entered 𝓤 H (tripleOf 𝓤 H (𝓖 .A) flush.signature (flush.spec 𝓤 H (𝓖 .A) (𝓜 .mem) (𝓡 .run)))
-    (tables 𝓤 H 𝓜 𝓡 code.env .C) (tables 𝓤 H 𝓜 𝓡 code.env .Λ) #flush code.function (code.unfolded 𝓤 H 𝓜 𝓡)
-    (flush-meets 𝓤 H (𝓖 .A) (givenOf 𝓤 H 𝓜 𝓖) (𝓜 .mem) (𝓡 .run) (tablesOf 𝓤 H 𝓜 (tables 𝓤 H 𝓜 𝓡 code.env))
-    (cited 𝓤 H (FlushTicks 𝓤 H (𝓖 .A) (𝓜 .mem) (𝓡 .run)) 𝓜 𝓡 code.env #flush-ticks flush-ticks-def.routine code.calls-emit-flow·flush-ticks (flush-ticks-thm.met 𝓤 H 𝓜 𝓖 𝓡)))
+    (tables 𝓤 H 𝓜 𝓡 code.env .C) (tables 𝓤 H 𝓜 𝓡 code.env .Λ) #flush code.function
+    (code.unfolded 𝓤 H 𝓜 𝓡)
+    (flush-meets 𝓤 H (𝓖 .A) (givenOf 𝓤 H 𝓜 𝓖) (𝓜 .mem) (𝓡 .run)
+    (tablesOf 𝓤 H 𝓜 (tables 𝓤 H 𝓜 𝓡 code.env))
+    (cited 𝓤 H (FlushTicks 𝓤 H (𝓖 .A) (𝓜 .mem) (𝓡 .run)) 𝓜 𝓡 code.env #flush-ticks
+    flush-ticks-def.routine code.calls-emit-flow·flush-ticks (flush-ticks-thm.met 𝓤 H 𝓜 𝓖 𝓡)))

@@ -1,4 +1,5 @@
--- `check` answers with the first broken row. Each return is reached only where the places before it, in the order of the table, broke nothing.
+-- `check` answers with the first broken row. Each return is reached only where the places before
+-- it, in the order of the table, broke nothing.
 use Rattle.file_blocks.specs.declared.refusal.Checked.{Checked}
 use mathlib.Core.Path.{ap₂, sym, _∙_}
 use Rattle.file_blocks.proofs.Whole as whole
@@ -11,30 +12,79 @@ returns : tie.Need-returns
 returns c = whole.answered _ _ (whole.too-short _ (c .if1 .taken))
 
 returns-2 : tie.Need-returns-2
-returns-2 c = whole.answered _ _ (whole.over-limits _ (c .before .before .if1 .left) (sym (c .before .within-limits .ensures) ∙ not-true _ (c .if2 .taken)))
+returns-2 c =
+    whole.answered _ _
+    (whole.over-limits _ (c .before .before .if1 .left)
+    (sym (c .before .within-limits .ensures) ∙ not-true _ (c .if2 .taken)))
 
 returns-3 : tie.Need-returns-3
-returns-3 c = whole.answered _ _ (whole.wrong-trailer _ (c .before .before .before .before .if1 .left) (sym (c .before .before .before .within-limits .ensures) ∙ not-false _ (c .before .before .if2 .left)) (sym (c .before .trailer-right .ensures) ∙ not-true _ (c .if3 .taken)))
+returns-3 c =
+    whole.answered _ _
+    (whole.wrong-trailer _ (c .before .before .before .before .if1 .left)
+    (sym (c .before .before .before .within-limits .ensures)
+    ∙ not-false _ (c .before .before .if2 .left))
+    (sym (c .before .trailer-right .ensures) ∙ not-true _ (c .if3 .taken)))
 
 check-blocks-requires : tie.Need-check-blocks-requires
 check-blocks-requires c κs = sym (c .before .trailer-right .ensures) ∙ not-false _ (c .if3 .left)
 
 returns-4 : tie.Need-returns-4
-returns-4 c = whole.answered _ _ (whole.blocks-refused _ (c .before .before .before .before .before .before .before .before .if1 .left) (sym (c .before .before .before .before .before .before .before .within-limits .ensures) ∙ not-false _ (c .before .before .before .before .before .before .if2 .left)) (sym (c .before .before .before .before .before .trailer-right .ensures) ∙ not-false _ (c .before .before .before .before .if3 .left)) _ (c .before .before .before .check-blocks .ensures) _ _ (c .before .number .given .1))
+returns-4 c =
+    whole.answered _ _
+    (whole.blocks-refused _
+    (c .before .before .before .before .before .before .before .before .if1 .left)
+    (sym (c .before .before .before .before .before .before .before .within-limits .ensures)
+    ∙ not-false _ (c .before .before .before .before .before .before .if2 .left))
+    (sym (c .before .before .before .before .before .trailer-right .ensures)
+    ∙ not-false _ (c .before .before .before .before .if3 .left)) _
+    (c .before .before .before .check-blocks .ensures) _ _ (c .before .number .given .1))
 
 check-instrs-requires : tie.Need-check-instrs-requires
-check-instrs-requires c κs = sym (c .before .before .before .before .trailer-right .ensures) ∙ not-false _ (c .before .before .before .if3 .left)
+check-instrs-requires c κs = sym (c .before .before .before .before .trailer-right .ensures)
+    ∙ not-false _ (c .before .before .before .if3 .left)
 
 returns-5 : tie.Need-returns-5
-returns-5 c = whole.answered _ _ (whole.instrs-refused _ (c .before .before .before .before .before .before .before .before .before .before .before .if1 .left) (sym (c .before .before .before .before .before .before .before .before .before .before .within-limits .ensures) ∙ not-false _ (c .before .before .before .before .before .before .before .before .before .if2 .left)) (sym (c .before .before .before .before .before .before .before .before .trailer-right .ensures) ∙ not-false _ (c .before .before .before .before .before .before .before .if3 .left)) _ (c .before .before .before .before .before .before .check-blocks .ensures) (c .before .before .before .before .enum-told .given .1) _ (c .before .before .before .check-instrs .ensures) _ _ (c .before .number2 .given .1))
+returns-5 c =
+    whole.answered _ _
+    (whole.instrs-refused _
+    (c .before .before .before .before .before .before .before .before .before .before .before .if1
+    .left) (sym
+    (c .before .before .before .before .before .before .before .before .before .before
+    .within-limits .ensures)
+    ∙ not-false _
+    (c .before .before .before .before .before .before .before .before .before .if2 .left))
+    (sym (c .before .before .before .before .before .before .before .before .trailer-right .ensures)
+    ∙ not-false _ (c .before .before .before .before .before .before .before .if3 .left)) _
+    (c .before .before .before .before .before .before .check-blocks .ensures)
+    (c .before .before .before .before .enum-told .given .1) _
+    (c .before .before .before .check-instrs .ensures) _ _ (c .before .number2 .given .1))
 
 returns-6 : tie.Need-returns-6
-returns-6 c = whole.answered _ _ (ap₂ Checked.Accepted (c .before .trailer-word .ensures) (c .trailer-word2 .ensures)
-    ∙ whole.all-kept _ (c .before .before .before .before .before .before .before .before .before .before .before .before .if1 .left) (sym (c .before .before .before .before .before .before .before .before .before .before .before .within-limits .ensures) ∙ not-false _ (c .before .before .before .before .before .before .before .before .before .before .if2 .left)) (sym (c .before .before .before .before .before .before .before .before .before .trailer-right .ensures) ∙ not-false _ (c .before .before .before .before .before .before .before .before .if3 .left)) _ (c .before .before .before .before .before .before .before .check-blocks .ensures) (c .before .before .before .before .before .enum-told .given .1) _ (c .before .before .before .before .check-instrs .ensures) (c .before .before .enum-told2 .given .1))
+returns-6 c =
+    whole.answered _ _
+    (ap₂ Checked.Accepted (c .before .trailer-word .ensures) (c .trailer-word2 .ensures)
+    ∙ whole.all-kept _
+    (c .before .before .before .before .before .before .before .before .before .before .before
+    .before .if1 .left)
+    (sym (c .before .before .before .before .before .before .before .before .before .before
+    .before .within-limits .ensures)
+    ∙ not-false _
+    (c .before .before .before .before .before .before .before .before .before .before .if2
+    .left)) (sym
+    (c .before .before .before .before .before .before .before .before .before .trailer-right
+    .ensures)
+    ∙ not-false _
+    (c .before .before .before .before .before .before .before .before .if3 .left)) _
+    (c .before .before .before .before .before .before .before .check-blocks .ensures)
+    (c .before .before .before .before .before .enum-told .given .1) _
+    (c .before .before .before .before .check-instrs .ensures)
+    (c .before .before .enum-told2 .given .1))
 
 pub check-spec : {M : Type 1} → statement M
 check-spec =
     tie.close
-    (tie.spec returns (search needs) returns-2 (search needs) returns-3 check-blocks-requires (search needs) returns-4
-    (search needs) check-instrs-requires (search needs) returns-5 (search needs) (search needs) (search needs)
+    (tie.spec returns (search needs) returns-2 (search needs) returns-3 check-blocks-requires
+    (search needs) returns-4
+    (search needs) check-instrs-requires (search needs) returns-5 (search needs) (search needs)
+    (search needs)
     (search needs) (search needs) returns-6)

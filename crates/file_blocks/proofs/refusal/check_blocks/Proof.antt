@@ -1,4 +1,5 @@
--- `check_blocks` finds the first broken row of refusals 4 to 6. The loop's invariant: the blocks before block i keep their rows, so the first broken one is among the rest.
+-- `check_blocks` finds the first broken row of refusals 4 to 6. The loop's invariant: the blocks
+-- before block i keep their rows, so the first broken one is among the rest.
 use borrow.Author.Tests.{not-true, not-false}
 use Prim.Native.Nat.{ℕ, _+_, _-_}
 use mathlib.Core.Path.{ap₂, _∙_, ap, sym}
@@ -23,57 +24,85 @@ add-at : tie.Need-add-at Inv-loop μ-loop
 add-at c = omega (arith, sections _ (c .before .before .before .before .before .pre))
 
 block-right-requires : tie.Need-block-right-requires Inv-loop μ-loop
-block-right-requires c κs = omega (arith, sections _ (c .before .before .before .before .before .pre))
+block-right-requires c κs =
+    omega (arith, sections _ (c .before .before .before .before .before .pre))
 
 returns : tie.Need-returns Inv-loop μ-loop
 returns c = ap found
     (sym
     (c .before .before .before .loop .inv .kept
-    ∙ passes.block-broken _ _ _ _ _ (c .before .before .before .before .before .section-start .ensures) (c .before .before .loop-test .taken)
+    ∙ passes.block-broken _ _ _ _ _
+    (c .before .before .before .before .before .section-start .ensures)
+    (c .before .before .loop-test .taken)
     (sym (c .before .block-right .ensures) ∙ not-true _ (c .if1 .taken))))
 
 key-requires : tie.Need-key-requires Inv-loop μ-loop
-key-requires c κs = omega (arith, sections _ (c .before .before .before .before .before .before .before .pre))
+key-requires c κs =
+    omega (arith, sections _ (c .before .before .before .before .before .before .before .pre))
 
 returns-2 : tie.Need-returns-2 Inv-loop μ-loop
 returns-2 c = ap found
     (sym
     (c .before .before .before .before .before .loop .inv .kept
-    ∙ passes.order-broken _ _ _ _ _ (c .before .before .before .before .before .before .before .section-start .ensures) (c .before .before .before .before .loop-test .taken)
-    (sym (c .before .before .before .block-right .ensures) ∙ not-false _ (c .before .before .if1 .left)) (omega arith)))
+    ∙ passes.order-broken _ _ _ _ _
+    (c .before .before .before .before .before .before .before .section-start .ensures)
+    (c .before .before .before .before .loop-test .taken)
+    (sym (c .before .before .before .block-right .ensures)
+    ∙ not-false _ (c .before .before .if1 .left)) (omega arith)))
 
 count-requires : tie.Need-count-requires Inv-loop μ-loop
-count-requires c κs = omega (arith, sections _ (c .before .before .before .before .before .before .before .before .before .pre))
+count-requires c κs =
+    omega (
+      arith,
+      sections _
+          (c .before .before .before .before .before .before .before .before .before .pre),
+    )
 
 loop-again : tie.Need-loop-again Inv-loop μ-loop
-loop-again c = let starts = c .before .before .before .before .before .before .before .before .section-start .ensures in
-    let right = sym (c .before .before .before .before .block-right .ensures) ∙ not-false _ (c .before .before .before .if1 .left) in
+loop-again c = let starts =
+    c .before .before .before .before .before .before .before .before .section-start .ensures in
+    let right = sym (c .before .before .before .before .block-right .ensures)
+    ∙ not-false _ (c .before .before .before .if1 .left) in
     record {
       inside = omega arith;
-      key = ap (λ (k : ℕ). k + 1) (c .before .before .key .ensures .0) ∙ passes.least-next _ _ _ starts;
-      counts = ap₂ (λ (s n : ℕ). s + n) (c .before .before .before .before .before .before .loop .inv .counts) (c .count .ensures) ∙ passes.sum-next _ _ _ starts;
+      key = ap (λ (k : ℕ). k + 1) (c .before .before .key .ensures .0)
+          ∙ passes.least-next _ _ _ starts;
+      counts =
+          ap₂ (λ (s n : ℕ). s + n)
+          (c .before .before .before .before .before .before .loop .inv .counts) (c .count .ensures)
+          ∙ passes.sum-next _ _ _ starts;
       small = omega (arith, passes.count-small _ _ right);
-      kept = c .before .before .before .before .before .before .loop .inv .kept ∙ passes.block-kept _ _ _ _ _ starts (c .before .before .before .before .before .loop-test .taken) right (omega arith);
+      kept = c .before .before .before .before .before .before .loop .inv .kept
+          ∙ passes.block-kept _ _ _ _ _ starts
+          (c .before .before .before .before .before .loop-test .taken) right (omega arith);
     }
 
 returns-3 : tie.Need-returns-3 Inv-loop μ-loop
 returns-3 c = ap found
     (sym
     (c .before .before .before .loop .inv .kept
-    ∙ passes.sum-right _ _ (c .before .before .before .before .trailer-word .ensures) _ (omega arith)
-    (sym (c .before .before .before .loop .inv .counts) ∙ c .if3 .taken ∙ c .before .trailer-word2 .ensures)))
+    ∙ passes.sum-right _ _ (c .before .before .before .before .trailer-word .ensures) _
+    (omega arith)
+    (sym (c .before .before .before .loop .inv .counts) ∙ c .if3 .taken
+    ∙ c .before .trailer-word2 .ensures)))
 
 returns-4 : tie.Need-returns-4 Inv-loop μ-loop
 returns-4 c = ap found
     (sym
     (c .before .before .before .loop .inv .kept
-    ∙ passes.sum-wrong _ _ (c .before .before .before .before .trailer-word .ensures) _ (omega arith)
-    (λ e. c .if3 .left (c .before .before .before .loop .inv .counts ∙ e ∙ sym (c .before .trailer-word2 .ensures)))))
+    ∙ passes.sum-wrong _ _ (c .before .before .before .before .trailer-word .ensures) _
+    (omega arith)
+    (λ e. c .if3 .left
+    (c .before .before .before .loop .inv .counts ∙ e
+    ∙ sym (c .before .trailer-word2 .ensures)))))
 
 pub check-blocks-spec : {M : Type 1} → statement M
 check-blocks-spec =
     tie.close
-    (tie.spec Inv-loop μ-loop (search needs) (search needs) (search needs) loop-holds (search needs) add-at
-    block-right-requires returns key-requires returns-2 (λ c. omega arith) count-requires (search needs)
-    (λ c. omega arith) (λ c. omega arith) (λ c. omega arith) loop-again (search needs) (search needs) returns-3
+    (tie.spec Inv-loop μ-loop (search needs) (search needs) (search needs) loop-holds (search needs)
+    add-at
+    block-right-requires returns key-requires returns-2 (λ c. omega arith) count-requires
+    (search needs)
+    (λ c. omega arith) (λ c. omega arith) (λ c. omega arith) loop-again (search needs)
+    (search needs) returns-3
     returns-4)

@@ -1,5 +1,5 @@
--- `block_file::refusal::check_records` meets its contract: the first broken rule is that of the records still to come.
--- Assumes nothing.
+-- `block_file::refusal::check_records` meets its contract: the first broken rule is that of the
+-- records still to come. Assumes nothing.
 use Rattle.file_records.specs.Trailer.{instrCount}
 use Rattle.file_blocks.specs.Refusal.{found, firstBroken, instrRows}
 use Rattle.file_records.proofs.Sections.{sections}
@@ -14,7 +14,9 @@ use Rattle.file_blocks.proofs.refusal.check_records.Tie as tie
 use Rattle.file_blocks.proofs.refusal.check_records.Reads as reads
 
 abbrev Inv-loop : tie.InvT-loop
-Inv-loop file rows start instrs i₀ i = (i ≤ instrs) × (firstBroken file (instrRows (instrCount file) 0) ≡ firstBroken file (instrRows (instrs - i) i))
+Inv-loop file rows start instrs i₀ i = (i ≤ instrs)
+    × (firstBroken file (instrRows (instrCount file) 0)
+    ≡ firstBroken file (instrRows (instrs - i) i))
 
 abbrev μ-loop : tie.MeasureT-loop
 μ-loop file rows start instrs i₀ i = instrs - i
@@ -23,7 +25,8 @@ loop-holds : tie.Need-loop-holds Inv-loop μ-loop
 loop-holds c = (omega arith, passes.instrs-none _ _ (c .trailer-word .ensures))
 
 add-instr-right : tie.Need-add-instr-right Inv-loop μ-loop
-add-instr-right c = omega (arith, sections _ (c .before .before .before .before .before .before .pre .0))
+add-instr-right c =
+    omega (arith, sections _ (c .before .before .before .before .before .before .pre .0))
 
 instr-right-requires : tie.Need-instr-right-requires Inv-loop μ-loop
 instr-right-requires c κs =
@@ -34,22 +37,30 @@ returns : tie.Need-returns Inv-loop μ-loop
 returns c = ap found
     (sym
     (c .before .before .before .loop .inv .1
-    ∙ passes.instr-broken _ _ _ _ (c .before .before .before .before .before .section-start .ensures) (c .before .before .loop-test .taken)
+    ∙ passes.instr-broken _ _ _ _
+    (c .before .before .before .before .before .section-start .ensures)
+    (c .before .before .loop-test .taken)
     (sym (c .before .instr-right .ensures) ∙ not-true _ (c .if1 .taken))))
 
 loop-again : tie.Need-loop-again Inv-loop μ-loop
 loop-again c = (
   omega arith,
   c .before .before .before .loop .inv .1
-      ∙ passes.instr-kept _ _ _ _ (c .before .before .before .before .before .section-start .ensures) (c .before .before .loop-test .taken)
+      ∙ passes.instr-kept _ _ _ _
+      (c .before .before .before .before .before .section-start .ensures)
+      (c .before .before .loop-test .taken)
       (sym (c .before .instr-right .ensures) ∙ not-false _ (c .if1 .left)),
 )
 
 returns-2 : tie.Need-returns-2 Inv-loop μ-loop
-returns-2 c = ap found (sym (c .before .loop .inv .1 ∙ passes.instrs-all _ _ (c .before .before .trailer-word .ensures) _ (omega arith)))
+returns-2 c =
+    ap found
+    (sym (c .before .loop .inv .1
+    ∙ passes.instrs-all _ _ (c .before .before .trailer-word .ensures) _ (omega arith)))
 
 pub check-records-spec : {M : Type 1} → statement M
 check-records-spec =
     tie.close
-    (tie.spec Inv-loop μ-loop (search needs) (search needs) (search needs) loop-holds (search needs) add-instr-right
+    (tie.spec Inv-loop μ-loop (search needs) (search needs) (search needs) loop-holds (search needs)
+    add-instr-right
     instr-right-requires returns (λ c. omega arith) (λ c. omega arith) loop-again returns-2)

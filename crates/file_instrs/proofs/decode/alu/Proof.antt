@@ -1,4 +1,5 @@
--- `alu` reads an Alu: operation and second operand as their readers give them, the other fields byte by byte.
+-- `alu` reads an Alu: operation and second operand as their readers give them, the other fields
+-- byte by byte.
 use Rattle.file_instrs.specs.Decode.{aluAt}
 use borrow.Author.Needs.{needs}
 use Rattle.file_instrs.proofs.decode.alu.Statement.{statement}
@@ -11,5 +12,6 @@ returns c = cc
 pub alu-spec : {M : Type 1} → statement M
 alu-spec =
     tie.close
-    (tie.spec (search needs) (search needs) (search needs) (search needs) (search needs) (search needs) (search needs)
+    (tie.spec (search needs) (search needs) (search needs) (search needs) (search needs)
+    (search needs) (search needs)
     (search needs) (search needs) (search needs) returns)

@@ -1,4 +1,5 @@
--- `free` gives the operation of a kind whose bytes are free. For the last arm each test of the definition fails in turn.
+-- `free` gives the operation of a kind whose bytes are free. For the last arm each test of the
+-- definition fails in turn.
 use borrow.Author.Tests.{ne-eqb}
 use Rattle.file_instrs.specs.Decode.{freeOp}
 use Rattle.file_instrs.proofs.decode.free.Statement.{statement}
@@ -26,7 +27,15 @@ returns-5 c = rw (c .match .keys5)
 
 returns-6 : tie.Need-returns-6
 unfolding freeOp
-returns-6 c = simp (ne-eqb _ _ (c .match .rest .0 .0 .0 .0 .1), ne-eqb _ _ (c .match .rest .0 .0 .0 .1), ne-eqb _ _ (c .match .rest .0 .0 .1), ne-eqb _ _ (c .match .rest .0 .1), ne-eqb _ _ (c .match .rest .1))
+returns-6 c =
+    simp (
+      ne-eqb _ _ (c .match .rest .0 .0 .0 .0 .1),
+      ne-eqb _ _ (c .match .rest .0 .0 .0 .1),
+      ne-eqb _ _ (c .match .rest .0 .0 .1),
+      ne-eqb _ _ (c .match .rest .0 .1),
+      ne-eqb _ _
+          (c .match .rest .1),
+    )
 
 pub free-spec : {M : Type 1} → statement M
 free-spec = tie.close (tie.spec returns returns-2 returns-3 returns-4 returns-5 returns-6)

@@ -1,4 +1,5 @@
--- `mem` reads a Mem: width and offset are what their readers give, and bit 0 of the flags needs no division by 1.
+-- `mem` reads a Mem: width and offset are what their readers give, and bit 0 of the flags needs no
+-- division by 1.
 use native.Mathlib.Nat.{div-one}
 use Rattle.file_instrs.specs.Decode.{memAt}
 use borrow.Author.Needs.{needs}
@@ -12,5 +13,6 @@ returns c = simp (c .mem-offset .ensures, c .before .before .before .width .ensu
 pub mem-spec : {M : Type 1} → statement M
 mem-spec =
     tie.close
-    (tie.spec (search needs) (search needs) (search needs) (search needs) (search needs) (search needs) (search needs)
+    (tie.spec (search needs) (search needs) (search needs) (search needs) (search needs)
+    (search needs) (search needs)
     (search needs) (search needs) (search needs) returns)

@@ -13,5 +13,6 @@ returns-2 c = simp (ne-eqb _ _ (c .before .before .if1 .left), c .shift .ensures
 pub mem-offset-spec : {M : Type 1} → statement M
 mem-offset-spec =
     tie.close
-    (tie.spec (search needs) (search needs) (search needs) (search needs) (search needs) (search needs) (search needs)
+    (tie.spec (search needs) (search needs) (search needs) (search needs) (search needs)
+    (search needs) (search needs)
     returns returns-2)

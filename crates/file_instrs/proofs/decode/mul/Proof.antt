@@ -1,4 +1,5 @@
--- `mul` reads the six fields of a Mul. It is the definition field by field, once all reads are within the record.
+-- `mul` reads the six fields of a Mul. It is the definition field by field, once all reads are
+-- within the record.
 use mathlib.Core.Path.{refl}
 use Rattle.file_instrs.specs.Decode.{mulAt}
 use borrow.Author.Needs.{needs}
@@ -12,5 +13,6 @@ returns c = refl
 pub mul-spec : {M : Type 1} → statement M
 mul-spec =
     tie.close
-    (tie.spec (search needs) (search needs) (search needs) (search needs) (search needs) (search needs) (search needs)
+    (tie.spec (search needs) (search needs) (search needs) (search needs) (search needs)
+    (search needs) (search needs)
     (search needs) (search needs) (search needs) (search needs) (search needs) returns)

@@ -1,4 +1,5 @@
--- `mul_long` reads the seven fields of a MulLong. It is the definition field by field, once all reads are within the record.
+-- `mul_long` reads the seven fields of a MulLong. It is the definition field by field, once all
+-- reads are within the record.
 use mathlib.Core.Path.{refl}
 use Rattle.file_instrs.specs.Decode.{mulLongAt}
 use borrow.Author.Needs.{needs}
@@ -12,5 +13,7 @@ returns c = refl
 pub mul-long-spec : {M : Type 1} → statement M
 mul-long-spec =
     tie.close
-    (tie.spec (search needs) (search needs) (search needs) (search needs) (search needs) (search needs) (search needs)
-    (search needs) (search needs) (search needs) (search needs) (search needs) (search needs) (search needs) returns)
+    (tie.spec (search needs) (search needs) (search needs) (search needs) (search needs)
+    (search needs) (search needs)
+    (search needs) (search needs) (search needs) (search needs) (search needs) (search needs)
+    (search needs) returns)

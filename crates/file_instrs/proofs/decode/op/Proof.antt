@@ -1,4 +1,5 @@
--- `op` reads the operation of a record. The definition looks the kind up in a list of ten; the last arm's kinds, past all ten, get the list's default.
+-- `op` reads the operation of a record. The definition looks the kind up in a list of ten; the last
+-- arm's kinds, past all ten, get the list's default.
 use Prim.Native.Nat.{zero-le}
 use lib.ListN.{List·getD-eq-default}
 use Rattle.file_instrs.specs.Decode.{opsAt, freeOp, opAt}
@@ -50,12 +51,26 @@ returns-10 c = c .block-mem .ensures ∙ sym (rw (c .before .match .keys10))
 
 returns-11 : tie.Need-returns-11
 unfolding opAt
-returns-11 c = c .free2 .ensures ∙ sym (List·getD-eq-default (opsAt _ _) (freeOp _) (next (next (next (next (next (next (next (next (next (next zero-le (c .before .match .rest .0 .0 .0 .0 .0 .0 .0 .0 .0 .1)) (c .before .match .rest .0 .0 .0 .0 .0 .0 .0 .0 .1)) (c .before .match .rest .0 .0 .0 .0 .0 .0 .0 .1)) (c .before .match .rest .0 .0 .0 .0 .0 .0 .1)) (c .before .match .rest .0 .0 .0 .0 .0 .1)) (c .before .match .rest .0 .0 .0 .0 .1)) (c .before .match .rest .0 .0 .0 .1)) (c .before .match .rest .0 .0 .1)) (c .before .match .rest .0 .1)) (c .before .match .rest .1)))
+returns-11 c = c .free2 .ensures
+    ∙ sym (List·getD-eq-default (opsAt _ _) (freeOp _)
+    (next (next
+    (next (next
+    (next (next
+    (next (next
+    (next (next zero-le (c .before .match .rest .0 .0 .0 .0 .0 .0 .0 .0 .0 .1))
+    (c .before .match .rest .0 .0 .0 .0 .0 .0 .0 .0 .1))
+    (c .before .match .rest .0 .0 .0 .0 .0 .0 .0 .1)) (c .before .match .rest .0 .0 .0 .0 .0 .0 .1))
+    (c .before .match .rest .0 .0 .0 .0 .0 .1)) (c .before .match .rest .0 .0 .0 .0 .1))
+    (c .before .match .rest .0 .0 .0 .1)) (c .before .match .rest .0 .0 .1))
+    (c .before .match .rest .0 .1)) (c .before .match .rest .1)))
 
 pub op-spec : {M : Type 1} → statement M
 op-spec =
     tie.close
-    (tie.spec (search needs) (search needs) (search needs) (search needs) (search needs) (search needs) (search needs)
-    (search needs) (search needs) (search needs) (search needs) (search needs) (search needs) (search needs)
-    (search needs) (search needs) (search needs) (search needs) returns returns-2 returns-3 returns-4 returns-5
+    (tie.spec (search needs) (search needs) (search needs) (search needs) (search needs)
+    (search needs) (search needs)
+    (search needs) (search needs) (search needs) (search needs) (search needs) (search needs)
+    (search needs)
+    (search needs) (search needs) (search needs) (search needs) returns returns-2 returns-3
+    returns-4 returns-5
     returns-6 returns-7 returns-8 returns-9 returns-10 returns-11)

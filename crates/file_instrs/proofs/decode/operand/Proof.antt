@@ -1,4 +1,5 @@
--- `operand` reads the second operand of an Alu: a value in form 0, a shifted register in the others.
+-- `operand` reads the second operand of an Alu: a value in form 0, a shifted register in the
+-- others.
 use borrow.Author.Tests.{eq-eqb, ne-eqb}
 use borrow.Author.Needs.{needs}
 use Rattle.file_instrs.proofs.decode.operand.Statement.{statement}
@@ -13,5 +14,6 @@ returns-2 c = simp (ne-eqb _ _ (c .before .if1 .left), c .shift .ensures)
 pub operand-spec : {M : Type 1} → statement M
 operand-spec =
     tie.close
-    (tie.spec (search needs) (search needs) (search needs) (search needs) (search needs) (search needs) (search needs)
+    (tie.spec (search needs) (search needs) (search needs) (search needs) (search needs)
+    (search needs) (search needs)
     returns returns-2)

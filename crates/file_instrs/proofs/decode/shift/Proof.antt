@@ -1,4 +1,5 @@
--- `shift` reads how a register is shifted: the test of the form chooses between amount and register, as the definition's does.
+-- `shift` reads how a register is shifted: the test of the form chooses between amount and
+-- register, as the definition's does.
 use borrow.Author.Tests.{eq-eqb, ne-eqb}
 use borrow.Author.Needs.{needs}
 use Rattle.file_instrs.proofs.decode.shift.Statement.{statement}
@@ -13,5 +14,6 @@ returns-2 c = simp (ne-eqb _ _ (c .if1 .left), c .before .before .before .from-b
 pub shift-spec : {M : Type 1} → statement M
 shift-spec =
     tie.close
-    (tie.spec (search needs) (search needs) (search needs) (search needs) (search needs) (search needs) (search needs)
+    (tie.spec (search needs) (search needs) (search needs) (search needs) (search needs)
+    (search needs) (search needs)
     returns returns-2)

@@ -1,4 +1,5 @@
--- `timed_instr` puts condition, operation and cost of a record together, each as its reader gives it.
+-- `timed_instr` puts condition, operation and cost of a record together, each as its reader gives
+-- it.
 use Rattle.file_instrs.specs.Decode.{timedAt}
 use borrow.Author.Needs.{needs}
 use Rattle.file_instrs.proofs.decode.timed_instr.Statement.{statement}
@@ -11,5 +12,6 @@ returns c = cc
 pub timed-instr-spec : {M : Type 1} → statement M
 timed-instr-spec =
     tie.close
-    (tie.spec (search needs) (search needs) (search needs) (search needs) (search needs) (search needs) (search needs)
+    (tie.spec (search needs) (search needs) (search needs) (search needs) (search needs)
+    (search needs) (search needs)
     returns)

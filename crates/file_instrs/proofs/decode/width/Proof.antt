@@ -1,4 +1,5 @@
--- `width` reads the width of a Mem: a number that is neither 0 nor 1 is from 2 on, where the definition has a word.
+-- `width` reads the width of a Mem: a number that is neither 0 nor 1 is from 2 on, where the
+-- definition has a word.
 use Rattle.armv4t.specs.declared.MemWidth.{MemWidth}
 use Prim.Native.Nat.{ℕ, zero, suc, _≤_, zero-le}
 use native.Mathlib.Nat.{le-of-suc-le-suc, not-suc-le-zero}

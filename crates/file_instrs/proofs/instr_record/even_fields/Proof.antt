@@ -1,4 +1,5 @@
--- `even_fields` tells whether the fields that must be even are. Both tests are made at once, which is right since no kind is both Alu and Branch.
+-- `even_fields` tells whether the fields that must be even are. Both tests are made at once, which
+-- is right since no kind is both Alu and Branch.
 use borrow.Author.Needs.{needs}
 use Rattle.file_instrs.proofs.Rows.{no-odd}
 use Rattle.file_instrs.proofs.instr_record.even_fields.Statement.{statement}
@@ -10,5 +11,6 @@ returns c = no-odd _ _
 pub even-fields-spec : {M : Type 1} → statement M
 even-fields-spec =
     tie.close
-    (tie.spec (search needs) (search needs) (search needs) (search needs) (search needs) (search needs) (search needs)
+    (tie.spec (search needs) (search needs) (search needs) (search needs) (search needs)
+    (search needs) (search needs)
     returns)

@@ -1,5 +1,5 @@
--- `instr_records::instr_record::instr_right` meets its contract: the row that the code compares with is the one of the kind and the form.
--- Assumes nothing.
+-- `instr_records::instr_record::instr_right` meets its contract: the row that the code compares
+-- with is the one of the kind and the form. Assumes nothing.
 use mathlib.Core.Path.{sym, ap, _∙_}
 use native.Mathlib.Omega.{arith}
 use denote.Ref.{now}
@@ -19,21 +19,28 @@ returns : tie.Need-returns
 returns c =
     let start = c .before .before .before .before .before .before .before in
     let number = c .before .before .row-number in
-    let row = row-of (now (start .args .rows)) (number .result) _ _ (start .pre .1) (number .ensures .0) (number .ensures .1) in
+    let row =
+    row-of (now (start .args .rows)) (number .result) _ _ (start .pre .1) (number .ensures .0)
+    (number .ensures .1) in
     out-of-range _ _
-    (ap (row-within (now (start .args .file)) (start .args .at)) (sym row) ∙ sym (c .before .within .ensures) ∙ not-true _ (c .if1 .taken))
+    (ap (row-within (now (start .args .file)) (start .args .at)) (sym row)
+    ∙ sym (c .before .within .ensures) ∙ not-true _ (c .if1 .taken))
 
 returns-2 : tie.Need-returns-2
 returns-2 c =
     let start = c .before .before .before .before .before .before .before .before in
     let number = c .before .before .before .row-number in
-    let row = row-of (now (start .args .rows)) (number .result) _ _ (start .pre .1) (number .ensures .0) (number .ensures .1) in
+    let row =
+    row-of (now (start .args .rows)) (number .result) _ _ (start .pre .1) (number .ensures .0)
+    (number .ensures .1) in
     c .even-fields .ensures
     ∙ in-range _ _
-    (ap (row-within (now (start .args .file)) (start .args .at)) (sym row) ∙ sym (c .before .before .within .ensures) ∙ not-false _ (c .before .if1 .left))
+    (ap (row-within (now (start .args .file)) (start .args .at)) (sym row)
+    ∙ sym (c .before .before .within .ensures) ∙ not-false _ (c .before .if1 .left))
 
 pub instr-right-spec : {M : Type 1} → statement M
 instr-right-spec =
     tie.close
-    (tie.spec (search needs) (search needs) (search needs) (search needs) (search needs) within-requires returns
+    (tie.spec (search needs) (search needs) (search needs) (search needs) (search needs)
+    within-requires returns
     (search needs) returns-2)

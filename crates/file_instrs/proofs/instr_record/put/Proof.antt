@@ -14,13 +14,20 @@ use Rattle.file_instrs.proofs.instr_record.put.Tie as tie
 
 abbrev Inv-loop : tie.InvT-loop
 Inv-loop rows₀ from part k₀ rows k =
-    (k ≤ length part) × (from + length part ≤ length rows₀) × (length rows ≡ length rows₀) × (rows ≡ paste rows₀ from part k)
+    (k ≤ length part) × (from + length part ≤ length rows₀) × (length rows ≡ length rows₀)
+    × (rows ≡ paste rows₀ from part k)
 
 abbrev μ-loop : tie.MeasureT-loop
 μ-loop rows₀ from part k₀ rows k = length part - k
 
 loop-holds : tie.Need-loop-holds Inv-loop μ-loop
-loop-holds c = (omega arith, c .pre, refl, paste-zero (now (c .args .rows)) (c .args .from) (now (c .args .part)))
+loop-holds c = (
+  omega arith,
+  c .pre,
+  refl,
+  paste-zero (now (c .args .rows)) (c .args .from)
+      (now (c .args .part)),
+)
 
 loop-again : tie.Need-loop-again Inv-loop μ-loop
 loop-again c =
@@ -30,8 +37,10 @@ loop-again c =
       at .inv .1,
       length-set (at .rows) (args .from + at .k) _ ∙ at .inv .2,
       rw add-one
-          (ap (λ (l : List ℕ). set l (args .from + at .k) (getD (now (args .part)) (at .k) 0)) (at .inv .3)
-          ∙ paste-suc (now (args .rows)) (args .from) (now (args .part)) (at .k) 0 (omega arith) (omega arith)),
+          (ap (λ (l : List ℕ). set l (args .from + at .k) (getD (now (args .part)) (at .k) 0))
+          (at .inv .3)
+          ∙ paste-suc (now (args .rows)) (args .from) (now (args .part)) (at .k) 0 (omega arith)
+          (omega arith)),
     )
 
 returns : tie.Need-returns Inv-loop μ-loop
@@ -43,5 +52,6 @@ returns c =
 pub put-spec : {M : Type 1} → statement M
 put-spec =
     tie.close
-    (tie.spec Inv-loop μ-loop loop-holds (λ c. omega arith) (λ c. omega arith) (λ c. omega arith) (λ c. omega arith)
+    (tie.spec Inv-loop μ-loop loop-holds (λ c. omega arith) (λ c. omega arith) (λ c. omega arith)
+    (λ c. omega arith)
     (λ c. omega arith) loop-again (search needs) returns)

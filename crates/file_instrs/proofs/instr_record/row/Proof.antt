@@ -1,5 +1,5 @@
--- `instr_records::instr_record::row` meets its contract: each arm has the row of its numbers, and the last one that of all others below 30.
--- Assumes nothing.
+-- `instr_records::instr_record::row` meets its contract: each arm has the row of its numbers, and
+-- the last one that of all others below 30. Assumes nothing.
 use mathlib.Core.Bool.{Bool}
 use mathlib.Core.List.{List, [], _∷_}
 use Prim.Native.Nat.{ℕ, _%_}
@@ -12,8 +12,10 @@ use Rattle.file_instrs.proofs.instr_record.row.Tie as tie
 -- the numbers of the arms, from the last one up
 arms : List (List ℕ)
 arms =
-    (9 ∷ 19 ∷ 29 ∷ []) ∷ (28 ∷ []) ∷ (18 ∷ []) ∷ (8 ∷ []) ∷ (7 ∷ 17 ∷ 27 ∷ []) ∷ (6 ∷ 16 ∷ 26 ∷ []) ∷ (5 ∷ 15 ∷ 25 ∷ [])
-    ∷ (4 ∷ 14 ∷ 24 ∷ []) ∷ (2 ∷ 12 ∷ 22 ∷ []) ∷ (1 ∷ 11 ∷ 21 ∷ []) ∷ (20 ∷ []) ∷ (10 ∷ []) ∷ (0 ∷ []) ∷ []
+    (9 ∷ 19 ∷ 29 ∷ []) ∷ (28 ∷ []) ∷ (18 ∷ []) ∷ (8 ∷ []) ∷ (7 ∷ 17 ∷ 27 ∷ []) ∷ (6 ∷ 16 ∷ 26 ∷ [])
+    ∷ (5 ∷ 15 ∷ 25 ∷ [])
+    ∷ (4 ∷ 14 ∷ 24 ∷ []) ∷ (2 ∷ 12 ∷ 22 ∷ []) ∷ (1 ∷ 11 ∷ 21 ∷ []) ∷ (20 ∷ []) ∷ (10 ∷ [])
+    ∷ (0 ∷ []) ∷ []
 
 -- every other number below 30 ends in 3
 three : ℕ → Bool
@@ -60,7 +62,9 @@ returns-13 c = rw (last-digit 9 (c .match .keys13))
 
 returns-14 : tie.Need-returns-14
 unfolding arms three
-returns-14 c = rw (eqb→eq (c .before .args .number % 10) 3 (default three arms 30 tt (c .before .pre) (c .match .rest)))
+returns-14 c =
+    rw (eqb→eq (c .before .args .number % 10) 3
+    (default three arms 30 tt (c .before .pre) (c .match .rest)))
 
 pub row-spec : {M : Type 1} → statement M
 row-spec =

@@ -1,4 +1,5 @@
--- `row_form` gives a form below 3 with the same row of largest values: a form that does not exist has the row of form 0.
+-- `row_form` gives a form below 3 with the same row of largest values: a form that does not exist
+-- has the row of form 0.
 use borrow.Author.Needs.{needs}
 use Rattle.file_instrs.proofs.Rows.{no-form}
 use Rattle.file_instrs.proofs.instr_record.row_form.Statement.{statement}

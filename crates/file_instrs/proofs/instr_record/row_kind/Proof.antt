@@ -1,4 +1,5 @@
--- `row_kind` gives a kind below 10 with the same row of largest values: kinds from 10 on leave all free, as Swap does.
+-- `row_kind` gives a kind below 10 with the same row of largest values: kinds from 10 on leave all
+-- free, as Swap does.
 use borrow.Author.Needs.{needs}
 use Rattle.file_instrs.proofs.Rows.{free-kind}
 use Rattle.file_instrs.proofs.instr_record.row_kind.Statement.{statement}

@@ -1,5 +1,5 @@
--- `instr_records::instr_record::within` meets its contract: each turn takes one byte of the row more.
--- Assumes nothing.
+-- `instr_records::instr_record::within` meets its contract: each turn takes one byte of the row
+-- more. Assumes nothing.
 use mathlib.Core.Path.{_≡_, refl, ap, _∙_}
 use mathlib.Core.Bool.{Bool, _&&_}
 use Prim.Native.Nat.{_+_, _-_, _≤_}
@@ -16,7 +16,8 @@ use Rattle.file_instrs.proofs.instr_record.within.Tie as tie
 
 abbrev Inv-loop : tie.InvT-loop
 Inv-loop file at rows from ok₀ k₀ ok k =
-    (k ≤ 16) × (at + 16 ≤ length file) × (from + 16 ≤ length rows) × (ok ≡ row-within file at (take k (take 16 (drop from rows))))
+    (k ≤ 16) × (at + 16 ≤ length file) × (from + 16 ≤ length rows)
+    × (ok ≡ row-within file at (take k (take 16 (drop from rows))))
 
 abbrev μ-loop : tie.MeasureT-loop
 μ-loop file at rows from ok₀ k₀ ok k = 16 - k
@@ -29,12 +30,15 @@ loop-again : tie.Need-loop-again Inv-loop μ-loop
 loop-again c =
     let args = c .before .before .before .before .args in
     let at = c .before .before .before .loop in
-    let less = leb (byteAt (now (args .file)) (args .at + at .k)) (getD (now (args .rows)) (args .from + at .k) 0) in (
+    let less =
+    leb (byteAt (now (args .file)) (args .at + at .k))
+    (getD (now (args .rows)) (args .from + at .k) 0) in (
       omega arith,
       at .inv .1,
       at .inv .2,
       ap (λ (b : Bool). b && less) (at .inv .3)
-          ∙ within-next (now (args .file)) (now (args .rows)) (args .at) (args .from) (at .k) (omega arith) (at .inv .2),
+          ∙ within-next (now (args .file)) (now (args .rows)) (args .at) (args .from) (at .k)
+          (omega arith) (at .inv .2),
     )
 
 returns : tie.Need-returns Inv-loop μ-loop
@@ -42,11 +46,13 @@ returns c =
     let args = c .before .before .args in
     let at = c .before .loop in
     at .inv .3
-    ∙ within-all (now (args .file)) (take 16 (drop (args .from) (now (args .rows)))) (args .at) (at .k)
+    ∙ within-all (now (args .file)) (take 16 (drop (args .from) (now (args .rows)))) (args .at)
+    (at .k)
     (omega (arith, row-long (now (args .rows)) (args .from) (at .inv .2)))
 
 pub within-spec : {M : Type 1} → statement M
 within-spec =
     tie.close
-    (tie.spec Inv-loop μ-loop loop-holds (λ c. omega arith) (λ c. omega arith) (λ c. omega arith) (λ c. omega arith)
+    (tie.spec Inv-loop μ-loop loop-holds (λ c. omega arith) (λ c. omega arith) (λ c. omega arith)
+    (λ c. omega arith)
     (λ c. omega arith) (λ c. omega arith) loop-again returns)

@@ -1,4 +1,5 @@
--- `block_right` tells whether a block record keeps its rules: each early return breaks one of them, and where all before hold the code bytes decide.
+-- `block_right` tells whether a block record keeps its rules: each early return breaks one of them,
+-- and where all before hold the code bytes decide.
 use borrow.Author.Tests.{not-true, not-false}
 use mathlib.Core.Path.{_∙_, sym}
 use Rattle.file_records.proofs.Rules as rules
@@ -23,10 +24,14 @@ returns-5 : tie.Need-returns-5
 returns-5 c = rules.end-past _ _ (omega arith)
 
 returns-6 : tie.Need-returns-6
-returns-6 c = c .code-right .ensures ∙ rules.right-but-code _ _ (omega arith) (omega arith) (omega arith) (sym (c .before .before .before .before .before .aligned .ensures) ∙ not-false _ (c .before .before .before .before .if4 .left)) (omega arith)
+returns-6 c = c .code-right .ensures
+    ∙ rules.right-but-code _ _ (omega arith) (omega arith) (omega arith)
+    (sym (c .before .before .before .before .before .aligned .ensures)
+    ∙ not-false _ (c .before .before .before .before .if4 .left)) (omega arith)
 
 pub block-right-spec : {M : Type 1} → statement M
 block-right-spec =
     tie.close
-    (tie.spec (search needs) (search needs) returns returns-2 returns-3 (search needs) returns-4 (search needs)
+    (tie.spec (search needs) (search needs) returns returns-2 returns-3 (search needs) returns-4
+    (search needs)
     (search needs) (search needs) (search needs) returns-5 (search needs) returns-6)

@@ -1,4 +1,5 @@
--- `trailer_right` tells whether the trailer keeps its rules: each early return breaks one of them, and where five hold the file length decides.
+-- `trailer_right` tells whether the trailer keeps its rules: each early return breaks one of them,
+-- and where five hold the file length decides.
 use Rattle.file_records.proofs.Rules as rules
 use native.Mathlib.Omega.{arith}
 use borrow.Author.Needs.{needs}
@@ -21,12 +22,17 @@ returns-5 : tie.Need-returns-5
 returns-5 c = rules.wrong-touch _ (omega arith)
 
 returns-6 : tie.Need-returns-6
-returns-6 c = rw (c .trailer-word8 .ensures) (rules.right-but-length _ (omega arith) (omega arith) (omega arith) (omega arith) (omega arith))
+returns-6 c =
+    rw (c .trailer-word8 .ensures)
+    (rules.right-but-length _ (omega arith) (omega arith) (omega arith) (omega arith) (omega arith))
 
 pub trailer-right-spec : {M : Type 1} → statement M
 trailer-right-spec =
     tie.close
-    (tie.spec (search needs) (search needs) (search needs) (search needs) (search needs) returns (search needs)
-    (search needs) (search needs) (search needs) returns-2 (search needs) (search needs) (search needs) (search needs)
-    (search needs) (search needs) returns-3 (search needs) (search needs) returns-4 (search needs) (search needs)
+    (tie.spec (search needs) (search needs) (search needs) (search needs) (search needs) returns
+    (search needs)
+    (search needs) (search needs) (search needs) returns-2 (search needs) (search needs)
+    (search needs) (search needs)
+    (search needs) (search needs) returns-3 (search needs) (search needs) returns-4 (search needs)
+    (search needs)
     (search needs) returns-5 (search needs) (search needs) returns-6)

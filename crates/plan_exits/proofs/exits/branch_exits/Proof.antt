@@ -1,5 +1,5 @@
--- `block_exits::exits::branch_exits` meets its contract: `_` answers for each condition but Al, number 14.
--- Assumes nothing.
+-- `block_exits::exits::branch_exits` meets its contract: `_` answers for each condition but Al,
+-- number 14. Assumes nothing.
 use mathlib.Core.Bool.{false}
 use mathlib.Core.List.{[], _∷_}
 use mathlib.Core.Path.{_≡_, refl}
@@ -15,7 +15,9 @@ use Rattle.plan_exits.proofs.exits.branch_exits.Tie as tie
 
 -- the search does not reach through all fifteen, so three stand here
 other : (k : Cond) → OneOf (others 16 (14 ∷ [])) (tagOf the-type k) → isAl k ≡ false
-other k o = arm enum (λ k′. isAl k′ ≡ false) (others 16 (14 ∷ [])) k o (λ _. refl, (λ _. refl, (λ _. refl, search depth 16)))
+other k o =
+    arm enum (λ k′. isAl k′ ≡ false) (others 16 (14 ∷ [])) k o
+    (λ _. refl, (λ _. refl, (λ _. refl, search depth 16)))
 
 returns : tie.Need-returns
 returns c = rw (c .enum-told .given .1)

@@ -1,5 +1,5 @@
--- `block_exits::exits::ends_bl` meets its contract: `_` answers for each operation but ThumbBlLow, number 7.
--- Assumes nothing.
+-- `block_exits::exits::ends_bl` meets its contract: `_` answers for each operation but ThumbBlLow,
+-- number 7. Assumes nothing.
 use Prim.Native.Nat.{ℕ}
 use mathlib.Core.List.{[], _∷_}
 use mathlib.Core.Path.{_≡_, refl}
@@ -15,10 +15,13 @@ use Rattle.armv4t.proofs.Op.{enum, the-type}
 use Rattle.plan_exits.proofs.exits.ends_bl.Statement.{statement}
 use Rattle.plan_exits.proofs.exits.ends_bl.Tie as tie
 
-unpaired-low : (lr addr : ℕ) (op : Op) → OneOf (others 15 (7 ∷ [])) (tagOf the-type op) → fuseLow lr op addr ≡ Fused.Nothing
-unpaired-low lr addr op o = arm enum (λ x. fuseLow lr x addr ≡ Fused.Nothing) (others 15 (7 ∷ [])) op o (search depth 16)
+unpaired-low : (lr addr : ℕ) (op : Op) → OneOf (others 15 (7 ∷ [])) (tagOf the-type op)
+    → fuseLow lr op addr ≡ Fused.Nothing
+unpaired-low lr addr op o =
+    arm enum (λ x. fuseLow lr x addr ≡ Fused.Nothing) (others 15 (7 ∷ [])) op o (search depth 16)
 
-unpaired : (high low : Op) (addr : ℕ) → OneOf (others 15 (7 ∷ [])) (tagOf the-type low) → fuseOps high low addr ≡ Fused.Nothing
+unpaired : (high low : Op) (addr : ℕ) → OneOf (others 15 (7 ∷ [])) (tagOf the-type low)
+    → fuseOps high low addr ≡ Fused.Nothing
 unpaired (Op.Alu _ _ _ _ _) low addr o = refl
 unpaired (Op.Mul _ _ _ _ _ _) low addr o = refl
 unpaired (Op.MulLong _ _ _ _ _ _ _) low addr o = refl

@@ -1,11 +1,12 @@
--- `block_exits::exits::fall_through` meets its contract: its calls one after the other are the definition's.
--- Assumes nothing.
+-- `block_exits::exits::fall_through` meets its contract: its calls one after the other are the
+-- definition's. Assumes nothing.
 use borrow.Author.Needs.{needs}
 use Rattle.plan_exits.proofs.exits.fall_through.Statement.{statement}
 use Rattle.plan_exits.proofs.exits.fall_through.Tie as tie
 
 returns : tie.Need-returns
-returns c = rw (c .key-of .ensures, c .before .wrapping-add-u32 .ensures, c .before .before .size .ensures)
+returns c =
+    rw (c .key-of .ensures, c .before .wrapping-add-u32 .ensures, c .before .before .size .ensures)
 
 pub fall-through-spec : {M : Type 1} → statement M
 fall-through-spec = tie.close (tie.spec (search needs) (search needs) (search needs) returns)

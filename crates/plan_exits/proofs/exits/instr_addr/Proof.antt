@@ -13,5 +13,6 @@ returns-2 c = rw (c .if1 .left)
 pub instr-addr-spec : {M : Type 1} → statement M
 instr-addr-spec =
     tie.close
-    (tie.spec (search needs) (search needs) (search needs) (search needs) (search needs) (search needs) returns
+    (tie.spec (search needs) (search needs) (search needs) (search needs) (search needs)
+    (search needs) returns
     returns-2)

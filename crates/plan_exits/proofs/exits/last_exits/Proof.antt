@@ -1,5 +1,5 @@
--- `block_exits::exits::last_exits` meets its contract. An arm of one operation is given its fields; the two arms that several share answer for each.
--- Assumes nothing.
+-- `block_exits::exits::last_exits` meets its contract. An arm of one operation is given its fields;
+-- the two arms that several share answer for each. Assumes nothing.
 use Prim.Native.Nat.{ℕ}
 use mathlib.Core.Bool.{Bool}
 use mathlib.Core.List.{List, [], _∷_}
@@ -34,7 +34,13 @@ module _ (op : Op) (k : Cond) (thumb : Bool) (fall : ℕ) where
 returns : tie.Need-returns
 returns c =
     let known = c .before .before .before in
-    rw (known .op .given .1, c .branch-exits .ensures, c .before .key-of .ensures, known .before .before .fall-through .ensures)
+    rw (
+      known .op .given .1,
+      c .branch-exits .ensures,
+      c .before .key-of .ensures,
+      known .before
+          .before .fall-through .ensures,
+    )
 
 returns-2 : tie.Need-returns-2
 returns-2 c = leaves (c .before .before .args .last .op) _ _ _ (c .match .keys2)
@@ -42,26 +48,46 @@ returns-2 c = leaves (c .before .before .args .last .op) _ _ _ (c .match .keys2)
 returns-3 : tie.Need-returns-3
 returns-3 c =
     let known = c .before .before in
-    rw (known .op2 .given .1, c .falls-unless .ensures, known .before .before .fall-through .ensures)
+    rw (
+      known .op2 .given .1,
+      c .falls-unless .ensures,
+      known .before .before .fall-through
+          .ensures,
+    )
 
 returns-4 : tie.Need-returns-4
 returns-4 c =
     let known = c .before .before .before in
-    rw (known .op3 .given .1, c .falls-unless2 .ensures, known .before .before .fall-through .ensures)
+    rw (
+      known .op3 .given .1,
+      c .falls-unless2 .ensures,
+      known .before .before .fall-through
+          .ensures,
+    )
     (⊎-elim (λ w. rw (w .1, w .0 .taken)) (λ w. rw (w .1, w .0 .left)) (c .before .if1 .came))
 
 returns-5 : tie.Need-returns-5
 returns-5 c =
     let known = c .before .before .before in
-    rw (known .op4 .given .1, c .falls-unless3 .ensures, known .before .before .fall-through .ensures)
-    (⊎-elim (λ w. rw (w .2, w .1 .ensures, w .0 .taken)) (λ w. rw (w .1, w .0 .left)) (c .before .if2 .came))
+    rw (
+      known .op4 .given .1,
+      c .falls-unless3 .ensures,
+      known .before .before .fall-through
+          .ensures,
+    )
+    (⊎-elim (λ w. rw (w .2, w .1 .ensures, w .0 .taken)) (λ w. rw (w .1, w .0 .left))
+    (c .before .if2 .came))
 
 returns-6 : tie.Need-returns-6
-returns-6 c = rw (c .before .fall-through .ensures) (falls (c .before .before .args .last .op) _ _ _ (c .match .keys6))
+returns-6 c =
+    rw (c .before .fall-through .ensures)
+    (falls (c .before .before .args .last .op) _ _ _ (c .match .keys6))
 
 pub last-exits-spec : {M : Type 1} → statement M
 last-exits-spec =
     tie.close
-    (tie.spec (search needs) (search needs) (search needs) (search needs) (search needs) (search needs) (search needs)
-    (search needs) (search needs) (search needs) (search needs) returns returns-2 returns-3 returns-4 returns-5
+    (tie.spec (search needs) (search needs) (search needs) (search needs) (search needs)
+    (search needs) (search needs)
+    (search needs) (search needs) (search needs) (search needs) returns returns-2 returns-3
+    returns-4 returns-5
     returns-6)

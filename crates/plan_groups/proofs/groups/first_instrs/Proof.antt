@@ -1,4 +1,5 @@
--- `first_instrs` stores the number of each block's first instruction. The loop's invariant: `sum` is the sum of the counts passed, and quarter 0 has those sums for the blocks passed.
+-- `first_instrs` stores the number of each block's first instruction. The loop's invariant: `sum`
+-- is the sum of the counts passed, and quarter 0 has those sums for the blocks passed.
 use Rattle.plan_groups.proofs.Grouping as grouping
 use denote.Ref.{now}
 use Prim.Native.Nat.{ℕ, _-_}
@@ -18,17 +19,26 @@ loop-holds : tie.Need-loop-holds Inv-loop μ-loop
 loop-holds c = grouping.counting-none _ _ _
 
 loop-again : tie.Need-loop-again Inv-loop μ-loop
-loop-again c = grouping.counting-more _ _ _ _ _ _ _ (c .before .before .before .before .before .pre .0) (c .before .loop-test .taken) (c .count-of .ensures .0) (c .count-of .ensures .1) (c .before .before .loop .inv)
+loop-again c =
+    grouping.counting-more _ _ _ _ _ _ _ (c .before .before .before .before .before .pre .0)
+    (c .before .loop-test .taken) (c .count-of .ensures .0) (c .count-of .ensures .1)
+    (c .before .before .loop .inv)
 
 same-length : tie.Need-same-length Inv-loop μ-loop
 same-length c = c .before .loop .inv .same
 
 returns : tie.Need-returns Inv-loop μ-loop
-returns c = let done : c .before .loop .i ≡ c .before .before .before .before .args .n = omega arith in
-    grouping.counted-all _ _ _ _ _ (subst (λ (m : ℕ). grouping.Counting (now (c .before .before .before .before .args .file)) (c .before .before .before .before .args .n) (now (c .before .before .before .before .args .work)) (c .before .loop .sum) m (c .before .loop .work)) done (c .before .loop .inv))
+returns c =
+    let done : c .before .loop .i ≡ c .before .before .before .before .args .n = omega arith in
+    grouping.counted-all _ _ _ _ _
+    (subst (λ (m : ℕ). grouping.Counting (now (c .before .before .before .before .args .file))
+    (c .before .before .before .before .args .n)
+    (now (c .before .before .before .before .args .work)) (c .before .loop .sum) m
+    (c .before .loop .work)) done (c .before .loop .inv))
 
 pub first-instrs-spec : {M : Type 1} → statement M
 first-instrs-spec =
     tie.close
-    (tie.spec Inv-loop μ-loop loop-holds (search needs) (λ c. omega arith) (λ c. omega arith) (search needs)
+    (tie.spec Inv-loop μ-loop loop-holds (search needs) (λ c. omega arith) (λ c. omega arith)
+    (search needs)
     (λ c. omega arith) (λ c. omega arith) (λ c. omega arith) loop-again same-length returns)

@@ -1,4 +1,5 @@
--- `group_blocks` groups the blocks of a file: what each of its five steps leaves in the work numbers is what the next asks for.
+-- `group_blocks` groups the blocks of a file: what each of its five steps leaves in the work
+-- numbers is what the next asks for.
 use Rattle.plan_groups.proofs.Grouping as grouping
 use denote.Ref.{now}
 use lib.ListN.{length}
@@ -9,30 +10,64 @@ use Rattle.plan_groups.proofs.groups.group_blocks.Statement.{statement}
 use Rattle.plan_groups.proofs.groups.group_blocks.Tie as tie
 
 join-blocks-requires : tie.Need-join-blocks-requires
-join-blocks-requires c κs = let pre = c .before .before .before .before .before .before .before .pre in
+join-blocks-requires c κs =
+    let pre = c .before .before .before .before .before .before .before .pre in
     let firsts = c .before .before .before .first-instrs .ensures in
     ((omega (arith, firsts .same, pre .0), pre .1, pre .2), λ a i h. firsts .firsts a (pre .2) i h)
 
 place-blocks-requires : tie.Need-place-blocks-requires
-place-blocks-requires c κs = let pre = c .before .before .before .before .before .before .before .before .before .before .before .before .before .before .before .before .before .before .before .pre in
-    let firsts = c .before .before .before .before .before .before .before .before .before .before .before .before .before .before .before .first-instrs .ensures in
-    let joined = c .before .before .before .before .before .before .before .before .before .before .before .join-blocks .ensures in
+place-blocks-requires c κs = let pre =
+    c .before .before .before .before .before .before .before .before .before .before .before
+    .before .before .before .before .before .before .before .before .pre in
+    let firsts =
+    c .before .before .before .before .before .before .before .before .before .before .before
+    .before .before .before .before .first-instrs .ensures in
+    let joined =
+    c .before .before .before .before .before .before .before .before .before .before .before
+    .join-blocks .ensures in
     let rooted = c .before .before .before .before .before .before .before .put-roots .ensures in
     let linked = c .before .before .before .link-members .ensures in
-    let room : 4 * c .before .before .before .before .before .before .before .before .before .before .before .before .before .before .before .before .before .before .before .args .n ≤ length (c .before .before .before .before .before .before .before .before .before .before .before .before .before .before .before .first-instrs .last .1 .0) = omega (arith, firsts .same, pre .0) in
-    grouping.place-asks (now (c .before .before .before .before .before .before .before .before .before .before .before .before .before .before .before .before .before .before .before .args .file)) _ (c .before .before .before .before .before .before .before .before .before .before .before .before .before .before .before .before .before .before .before .args .limit) _ _ _ _ (pre .1) (pre .2) room joined rooted (linked .0) (linked .1)
+    let room : 4 * c .before .before .before .before .before .before .before .before .before .before
+    .before .before .before .before .before .before .before .before .before .args .n
+    ≤ length
+    (c .before .before .before .before .before .before .before .before .before .before .before
+    .before .before .before .before .first-instrs .last .1 .0) =
+    omega (arith, firsts .same, pre .0) in
+    grouping.place-asks
+    (now (c .before .before .before .before .before .before .before .before .before .before
+    .before .before .before .before .before .before .before .before .before .args .file)) _
+    (c .before .before .before .before .before .before .before .before .before .before .before
+    .before .before .before .before .before .before .before .before .args .limit) _ _ _ _
+    (pre .1) (pre .2) room joined rooted (linked .0) (linked .1)
 
 returns : tie.Need-returns
-returns c = let pre = c .before .before .before .before .before .before .before .before .before .before .before .before .before .before .before .before .before .before .before .before .before .before .pre in
-    let firsts = c .before .before .before .before .before .before .before .before .before .before .before .before .before .before .before .before .before .before .first-instrs .ensures in
-    let joined = c .before .before .before .before .before .before .before .before .before .before .before .before .before .before .join-blocks .ensures in
-    let rooted = c .before .before .before .before .before .before .before .before .before .before .put-roots .ensures in
+returns c = let pre =
+    c .before .before .before .before .before .before .before .before .before .before .before
+    .before .before .before .before .before .before .before .before .before .before .before .pre in
+    let firsts =
+    c .before .before .before .before .before .before .before .before .before .before .before
+    .before .before .before .before .before .before .before .first-instrs .ensures in
+    let joined =
+    c .before .before .before .before .before .before .before .before .before .before .before
+    .before .before .before .join-blocks .ensures in
+    let rooted =
+    c .before .before .before .before .before .before .before .before .before .before .put-roots
+    .ensures in
     let linked = c .before .before .before .before .before .before .link-members .ensures in
-    let room : 4 * c .before .before .before .before .before .before .before .before .before .before .before .before .before .before .before .before .before .before .before .before .before .before .args .n ≤ length (c .before .before .before .before .before .before .before .before .before .before .before .before .before .before .before .before .before .before .first-instrs .last .1 .0) = omega (arith, firsts .same, pre .0) in
-    grouping.grouped-from _ _ _ _ _ _ firsts (grouping.grouped _ _ _ _ _ _ _ (pre .1) (pre .2) room joined rooted (linked .0) (linked .1) _ (c .before .before .place-blocks .ensures))
+    let room : 4 * c .before .before .before .before .before .before .before .before .before .before
+    .before .before .before .before .before .before .before .before .before .before .before
+    .before .args .n
+    ≤ length
+    (c .before .before .before .before .before .before .before .before .before .before .before
+    .before .before .before .before .before .before .before .first-instrs .last .1 .0) =
+    omega (arith, firsts .same, pre .0) in
+    grouping.grouped-from _ _ _ _ _ _ firsts
+    (grouping.grouped _ _ _ _ _ _ _ (pre .1) (pre .2) room joined rooted (linked .0) (linked .1)
+    _ (c .before .before .place-blocks .ensures))
 
 pub group-blocks-spec : {M : Type 1} → statement M
 group-blocks-spec =
     tie.close
-    (tie.spec (search needs) join-blocks-requires (λ c κs. search needs) (λ c κs. search needs) place-blocks-requires (search needs)
+    (tie.spec (search needs) join-blocks-requires (λ c κs. search needs) (λ c κs. search needs)
+    place-blocks-requires (search needs)
     returns)

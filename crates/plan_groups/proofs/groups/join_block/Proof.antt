@@ -1,4 +1,5 @@
--- `join_block` makes the edges of a block: none if it is not of page 8, else those of its exits, which begin at the instruction that quarter 0 has for it.
+-- `join_block` makes the edges of a block: none if it is not of page 8, else those of its exits,
+-- which begin at the instruction that quarter 0 has for it.
 use denote.Ref.{now}
 use Rattle.plan_exits.specs.Exits.{exits}
 use Rattle.file_blocks.specs.Parse.{blockAt}
@@ -12,29 +13,48 @@ use Rattle.plan_groups.proofs.groups.join_block.Statement.{statement}
 use Rattle.plan_groups.proofs.groups.join_block.Tie as tie
 
 returns : tie.Need-returns
-returns c = joining.block-missing _ _ _ _ _ (c .before .before .block-at .ensures) (c .before .before .before .before .before .pre .0 .2) (c .before .before .before .before .before .pre .0 .3) (c .enum-told .given .1)
+returns c =
+    joining.block-missing _ _ _ _ _ (c .before .before .block-at .ensures)
+    (c .before .before .before .before .before .pre .0 .2)
+    (c .before .before .before .before .before .pre .0 .3) (c .enum-told .given .1)
 
 returns-2 : tie.Need-returns-2
 returns-2 c =
     let known = c .before .before .before in
     let pre = known .before .before .before .before .before .pre in
-    joining.block-apart _ _ _ _ _ (known .before .before .block-at .ensures) (pre .0 .2) (pre .0 .3) _ (known .block .given .1)
+    joining.block-apart _ _ _ _ _ (known .before .before .block-at .ensures) (pre .0 .2) (pre .0 .3)
+    _ (known .block .given .1)
     (sym (c .before .on-page-8 .ensures) ∙ not-true _ (c .if1 .taken))
 
 returns-3 : tie.Need-returns-3
-returns-3 c = let args = c .before .before .before .before .before .before .before .before .before .before .before .before .before .before .before .args in
-    let pre = c .before .before .before .before .before .before .before .before .before .before .before .before .before .before .before .pre in
-    let found = c .before .before .before .before .before .before .before .before .before .before .block .given .1 in
-    let reads = c .before .before .before .before .before .before .before .before .before .before .before .before .block-at .ensures in
-    joining.block-joins _ _ _ _ _ reads (pre .0 .2) (pre .0 .3) _ found (sym (c .before .before .before .before .before .before .before .before .on-page-8 .ensures) ∙ not-false _ (c .before .before .before .before .before .before .before .if1 .left)) (c .before .before .before .before .exits-at .result) _
+returns-3 c = let args =
+    c .before .before .before .before .before .before .before .before .before .before .before
+    .before .before .before .before .args in
+    let pre =
+    c .before .before .before .before .before .before .before .before .before .before .before
+    .before .before .before .before .pre in
+    let found =
+    c .before .before .before .before .before .before .before .before .before .before .block
+    .given .1 in
+    let reads =
+    c .before .before .before .before .before .before .before .before .before .before .before
+    .before .block-at .ensures in
+    joining.block-joins _ _ _ _ _ reads (pre .0 .2) (pre .0 .3) _ found
+    (sym (c .before .before .before .before .before .before .before .before .on-page-8 .ensures)
+    ∙ not-false _ (c .before .before .before .before .before .before .before .if1 .left))
+    (c .before .before .before .before .exits-at .result) _
     (λ a.
-    let starts = c .before .before .before .before .before .wide .ensures ∙ pre .1 .1 a _ (pre .0 .2) in
-    c .before .before .before .before .exits-at .ensures _ (record { accepted = a; found = sym reads ∙ found; starts = starts })
-    ∙ ap (λ (k : ℕ). exits (blockAt (now (args .file)) (blockStart (now (args .file)) (args .i)) k)) starts)
+    let starts =
+    c .before .before .before .before .before .wide .ensures ∙ pre .1 .1 a _ (pre .0 .2) in
+    c .before .before .before .before .exits-at .ensures _
+    (record { accepted = a; found = sym reads ∙ found; starts = starts })
+    ∙ ap (λ (k : ℕ). exits (blockAt (now (args .file)) (blockStart (now (args .file)) (args .i)) k))
+    starts)
     (c .before .before .join-exits .ensures)
 
 pub join-block-spec : {M : Type 1} → statement M
 join-block-spec =
     tie.close
-    (tie.spec (search needs) (search needs) (search needs) returns (search needs) returns-2 (search needs)
+    (tie.spec (search needs) (search needs) (search needs) returns (search needs) returns-2
+    (search needs)
     (search needs) (search needs) (search needs) (λ c κs. search needs) (search needs) returns-3)

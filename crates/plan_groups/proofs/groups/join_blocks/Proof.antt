@@ -1,4 +1,5 @@
--- `join_blocks` makes all edges. The loop's invariant: the roots are those of the definition after the edges of the blocks before block i, and no way is longer than 2i.
+-- `join_blocks` makes all edges. The loop's invariant: the roots are those of the definition after
+-- the edges of the blocks before block i, and no way is longer than 2i.
 use Rattle.plan_groups.proofs.Lending as lending
 use Rattle.plan_groups.proofs.Grouping as grouping
 use denote.Ref.{now}
@@ -18,33 +19,57 @@ abbrev μ-loop : tie.MeasureT-loop
 own-roots-requires : tie.Need-own-roots-requires Inv-loop μ-loop
 own-roots-requires c κs = let w = now (c .before .before .before .args .work) in
     let n = c .before .before .before .args .n in
-    rw (lending.lent-is n w, lending.quarter-length n w (c .before .before .before .pre .0 .0)) (omega arith)
+    rw (lending.lent-is n w, lending.quarter-length n w (c .before .before .before .pre .0 .0))
+    (omega arith)
 
 loop-holds : tie.Need-loop-holds Inv-loop μ-loop
-loop-holds c = grouping.edges-none _ _ _ _ (c .before .before .before .before .before .before .pre .0 .0) (rw lending.lent-is at (c .before .before .own-roots .ensures)) (c .before .before .before .before .before .before .pre .0 .2)
+loop-holds c =
+    grouping.edges-none _ _ _ _ (c .before .before .before .before .before .before .pre .0 .0)
+    (rw lending.lent-is at (c .before .before .own-roots .ensures))
+    (c .before .before .before .before .before .before .pre .0 .2)
 
 join-block-requires : tie.Need-join-block-requires Inv-loop μ-loop
-join-block-requires c κs = let pre = c .before .before .before .before .before .before .before .before .before .pre in
-    let own = (rw lending.lent-is at (c .before .before .before .before .before .own-roots .ensures)) in
+join-block-requires c κs =
+    let pre = c .before .before .before .before .before .before .before .before .before .pre in
+    let own =
+    (rw lending.lent-is at (c .before .before .before .before .before .own-roots .ensures)) in
     let inv = c .before .before .loop .inv in
-    let asks = grouping.edges-asks _ _ _ _ _ (grouping.own-room (now (c .before .before .before .before .before .before .before .before .before .args .file)) _ _ _ (pre .0 .0) own) (λ a. grouping.own-firsts _ _ _ _ (pre .0 .0) own (pre .1 a)) inv in
+    let asks =
+    grouping.edges-asks _ _ _ _ _
+    (grouping.own-room
+    (now (c .before .before .before .before .before .before .before .before .before .args
+    .file)) _ _ _ (pre .0 .0) own) (λ a. grouping.own-firsts _ _ _ _ (pre .0 .0) own (pre .1 a))
+    inv in
     ((asks .0, pre .0 .1, c .before .loop-test .taken, pre .0 .2), (inv .forest, asks .1))
 
 loop-again : tie.Need-loop-again Inv-loop μ-loop
-loop-again c = grouping.edges-more _ _ _ _ _ _ (c .before .before .before .before .loop-test .taken) (c .before .before .before .before .before .before .before .before .before .before .before .before .pre .0 .2) (c .before .before .before .before .before .loop .inv) (c .before .before .join-block .ensures)
+loop-again c =
+    grouping.edges-more _ _ _ _ _ _ (c .before .before .before .before .loop-test .taken)
+    (c .before .before .before .before .before .before .before .before .before .before .before
+    .before .pre .0 .2) (c .before .before .before .before .before .loop .inv)
+    (c .before .before .join-block .ensures)
 
 same-length : tie.Need-same-length Inv-loop μ-loop
-same-length c = c .before .loop .inv .same ∙ grouping.own-length (now (c .before .before .before .before .before .before .before .before .args .file)) _ _ _ (c .before .before .before .before .before .before .before .before .pre .0 .0) (rw lending.lent-is at (c .before .before .before .before .own-roots .ensures))
+same-length c = c .before .loop .inv .same
+    ∙ grouping.own-length
+    (now (c .before .before .before .before .before .before .before .before .args .file)) _ _ _
+    (c .before .before .before .before .before .before .before .before .pre .0 .0)
+    (rw lending.lent-is at (c .before .before .before .before .own-roots .ensures))
 
 returns : tie.Need-returns Inv-loop μ-loop
 returns c = let pre = c .before .before .before .before .before .before .before .before .pre in
     let own = (rw lending.lent-is at (c .before .before .before .before .own-roots .ensures)) in
     grouping.edges-from _ _ _ _ (pre .0 .0) own _
-    (grouping.edges-done _ _ _ _ _ (grouping.own-room (now (c .before .before .before .before .before .before .before .before .args .file)) _ _ _ (pre .0 .0) own) (pre .0 .2) (omega arith) (c .before .loop .inv))
+    (grouping.edges-done _ _ _ _ _
+    (grouping.own-room
+    (now (c .before .before .before .before .before .before .before .before .args .file)) _ _ _
+    (pre .0 .0) own) (pre .0 .2) (omega arith) (c .before .loop .inv))
 
 pub join-blocks-spec : {M : Type 1} → statement M
 join-blocks-spec =
     tie.close
-    (tie.spec Inv-loop μ-loop (search needs) (search needs) (search needs) (search needs) (search needs)
-    own-roots-requires loop-holds join-block-requires (λ c. omega arith) (λ c. omega arith) loop-again same-length
+    (tie.spec Inv-loop μ-loop (search needs) (search needs) (search needs) (search needs)
+    (search needs)
+    own-roots-requires loop-holds join-block-requires (λ c. omega arith) (λ c. omega arith)
+    loop-again same-length
     returns)

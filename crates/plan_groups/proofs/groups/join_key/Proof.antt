@@ -1,4 +1,5 @@
--- `join_key` makes the edge from a block to a key, or none where no block of page 8 has the key. The lent quarter of the work numbers is the parents.
+-- `join_key` makes the edge from a block to a key, or none where no block of page 8 has the key.
+-- The lent quarter of the work numbers is the parents.
 use Rattle.plan_groups.proofs.Joining as joining
 use Rattle.plan_groups.proofs.Lending as lending
 use denote.Ref.{now}
@@ -7,19 +8,36 @@ use Rattle.plan_groups.proofs.groups.join_key.Statement.{statement}
 use Rattle.plan_groups.proofs.groups.join_key.Tie as tie
 
 returns : tie.Need-returns
-returns c = joining.join-nothing _ _ _ _ _ _ (c .before .before .find-target .ensures .1) (c .enum-told .given .1)
+returns c =
+    joining.join-nothing _ _ _ _ _ _ (c .before .before .find-target .ensures .1)
+    (c .enum-told .given .1)
 
 hang-under-requires : tie.Need-hang-under-requires
-hang-under-requires c κs = let w = now (c .before .before .before .before .before .before .before .args .work) in
+hang-under-requires c κs =
+    let w = now (c .before .before .before .before .before .before .before .args .work) in
     let n = c .before .before .before .before .before .before .before .args .n in
     let pre = c .before .before .before .before .before .before .before .pre .0 in
-    rw (lending.lent-is n w, lending.quarter-length n w (pre .0)) (c .before .before .before .before .before .before .before .pre .1, (pre .2, joining.target-inside _ _ _ _ (c .before .before .before .before .find-target .ensures .0) (c .before .before .j .given .1) (pre .3)))
+    rw (lending.lent-is n w, lending.quarter-length n w (pre .0)) (
+      c .before .before .before .before .before .before .before .pre .1,
+      (
+        pre .2,
+        joining.target-inside _ _ _ _
+            (c .before .before .before .before .find-target .ensures .0)
+            (c .before .before .j .given .1) (pre .3),
+      ),
+    )
 
 returns-2 : tie.Need-returns-2
-returns-2 c = joining.join-at _ _ _ _ _ _ (c .before .before .before .before .before .before .before .find-target .ensures .1) _ _ (c .before .before .before .before .before .before .before .before .before .before .pre .0 .0) (c .before .before .before .before .before .j .given .1) (rw lending.lent-is at (c .before .before .hang-under .ensures))
+returns-2 c =
+    joining.join-at _ _ _ _ _ _
+    (c .before .before .before .before .before .before .before .find-target .ensures .1) _ _
+    (c .before .before .before .before .before .before .before .before .before .before .pre .0 .0)
+    (c .before .before .before .before .before .j .given .1)
+    (rw lending.lent-is at (c .before .before .hang-under .ensures))
 
 pub join-key-spec : {M : Type 1} → statement M
 join-key-spec =
     tie.close
-    (tie.spec (search needs) (search needs) (search needs) returns (search needs) (search needs) (search needs)
+    (tie.spec (search needs) (search needs) (search needs) returns (search needs) (search needs)
+    (search needs)
     (search needs) (search needs) hang-under-requires (search needs) returns-2)

@@ -1,4 +1,5 @@
--- `link_members` links the members of each component. The loop's invariant: the blocks from `left` on are linked, and only quarters 1 and 3 changed.
+-- `link_members` links the members of each component. The loop's invariant: the blocks from `left`
+-- on are linked, and only quarters 1 and 3 changed.
 use Rattle.plan_groups.specs.Links.{Linked}
 use Prim.Native.Nat.{ℕ}
 use mathlib.Core.Path.{subst, _≡_, _∙_}
@@ -15,26 +16,39 @@ abbrev μ-loop : tie.MeasureT-loop
 μ-loop work₀ n left₀ work left = left
 
 loop-holds : tie.Need-loop-holds Inv-loop μ-loop
-loop-holds c = linking.linking-none _ _ _ (c .before .before .before .before .before .pre .0) (c .before .before .before .before .before .pre .1) (c .before .before .no-members .ensures)
+loop-holds c =
+    linking.linking-none _ _ _ (c .before .before .before .before .before .pre .0)
+    (c .before .before .before .before .before .pre .1) (c .before .before .no-members .ensures)
 
 link-one-requires : tie.Need-link-one-requires Inv-loop μ-loop
-link-one-requires c κs = linking.linking-asks _ _ _ _ (c .before .loop-test .taken) (c .before .before .loop .inv)
+link-one-requires c κs =
+    linking.linking-asks _ _ _ _ (c .before .loop-test .taken) (c .before .before .loop .inv)
 
 loop-again : tie.Need-loop-again Inv-loop μ-loop
-loop-again c = rw (c .before .before .link-one .ensures) (linking.linking-more _ _ _ _ (c .before .before .before .before .loop-test .taken) (c .before .before .before .before .before .loop .inv))
+loop-again c =
+    rw (c .before .before .link-one .ensures)
+    (linking.linking-more _ _ _ _ (c .before .before .before .before .loop-test .taken)
+    (c .before .before .before .before .before .loop .inv))
 
 same-length : tie.Need-same-length Inv-loop μ-loop
-same-length c = c .before .loop .inv .outside .same ∙ c .before .before .before .before .no-members .ensures .same
+same-length c = c .before .loop .inv .outside .same
+    ∙ c .before .before .before .before .no-members .ensures .same
 
 returns : tie.Need-returns Inv-loop μ-loop
-returns c = let filled = linking.outside-fill _ _ _ (c .before .before .before .before .no-members .ensures) in
+returns c = let filled =
+    linking.outside-fill _ _ _ (c .before .before .before .before .no-members .ensures) in
     let done : c .before .loop .left ≡ 0 = omega arith in (
       linking.outside-trans _ _ _ _ filled (c .before .loop .inv .outside),
-      λ roots h. subst (λ (i : ℕ). Linked roots (c .before .before .before .before .before .before .before .args .n) i (c .before .loop .work)) done (c .before .loop .inv .linked roots (linking.has-roots _ roots _ _ filled h)),
+      λ roots h. subst
+          (λ (i : ℕ). Linked roots
+          (c .before .before .before .before .before .before .before .args .n) i
+          (c .before .loop .work)) done
+          (c .before .loop .inv .linked roots (linking.has-roots _ roots _ _ filled h)),
     )
 
 pub link-members-spec : {M : Type 1} → statement M
 link-members-spec =
     tie.close
-    (tie.spec Inv-loop μ-loop (search needs) loop-holds (λ c. omega arith) link-one-requires (λ c. omega arith)
+    (tie.spec Inv-loop μ-loop (search needs) loop-holds (λ c. omega arith) link-one-requires
+    (λ c. omega arith)
     loop-again same-length returns)

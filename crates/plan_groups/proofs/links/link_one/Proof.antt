@@ -1,4 +1,5 @@
--- `link_one` puts a block in front of its component. Its root is below n, so every place read or written is inside the four quarters.
+-- `link_one` puts a block in front of its component. Its root is below n, so every place read or
+-- written is inside the four quarters.
 use lib.ListN.{length-set}
 use native.Mathlib.Omega.{arith}
 use borrow.Author.Needs.{needs}
@@ -14,6 +15,8 @@ returns c = rw (c .before .wide .ensures)
 pub link-one-spec : {M : Type 1} → statement M
 link-one-spec =
     tie.close
-    (tie.spec (search needs) (search needs) (search needs) (search needs) (search needs) (search needs) (search needs)
-    (search needs) (search needs) (search needs) (search needs) (search needs) (search needs) (search needs)
+    (tie.spec (search needs) (search needs) (search needs) (search needs) (search needs)
+    (search needs) (search needs)
+    (search needs) (search needs) (search needs) (search needs) (search needs) (search needs)
+    (search needs)
     (search needs) slice-write-work-2 (search needs) returns)

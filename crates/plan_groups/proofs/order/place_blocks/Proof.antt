@@ -1,4 +1,5 @@
--- `place_blocks` makes the emission order. The loop's invariant: the rows placed and what the links have left of the components make the whole order; a turn places a block or begins a component.
+-- `place_blocks` makes the emission order. The loop's invariant: the rows placed and what the links
+-- have left of the components make the whole order; a turn places a block or begins a component.
 use Rattle.plan_groups.proofs.Ordering as ordering
 use Prim.Native.Nat.{_+_, _-_}
 use mathlib.Core.Path.{sym, _∙_}
@@ -8,7 +9,8 @@ use Rattle.plan_groups.proofs.order.place_blocks.Statement.{statement}
 use Rattle.plan_groups.proofs.order.place_blocks.Tie as tie
 
 abbrev Inv-loop : tie.InvT-loop
-Inv-loop file work₀ n limit size place₀ group₀ total₀ open₀ r₀ h₀ work place group total «open» r h =
+Inv-loop file work₀ n limit size place₀ group₀ total₀ open₀ r₀ h₀ work place group total «open» r
+    h =
     ordering.Placing file work₀ n limit place group total «open» r h work
 
 abbrev μ-loop : tie.MeasureT-loop
@@ -16,20 +18,36 @@ abbrev μ-loop : tie.MeasureT-loop
     (n - place) + (n - r)
 
 loop-holds : tie.Need-loop-holds Inv-loop μ-loop
-loop-holds c = ordering.placing-none _ _ _ _ (c .before .before .pre .0 .0) (c .before .before .pre .0 .1) (c .before .before .pre .1)
+loop-holds c =
+    ordering.placing-none _ _ _ _ (c .before .before .pre .0 .0) (c .before .before .pre .0 .1)
+    (c .before .before .pre .1)
 
 loop-again : tie.Need-loop-again Inv-loop μ-loop
-loop-again c = ordering.placing-next _ _ _ _ _ _ _ _ _ _ _ (c .before .before .before .before .before .before .before .before .before .loop .inv) (c .before .before .before .before .before .before .before .before .loop-test .taken) (c .before .before .before .before .before .before .before .if1 .taken) _ (c .before .before .before .before .before .before .count-of .ensures .0)
-    (λ a l counts has. has _ l ∙ sym (c .before .before .before .before .before .before .count-of .ensures .1 a l)) _ (c .before .before .before .before .before .take-block .ensures) _ (c .before .before .before .put-row .ensures)
+loop-again c =
+    ordering.placing-next _ _ _ _ _ _ _ _ _ _ _
+    (c .before .before .before .before .before .before .before .before .before .loop .inv)
+    (c .before .before .before .before .before .before .before .before .loop-test .taken)
+    (c .before .before .before .before .before .before .before .if1 .taken) _
+    (c .before .before .before .before .before .before .count-of .ensures .0)
+    (λ a l counts has. has _ l
+    ∙ sym (c .before .before .before .before .before .before .count-of .ensures .1 a l)) _
+    (c .before .before .before .before .before .take-block .ensures) _
+    (c .before .before .before .put-row .ensures)
 
 same-length : tie.Need-same-length Inv-loop μ-loop
 same-length c = c .before .before .before .loop .inv .same
 
 returns : tie.Need-returns Inv-loop μ-loop
-returns c = ordering.placing-done _ _ _ _ _ _ _ _ _ _ _ (c .before .before .before .loop .inv) (c .before .if1 .left) (c .if2 .taken)
+returns c =
+    ordering.placing-done _ _ _ _ _ _ _ _ _ _ _ (c .before .before .before .loop .inv)
+    (c .before .if1 .left) (c .if2 .taken)
 
 loop-again-2 : tie.Need-loop-again-2 Inv-loop μ-loop
-loop-again-2 c = rw (c .before .close-part .ensures) (ordering.placing-component _ _ _ _ _ _ _ _ _ _ _ (c .before .before .before .before .before .loop .inv) (c .before .before .before .if1 .left) (c .before .before .if2 .left))
+loop-again-2 c =
+    rw (c .before .close-part .ensures)
+    (ordering.placing-component _ _ _ _ _ _ _ _ _ _ _
+    (c .before .before .before .before .before .loop .inv) (c .before .before .before .if1 .left)
+    (c .before .before .if2 .left))
 
 same-length-2 : tie.Need-same-length-2 Inv-loop μ-loop
 same-length-2 c = c .before .loop .inv .same
@@ -40,7 +58,10 @@ returns-2 c = ordering.placing-all _ _ _ _ _ _ _ _ _ _ _ (c .before .loop .inv) 
 pub place-blocks-spec : {M : Type 1} → statement M
 place-blocks-spec =
     tie.close
-    (tie.spec Inv-loop μ-loop loop-holds (λ c. omega arith) (search needs) (λ c κs. omega arith) (λ c κs. omega arith)
-    (λ c. omega arith) (λ c. omega arith) (λ c. omega arith) (λ c. omega arith) (λ c. omega arith) loop-again
-    same-length returns (λ c κs. omega arith) (λ c. omega arith) (λ c. omega arith) (λ c. omega arith)
+    (tie.spec Inv-loop μ-loop loop-holds (λ c. omega arith) (search needs) (λ c κs. omega arith)
+    (λ c κs. omega arith)
+    (λ c. omega arith) (λ c. omega arith) (λ c. omega arith) (λ c. omega arith) (λ c. omega arith)
+    loop-again
+    same-length returns (λ c κs. omega arith) (λ c. omega arith) (λ c. omega arith)
+    (λ c. omega arith)
     (λ c. omega arith) (λ c. omega arith) (λ c. omega arith) loop-again-2 same-length-2 returns-2)

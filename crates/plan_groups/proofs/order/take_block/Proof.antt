@@ -1,4 +1,5 @@
--- `take_block` gives the part that takes a block: a new one exactly if the limit is passed and the part is open.
+-- `take_block` gives the part that takes a block: a new one exactly if the limit is passed and the
+-- part is open.
 use borrow.Author.Tests.{lt-ltb, le-ltb}
 use borrow.Author.Needs.{needs}
 use Rattle.plan_groups.proofs.order.take_block.Statement.{statement}

@@ -32,5 +32,6 @@ returns c = groups-none _ _ _ _ (omega arith) (c .before .loop .inv .3)
 pub no-groups-spec : {M : Type 1} → statement M
 no-groups-spec =
     tie.close
-    (tie.spec Inv-loop μ-loop loop-holds (λ c. omega arith) (λ c. omega arith) slice-write-work (λ c. omega arith)
+    (tie.spec Inv-loop μ-loop loop-holds (λ c. omega arith) (λ c. omega arith) slice-write-work
+    (λ c. omega arith)
     (λ c. omega arith) loop-again same-length returns)

@@ -11,17 +11,50 @@ group-blocks-requires : tie.Need-group-blocks-requires
 group-blocks-requires c κs = c .before .before .before .pre .0
 
 put-groups-requires : tie.Need-put-groups-requires
-put-groups-requires c κs = (omega (arith, c .before .before .before .group-blocks .ensures .same), c .before .before .before .before .before .before .before .pre .0 .1)
+put-groups-requires c κs = (
+  omega (arith, c .before .before .before .group-blocks .ensures .same),
+  c .before .before
+      .before .before .before .before .before .pre .0 .1,
+)
 
 put-firsts-requires : tie.Need-put-firsts-requires
-put-firsts-requires c κs = ((omega (arith, groups-room (c .before .before .before .before .before .before .before .group-blocks .ensures) (c .before .before .before .put-groups .ensures)), c .before .before .before .before .before .before .before .before .before .before .before .pre .0 .1, c .before .before .before .before .before .before .before .before .before .before .before .pre .0 .2), c .before .before .before .before .before .before .before .before .before .before .before .pre .1)
+put-firsts-requires c κs = (
+  (
+    omega (
+      arith,
+      groups-room
+          (c .before .before .before .before .before .before .before .group-blocks .ensures)
+          (c .before .before .before .put-groups .ensures),
+    ),
+    c .before .before .before .before .before
+        .before .before .before .before .before .before .pre .0 .1,
+    c .before .before .before .before
+        .before .before .before .before .before .before .before .pre .0 .2,
+  ),
+  c .before .before .before
+      .before .before .before .before .before .before .before .before .pre .1,
+)
 
 same-length : tie.Need-same-length
-same-length c = c .before .before .put-firsts .ensures .same ∙ groups-room (c .before .before .before .before .before .before .before .before .before .before .group-blocks .ensures) (c .before .before .before .before .before .before .put-groups .ensures)
+same-length c = c .before .before .put-firsts .ensures .same
+    ∙ groups-room
+    (c .before .before .before .before .before .before .before .before .before .before .group-blocks
+    .ensures) (c .before .before .before .before .before .before .put-groups .ensures)
 
 returns : tie.Need-returns
-returns c = prepared (c .before .before .before .before .before .before .before .before .before .before .before .before .before .before .pre .1) (c .before .before .before .before .before .before .before .before .before .before .before .before .before .before .pre .0 .2) (c .before .before .before .before .before .before .before .before .before .before .before .before .before .before .pre .0 .0) (c .before .before .before .before .before .before .before .before .before .before .group-blocks .ensures) (c .before .before .before .before .before .before .put-groups .ensures) (c .before .before .put-firsts .ensures)
+returns c =
+    prepared
+    (c .before .before .before .before .before .before .before .before .before .before .before
+    .before .before .before .pre .1)
+    (c .before .before .before .before .before .before .before .before .before .before .before
+    .before .before .before .pre .0 .2)
+    (c .before .before .before .before .before .before .before .before .before .before .before
+    .before .before .before .pre .0 .0)
+    (c .before .before .before .before .before .before .before .before .before .before .group-blocks
+    .ensures) (c .before .before .before .before .before .before .put-groups .ensures)
+    (c .before .before .put-firsts .ensures)
 
 pub prepare-spec : {M : Type 1} → statement M
 prepare-spec =
-    tie.close (tie.spec group-blocks-requires put-groups-requires put-firsts-requires same-length returns)
+    tie.close
+    (tie.spec group-blocks-requires put-groups-requires put-firsts-requires same-length returns)

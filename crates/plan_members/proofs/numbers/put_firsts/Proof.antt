@@ -1,5 +1,6 @@
--- `put_firsts` stores the number of each block's first instruction. The loop's invariant: `first` is the sum of the counts passed, and quarter 3 has those sums for the blocks passed.
--- Assumes nothing.
+-- `put_firsts` stores the number of each block's first instruction. The loop's invariant: `first`
+-- is the sum of the counts passed, and quarter 3 has those sums for the blocks passed. Assumes
+-- nothing.
 use Prim.Native.Nat.{_*_, _-_, _≤_}
 use borrow.Author.Needs.{needs}
 use lib.ListN.{length}
@@ -15,7 +16,8 @@ use Rattle.file_blocks.proofs.IsBlock.{missing, among, sum-next}
 use Rattle.file_blocks.specs.Read.{IsBlock}
 
 abbrev Inv-loop : tie.InvT-loop
-Inv-loop file work₀ n first₀ i₀ work first i = (i ≤ n) × (4 * n ≤ length work₀) × (first ≡ countSum file i) × FirstsTo file n i work₀ work
+Inv-loop file work₀ n first₀ i₀ work first i =
+    (i ≤ n) × (4 * n ≤ length work₀) × (first ≡ countSum file i) × FirstsTo file n i work₀ work
 
 abbrev μ-loop : tie.MeasureT-loop
 μ-loop file work₀ n first₀ i₀ work first i = n - i
@@ -28,18 +30,56 @@ same-length : tie.Need-same-length Inv-loop μ-loop
 same-length c = c .before .before .before .before .loop .inv .3 .same
 
 returns : tie.Need-returns Inv-loop μ-loop
-returns c = absurd (omega (arith, missing _ (c .before .before .before .before .before .before .before .pre .1) _ (sym (c .before .before .block-at .ensures) ∙ c .enum-told .given .1), c .before .before .before .before .before .before .before .pre .0 .2))
+returns c =
+    absurd (omega (
+      arith,
+      missing _ (c .before .before .before .before .before .before .before .pre .1) _
+          (sym (c .before .before .block-at .ensures) ∙ c .enum-told .given .1),
+      c .before .before .before
+          .before .before .before .before .pre .0 .2,
+    ))
 
 cast-work : tie.Need-cast-work Inv-loop μ-loop
-cast-work c = let is : IsBlock _ _ _ _ = record { accepted = c .before .before .before .before .before .before .before .before .pre .1; found = sym (c .before .before .before .block-at .ensures) ∙ c .before .block .given .1; starts = c .before .before .before .before .before .loop .inv .2 } in
-    omega (arith, among is, few-instrs _ _ (c .before .before .before .before .before .before .before .before .pre .1))
+cast-work c = let is : IsBlock _ _ _ _ =
+    record {
+      accepted =
+          c .before .before .before .before .before .before .before .before .pre .1;
+      found =
+          sym (c .before .before .before .block-at .ensures)
+          ∙ c .before .block .given .1;
+      starts =
+          c .before .before .before .before .before .loop .inv .2;
+    } in
+    omega (
+      arith,
+      among is,
+      few-instrs _ _
+          (c .before .before .before .before .before .before .before .before .pre .1),
+    )
 
 slice-write-work : tie.Need-slice-write-work Inv-loop μ-loop
 slice-write-work c = omega (arith, c .before .before .before .before .before .loop .inv .3 .same)
 
 loop-again : tie.Need-loop-again Inv-loop μ-loop
-loop-again c = let is : IsBlock _ _ _ _ = record { accepted = c .before .before .before .before .before .before .before .before .before .before .pre .1; found = sym (c .before .before .before .before .before .block-at .ensures) ∙ c .before .before .before .block .given .1; starts = c .before .before .before .before .before .before .before .loop .inv .2 } in
-    (omega arith, c .before .before .before .before .before .before .before .loop .inv .1, c .wrapping-add-usize .ensures ∙ sum-next is, firsts-more _ _ _ _ _ _ (omega arith) (c .before .before .before .before .before .before .before .loop .inv .1) (c .before .before .before .before .before .before .before .loop .inv .2) (c .before .before .before .before .before .before .before .loop .inv .3))
+loop-again c = let is : IsBlock _ _ _ _ =
+    record {
+      accepted =
+          c .before .before .before .before .before .before .before .before .before .before .pre .1;
+      found = sym (c .before .before .before .before .before .block-at .ensures)
+          ∙ c .before .before .before .block .given .1;
+      starts =
+          c .before .before .before .before .before .before .before .loop .inv .2;
+    } in (
+      omega arith,
+      c .before .before .before .before .before .before .before .loop .inv .1,
+      c
+          .wrapping-add-usize .ensures
+          ∙ sum-next is,
+      firsts-more _ _ _ _ _ _ (omega arith)
+          (c .before .before .before .before .before .before .before .loop .inv .1)
+          (c .before .before .before .before .before .before .before .loop .inv .2)
+          (c .before .before .before .before .before .before .before .loop .inv .3),
+    )
 
 same-length-2 : tie.Need-same-length-2 Inv-loop μ-loop
 same-length-2 c = c .before .loop .inv .3 .same
@@ -50,6 +90,8 @@ returns-2 c = firsts-all _ _ _ _ _ (omega arith) (c .before .loop .inv .3)
 pub put-firsts-spec : {M : Type 1} → statement M
 put-firsts-spec =
     tie.close
-    (tie.spec Inv-loop μ-loop loop-holds (search needs) (search needs) (search needs) same-length returns cast-work
-    (λ c. omega arith) (λ c. omega arith) (λ c. omega arith) slice-write-work (search needs) (search needs)
+    (tie.spec Inv-loop μ-loop loop-holds (search needs) (search needs) (search needs) same-length
+    returns cast-work
+    (λ c. omega arith) (λ c. omega arith) (λ c. omega arith) slice-write-work (search needs)
+    (search needs)
     (λ c. omega arith) (λ c. omega arith) loop-again same-length-2 returns-2)

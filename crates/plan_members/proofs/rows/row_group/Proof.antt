@@ -10,4 +10,5 @@ returns : tie.Need-returns
 returns c = (refl, λ f limit g k ready is h. row-number ready _ g k is h)
 
 pub row-group-spec : {M : Type 1} → statement M
-row-group-spec = tie.close (tie.spec (search needs) (search needs) (search needs) (search needs) returns)
+row-group-spec =
+    tie.close (tie.spec (search needs) (search needs) (search needs) (search needs) returns)

@@ -1,5 +1,5 @@
--- `recomp::c_check::recomp_check` meets its contract: each case hands over the numbers of its answer.
--- Assumes nothing.
+-- `recomp::c_check::recomp_check` meets its contract: each case hands over the numbers of its
+-- answer. Assumes nothing.
 use Rattle.file_blocks.specs.Answer.{checkedOf}
 use borrow.Author.Needs.{needs}
 use Rattle.recomp.proofs.c_check.recomp_check.Statement.{statement}
@@ -14,4 +14,5 @@ unfolding checkedOf
 returns-2 c = rw (← c .before .before .before .check .ensures, c .before .number .given .1)
 
 pub recomp-check-spec : {M : Type 1} → statement M
-recomp-check-spec = tie.close (tie.spec (search needs) (search needs) (search needs) returns returns-2)
+recomp-check-spec =
+    tie.close (tie.spec (search needs) (search needs) (search needs) returns returns-2)

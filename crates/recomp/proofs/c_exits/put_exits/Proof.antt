@@ -16,5 +16,6 @@ returns-3 c = rw (c .before .exits2 .given .1)
 pub put-exits-spec : {M : Type 1} → statement M
 put-exits-spec =
     tie.close
-    (tie.spec (search needs) (search needs) (search needs) (search needs) (search needs) (search needs) returns
+    (tie.spec (search needs) (search needs) (search needs) (search needs) (search needs)
+    (search needs) returns
     returns-2 returns-3)

@@ -7,14 +7,25 @@ use Rattle.recomp.proofs.c_plan.recomp_plan.Tie as tie
 
 returns : tie.Need-returns
 unfolding plannedOf
-returns c = rw (← c .before .before .before .before .before .before .before .plan-of .ensures, c .before .b .given .1)
+returns c =
+    rw (
+      ← c .before .before .before .before .before .before .before .plan-of .ensures,
+      c .before .b
+          .given .1,
+    )
 
 returns-2 : tie.Need-returns-2
 unfolding plannedOf
-returns-2 c = rw (← c .before .before .before .before .before .before .before .plan-of .ensures, c .before .number .given .1)
+returns-2 c =
+    rw (
+      ← c .before .before .before .before .before .before .before .plan-of .ensures,
+      c .before
+          .number .given .1,
+    )
 
 pub recomp-plan-spec : {M : Type 1} → statement M
 recomp-plan-spec =
     tie.close
-    (tie.spec (search needs) (search needs) (search needs) (search needs) (search needs) returns (search needs)
+    (tie.spec (search needs) (search needs) (search needs) (search needs) (search needs) returns
+    (search needs)
     (search needs) returns-2)

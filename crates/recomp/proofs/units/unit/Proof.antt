@@ -1,5 +1,5 @@
--- `recomp::units::unit` meets its contract: the call below it gives the equation, the theorem on ways gives demand 3, and the theorem on the text's meaning that.
--- Assumes nothing.
+-- `recomp::units::unit` meets its contract: the call below it gives the equation, the theorem on
+-- ways gives demand 3, and the theorem on the text's meaning that. Assumes nothing.
 use denote.Ref.{now}
 use Rattle.base_hash.specs.Fnv.{hashMultiplier}
 use Rattle.plan_groups.specs.Calls.{partLimit}
@@ -10,8 +10,17 @@ use Rattle.recomp.proofs.units.unit.Statement.{statement}
 use Rattle.recomp.proofs.units.unit.Tie as tie
 
 returns : tie.Need-returns
-returns c = let file = now (c .before .before .before .before .before .before .before .before .before .before .args .file) in
-    (c .before .before .before .before .unit-of .ensures, (demand-3-of hashMultiplier partLimit (c .before .before .before .before .before .before .before .before .before .before .args .max-bytes) file, meaning-of hashMultiplier file))
+returns c = let file =
+    now (c .before .before .before .before .before .before .before .before .before .before .args
+    .file) in (
+      c .before .before .before .before .unit-of .ensures,
+      (
+        demand-3-of hashMultiplier partLimit
+            (c .before .before .before .before .before .before .before .before .before .before .args
+            .max-bytes) file,
+        meaning-of hashMultiplier file,
+      ),
+    )
 
 pub unit-spec : {M : Type 1} → statement M
 unit-spec = tie.close (tie.spec (search needs) (search needs) (search needs) returns)
