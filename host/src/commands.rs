@@ -4,7 +4,7 @@ use crate::args::Command;
 use crate::failure::Failure;
 use crate::folder::Folder;
 use crate::input::{self, Input};
-use crate::lent::{Lent, Nothing};
+use crate::lent::{Lent, NoResult};
 use crate::library;
 use crate::progress::{Progress, Totals};
 use crate::refusal;
@@ -47,10 +47,10 @@ fn print(text: &[u8]) -> Result<(), Failure> {
 }
 
 /// The failure for a call that gave nothing.
-fn failed(input: &Input, nothing: Nothing) -> Failure {
+fn failed(input: &Input, nothing: NoResult) -> Failure {
     match nothing {
-        Nothing::Refused(refused) => Failure::refused(refusal::line(&input.name, refused)),
-        Nothing::NoMemory(bytes) => Failure::error(format!(
+        NoResult::Refused(refused) => Failure::refused(refusal::line(&input.name, refused)),
+        NoResult::NoMemory(bytes) => Failure::error(format!(
             "{bytes} bytes of memory could not be had; free memory, or run on a larger machine"
         )),
     }
@@ -59,7 +59,7 @@ fn failed(input: &Input, nothing: Nothing) -> Failure {
 fn check(file: &OsStr) -> Result<(), Failure> {
     let input = input::read(file)?;
     let checked = library::check(&input.bytes);
-    let counts = checked.map_err(|refused| failed(&input, Nothing::Refused(refused)))?;
+    let counts = checked.map_err(|refused| failed(&input, NoResult::Refused(refused)))?;
     let line = format!(
         "accepted: blocks {}, instructions {}\n",
         counts.blocks, counts.instructions

@@ -5,7 +5,7 @@ use crate::library::{self, Counts, Refused, Unit};
 
 /// Why a call gave nothing.
 #[derive(Clone, Copy, Debug, PartialEq, Eq)]
-pub enum Nothing {
+pub enum NoResult {
     Refused(Refused),
     /// So many bytes could not be had.
     NoMemory(usize),
@@ -27,8 +27,8 @@ pub struct Lent<'a> {
 
 impl<'a> Lent<'a> {
     /// Has the file checked, and makes room for its blocks and for texts of this length.
-    pub fn new(file: &'a [u8], expected: usize) -> Result<Lent<'a>, Nothing> {
-        let counts = library::check(file).map_err(Nothing::Refused)?;
+    pub fn new(file: &'a [u8], expected: usize) -> Result<Lent<'a>, NoResult> {
+        let counts = library::check(file).map_err(NoResult::Refused)?;
         Ok(Lent {
             file,
             counts,
@@ -38,13 +38,13 @@ impl<'a> Lent<'a> {
     }
 
     /// Group and block of each row, in emission order.
-    pub fn plan(&mut self) -> Result<Vec<u32>, Nothing> {
+    pub fn plan(&mut self) -> Result<Vec<u32>, NoResult> {
         let mut plan = zeros(2 * self.counts.blocks as usize)?;
-        library::plan(self.file, &mut self.work, &mut plan).map_err(Nothing::Refused)?;
+        library::plan(self.file, &mut self.work, &mut plan).map_err(NoResult::Refused)?;
         Ok(plan)
     }
 
-    pub fn listing(&mut self) -> Result<&[u8], Nothing> {
+    pub fn listing(&mut self) -> Result<&[u8], NoResult> {
         let (file, work) = (self.file, &mut self.work);
         let call = |text: &mut [u8]| library::listing(file, work, text);
         let length = growing(&mut self.text, call)?;
@@ -52,7 +52,7 @@ impl<'a> Lent<'a> {
     }
 
     /// A unit of those that are closed from `size` bytes on, and its text.
-    pub fn unit(&mut self, size: u64, unit: u64) -> Result<(Unit, &[u8]), Nothing> {
+    pub fn unit(&mut self, size: u64, unit: u64) -> Result<(Unit, &[u8]), NoResult> {
         let (file, work) = (self.file, &mut self.work);
         let call = |text: &mut [u8]| library::unit(file, size, unit, work, text);
         let said = growing(&mut self.text, call)?;
@@ -64,7 +64,7 @@ impl<'a> Lent<'a> {
 fn growing<A>(
     text: &mut Vec<u8>,
     mut call: impl FnMut(&mut [u8]) -> Result<A, Refused>,
-) -> Result<A, Nothing> {
+) -> Result<A, NoResult> {
     loop {
         match call(text) {
             Err(refused) if refused.number == SHORT => {
@@ -73,16 +73,16 @@ fn growing<A>(
                 *text = Vec::new();
                 *text = zeros(length.saturating_mul(2))?;
             }
-            answer => return answer.map_err(Nothing::Refused),
+            answer => return answer.map_err(NoResult::Refused),
         }
     }
 }
 
-fn zeros<N: Copy + Default>(count: usize) -> Result<Vec<N>, Nothing> {
+fn zeros<N: Copy + Default>(count: usize) -> Result<Vec<N>, NoResult> {
     let mut numbers = Vec::new();
     numbers
         .try_reserve_exact(count)
-        .map_err(|_| Nothing::NoMemory(count.saturating_mul(size_of::<N>())))?;
+        .map_err(|_| NoResult::NoMemory(count.saturating_mul(size_of::<N>())))?;
     numbers.resize(count, N::default());
     Ok(numbers)
 }
@@ -115,13 +115,13 @@ mod tests {
     fn other_refusals_are_handed_on() {
         for number in [1, 7, 8, 9] {
             let said = growing(&mut vec![0; 3], |_| refused(number));
-            assert_eq!(said, Err(Nothing::Refused(Refused { number, at: 0 })));
+            assert_eq!(said, Err(NoResult::Refused(Refused { number, at: 0 })));
         }
     }
 
     #[test]
     fn memory_that_cannot_be_had_is_said() {
         let said = zeros::<u32>(usize::MAX / 4);
-        assert_eq!(said, Err(Nothing::NoMemory(usize::MAX / 4 * 4)));
+        assert_eq!(said, Err(NoResult::NoMemory(usize::MAX / 4 * 4)));
     }
 }

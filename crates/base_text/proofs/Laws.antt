@@ -56,9 +56,9 @@ same-bytes d e p =
     sym (append-nil (print d)) ∙ sym (flat-print d []) ∙ p ∙ flat-print e [] ∙ append-nil (print e)
 
 -- the same bytes, put together otherwise: `said w refl`
-pub said : {o o′ : List ℕ} {at r : ℕ} {d e : Doc} → Wrote o at d o′ r → flat d [] ≡ flat e []
+pub wrote-as : {o o′ : List ℕ} {at r : ℕ} {d e : Doc} → Wrote o at d o′ r → flat d [] ≡ flat e []
     → Wrote o at e o′ r
-said {o} {o′} {at} {r} {d} {e} w p =
+wrote-as {o} {o′} {at} {r} {d} {e} w p =
     let q : print d ≡ print e = same-bytes d e p in
     record {
       bytes = w .bytes ∙ ap (overlay o at) q;
@@ -80,7 +80,7 @@ pub each-more : {A : Type 0} (f : A → Doc) (xs : List A) (x : A) (i : ℕ) {o 
     → Wrote o at (each f (take (i + 1) xs)) o₂ r₂
 each-more f xs x i h v w =
     rw (add-one, take-suc xs i x h)
-    (said (seq v w) (each-append f (take i xs) (getD xs i x ∷ []) []))
+    (wrote-as (seq v w) (each-append f (take i xs) (getD xs i x ∷ []) []))
 
 pub each-all : {A : Type 0} (f : A → Doc) (xs : List A) (i : ℕ) {o o′ : List ℕ} {at r : ℕ}
     → length xs ≤ i

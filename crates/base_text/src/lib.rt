@@ -89,7 +89,7 @@ fn last_digits(part: &mut [u8], n: u64, k: usize)
 // the part what fits of its piece, and answers the length of the whole piece.
 
 // The bytes of s.
-pub fn line(part: &mut [u8], s: &[u8]) -> usize
+pub fn raw(part: &mut [u8], s: &[u8]) -> usize
     ensures { λ r. ⌜ Printed (now (part .entry)) (raw (now (s .entry))) (now (part .exit)) r ⌝ }
 {
     if s.len() <= part.len() {
@@ -170,7 +170,7 @@ pub fn put(out: &mut [u8], at: usize, s: &[u8]) -> usize
     ensures { λ r. ⌜ Wrote (now (out .entry)) at (raw (now (s .entry))) (now (out .exit)) r ⌝ }
 {
     let from = least(at, out.len());
-    let k = line(&mut out[from..], s);
+    let k = raw(&mut out[from..], s);
     after(at, k)
 }
 

@@ -9,7 +9,7 @@ use Rattle.c_tree.specs.Expr.{u32, word, udec, int, x-r, x-s, x-cn, x-cz
 use Rattle.c_tree.specs.Expr.{reg, lnot, shl, shr, band, ne, land, Expr, lit, get, par, un}
 use Rattle.c_tree.specs.Expr.{bin}
 use Rattle.c_tree.specs.Stmt.{is, f-nz, f-c, Plain, registers, local, declare, set, discard}
-use Rattle.c_tree.specs.Stmt.{run, tick, guard, gate, other, native, common, gap, recordMark}
+use Rattle.c_tree.specs.Stmt.{run, tick, guard, gate, other, nativeOf, common, gap, recordMark}
 use Rattle.c_tree.specs.Stmt.{plain, label, goto, ret, retIf, interp, retInterp, call, switch}
 use Rattle.c_tree.specs.Stmt.{Code, end, _⨾_, when, braces, block, group, Top, function}
 use Rattle.c_tree.specs.Stmt.{blank, extern, table, count}
@@ -20,7 +20,7 @@ use Rattle.c_tree.specs.Preamble.{v32}
 
 -- a statement for a native record of the block at 0x02000000, in a new line
 abbrev line : ℕ → Plain → Code → Code
-line n p c = gap true n ⨾ plain (native 0x02000000) p ⨾ c
+line n p c = gap true n ⨾ plain (nativeOf 0x02000000) p ⨾ c
 
 -- (e >> n) & 1u
 abbrev bit : ℕ → Expr
@@ -33,13 +33,13 @@ ands =
     ⨾ gap false 4
     ⨾ braces
     (gap false 1
-    ⨾ plain (native 0x02000000) (declare (u32, x-s) (get (reg 16)) [])
+    ⨾ plain (nativeOf 0x02000000) (declare (u32, x-s) (get (reg 16)) [])
     ⨾ gap false 1
-    ⨾ plain (native 0x02000000)
+    ⨾ plain (nativeOf 0x02000000)
     (declare (u32, x-cn) (bin shr (v32 x-s) (lit int 31))
     ((x-cz, bit 30) ∷ (x-cc, bit 29) ∷ (x-cv, bit 28) ∷ []))
     ⨾ gap true 6
-    ⨾ when (native 0x02000000) false (other (bin land (v32 x-cc) (un lnot (v32 x-cz))))
+    ⨾ when (nativeOf 0x02000000) false (other (bin land (v32 x-cc) (un lnot (v32 x-cz))))
     (line 8 (declare (u32, x-r)
     (par (bin band (get (reg 1)) (par (bin shl (get (reg 2)) (lit udec 3))))) [])
     (line 8 (run f-nz (v32 x-r))
@@ -130,9 +130,9 @@ pair =
     ⨾ gap true 0
     ⨾ label 0x08000100
     ⨾ gap true 4
-    ⨾ retIf (native 0x08000100) gate (lit word 0x08000100)
+    ⨾ retIf (nativeOf 0x08000100) gate (lit word 0x08000100)
     ⨾ gap true 4
-    ⨾ goto (native 0x08000100) 0x08000100
+    ⨾ goto (nativeOf 0x08000100) 0x08000100
     ⨾ gap true 0
     ⨾ gap true 0
     ⨾ end)

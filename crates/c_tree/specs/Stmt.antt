@@ -49,7 +49,7 @@ pub data Test : Type 0 where
 -- a mark on a statement: the key of the block for whose native record it is printed, or common
 -- where it is printed for none
 pub data Owner : Type 0 where
-  native : ℕ → Owner
+  nativeOf : ℕ → Owner
   common : Owner
 
 -- a statement that has no other code of the tree in it, or white space, or a mark that prints

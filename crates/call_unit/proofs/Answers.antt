@@ -13,7 +13,7 @@ use Rattle.file_blocks.specs.Parse.{Block, Parsed, blocksOf, Accepted}
 use Rattle.file_records.specs.Trailer.{blockCount}
 use Rattle.file_blocks.proofs.Accepted.{length-of}
 use Rattle.plan_groups.specs.Calls.{cleared, Made, CallOutcome, handOver, callOnBlocks, callOnFile}
-use Rattle.lower_units.specs.Units.{UnitAnswer, madeUnit, unit, textOf, fileUnits}
+use Rattle.lower_units.specs.Units.{UnitAnswer, madeUnit, unit, textOf, units}
 use Rattle.emit_units.specs.declared.extents.Extent.{Extent}
 use Rattle.emit_units.specs.Units.{IsUnit}
 use mir.Val.{boolByte}
@@ -44,16 +44,16 @@ module _ (f : List ℕ) (limit max k : ℕ) (work result : List ℕ) where
   over o = handOver o work result
 
   -- there is no such unit
-  pub unit-none : getElem? (fileUnits hashMultiplier limit max (blocksOf f)) k ≡ none
+  pub unit-none : getElem? (units hashMultiplier limit max (blocksOf f)) k ≡ none
       → record { answer = refusal 9 0; work = work; result = result }
       ≡ handOver (unit hashMultiplier limit max (blocksOf f) k) work result
   unit-none e =
-      sym (ap over (get-none madeUnit (fileUnits hashMultiplier limit max (blocksOf f)) k e))
+      sym (ap over (get-none madeUnit (units hashMultiplier limit max (blocksOf f)) k e))
 
   module _ {e : Extent} (is : IsUnit f limit max k e) where
     there : unit hashMultiplier limit max (blocksOf f) k ≡ some (madeUnit (is .unit))
     there =
-        get-some madeUnit (fileUnits hashMultiplier limit max (blocksOf f)) k (is .unit) (is .found)
+        get-some madeUnit (units hashMultiplier limit max (blocksOf f)) k (is .unit) (is .found)
 
     -- the result is too short for its text
     pub unit-long : length result < e .length

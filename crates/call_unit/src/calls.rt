@@ -15,7 +15,7 @@ ghost use Rattle.file_records.specs.Trailer.{blockCount};
 ghost use Rattle.file_blocks.specs.Parse.{Parsed, parse, blocksOf, Accepted};
 ghost use Rattle.plan_groups.specs.Calls.{partLimit, handOver};
 ghost use Rattle.lower_units.specs.Units.{unit};
-ghost use Rattle.plan_members.specs.Prepared.{Ready};
+ghost use Rattle.plan_members.specs.Prepared.{HoldsPlan};
 ghost use Rattle.call_unit.specs.Calls.{translatedOf, unitCall};
 
 // The answer of the call for a unit.
@@ -28,7 +28,7 @@ pub enum Translated {
 
 // Unit k of an accepted file with n blocks, by the plan in the work numbers.
 fn answer_unit(file: &[u8], max: u64, k: u64, work: &[u32], out: &mut [u8], n: usize) -> Translated
-    requires { ⌜ Ready (now file) n partLimit (now work) ⌝ }
+    requires { ⌜ HoldsPlan (now file) n partLimit (now work) ⌝ }
     ensures { λ r. ⌜ ((w : List ℕ) → record { answer = translatedOf r; work = w; result = now (out .exit) } ≡ handOver (unit hashMultiplier partLimit max (blocksOf (now (file .entry))) k) w (now (out .entry))) ⌝ }
 {
     let FoundUnit::At(e) = find_unit(file, work, n, max, k) else {

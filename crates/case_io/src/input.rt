@@ -22,7 +22,7 @@ pub enum Filled {
 }
 
 // The bound is what the sum below needs of a byte.
-fn wide(b: u8) -> u64
+fn byte_as_u64(b: u8) -> u64
     ensures { λ r. ⌜ (r ≡ b) × (r < 256) ⌝ }
 {
     b as u64
@@ -32,10 +32,10 @@ fn wide(b: u8) -> u64
 fn word(b: &[u8; 4]) -> u64
     ensures { λ r. ⌜ r ≡ wordAt (now (b .entry)) 0 ⌝ }
 {
-    let low = wide(b[0]);
-    let second = wide(b[1]);
-    let third = wide(b[2]);
-    let high = wide(b[3]);
+    let low = byte_as_u64(b[0]);
+    let second = byte_as_u64(b[1]);
+    let third = byte_as_u64(b[2]);
+    let high = byte_as_u64(b[3]);
     low + 256 * second + 65536 * third + 16777216 * high
 }
 

@@ -34,7 +34,7 @@ use Rattle.claim_meaning.specs.Block.{refused, BlockMeans}
 use Rattle.lower_units.proofs.Exits.{moved-on}
 use Rattle.claim_meaning.proofs.Ranges.{Consecutive}
 use Rattle.claim_meaning.proofs.Carried.{through, KnownFrom, Left, left-all, left-now}
-use Rattle.claim_meaning.proofs.Carried.{left-later, Ready, Done, stepped}
+use Rattle.claim_meaning.proofs.Carried.{left-later, AtRecord, Done, stepped}
 use Rattle.claim_meaning.proofs.Carried.{interpreter-leaves, carries}
 
 -- some instructions that end inside 2^32 start below it
@@ -145,14 +145,14 @@ run-block multiplier ks b z o h e f = rw (e, f)
 module _ (multiplier : ℕ) (ks : List ℕ) (b : Block) (step : ℕ → ℕ → Machine → Machine × ℕ) where
   -- records from the first on
   all-done : (xs : List TimedInstr) → KnownFrom multiplier ks b xs → 1 ≤ length xs
-      → (z : State) (m : Machine) → Ready step 0 z m
+      → (z : State) (m : Machine) → AtRecord step 0 z m
       → Done step 0 multiplier ks b xs m 0 (emitInstrs (b .thumb) (region (b .addr)) 0 xs .0) z
   all-done [] k h z m q = absurd (not-suc-le-zero h)
   all-done (x ∷ xs) k h z m q = carries multiplier ks b step xs x k 0 0 0 z m q
 
   module _ (k : KnownFrom multiplier ks b (b .instrs)) (some-instr : 1 ≤ length (b .instrs))
       (below : b .addr < 4294967296)
-      (z : State) (m : Machine) (q : Ready step 0 z m) where
+      (z : State) (m : Machine) (q : AtRecord step 0 z m) where
     -- what is claimed of it
     abbrev Claim : Type 0
     Claim =
@@ -164,7 +164,7 @@ module _ (multiplier : ℕ) (ks : List ℕ) (b : Block) (step : ℕ → ℕ → 
     in-order :
         ((out : Machine × ℕ) (n : ℕ) → Sequence step (region (b .addr)) 0 n (b .instrs) m out
         → Carries step (region (b .addr)) multiplier b z m out n)
-        → (y : State) → Ready step 0 y m
+        → (y : State) → AtRecord step 0 y m
         → run (blockCode ks (bodyOf multiplier b)) z
         ≡ run (codeFrom ks (bodyOf multiplier b) 0 (bodyOf multiplier b .forms)) y
         → Claim

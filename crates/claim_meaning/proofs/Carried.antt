@@ -30,7 +30,7 @@ use Rattle.armv4t.specs.InRange.{InRange}
 use Rattle.armv4t_manual.specs.Conditions.{passed}
 use Rattle.armv4t_manual.specs.Execute.{key, execute, keyAfter}
 use Rattle.armv4t_manual.proofs.Kept.{execute-sound, execute-said}
-use Rattle.lower_forms.specs.Forms.{Native, Form, records}
+use Rattle.lower_forms.specs.Forms.{Native, Form, recordsIn}
 use Rattle.lower_forms.specs.Block.{emitShell, emitPair, emitInstr, fusedOr, consForm, emitInstrs}
 use Rattle.lower_forms.specs.Block.{bodyOf}
 use Rattle.lower_forms.specs.Agree.{Agrees}
@@ -141,7 +141,7 @@ module _ {step : ℕ → ℕ → Machine → Machine × ℕ} {n : ℕ} {z : Stat
       }
 
 -- a state and a machine between two records, and the number of calls before
-pub record Ready (step : ℕ → ℕ → Machine → Machine × ℕ) (n : ℕ) (z : State) (m : Machine) : Type 0
+pub record AtRecord (step : ℕ → ℕ → Machine → Machine × ℕ) (n : ℕ) (z : State) (m : Machine) : Type 0
   where
     pub left : Left step n z
     pub declares : Declares (z .scopes) (u32, x-pc)
@@ -150,8 +150,8 @@ pub record Ready (step : ℕ → ℕ → Machine → Machine × ℕ) (n : ℕ) (
 
 -- after text that continues
 ready-after : {step : ℕ → ℕ → Machine → Machine × ℕ} {n : ℕ} {text : Code → Code} {z : State}
-    {m next : Machine} → Ready step n z m → Sound next
-    → Quiet (text end) → (c : Continues text z next) → Ready step n (c .end) next
+    {m next : Machine} → AtRecord step n z m → Sound next
+    → Quiet (text end) → (c : Continues text z next) → AtRecord step n (c .end) next
 unfolding run runs
 ready-after {step} {n} {text} {z} q s quiet c =
     record {
@@ -203,7 +203,7 @@ module _ (multiplier : ℕ) (ks : List ℕ) (b : Block) (step : ℕ → ℕ → 
       (before after : ℕ) (m : Machine) (next : Machine × ℕ)
       → CarriedOut step (region (b .addr)) x m next before after
       → leavesBy (region (b .addr)) x m ≡ false → next .1 ≡ keyAfter (x .instr)
-      → (i : ℕ) (z : State) → Ready step after z (next .0)
+      → (i : ℕ) (z : State) → AtRecord step after z (next .0)
       → Done step before multiplier ks b (x ∷ xs) m i fs z
 
   module _ (x : TimedInstr) (k : Known ks b x) where
@@ -230,7 +230,7 @@ module _ (multiplier : ℕ) (ks : List ℕ) (b : Block) (step : ℕ → ℕ → 
       native-done : (xs : List TimedInstr) (fs : List Form) → Alone x xs → After x xs fs
           → (i cycles : ℕ) (r : Native)
           → emitInstr (b .thumb) (region (b .addr)) cycles x .0 ≡ Form.native r
-          → (before : ℕ) (z : State) (m : Machine) → Ready step before z m
+          → (before : ℕ) (z : State) (m : Machine) → AtRecord step before z m
           → Done step before multiplier ks b (x ∷ xs) m i (Form.native r ∷ fs) z
       unfolding bodyOf codeFrom run runs
       native-done xs fs alone onward i cycles r e before z m q =
@@ -239,7 +239,7 @@ module _ (multiplier : ℕ) (ks : List ℕ) (b : Block) (step : ℕ → ℕ → 
           (outcome .1))
         where
           owner : Owner
-          owner = Owner.native (bodyKey (bodyOf multiplier b))
+          owner = Owner.nativeOf (bodyKey (bodyOf multiplier b))
 
           outcome : (next : Machine × ℕ) × (execute (x .instr) m ≡ some next)
           outcome =
@@ -266,7 +266,7 @@ module _ (multiplier : ℕ) (ks : List ℕ) (b : Block) (step : ℕ → ℕ → 
               → Done step before multiplier ks b (x ∷ xs) m i (Form.native r ∷ fs) z
           go (continues t to-next c) =
               let d =
-              onward before before m next carried (stays t) to-next (i + records r) (c .end)
+              onward before before m next carried (stays t) to-next (i + recordsIn r) (c .end)
               (ready-after q still (native-quiet ks (b .addr) owner r end tt) c) in
               record {
                 out = d .out;
@@ -274,7 +274,7 @@ module _ (multiplier : ℕ) (ks : List ℕ) (b : Block) (step : ℕ → ℕ → 
                 sequence = d .sequence;
                 sound = d .sound;
                 leaves =
-                    through (λ d. c .goes (codeFrom ks (bodyOf multiplier b) (i + records r) fs))
+                    through (λ d. c .goes (codeFrom ks (bodyOf multiplier b) (i + recordsIn r) fs))
                     (d .leaves);
                 left = d .left;
               }
@@ -289,7 +289,7 @@ module _ (multiplier : ℕ) (ks : List ℕ) (b : Block) (step : ℕ → ℕ → 
                       end = l .end;
                       exit = l .exit;
                       ends =
-                          λ c. l .ends (codeFrom ks (bodyOf multiplier b) (i + records r) fs);
+                          λ c. l .ends (codeFrom ks (bodyOf multiplier b) (i + recordsIn r) fs);
                       leads =
                           l .leads;
                       pc = l .pc;
@@ -310,7 +310,7 @@ module _ (multiplier : ℕ) (ks : List ℕ) (b : Block) (step : ℕ → ℕ → 
       shell-stays m = rw (ap isNative (own-set 0) ∙ not-native)
 
       module _ (high : Bool) (i cycles before : ℕ) (z : State) (m : Machine)
-          (q : Ready step before z m) where
+          (q : AtRecord step before z m) where
         -- what the interpreter makes of it
         abbrev by-step : ActsAsStep (step before) (setC 15 (x .instr .addr) z) m
         by-step = stepped (x .instr .addr) z m (left-now (q .left)) (q .sound) (q .agrees)
@@ -414,12 +414,12 @@ module _ (multiplier : ℕ) (ks : List ℕ) (b : Block) (step : ℕ → ℕ → 
   pair-done : (x y : TimedInstr) → Known ks b x → Known ks b y → PairMeans ks (b .addr) x y
       → (target ret : ℕ) → fuse (x .instr) (y .instr) ≡ Pair target ret
       → (xs : List TimedInstr) (fs : List Form) (i cycles before : ℕ) (z : State) (m : Machine)
-      → Ready step before z m
+      → AtRecord step before z m
       → Done step before multiplier ks b (x ∷ y ∷ xs) m i
       (Form.native (emitPair cycles target ret) ∷ fs) z
   unfolding bodyOf codeFrom run runs
   pair-done x y k l means target ret e xs fs i cycles before z m q =
-      let o : Owner = Owner.native (bodyKey (bodyOf multiplier b)) in
+      let o : Owner = Owner.nativeOf (bodyKey (bodyOf multiplier b)) in
       let t =
       means target ret e cycles o z m (q .sound) (q .agrees) (half .0) (next .0) (half .1)
       (next .1) in
@@ -491,7 +491,7 @@ module _ (multiplier : ℕ) (ks : List ℕ) (b : Block) (step : ℕ → ℕ → 
 
   -- after another stand those that follow
   after-more : (x y : TimedInstr) (ys : List TimedInstr) (fs : List Form) → Alone x (y ∷ ys)
-      → ((i before : ℕ) (z : State) (m : Machine) → Ready step before z m
+      → ((i before : ℕ) (z : State) (m : Machine) → AtRecord step before z m
       → Done step before multiplier ks b (y ∷ ys) m i fs z) → After x (y ∷ ys) fs
   after-more x y ys fs alone follow before after m next carried stays to-next i z q =
       let d = follow i after z (next .0) q in
@@ -507,7 +507,7 @@ module _ (multiplier : ℕ) (ks : List ℕ) (b : Block) (step : ℕ → ℕ → 
       }
 
   module _ (x : TimedInstr) (k : Known ks b x) (i cycles before : ℕ) (z : State) (m : Machine)
-      (q : Ready step before z m) where
+      (q : AtRecord step before z m) where
     -- the last record
     last-done : ClosingMeans ks (bodyOf multiplier b) (x .instr)
         → Done step before multiplier ks b (x ∷ []) m i
@@ -541,7 +541,7 @@ module _ (multiplier : ℕ) (ks : List ℕ) (b : Block) (step : ℕ → ℕ → 
 
   -- the text of records, from one on
   pub carries : (xs : List TimedInstr) (x : TimedInstr) → KnownFrom multiplier ks b (x ∷ xs)
-      → (i cycles before : ℕ) (z : State) (m : Machine) → Ready step before z m
+      → (i cycles before : ℕ) (z : State) (m : Machine) → AtRecord step before z m
       → Done step before multiplier ks b (x ∷ xs) m i
       (emitInstrs (b .thumb) (region (b .addr)) cycles (x ∷ xs) .0) z
   unfolding emitInstrs
@@ -556,7 +556,7 @@ module _ (multiplier : ℕ) (ks : List ℕ) (b : Block) (step : ℕ → ℕ → 
       fs : List Form × ℕ
       fs = emitInstrs (b .thumb) (region (b .addr)) (s .1) (y ∷ ys)
 
-      go : ((i cycles before : ℕ) (z : State) (m : Machine) → Ready step before z m
+      go : ((i cycles before : ℕ) (z : State) (m : Machine) → AtRecord step before z m
           → Done step before multiplier ks b (y ∷ ys) m i
           (emitInstrs (b .thumb) (region (b .addr)) cycles (y ∷ ys) .0) z)
           → (f : Fused) → fuse (x .instr) (y .instr) ≡ f

@@ -10,7 +10,7 @@ use Rattle.file_blocks.specs.Address.{region}
 use Rattle.armv4t_manual.proofs.Kept.{execute-sound}
 use Rattle.lower_forms.specs.Block.{bodyOf}
 use Rattle.lower_units.specs.Records.{RecordMeans, PairMeans, ClosingMeans}
-use Rattle.lower_units.proofs.Theorem.{record-means}
+use Rattle.lower_units.proofs.RecordMeans.{record-means}
 use Rattle.lower_units.proofs.Thumbs.{thumb-means, thumb-pair-means}
 use Rattle.lower_units.proofs.Pairs.{pair-means}
 use Rattle.claim_meaning.specs.Meaning.{MeaningOf}
@@ -33,13 +33,13 @@ meaning-of multiplier f bs accepted b m ks =
       sound =
           λ x h n next s e. execute-sound (x .instr) n (accepted-ranges f bs accepted b m x h) s
           next e;
-      records = records;
+      everyRecord = everyRecord;
       thumb = λ x h. thumb-means ks (b .addr) (region (b .addr)) x;
       pairs = pairs;
       thumbPairs = λ us vs x y e. thumb-pair-means ks (b .addr) x y;
       closing = closing;
       whole =
-          block-means multiplier ks b records pairs closing (accepted-ranges f bs accepted b m)
+          block-means multiplier ks b everyRecord pairs closing (accepted-ranges f bs accepted b m)
           (accepted-consecutive f bs accepted b m)
           (accepted-some f bs accepted b m) (accepted-end f bs accepted b m)
           (accepted-aligned f bs accepted b m);
@@ -50,9 +50,9 @@ meaning-of multiplier f bs accepted b m ks =
         placed (b .addr) (b .thumb) (b .instrs) (accepted-consecutive f bs accepted b m)
         (accepted-aligned f bs accepted b m) (accepted-end f bs accepted b m)
 
-    records : (x : TimedInstr) → List·Memᴰ x (b .instrs)
+    everyRecord : (x : TimedInstr) → List·Memᴰ x (b .instrs)
         → RecordMeans ks (b .addr) (region (b .addr)) x
-    records x h =
+    everyRecord x h =
         record-means ks (b .addr) (region (b .addr)) x (accepted-ranges f bs accepted b m x h)
 
     pairs : (us vs : List TimedInstr) (x y : TimedInstr) → b .instrs ≡ us ++ (x ∷ y ∷ vs)

@@ -26,7 +26,7 @@ pub record BlockMeaning (multiplier : ℕ) (ks : List ℕ) (b : Block) : Type 0 
       → Sound m → execute (x .instr) m ≡ some next → Sound (next .0)
   -- of each native record the manual says what it does, but for those named in Unsaid, and its text
   -- acts so, named differences aside
-  pub records : (x : TimedInstr) → List·Memᴰ x (b .instrs)
+  pub everyRecord : (x : TimedInstr) → List·Memᴰ x (b .instrs)
       → RecordMeans ks (b .addr) (region (b .addr)) x
   -- of each native record that decodes a Thumb instruction A7.1 says what it does, and its text
   -- acts so

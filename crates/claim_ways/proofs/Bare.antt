@@ -5,7 +5,7 @@ use mathlib.Core.List.{List, [], _∷_}
 use mathlib.Core.Option.{Option, none, some}
 use Rattle.c_tree.specs.Stmt.{Owner, Simple, gap, recordMark, plain, label, goto, ret, retIf}
 use Rattle.c_tree.specs.Stmt.{interp, retInterp, call, switch, Code, end}
-use Rattle.lower_forms.specs.Forms.{Lines, Native, Form, shell, records, Body}
+use Rattle.lower_forms.specs.Forms.{Lines, Native, Form, shell, recordsIn, Body}
 use Rattle.lower_units.specs.Block.{lines, closing, nativeText, codeFrom, underGuard, blockCode}
 use Rattle.file_blocks.specs.Address.{outsideRomBios}
 use Rattle.c_tree.proofs.Statements.{EachStatement}
@@ -49,7 +49,7 @@ module _ (ks : List ℕ) (b : Body) where
   bare-code : (rs : List Form) (p : ℕ) → Bare (codeFrom ks b p rs)
   unfolding codeFrom
   bare-code [] p = bare-closing
-  bare-code (Form.native r ∷ rs) p = (tt, bare-native _ r _ (bare-code rs (p + records r)))
+  bare-code (Form.native r ∷ rs) p = (tt, bare-native _ r _ (bare-code rs (p + recordsIn r)))
   bare-code (shell h t e ∷ []) p =
       bare-lines _ 4 t _ (tt, (tt, (tt, bare-cond h (closing ks b) end bare-closing tt)))
   bare-code (shell h t e ∷ r ∷ rs) p =

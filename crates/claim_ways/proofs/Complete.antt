@@ -17,7 +17,7 @@ use Rattle.lower_forms.specs.Forms.{Body}
 use Rattle.lower_forms.proofs.RecordCount.{recordCounts}
 use Rattle.lower_units.specs.Block.{bodyKey}
 use Rattle.lower_units.specs.Units.{emitGroup, unitHead, lastUnitEnd, defaultBody, bodiesOf}
-use Rattle.lower_units.specs.Units.{unitsOf, unitsFor}
+use Rattle.lower_units.specs.Units.{emitCChunked, unitsBy}
 use Rattle.claim_ways.proofs.Faithful.{Faithful}
 use Rattle.claim_ways.specs.Claim.{timesCarried, allUnits}
 use Rattle.claim_ways.specs.Complete.{functionCount, BlockHasWay, Complete}
@@ -86,7 +86,7 @@ module _ (F : File) (i : ℕ) (h : i < length (F .bs)) where
 
   module _ (max : ℕ) where
     one-function : functionCount (key i) (allUnits bodyOf limit max bs) ≡ 1
-    unfolding allUnits unitsFor unitsOf
+    unfolding allUnits unitsBy emitCChunked
     one-function =
         let none : functionCount (key i) unitHead ≡ 0 = refl in
         functions-cut (key i) max (lastUnitEnd (bodies F)) (no-end (key i) (bodies F))
@@ -102,8 +102,8 @@ module _ (F : File) (i : ℕ) (h : i < length (F .bs)) where
     abbrev mine : List ℕ
     mine = group-of limit bs i h .0
 
-    part : Part (emitGroup (bodiesOf (bodies F) mine)) (unitsFor bodyOf limit max bs)
-    unfolding unitsFor unitsOf
+    part : Part (emitGroup (bodiesOf (bodies F) mine)) (unitsBy bodyOf limit max bs)
+    unfolding unitsBy emitCChunked
     part =
         group-part max (lastUnitEnd (bodies F)) (bodiesOf (bodies F) mine)
         (map (bodiesOf (bodies F)) (groups limit bs)) unitHead 0
@@ -124,7 +124,7 @@ module _ (F : File) (i : ℕ) (h : i < length (F .bs)) where
         let w =
         entered (allUnits bodyOf limit max bs) (bodyOf (getD bs i nowhere)) filled
         (bodiesOf (bodies F) mine) here
-        (λ t m. in-part t (emitGroup (bodiesOf (bodies F) mine)) (unitsFor bodyOf limit max bs) part
+        (λ t m. in-part t (emitGroup (bodiesOf (bodies F) mine)) (unitsBy bodyOf limit max bs) part
         m) in
         let k : key i ≡ blockKey b = key-of F (getD bs i nowhere) ∙ ap blockKey e in
         record {

@@ -7,7 +7,7 @@ use Rattle.lower_forms.specs.Block.{bodyOf, hashOf}
 use Rattle.lower_forms.proofs.RecordCount.{body-count}
 use Rattle.claim_ways.proofs.Faithful.{Faithful}
 use Rattle.claim_ways.specs.Demand3.{Demand3Of, Demand3, Demand3Applies}
-use Rattle.claim_ways.proofs.Theorem.{theorem}
+use Rattle.claim_ways.proofs.EveryWay.{every-way}
 use Rattle.claim_ways.proofs.Complete.{complete}
 
 faithful : (multiplier : ℕ) → Faithful (hashOf multiplier) (bodyOf multiplier)
@@ -24,7 +24,7 @@ faithful multiplier =
 
 pub demand-3 : Demand3
 unfolding Demand3
-demand-3 multiplier = theorem (hashOf multiplier) (bodyOf multiplier) (faithful multiplier)
+demand-3 multiplier = every-way (hashOf multiplier) (bodyOf multiplier) (faithful multiplier)
 
 -- so it holds of each file
 pub demand-3-of : (multiplier limit max : ℕ) (f : List ℕ) → Demand3Of multiplier limit max f

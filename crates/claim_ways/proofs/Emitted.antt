@@ -12,7 +12,7 @@ use Rattle.c_tree.specs.Stmt.{Plain, declare, Test, guard, gate, other, Owner, 
 use Rattle.c_tree.specs.Stmt.{goto, ret, retIf, retInterp, Code, end, _⨾_, when}
 use Rattle.c_tree.specs.Preamble.{v32}
 use Rattle.lower_forms.specs.Forms.{Lines, Native, straight, straightIf, branchIf, jump, pair, bx}
-use Rattle.lower_forms.specs.Forms.{pop, Form, shell, records, Body}
+use Rattle.lower_forms.specs.Forms.{pop, Form, shell, recordsIn, Body}
 use Rattle.lower_forms.proofs.RecordCount.{recordCounts}
 use Rattle.lower_forms.specs.Operands.{flags}
 use Rattle.lower_units.specs.Block.{bodyKey, bodyLength, nl, sp, line, lines, gotoCode, transfer}
@@ -24,7 +24,7 @@ use Rattle.claim_ways.proofs.Logic.{Logic, Pick, Ok}
 
 -- an event of the block that carries out nothing and asks no guard
 pub data Quiet (b : Body) : Event → Type 0 where
-  q-native : Quiet b (reach (Owner.native (bodyKey b)))
+  q-native : Quiet b (reach (Owner.nativeOf (bodyKey b)))
   q-none : Quiet b (reach common)
   q-other : {t : Expr} {x : Bool} → Quiet b (said (other t) x)
   q-gate : {x : Bool} → Quiet b (said gate x)
@@ -220,10 +220,10 @@ module _ (L : Logic) (b : Body) (ks : List ℕ) (R : Rules L b ks) where
   unfolding codeFrom
   ok-code [] p K s i = ok-closing p 0 K s i
   ok-code (Form.native r ∷ rs) p K s i =
-      let d = carry p (records r) (recordCounts rs) s i in (
+      let d = carry p (recordsIn r) (recordCounts rs) s i in (
         d .0,
-        ok-native (p + records r) (recordCounts rs) (Owner.native (bodyKey b)) q-native r _ K
-            (ok-code rs (p + records r) K) _ (d .1),
+        ok-native (p + recordsIn r) (recordCounts rs) (Owner.nativeOf (bodyKey b)) q-native r _ K
+            (ok-code rs (p + recordsIn r) K) _ (d .1),
       )
   ok-code (shell h t e ∷ []) p K s i =
       ok-lines _ _ _ q-none 4 t (sp 4 ⨾ retInterp (bodyKey b) p ⨾ nl ⨾ cond h (closing ks b) end) K

@@ -10,7 +10,7 @@ use borrow.Author.Tests.{eq-eqb}
 use Rattle.c_tree.specs.Stmt.{Plain, Owner, common, gap, plain, Code, end, _⨾_, when, braces, _⧺_}
 use Rattle.c_tree.specs.Stmt.{block, group, Top, function}
 use Rattle.lower_forms.specs.Forms.{Lines, Native, straight, straightIf, branchIf, jump, pair, bx}
-use Rattle.lower_forms.specs.Forms.{pop, Form, shell, records, Body}
+use Rattle.lower_forms.specs.Forms.{pop, Form, shell, recordsIn, Body}
 use Rattle.lower_forms.proofs.RecordCount.{recordCounts}
 use Rattle.lower_units.specs.Block.{bodyKey, nl, line, lines, codeFrom, underGuard, blockCode}
 use Rattle.file_blocks.specs.Address.{outsideRomBios}
@@ -69,30 +69,30 @@ past (braces b c) d e p = past-braces (past c d e p)
 
 module _ (ts : List Top) (f : Code) (k : ℕ) where
   -- some way from c on carries out the first instruction of the block with the key k
-  abbrev pub Carries : Code → Type 0
-  Carries c = (xs : List Bool) × (es : List Event) × Way ts f c xs es × (1 ≤ timesCarried k 0 es)
+  abbrev pub CarriesFirst : Code → Type 0
+  CarriesFirst c = (xs : List Bool) × (es : List Event) × Way ts f c xs es × (1 ≤ timesCarried k 0 es)
 
-  over-gap : (l : Bool) (n : ℕ) (c : Code) → Carries c → Carries (gap l n ⨾ c)
+  over-gap : (l : Bool) (n : ℕ) (c : Code) → CarriesFirst c → CarriesFirst (gap l n ⨾ c)
   over-gap l n c r = (r .0, r .1, w-gap (r .2), r .3)
 
-  over-plain : (o : Owner) (p : Plain) (c : Code) → Carries c → Carries (plain o p ⨾ c)
+  over-plain : (o : Owner) (p : Plain) (c : Code) → CarriesFirst c → CarriesFirst (plain o p ⨾ c)
   over-plain o p c r = (r .0, _, w-plain (r .2), r .3)
 
-  over-line : (o : Owner) (ps : List Plain) (c : Code) → Carries c → Carries (line o ps c)
+  over-line : (o : Owner) (ps : List Plain) (c : Code) → CarriesFirst c → CarriesFirst (line o ps c)
   over-line o [] c r = r
   over-line o (p ∷ []) c r = over-plain o p c r
   over-line o (p ∷ q ∷ ps) c r = over-plain o p _ (over-gap false 1 _ (over-line o (q ∷ ps) c r))
 
-  over-lines : (o : Owner) (n : ℕ) (ls : Lines) (c : Code) → Carries c → Carries (lines o n ls c)
+  over-lines : (o : Owner) (n : ℕ) (ls : Lines) (c : Code) → CarriesFirst c → CarriesFirst (lines o n ls c)
   over-lines o n [] c r = r
   over-lines o n (l ∷ ls) c r =
       over-gap false n _
       (over-line o l (nl ⨾ lines o n ls c) (over-gap true 0 _ (over-lines o n ls c r)))
 
-  before : (c d : Code) → Carries c → Carries (c ⧺ d)
+  before : (c d : Code) → CarriesFirst c → CarriesFirst (c ⧺ d)
   before c d r = (r .0, r .1, extend d (r .2), r .3)
 
-  over-locals : (c : Code) → Carries c → Carries (withLocals c)
+  over-locals : (c : Code) → CarriesFirst c → CarriesFirst (withLocals c)
   unfolding withLocals
   over-locals c r =
       over-gap true 4 _
@@ -103,7 +103,7 @@ module _ (ts : List Top) (f : Code) (k : ℕ) where
 
 module _ (ts : List Top) (f : Code) (ks : List ℕ) (b : Body) where
   counts : (r : Native)
-      → 1 ≤ timesCarried (bodyKey b) 0 (nativeStart (bodyKey b) 0 (records r) ∷ [])
+      → 1 ≤ timesCarried (bodyKey b) 0 (nativeStart (bodyKey b) 0 (recordsIn r) ∷ [])
   counts (straight t l) = rw (eq-eqb (bodyKey b) (bodyKey b) refl) (omega arith)
   counts (straightIf t e l) = rw (eq-eqb (bodyKey b) (bodyKey b) refl) (omega arith)
   counts (branchIf t e s k) = rw (eq-eqb (bodyKey b) (bodyKey b) refl) (omega arith)
@@ -115,7 +115,7 @@ module _ (ts : List Top) (f : Code) (ks : List ℕ) (b : Body) where
   shell-counts : 1 ≤ timesCarried (bodyKey b) 0 (interpreted (bodyKey b) 0 ∷ [])
   shell-counts = rw (eq-eqb (bodyKey b) (bodyKey b) refl) (omega arith)
 
-  from-code : (rs : List Form) → 1 ≤ recordCounts rs → Carries ts f (bodyKey b) (codeFrom ks b 0 rs)
+  from-code : (rs : List Form) → 1 ≤ recordCounts rs → CarriesFirst ts f (bodyKey b) (codeFrom ks b 0 rs)
   unfolding codeFrom
   from-code [] h = absurd (omega arith)
   from-code (Form.native r ∷ rs) h = ([], _, w-record stop, counts r)
@@ -125,19 +125,19 @@ module _ (ts : List Top) (f : Code) (ks : List ℕ) (b : Body) where
       over-lines ts f (bodyKey b) common 4 t _ ([], _, w-gap (w-interp stop), shell-counts)
 
   -- the guard says yes where there is one
-  from-block : 1 ≤ recordCounts (b .forms) → Carries ts f (bodyKey b) (blockCode ks b)
+  from-block : 1 ≤ recordCounts (b .forms) → CarriesFirst ts f (bodyKey b) (blockCode ks b)
   unfolding blockCode underGuard
   from-block h = go (outsideRomBios (b .addr))
     where
-      all : Carries ts f (bodyKey b) (codeFrom ks b 0 (b .forms))
+      all : CarriesFirst ts f (bodyKey b) (codeFrom ks b 0 (b .forms))
       all = from-code (b .forms) h
 
-      under : (y : Option ℕ) → Carries ts f (bodyKey b) (underGuard ks b y)
+      under : (y : Option ℕ) → CarriesFirst ts f (bodyKey b) (underGuard ks b y)
       under none = ([], _, w-gap (w-plain (w-gap w-retInterp)), shell-counts)
       under (some y) = (true ∷ all .0, _, w-gap (w-when (w-gap (all .2))), all .3)
 
       go : (x : Bool)
-          → Carries ts f (bodyKey b)
+          → CarriesFirst ts f (bodyKey b)
           (cond x (underGuard ks b (b .hash)) (codeFrom ks b 0 (b .forms)))
       go true = under (b .hash)
       go false = all
@@ -155,7 +155,7 @@ to-label ks b (c ∷ bs) (List·Memᴰ·tail m) =
 
 module _ (ts : List Top) (b : Body) (h : 1 ≤ recordCounts (b .forms)) where
   -- through the switch of its group
-  from-group : (g : List Body) → List·Memᴰ b g → Carries ts (groupCode g) (bodyKey b) (groupCode g)
+  from-group : (g : List Body) → List·Memᴰ b g → CarriesFirst ts (groupCode g) (bodyKey b) (groupCode g)
   unfolding groupCode withLocals
   from-group g m =
       let p = to-label (map bodyKey g) b g m in
@@ -174,7 +174,7 @@ module _ (ts : List Top) (b : Body) (h : 1 ≤ recordCounts (b .forms)) where
 
   forwards : (g : List Body) → List·Memᴰ b g → (k : ℕ)
       → List·Memᴰ (function (group k) (groupCode g)) ts → (n : ℕ)
-      → Carries ts (forwarder k n) (bodyKey b) (forwarder k n)
+      → CarriesFirst ts (forwarder k n) (bodyKey b) (forwarder k n)
   forwards g m k q n = let r = from-group g m in (r .0, r .1, w-gap (w-call q (r .2)), r .3)
 
   has-forwarder : (k n : ℕ) (bs : List Body) → List·Memᴰ b bs
@@ -189,7 +189,7 @@ module _ (ts : List Top) (b : Body) (h : 1 ≤ recordCounts (b .forms)) where
   pub entered : (g : List Body) → List·Memᴰ b g
       → ((t : Top) → List·Memᴰ t (emitGroup g) → List·Memᴰ t ts)
       → (c : Code) × List·Memᴰ (function (block (bodyKey b)) c) (emitGroup g)
-      × Carries ts c (bodyKey b) c
+      × CarriesFirst ts c (bodyKey b) c
   unfolding emitGroup emitBlock
   entered (a ∷ []) (List·Memᴰ·head e) all = (
     withLocals (blockCode [] b),

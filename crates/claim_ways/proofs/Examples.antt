@@ -15,7 +15,7 @@ use Rattle.lower_units.specs.Block.{bodyKey, nl, gotoCode, transfer, nativeText
 use Rattle.lower_units.specs.Block.{blockCode, underGuard}
 use Rattle.file_blocks.specs.Address.{outsideRomBios}
 use Rattle.lower_units.specs.Units.{withLocals, labelled, groupCode, emitGroup, unitHead}
-use Rattle.lower_units.specs.Units.{lastUnitEnd, bodiesOf, unitsOf}
+use Rattle.lower_units.specs.Units.{lastUnitEnd, bodiesOf, emitCChunked}
 use Rattle.claim_ways.specs.Ways.{LabelAt, here, later, Event, reach, said, nativeStart}
 use Rattle.claim_ways.specs.Ways.{interpreted, Way, w-gap, w-record, w-plain, w-goto, w-lost}
 use Rattle.claim_ways.specs.Ways.{w-leave, w-stay, w-unsaid, w-call, w-retInterp, w-entry}
@@ -56,14 +56,14 @@ both = loop ∷ swi ∷ []
 
 -- their units at a wished size, in one group
 abbrev units : ℕ → List Top
-units max = trees (unitsOf max both ((0 ∷ 1 ∷ []) ∷ []))
+units max = trees (emitCChunked max both ((0 ∷ 1 ∷ []) ∷ []))
 
 -- the group's function stands in them
 there : (max : ℕ) → List·Memᴰ (function (group 0x08000100) (groupCode both)) (units max)
-unfolding unitsOf emitGroup bodiesOf
+unfolding emitCChunked emitGroup bodiesOf
 there max =
     in-part (function (group 0x08000100) (groupCode both)) (emitGroup both)
-    (unitsOf max both ((0 ∷ 1 ∷ []) ∷ []))
+    (emitCChunked max both ((0 ∷ 1 ∷ []) ∷ []))
     (group-part max (lastUnitEnd both) both (both ∷ []) unitHead 0 (List·Memᴰ·head refl))
     (List·Memᴰ·head refl)
 
@@ -77,7 +77,7 @@ to-loop = later (later (later (later (later (later (later (later (later (later h
 
 -- what happens from there to the gate
 abbrev owner : Event
-owner = reach (Owner.native 0x08000100)
+owner = reach (Owner.nativeOf 0x08000100)
 
 abbrev round : List Event
 round =
@@ -189,7 +189,7 @@ asked = guard 0x02000000 4 7
 -- its yes leads to the native statement
 pub guard-yes : (ts : List Top)
     → Way ts (withLocals (blockCode [] ram)) (withLocals (blockCode [] ram)) (true ∷ [])
-    (asking ++ (said asked true ∷ nativeStart 0x02000000 0 1 ∷ reach (Owner.native 0x02000000)
+    (asking ++ (said asked true ∷ nativeStart 0x02000000 0 1 ∷ reach (Owner.nativeOf 0x02000000)
     ∷ []))
 unfolding withLocals blockCode outsideRomBios underGuard codeFrom nativeText
 guard-yes ts =

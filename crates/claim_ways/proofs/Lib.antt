@@ -11,7 +11,7 @@ pub mod Places
 pub mod File
 pub mod Functions
 pub mod Members
-pub mod Theorem
+pub mod EveryWay
 pub mod Entered
 pub mod Pieces
 pub mod Complete

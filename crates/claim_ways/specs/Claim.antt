@@ -11,9 +11,9 @@ use Rattle.file_records.specs.BlockRecord.{lengthOf}
 use Rattle.file_blocks.specs.Parse.{Block, Parsed, parse, blockKey}
 use Rattle.file_blocks.specs.Address.{outsideRomBios}
 use Rattle.plan_groups.specs.Plan.{groups}
-use Rattle.c_tree.specs.Stmt.{Test, guard, gate, other, native, common, Code, block, Top, function}
+use Rattle.c_tree.specs.Stmt.{Test, guard, gate, other, nativeOf, common, Code, block, Top, function}
 use Rattle.lower_forms.specs.Forms.{Body}
-use Rattle.lower_units.specs.Units.{TranslationUnit, unitsFor}
+use Rattle.lower_units.specs.Units.{TranslationUnit, unitsBy}
 use Rattle.claim_ways.specs.Ways.{Event, reach, said, nativeStart, interpreted, Way}
 
 -- how many instructions are carried out (document 01) by some events
@@ -49,7 +49,7 @@ timesCarried h j (interpreted k i ∷ es) = cond (eqb h k && eqb i j) 1 0 + time
 
 -- an event at the native statements (document 01) of the block with the key h
 abbrev pub AtNative : ℕ → Event → Type 0
-AtNative h (reach (native k)) = k ≡ h
+AtNative h (reach (nativeOf k)) = k ≡ h
 AtNative h (reach common) = ⊥
 AtNative h (said t x) = ⊥
 AtNative h (nativeStart k i n) = k ≡ h
@@ -67,7 +67,7 @@ module _ (toBody : Block → Body) where
   -- all that stands in the units of some blocks
   unfoldable pub allUnits : ℕ → ℕ → List Block → List Top
   allUnits limit max bs =
-      flatten (map (λ (u : TranslationUnit). u .tree) (unitsFor toBody limit max bs))
+      flatten (map (λ (u : TranslationUnit). u .tree) (unitsBy toBody limit max bs))
 
 module _ (toHash : Block → Option ℕ) where
   -- the guard said yes to a block: to its address, length and hash

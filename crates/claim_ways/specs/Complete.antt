@@ -12,7 +12,7 @@ use Rattle.plan_groups.specs.Plan.{groups}
 use Rattle.c_tree.specs.Stmt.{Code, helper, block, group, Top, opening, function, blank, extern}
 use Rattle.c_tree.specs.Stmt.{table, count}
 use Rattle.lower_forms.specs.Forms.{Body}
-use Rattle.lower_units.specs.Units.{TranslationUnit, emitGroup, bodiesOf, unitsFor}
+use Rattle.lower_units.specs.Units.{TranslationUnit, emitGroup, bodiesOf, unitsBy}
 use Rattle.claim_ways.specs.Ways.{Event, Way}
 use Rattle.claim_ways.specs.Claim.{timesCarried, allUnits}
 
@@ -42,7 +42,7 @@ module _ (toBody : Block → Body) where
     pub grouped : List·Memᴰ members (groups limit bs)
     pub among : List·Memᴰ i members
     pub unit : TranslationUnit
-    pub made : List·Memᴰ unit (unitsFor toBody limit max bs)
+    pub made : List·Memᴰ unit (unitsBy toBody limit max bs)
     pub before : List Top
     pub after : List Top
     pub piece : unit .tree ≡ before ++ (emitGroup (bodiesOf (map toBody bs) members) ++ after)

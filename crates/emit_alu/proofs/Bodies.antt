@@ -16,7 +16,7 @@ use Rattle.c_tree.specs.Stmt.{Plain, Owner, common, Code}
 use Rattle.c_tree.specs.Print.{codeText}
 use Rattle.lower_forms.specs.Forms.{Lines}
 use Rattle.lower_forms.specs.Operands.{regExpr, op2Exprs, regOf, operandOf}
-use Rattle.lower_forms.specs.InlineBody.{apart, alu, aluBody, mulBody, opBody}
+use Rattle.lower_forms.specs.InlineBody.{eachOnLine, alu, aluBody, mulBody, opBody}
 use Rattle.lower_units.specs.Block.{lines}
 use Rattle.emit_operands.specs.Operands.{isSome}
 use Rattle.emit_operands.proofs.Operands.{operand-of}
@@ -25,41 +25,41 @@ use Rattle.emit_alu.specs.Rows.{statementsText}
 
 -- statementsText, and code after them, are the lines of any owner with that code after them
 pub rows-after : (o : Owner) (ps : List Plain) (c : Code) (k : List ℕ)
-    → flat (statementsText ps ▸ codeText c) k ≡ flat (codeText (lines o 8 (apart ps) c)) k
+    → flat (statementsText ps ▸ codeText c) k ≡ flat (codeText (lines o 8 (eachOnLine ps) c)) k
 rows-after o ps c k =
-    sym (lines-after common 8 (apart ps) c k) ∙ lines-owner common o 8 (apart ps) c k
+    sym (lines-after common 8 (eachOnLine ps) c k) ∙ lines-owner common o 8 (eachOnLine ps) c k
 
 -- Alu, if it has lines
 pub alu-lines : (thumb : Bool) (i : Instr) (op : AluOp) (s : Bool) (rd rn : ℕ) (op2 : Operand2)
     (ls : Lines)
     → opBody thumb i (Alu op s rd rn op2) ≡ some ls
-    → apart (alu op s rd (regOf (pcValue i) rn) (operandOf (pcValue i) op2 .0)
+    → eachOnLine (alu op s rd (regOf (pcValue i) rn) (operandOf (pcValue i) op2 .0)
     (operandOf (pcValue i) op2 .1)) ≡ ls
 alu-lines thumb i op s rd rn op2 ls p = of-rd (eqb rd 15) p
   where
     of-op2 : (b : Option (Expr × Option Expr)) → op2Exprs i op2 ≡ b
         → aluBody op s rd (regExpr i rn) b ≡ some ls
-        → apart (alu op s rd (regOf (pcValue i) rn) (operandOf (pcValue i) op2 .0)
+        → eachOnLine (alu op s rd (regOf (pcValue i) rn) (operandOf (pcValue i) op2 .0)
         (operandOf (pcValue i) op2 .1)) ≡ ls
     of-op2 none e q = absurd (Option·none-ne-some _ q)
     of-op2 (some b) e q =
-        ap (λ (x : Expr × Option Expr). apart (alu op s rd (regOf (pcValue i) rn) (x .0) (x .1)))
+        ap (λ (x : Expr × Option Expr). eachOnLine (alu op s rd (regOf (pcValue i) rn) (x .0) (x .1)))
         (operand-of i op2 b e)
         ∙ Option·some-injective _ _ q
 
     of-rd : (t : Bool) → cond t none (aluBody op s rd (regExpr i rn) (op2Exprs i op2)) ≡ some ls
-        → apart (alu op s rd (regOf (pcValue i) rn) (operandOf (pcValue i) op2 .0)
+        → eachOnLine (alu op s rd (regOf (pcValue i) rn) (operandOf (pcValue i) op2 .0)
         (operandOf (pcValue i) op2 .1)) ≡ ls
     of-rd true q = absurd (Option·none-ne-some _ q)
     of-rd false q = of-op2 (op2Exprs i op2) refl q
 
 -- Mul, if it has lines
 pub mul-lines : (thumb : Bool) (i : Instr) (acc s : Bool) (rd rn rs rm : ℕ) (ls : Lines)
-    → opBody thumb i (Mul acc s rd rn rs rm) ≡ some ls → apart (mulBody acc s rd rn rs rm) ≡ ls
+    → opBody thumb i (Mul acc s rd rn rs rm) ≡ some ls → eachOnLine (mulBody acc s rd rn rs rm) ≡ ls
 mul-lines thumb i acc s rd rn rs rm ls p = of-rd (eqb rd 15) p
   where
-    of-rd : (t : Bool) → cond t none (some (apart (mulBody acc s rd rn rs rm))) ≡ some ls
-        → apart (mulBody acc s rd rn rs rm) ≡ ls
+    of-rd : (t : Bool) → cond t none (some (eachOnLine (mulBody acc s rd rn rs rm))) ≡ some ls
+        → eachOnLine (mulBody acc s rd rn rs rm) ≡ ls
     of-rd true q = absurd (Option·none-ne-some _ q)
     of-rd false q = Option·some-injective _ _ q
 

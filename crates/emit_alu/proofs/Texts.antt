@@ -13,7 +13,7 @@ use Rattle.c_tree.specs.Expr.{get, par, bin, cast}
 use Rattle.c_tree.specs.Stmt.{plus, f-nz, f-nz64, Plain, declare, set, run}
 use Rattle.c_tree.specs.Preamble.{v32}
 use Rattle.c_tree.specs.Print.{exprText, plainText, spaces}
-use Rattle.lower_forms.specs.InlineBody.{only, let32, setReg, result, logicalC, sum, mulBody, wide}
+use Rattle.lower_forms.specs.InlineBody.{listIf, let32, setReg, result, logicalC, sum, mulBody, widened}
 use Rattle.lower_forms.specs.InlineBody.{r64, mulLongBody}
 use Rattle.emit_operands.specs.Operands.{carryText, isSome}
 use Rattle.emit_alu.specs.Rows.{statementsText, before, between, after}
@@ -93,8 +93,8 @@ more-text hi lo k =
 -- the lines of a multiplication, one after the other
 pub mul-text : (acc s : Bool) (rd rn rs rm : ℕ) (k : List ℕ)
     → flat (statementsText (let32 x-r (bin mul (get (reg rm)) (get (reg rs))) ∷ [])
-    ▸ statementsText (only acc (set (var (u32, x-r)) plus (get (reg rn))))
-    ▸ statementsText (setReg rd (v32 x-r) ∷ []) ▸ statementsText (only s (run f-nz (v32 x-r))))
+    ▸ statementsText (listIf acc (set (var (u32, x-r)) plus (get (reg rn))))
+    ▸ statementsText (setReg rd (v32 x-r) ∷ []) ▸ statementsText (listIf s (run f-nz (v32 x-r))))
     k
     ≡ flat (statementsText (mulBody acc s rd rn rs rm)) k
 mul-text true s rd rn rs rm k = refl
@@ -103,14 +103,14 @@ mul-text false s rd rn rs rm k = refl
 pub mul-long-text : (signed acc s : Bool) (hi lo rs rm : ℕ) (k : List ℕ)
     → flat (statementsText
     (declare (u64, x-r)
-    (cast u64 (par (bin mul (wide signed (get (reg rm))) (wide signed (get (reg rs)))))) []
+    (cast u64 (par (bin mul (widened signed (get (reg rm))) (widened signed (get (reg rs)))))) []
     ∷ []) ▸ statementsText
-    (only acc
+    (listIf acc
     (set (var (u64, x-r)) plus
     (bin bor (par (bin shl (cast u64 (get (reg hi))) (lit int 32))) (cast u64 (get (reg lo))))))
     ▸ statementsText
     (setReg lo (cast u32 r64) ∷ setReg hi (cast u32 (par (bin shr r64 (lit int 32)))) ∷ [])
-    ▸ statementsText (only s (run f-nz64 r64))) k
+    ▸ statementsText (listIf s (run f-nz64 r64))) k
     ≡ flat (statementsText (mulLongBody signed acc s hi lo rs rm)) k
 mul-long-text signed true s hi lo rs rm k = refl
 mul-long-text signed false s hi lo rs rm k = refl

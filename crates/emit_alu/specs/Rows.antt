@@ -3,12 +3,12 @@ use mathlib.Core.Bool.{Bool, cond}
 use mathlib.Core.List.{List}
 use Rattle.base_text.specs.Doc.{Doc, text}
 use Rattle.c_tree.specs.Stmt.{Plain}
-use Rattle.lower_forms.specs.InlineBody.{apart}
+use Rattle.lower_forms.specs.InlineBody.{eachOnLine}
 use Rattle.lower_units.specs.Block.{linesText}
 
 -- statements in lines of their own, as text
 abbrev pub statementsText : List Plain → Doc
-statementsText ps = linesText 8 (apart ps)
+statementsText ps = linesText 8 (eachOnLine ps)
 
 -- what stands before the terms of a sum, which sets flags or not
 abbrev pub before : Bool → Doc

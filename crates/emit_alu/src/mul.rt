@@ -12,7 +12,7 @@ ghost use Rattle.c_tree.specs.Expr.{par, bin, cast};
 ghost use Rattle.c_tree.specs.Stmt.{plus, f-nz, f-nz64, declare, set, run};
 ghost use Rattle.c_tree.specs.Preamble.{v32};
 ghost use Rattle.c_tree.specs.Print.{exprText};
-ghost use Rattle.lower_forms.specs.InlineBody.{only, let32, setReg, mulBody, wide, r64};
+ghost use Rattle.lower_forms.specs.InlineBody.{listIf, let32, setReg, mulBody, widened, r64};
 ghost use Rattle.lower_forms.specs.InlineBody.{mulLongBody, opBody};
 ghost use Rattle.emit_operands.specs.Operands.{isSome};
 ghost use Rattle.emit_alu.specs.Rows.{statementsText};
@@ -35,7 +35,7 @@ fn put_product(out: &mut [u8], at: usize, rs: Reg, rm: Reg) -> usize
 
 // The line that adds rn, if acc is set.
 fn put_more(out: &mut [u8], at: usize, acc: bool, rn: Reg) -> usize
-    ensures { λ r. ⌜ Wrote (now (out .entry)) at (statementsText (only acc (set (var (u32, x-r)) plus (get (reg rn))))) (now (out .exit)) r ⌝ }
+    ensures { λ r. ⌜ Wrote (now (out .entry)) at (statementsText (listIf acc (set (var (u32, x-r)) plus (get (reg rn))))) (now (out .exit)) r ⌝ }
 {
     if acc {
         let p = base_text::put_then_dec(out, at, b"        r += c[", rn as u64);
@@ -54,7 +54,7 @@ fn put_low(out: &mut [u8], at: usize, rd: Reg) -> usize
 
 // The line that sets N and Z, if s is set.
 fn put_nz(out: &mut [u8], at: usize, s: bool) -> usize
-    ensures { λ r. ⌜ Wrote (now (out .entry)) at (statementsText (only s (run f-nz (v32 x-r)))) (now (out .exit)) r ⌝ }
+    ensures { λ r. ⌜ Wrote (now (out .entry)) at (statementsText (listIf s (run f-nz (v32 x-r)))) (now (out .exit)) r ⌝ }
 {
     if s {
         return base_text::put(out, at, b"        f_nz(c, r);\n");
@@ -83,7 +83,7 @@ pub fn put_mul(
 
 // A factor of a long multiplication.
 fn put_wide(out: &mut [u8], at: usize, signed: bool, n: Reg) -> usize
-    ensures { λ r. ⌜ Wrote (now (out .entry)) at (exprText (wide signed (get (reg n)))) (now (out .exit)) r ⌝ }
+    ensures { λ r. ⌜ Wrote (now (out .entry)) at (exprText (widened signed (get (reg n)))) (now (out .exit)) r ⌝ }
 {
     if signed {
         let p = base_text::put_then_dec(out, at, b"(int64_t)(int32_t)c[", n as u64);
@@ -95,7 +95,7 @@ fn put_wide(out: &mut [u8], at: usize, signed: bool, n: Reg) -> usize
 
 // The line of the product of 64 bits.
 fn put_long_product(out: &mut [u8], at: usize, signed: bool, rs: Reg, rm: Reg) -> usize
-    ensures { λ r. ⌜ Wrote (now (out .entry)) at (statementsText (declare (u64, x-r) (cast u64 (par (bin mul (wide signed (get (reg rm))) (wide signed (get (reg rs)))))) [] ∷ [])) (now (out .exit)) r ⌝ }
+    ensures { λ r. ⌜ Wrote (now (out .entry)) at (statementsText (declare (u64, x-r) (cast u64 (par (bin mul (widened signed (get (reg rm))) (widened signed (get (reg rs)))))) [] ∷ [])) (now (out .exit)) r ⌝ }
 {
     let p = base_text::put(out, at, b"        uint64_t r = (uint64_t)(");
     let q = put_wide(out, p, signed, rm);
@@ -106,7 +106,7 @@ fn put_long_product(out: &mut [u8], at: usize, signed: bool, rs: Reg, rm: Reg) -
 
 // The line that adds the two registers of the outcome as they were, if acc is set.
 fn put_long_more(out: &mut [u8], at: usize, acc: bool, hi: Reg, lo: Reg) -> usize
-    ensures { λ r. ⌜ Wrote (now (out .entry)) at (statementsText (only acc (set (var (u64, x-r)) plus (bin bor (par (bin shl (cast u64 (get (reg hi))) (lit int 32))) (cast u64 (get (reg lo))))))) (now (out .exit)) r ⌝ }
+    ensures { λ r. ⌜ Wrote (now (out .entry)) at (statementsText (listIf acc (set (var (u64, x-r)) plus (bin bor (par (bin shl (cast u64 (get (reg hi))) (lit int 32))) (cast u64 (get (reg lo))))))) (now (out .exit)) r ⌝ }
 {
     if acc {
         let p = base_text::put_then_dec(out, at, b"        r += ((uint64_t)c[", hi as u64);
@@ -127,7 +127,7 @@ fn put_halves(out: &mut [u8], at: usize, hi: Reg, lo: Reg) -> usize
 
 // The line that sets N and Z by all 64 bits, if s is set.
 fn put_nz64(out: &mut [u8], at: usize, s: bool) -> usize
-    ensures { λ r. ⌜ Wrote (now (out .entry)) at (statementsText (only s (run f-nz64 r64))) (now (out .exit)) r ⌝ }
+    ensures { λ r. ⌜ Wrote (now (out .entry)) at (statementsText (listIf s (run f-nz64 r64))) (now (out .exit)) r ⌝ }
 {
     if s {
         return base_text::put(out, at, b"        f_nz64(c, r);\n");

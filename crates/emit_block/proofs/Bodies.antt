@@ -18,7 +18,7 @@ use Rattle.base_hash.specs.Fnv.{fnv64, hashMultiplier}
 use Rattle.file_blocks.proofs.IsBlock.{nth-block, block-inside, block-record}
 use Rattle.plan_groups.proofs.Listing.{map-at}
 use Rattle.base_text.specs.Wrote.{Wrote}
-use Rattle.base_text.proofs.Laws.{seq, said}
+use Rattle.base_text.proofs.Laws.{seq, wrote-as}
 use Rattle.c_tree.specs.Stmt.{guard, common, Code, end, _⨾_, when}
 use Rattle.c_tree.specs.Print.{codeText}
 use Rattle.lower_forms.specs.Forms.{Body}
@@ -28,7 +28,7 @@ use Rattle.file_blocks.specs.Address.{outsideRomBios}
 use Rattle.lower_units.specs.Units.{defaultBody}
 use Rattle.lower_units.specs.Measured.{hashIf, hashedIf}
 use Rattle.emit_flow.proofs.Blocks.{guard-after}
-use Rattle.plan_members.specs.Prepared.{Ready}
+use Rattle.plan_members.specs.Prepared.{HoldsPlan}
 use Rattle.emit_block.specs.declared.member.Member.{Member}
 use Rattle.emit_block.specs.Walk.{IsBody, IsMember}
 
@@ -106,7 +106,7 @@ module _ {f : List ℕ} {r : BlockRecord} {first : ℕ} {b : Body} (body : IsBod
 pub block-here : {f work : List ℕ} {m : Member} {ks : List ℕ} {r : BlockRecord} {first : ℕ}
     (q : FoundBlock) → IsMember f work m ks
     → q ≡ foundBlock f (m .index) → q ≡ FoundBlock.At r
-    → ((g : List ℕ) (limit : ℕ) → Ready g (m .blocks) limit work → first ≡ countSum g (m .index))
+    → ((g : List ℕ) (limit : ℕ) → HoldsPlan g (m .blocks) limit work → first ≡ countSum g (m .index))
     → IsBlock f (m .index) r first
 block-here {f} q s e g starts =
     record {
@@ -154,4 +154,4 @@ module _ {o o₁ : List ℕ} {at p : ℕ} (ks : List ℕ) (b : Body) where
       (sp 4 ⨾ when common true (guard (b .addr) m h) (sp 1 ⨾ defer b (sp 1 ⨾ end)) (nl ⨾ end)))
       o₁ p) (sym l) v in
       subst (λ (c : Code). Wrote o at (codeText c) o₂ q) (sym (guarded-code ks b e (some h) s))
-      (said (seq before w) (sym (guard-after ks b h [])))
+      (wrote-as (seq before w) (sym (guard-after ks b h [])))

@@ -8,14 +8,14 @@ use lib.ListN.{length}
 use Rattle.file_blocks.specs.Parse.{blocksOf}
 use Rattle.plan_members.specs.Members.{membersOf, memberKeys}
 use Rattle.file_blocks.specs.Address.{among}
-use Rattle.plan_members.specs.Prepared.{Ready}
+use Rattle.plan_members.specs.Prepared.{HoldsPlan}
 use Rattle.emit_block.specs.declared.member.Member.{Member}
 use Rattle.emit_block.specs.Walk.{IsMember}
 
 module _ {f work : List ℕ} {m : Member} {ks : List ℕ} (s : IsMember f work m ks) (key : ℕ) where
   -- a block with others in its group
   pub inside-group : (r : Bool) → m .several ≡ true
-      → ((limit : ℕ) → Ready f (m .blocks) limit work
+      → ((limit : ℕ) → HoldsPlan f (m .blocks) limit work
       → 2 ≤ length (membersOf limit (blocksOf f) (m .group))
       → r ≡ among key (memberKeys (blocksOf f) (membersOf limit (blocksOf f) (m .group))))
       → among key ks ≡ r

@@ -13,7 +13,7 @@ use Rattle.file_blocks.specs.declared.read.BlockRecord.{BlockRecord}
 use Rattle.file_blocks.specs.Parse.{instrsFrom, blocksOf}
 use Rattle.file_blocks.specs.Read.{IsBlock}
 use Rattle.plan_members.specs.Members.{membersOf, keysWithin}
-use Rattle.plan_members.specs.Prepared.{Ready}
+use Rattle.plan_members.specs.Prepared.{HoldsPlan}
 use Rattle.c_tree.specs.Stmt.{end}
 use Rattle.lower_forms.specs.Forms.{Form, Body}
 use Rattle.lower_forms.specs.Block.{emitInstrs}
@@ -47,7 +47,7 @@ pub record IsBody (f : List ℕ) (r : BlockRecord) (first : ℕ) (b : Body) : Ty
 -- only for a group of two or more
 pub record IsMember (f work : List ℕ) (m : Member) (ks : List ℕ) : Type 0 where
   pub limit : ℕ
-  pub ready : Ready f (m .blocks) limit work
+  pub ready : HoldsPlan f (m .blocks) limit work
   pub several : m .several ≡ true → 2 ≤ length (membersOf limit (blocksOf f) (m .group))
   pub keys : ks ≡ keysWithin (m .several) limit f (m .group)
 

@@ -10,7 +10,7 @@ use Rattle.c_tree.specs.Stmt.{Plain, guard, Owner, common, plain, retInterp, Co
 use Rattle.c_tree.specs.Stmt.{braces}
 use Rattle.c_tree.specs.Print.{exprText, plainText, codeText}
 use Rattle.lower_forms.specs.Forms.{Lines, Native, straight, straightIf, branchIf, pop, Form, shell}
-use Rattle.lower_forms.specs.Forms.{records, Body}
+use Rattle.lower_forms.specs.Forms.{recordsIn, Body}
 use Rattle.lower_forms.specs.Block.{flushTicks, pcLine}
 use Rattle.file_records.specs.BlockRecord.{keyPlus}
 use Rattle.lower_units.specs.Block.{bodyKey, bodyLength, bodyEnd, nl, sp, line, lines, transfer}
@@ -90,7 +90,7 @@ guard-after ks b h k = refl
 pub code-native : (ks : List ℕ) (b : Body) (i : ℕ) (r : Native) (rs : List Form) (k : List ℕ)
     → flat (codeText (codeFrom ks b i (Form.native r ∷ rs))) k
     ≡ flat (codeText
-    (nativeText ks (b .addr) (Owner.native (bodyKey b)) r (codeFrom ks b (i + records r) rs))) k
+    (nativeText ks (b .addr) (Owner.nativeOf (bodyKey b)) r (codeFrom ks b (i + recordsIn r) rs))) k
 unfolding codeFrom
 code-native ks b i r rs k = refl
 

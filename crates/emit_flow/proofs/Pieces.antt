@@ -18,7 +18,7 @@ use Rattle.c_tree.specs.Opening.{openingText}
 use Rattle.c_tree.specs.Preamble.{preamble}
 use Rattle.c_tree.proofs.Preamble.{helpersText, preamble-text}
 use Rattle.lower_forms.specs.Forms.{Lines, jump, bx, Body}
-use Rattle.lower_forms.specs.InlineBody.{only, apart}
+use Rattle.lower_forms.specs.InlineBody.{listIf, eachOnLine}
 use Rattle.lower_forms.specs.Block.{flushTicks, setWord, emitPair, branchRegs, pcLine}
 use Rattle.lower_units.specs.Block.{nl, sp, line, lines, gotoCode, transfer, conditional}
 use Rattle.lower_units.specs.Block.{nativeText, defer, underGuard, linesText}
@@ -103,7 +103,7 @@ ticks (suc n) h = refl
 -- the lines that set r14 and r15
 pub lr-set : (n : ℕ)
     → flat (text "    c[14] = 0x" ▸ hex8 n ▸ text "u;\n") []
-    ≡ flat (linesText 4 (apart (setWord 14 n ∷ []))) []
+    ≡ flat (linesText 4 (eachOnLine (setWord 14 n ∷ []))) []
 unfolding decimal numeral
 lr-set n = refl
 
@@ -114,25 +114,25 @@ pc-set n = refl
 
 -- the lines of a branch that is always taken, and the code after them
 pub linked : (link : Bool) (back target : ℕ) (o : Owner) (c : Code) (k : List ℕ)
-    → flat (linesText 4 (apart (only link (setWord 14 back))) ▸ linesText 4 (pcLine target)
+    → flat (linesText 4 (eachOnLine (listIf link (setWord 14 back))) ▸ linesText 4 (pcLine target)
     ▸ codeText c) k
-    ≡ flat (codeText (lines o 4 (apart (branchRegs link back target)) c)) k
+    ≡ flat (codeText (lines o 4 (eachOnLine (branchRegs link back target)) c)) k
 linked true back target o c k = refl
 linked false back target o c k = refl
 
 -- a branch that is always taken
 pub jumped : (ks : List ℕ) (a : ℕ) (o : Owner) (cycles : ℕ) (link : Bool) (back target key : ℕ)
     (c : Code)
-    → flat (linesText 4 (flushTicks cycles) ▸ linesText 4 (apart (only link (setWord 14 back)))
+    → flat (linesText 4 (flushTicks cycles) ▸ linesText 4 (eachOnLine (listIf link (setWord 14 back)))
     ▸ linesText 4 (pcLine target) ▸ codeText (transfer ks a o 4 key end)) []
     ≡ flat (codeText
-    (nativeText ks a o (jump (flushTicks cycles ++ apart (branchRegs link back target)) key) c))
+    (nativeText ks a o (jump (flushTicks cycles ++ eachOnLine (branchRegs link back target)) key) c))
     []
 unfolding nativeText
 jumped ks a o cycles link back target key c =
     ap (flat (linesText 4 (flushTicks cycles)))
     (linked link back target o (transfer ks a o 4 key end) [])
-    ∙ ticked o cycles (apart (branchRegs link back target)) (transfer ks a o 4 key end)
+    ∙ ticked o cycles (eachOnLine (branchRegs link back target)) (transfer ks a o 4 key end)
 
 -- what is conditional, between what stands before and after it
 pub conditional-text : (o : Owner) (e : Expr) (b c : Code) (k : List ℕ)
@@ -159,13 +159,13 @@ taken ks a o l key =
 -- a fused pair
 pub paired : (ks : List ℕ) (a : ℕ) (o : Owner) (cycles target back : ℕ) (c : Code) (to key : ℕ)
     → to ≡ clearBit0 target → key ≡ setBit0 target
-    → flat (linesText 4 (flushTicks cycles) ▸ linesText 4 (apart (setWord 14 back ∷ []))
+    → flat (linesText 4 (flushTicks cycles) ▸ linesText 4 (eachOnLine (setWord 14 back ∷ []))
     ▸ linesText 4 (pcLine to) ▸ codeText (transfer ks a o 4 key end)) []
     ≡ flat (codeText (nativeText ks a o (emitPair cycles target back) c)) []
 unfolding nativeText
 paired ks a o cycles target back c to key e f =
     rw (e, f)
-    (ticked o cycles (apart (setWord 14 back ∷ setWord 15 (clearBit0 target) ∷ []))
+    (ticked o cycles (eachOnLine (setWord 14 back ∷ setWord 15 (clearBit0 target) ∷ []))
     (transfer ks a o 4 (setBit0 target) end))
 
 -- a Bx

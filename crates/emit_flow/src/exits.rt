@@ -14,7 +14,7 @@ ghost use Rattle.armv4t.specs.Bit0.{setBit0};
 ghost use Rattle.c_tree.specs.Stmt.{Owner, common, Code, end, _⨾_};
 ghost use Rattle.c_tree.specs.Print.{codeText};
 ghost use Rattle.lower_forms.specs.Forms.{jump};
-ghost use Rattle.lower_forms.specs.InlineBody.{only, apart};
+ghost use Rattle.lower_forms.specs.InlineBody.{listIf, eachOnLine};
 ghost use Rattle.lower_forms.specs.Block.{flushTicks, setWord, pcLine, emitPair, branchRegs};
 ghost use Rattle.lower_units.specs.Block.{nl, sp, line, transfer as Block·transfer, exitCode};
 ghost use Rattle.lower_units.specs.Block.{nativeText, linesText};
@@ -55,7 +55,7 @@ pub fn branch_taken(
 
 // r14 set where a branch links.
 fn set_link(out: &mut [u8], at: usize, link: bool, ret: u32) -> usize
-    ensures { λ r. ⌜ Wrote (now (out .entry)) at (linesText 4 (apart (only link (setWord 14 ret)))) (now (out .exit)) r ⌝ }
+    ensures { λ r. ⌜ Wrote (now (out .entry)) at (linesText 4 (eachOnLine (listIf link (setWord 14 ret)))) (now (out .exit)) r ⌝ }
 {
     if link { set_lr(out, at, ret) } else { at }
 }
@@ -72,7 +72,7 @@ pub fn branch_always(
     src: u32,
     key: u32,
 ) -> usize
-    ensures { λ r. ⌜ ((ks : List ℕ) (o : Owner) (c : Code) → among key ks ≡ inside → Wrote (now (out .entry)) at (codeText (nativeText ks src o (jump (flushTicks cycles ++ apart (branchRegs link ret target)) key) c)) (now (out .exit)) r) ⌝ }
+    ensures { λ r. ⌜ ((ks : List ℕ) (o : Owner) (c : Code) → among key ks ≡ inside → Wrote (now (out .entry)) at (codeText (nativeText ks src o (jump (flushTicks cycles ++ eachOnLine (branchRegs link ret target)) key) c)) (now (out .exit)) r) ⌝ }
 {
     let p = flush_ticks(out, at, cycles);
     let q = set_link(out, p, link, ret);

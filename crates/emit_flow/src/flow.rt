@@ -9,7 +9,7 @@ ghost use Rattle.base_text.specs.Wrote.{Wrote};
 ghost use Rattle.c_tree.specs.Expr.{word, lit};
 ghost use Rattle.c_tree.specs.Stmt.{gate, Owner, common, ret, retIf, end, _⨾_};
 ghost use Rattle.c_tree.specs.Print.{codeText};
-ghost use Rattle.lower_forms.specs.InlineBody.{apart};
+ghost use Rattle.lower_forms.specs.InlineBody.{eachOnLine};
 ghost use Rattle.lower_forms.specs.Block.{flushTicks, setWord, pcLine};
 ghost use Rattle.lower_units.specs.Block.{nl, sp, gotoCode, transfer, linesText};
 ghost use Rattle.file_blocks.specs.Address.{among};
@@ -28,7 +28,7 @@ pub fn flush_ticks(out: &mut [u8], at: usize, cycles: u64) -> usize
 
 // r14 set to n.
 pub(crate) fn set_lr(out: &mut [u8], at: usize, n: u32) -> usize
-    ensures { λ r. ⌜ Wrote (now (out .entry)) at (linesText 4 (apart (setWord 14 n ∷ []))) (now (out .exit)) r ⌝ }
+    ensures { λ r. ⌜ Wrote (now (out .entry)) at (linesText 4 (eachOnLine (setWord 14 n ∷ []))) (now (out .exit)) r ⌝ }
 {
     let p = base_text::put_then_hex8(out, at, b"    c[14] = 0x", n);
     base_text::put(out, p, b"u;\n")

@@ -7,7 +7,7 @@ use mathlib.Core.List.{List, [], _∷_, map}
 use lib.ListN.{length, getD, length-map}
 use Rattle.base_text.specs.Doc.{_▸_, flat, each}
 use Rattle.base_text.specs.Wrote.{Wrote}
-use Rattle.base_text.proofs.Laws.{seq, said}
+use Rattle.base_text.proofs.Laws.{seq, wrote-as}
 use Rattle.base_hash.specs.Fnv.{hashMultiplier}
 use Rattle.file_blocks.specs.Parse.{blocksOf}
 use Rattle.plan_groups.specs.Plan.{groups}
@@ -67,7 +67,7 @@ lone-wrote written f [] ks key one keys first head code close = absurd (omega ar
 lone-wrote written f (i ∷ []) ks key one keys first head code close =
     let b : Body = hashedIf written (getD (fileBodies f) i defaultBody) in
     let same : key ≡ bodyKey b = first ∙ ap (λ (js : List ℕ). getD js 0 0) (sym keys) in
-    said (seq head (seq code close))
+    wrote-as (seq head (seq code close))
     (ap (λ (k : ℕ). flat (blockOpen k ▸ codeText (blockCode [] b) ▸ functionEnd) []) same
     ∙ sym (block-text b []))
 lone-wrote written f (i ∷ j ∷ is) ks key one keys first head code close = absurd (omega arith)
@@ -87,7 +87,7 @@ several-wrote (b ∷ []) ks key some keys first head cases switch code close for
 several-wrote (b ∷ c ∷ bs) ks key some keys first head cases switch code close forward =
     let ms : List Body = b ∷ c ∷ bs in
     let same : key ≡ bodyKey b = first ∙ ap (λ (js : List ℕ). getD js 0 0) (sym keys) in
-    said (seq head (seq cases (seq switch (seq code (seq close (forward b (c ∷ bs) keys))))))
+    wrote-as (seq head (seq cases (seq switch (seq code (seq close (forward b (c ∷ bs) keys))))))
     (ap₂ (λ (h : ℕ) (js : List ℕ). flat
     (groupOpen h ▸ casesText 0 (map bodyKey ms) ▸ switchEnd ▸ codeText (labelled js ms)
     ▸ functionEnd ▸ unitText (forwarders (bodyKey b) 0 ms)) []) same (sym keys)

@@ -20,7 +20,7 @@ ghost use Rattle.base_text.specs.Wrote.{Wrote};
 ghost use Rattle.file_blocks.specs.Parse.{blocksOf};
 ghost use Rattle.plan_groups.specs.Plan.{groups};
 ghost use Rattle.plan_members.specs.Members.{membersOf, startOf, groupKeys, keysWithin};
-ghost use Rattle.plan_members.specs.Prepared.{Ready};
+ghost use Rattle.plan_members.specs.Prepared.{HoldsPlan};
 ghost use Rattle.emit_tables.specs.Tables.{IsGroup};
 ghost use Rattle.emit_group.specs.Groups.{memberText, labelledText, membersText, groupText};
 ghost use Rattle.plan_groups.specs.Groups.{HasRoom};
@@ -37,7 +37,7 @@ fn put_code(
     hashing: bool,
 ) -> usize
     requires { ⌜ HasRoom (now file) (now work) n × (p < n) ⌝ }
-    ensures { λ r. ⌜ ((limit g k : ℕ) → Ready (now (file .entry)) n limit (now (work .entry)) → p ≡ startOf (groups limit (blocksOf (now (file .entry)))) g + k → k < length (membersOf limit (blocksOf (now (file .entry))) g) → (several ≡ true → 2 ≤ length (membersOf limit (blocksOf (now (file .entry))) g)) → Wrote (now (out .entry)) at (memberText hashing (now (file .entry)) (keysWithin several limit (now (file .entry)) g) (getD (membersOf limit (blocksOf (now (file .entry))) g) k 0)) (now (out .exit)) r) ⌝ }
+    ensures { λ r. ⌜ ((limit g k : ℕ) → HoldsPlan (now (file .entry)) n limit (now (work .entry)) → p ≡ startOf (groups limit (blocksOf (now (file .entry)))) g + k → k < length (membersOf limit (blocksOf (now (file .entry))) g) → (several ≡ true → 2 ≤ length (membersOf limit (blocksOf (now (file .entry))) g)) → Wrote (now (out .entry)) at (memberText hashing (now (file .entry)) (keysWithin several limit (now (file .entry)) g) (getD (membersOf limit (blocksOf (now (file .entry))) g) k 0)) (now (out .exit)) r) ⌝ }
 {
     let index = row_block(work, p);
     if index < n {
@@ -82,7 +82,7 @@ fn put_member(
     hashing: bool,
 ) -> usize
     requires { ⌜ HasRoom (now file) (now work) n × (p < n) ⌝ }
-    ensures { λ r. ⌜ ((limit g k : ℕ) → Ready (now (file .entry)) n limit (now (work .entry)) → p ≡ startOf (groups limit (blocksOf (now (file .entry)))) g + k → k < length (membersOf limit (blocksOf (now (file .entry))) g) → 2 ≤ length (membersOf limit (blocksOf (now (file .entry))) g) → Wrote (now (out .entry)) at (labelledText hashing (now (file .entry)) (groupKeys limit (now (file .entry)) g) (getD (membersOf limit (blocksOf (now (file .entry))) g) k 0)) (now (out .exit)) r) ⌝ }
+    ensures { λ r. ⌜ ((limit g k : ℕ) → HoldsPlan (now (file .entry)) n limit (now (work .entry)) → p ≡ startOf (groups limit (blocksOf (now (file .entry)))) g + k → k < length (membersOf limit (blocksOf (now (file .entry))) g) → 2 ≤ length (membersOf limit (blocksOf (now (file .entry))) g) → Wrote (now (out .entry)) at (labelledText hashing (now (file .entry)) (groupKeys limit (now (file .entry)) g) (getD (membersOf limit (blocksOf (now (file .entry))) g) k 0)) (now (out .exit)) r) ⌝ }
 {
     let a = put_label(out, at, row_key(file, work, p));
     let b = put_code(out, a, file, work, n, p, true, hashing);

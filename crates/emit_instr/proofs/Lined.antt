@@ -12,9 +12,9 @@ use Rattle.armv4t.specs.declared.Op.the-variants.{Alu}
 use Rattle.armv4t.specs.Instr.{pcValue}
 use Rattle.base_text.specs.Doc.{flat}
 use Rattle.base_text.specs.Wrote.{Wrote}
-use Rattle.base_text.proofs.Laws.{said}
+use Rattle.base_text.proofs.Laws.{wrote-as}
 use Rattle.lower_forms.specs.Forms.{Lines}
-use Rattle.lower_forms.specs.InlineBody.{apart, alu, opBody, inlineBody}
+use Rattle.lower_forms.specs.InlineBody.{eachOnLine, alu, opBody, inlineBody}
 use Rattle.lower_units.specs.Block.{linesText}
 use Rattle.lower_forms.specs.Operands.{regOf, operandOf}
 use Rattle.emit_alu.proofs.Bodies.{alu-lines}
@@ -23,7 +23,7 @@ use Rattle.emit_alu.proofs.Bodies.{alu-lines}
 pub as-lines : {o o′ : List ℕ} {at r : ℕ} (ls body : Lines) → ls ≡ body
     → Wrote o at (linesText 8 ls) o′ r
     → Wrote o at (linesText 8 body) o′ r
-as-lines ls body e w = said w (ap (λ (l : Lines). flat (linesText 8 l) []) e)
+as-lines ls body e w = wrote-as w (ap (λ (l : Lines). flat (linesText 8 l) []) e)
 
 -- the lines of an instruction whose operation is known
 pub known-body : (thumb : Bool) (i : Instr) (op : Op) (body : Lines) → i .op ≡ op
@@ -45,7 +45,7 @@ tested-lines b ls body e = Option·some-injective _ _ (tested b (some ls) body e
 pub alu-by-pc : (thumb : Bool) (i : Instr) (op : AluOp) (s : Bool) (rd rn : ℕ) (op2 : Operand2)
     (pc : ℕ) (body : Lines) → pc ≡ pcValue i
     → opBody thumb i (Alu op s rd rn op2) ≡ some body
-    → apart (alu op s rd (regOf pc rn) (operandOf pc op2 .0) (operandOf pc op2 .1)) ≡ body
+    → eachOnLine (alu op s rd (regOf pc rn) (operandOf pc op2 .0) (operandOf pc op2 .1)) ≡ body
 alu-by-pc thumb i op s rd rn op2 pc body p e =
-    ap (λ (n : ℕ). apart (alu op s rd (regOf n rn) (operandOf n op2 .0) (operandOf n op2 .1))) p
+    ap (λ (n : ℕ). eachOnLine (alu op s rd (regOf n rn) (operandOf n op2 .0) (operandOf n op2 .1))) p
     ∙ alu-lines thumb i op s rd rn op2 body e

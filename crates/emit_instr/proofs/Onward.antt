@@ -6,7 +6,7 @@ use mathlib.Core.List.{List}
 use lib.ListN.{length}
 use Rattle.base_text.specs.Doc.{Doc, nothing, _▸_, flat}
 use Rattle.base_text.specs.Wrote.{maxUsize, Wrote}
-use Rattle.base_text.proofs.Laws.{none, seq, said, kept as Wrote·kept}
+use Rattle.base_text.proofs.Laws.{none, seq, wrote-as, kept as Wrote·kept}
 use Rattle.c_tree.specs.Stmt.{Code, end}
 use Rattle.c_tree.specs.Print.{codeText}
 use Rattle.emit_instr.specs.Onward.{Onward}
@@ -38,7 +38,7 @@ start {c = c} w = record { doc = codeText c; wrote = w; text = λ k. refl }
 
 pub finish : {o o′ : List ℕ} {at r : ℕ} {c : Code} → Onward o at c end o′ r
     → Wrote o at (codeText c) o′ r
-finish v = said (v .wrote) (sym (v .text _))
+finish v = wrote-as (v .wrote) (sym (v .text _))
 
 -- codes of the same text
 pub same-from : {o o′ : List ℕ} {at r : ℕ} {b c : Code} (a : Code)

@@ -12,9 +12,9 @@ use Rattle.c_tree.specs.Print.{exprText, codeText}
 use Rattle.plan_exits.specs.Exits.{keyOf}
 use Rattle.armv4t.specs.Cond.{isAl}
 use Rattle.lower_forms.specs.Forms.{Lines, Native, straight, straightIf, branchIf, jump, Form}
-use Rattle.lower_forms.specs.Forms.{shell, records, Body}
+use Rattle.lower_forms.specs.Forms.{shell, recordsIn, Body}
 use Rattle.lower_forms.specs.Operands.{condExpr}
-use Rattle.lower_forms.specs.InlineBody.{apart}
+use Rattle.lower_forms.specs.InlineBody.{eachOnLine}
 use Rattle.lower_forms.specs.Block.{flushTicks, emitBranch, branchRegs, pcLine}
 use Rattle.file_records.specs.BlockRecord.{keyPlus}
 use Rattle.lower_units.specs.Block.{bodyKey, bodyEnd, nl, sp, line, lines, transfer, nativeText}
@@ -32,14 +32,14 @@ module _ {o o′ : List ℕ} {at r : ℕ} (ks : List ℕ) (b : Body) (j : ℕ) w
   pub exit-step : (n : Native) (src : ℕ) (fs : List Form) → b .addr ≡ src
       → Wrote o at
       (codeText
-      (nativeText ks src (Owner.native (bodyKey b)) n (codeFrom ks b (j + records n) fs))) o′ r
+      (nativeText ks src (Owner.nativeOf (bodyKey b)) n (codeFrom ks b (j + recordsIn n) fs))) o′ r
       → Onward o at (codeFrom ks b j (Form.native n ∷ fs)) end o′ r
   exit-step n src fs q w =
       by _ end w
       (λ k. code-native ks b j n fs k
       ∙ ap (λ (a : ℕ). flat
       (codeText
-      (nativeText ks a (Owner.native (bodyKey b)) n (codeFrom ks b (j + records n) fs))) k) q)
+      (nativeText ks a (Owner.nativeOf (bodyKey b)) n (codeFrom ks b (j + recordsIn n) fs))) k) q)
 
   -- lines in braces, after a condition or not
   pub lowered-step : (al : Bool) (t : Lines) (e : Expr) (l : Lines) (fs : List Form)
@@ -49,11 +49,11 @@ module _ {o o′ : List ℕ} {at r : ℕ} (ks : List ℕ) (b : Body) (j : ℕ) w
   lowered-step true t e l fs w =
       by _ _ w
       (λ k. code-native ks b j (straight t l) fs k
-      ∙ straight-text ks (b .addr) (Owner.native (bodyKey b)) t l (codeFrom ks b (j + 1) fs) k)
+      ∙ straight-text ks (b .addr) (Owner.nativeOf (bodyKey b)) t l (codeFrom ks b (j + 1) fs) k)
   lowered-step false t e l fs w =
       by _ _ w
       (λ k. code-native ks b j (straightIf t e l) fs k
-      ∙ straight-if-text ks (b .addr) (Owner.native (bodyKey b)) t e l
+      ∙ straight-if-text ks (b .addr) (Owner.nativeOf (bodyKey b)) t e l
       (codeFrom ks b (j + 1) fs) k)
 
   -- a branch that is always taken, from the block's address
@@ -61,7 +61,7 @@ module _ {o o′ : List ℕ} {at r : ℕ} (ks : List ℕ) (b : Body) (j : ℕ) w
       (fs : List Form) → al ≡ true → b .addr ≡ src
       → Wrote o at
       (codeText
-      (nativeText ks src (Owner.native (bodyKey b)) (jump t key) (codeFrom ks b (j + 1) fs))) o′
+      (nativeText ks src (Owner.nativeOf (bodyKey b)) (jump t key) (codeFrom ks b (j + 1) fs))) o′
       r
       → Onward o at (codeFrom ks b j (Form.native (cond al (jump t key) (branchIf u e l key)) ∷ fs))
       end o′ r
@@ -74,8 +74,8 @@ module _ {o o′ : List ℕ} {at r : ℕ} (ks : List ℕ) (b : Body) (j : ℕ) w
       → Wrote o at
       ((linesText 4 u ▸ beforeCondition ▸ exprText e) ▸ afterCondition
       ▸ codeText
-      (sp 1 ⨾ line (Owner.native (bodyKey b)) l
-      (nl ⨾ transfer ks src (Owner.native (bodyKey b)) 8 key (sp 6 ⨾ end))) ▸ afterConditional)
+      (sp 1 ⨾ line (Owner.nativeOf (bodyKey b)) l
+      (nl ⨾ transfer ks src (Owner.nativeOf (bodyKey b)) 8 key (sp 6 ⨾ end))) ▸ afterConditional)
       o′ r
       → Onward o at (codeFrom ks b j (Form.native (cond al (jump t key) (branchIf u e l key)) ∷ fs))
       (codeFrom ks b (j + 1) fs) o′ r
@@ -83,13 +83,13 @@ module _ {o o′ : List ℕ} {at r : ℕ} (ks : List ℕ) (b : Body) (j : ℕ) w
   branch-step false t u e l key src fs p q w =
       by _ _ w
       (λ k. code-native ks b j (branchIf u e l key) fs k
-      ∙ branch-text ks (b .addr) (Owner.native (bodyKey b)) u e l key (codeFrom ks b (j + 1) fs)
+      ∙ branch-text ks (b .addr) (Owner.nativeOf (bodyKey b)) u e l key (codeFrom ks b (j + 1) fs)
       k
       ∙ ap (λ (n : ℕ). flat
       (((linesText 4 u ▸ beforeCondition ▸ exprText e) ▸ afterCondition
       ▸ codeText
-      (sp 1 ⨾ line (Owner.native (bodyKey b)) l
-      (nl ⨾ transfer ks n (Owner.native (bodyKey b)) 8 key (sp 6 ⨾ end))) ▸ afterConditional)
+      (sp 1 ⨾ line (Owner.nativeOf (bodyKey b)) l
+      (nl ⨾ transfer ks n (Owner.nativeOf (bodyKey b)) 8 key (sp 6 ⨾ end))) ▸ afterConditional)
       ▸ codeText (codeFrom ks b (j + 1) fs)) k) q)
 
   -- a shell that has others after it
@@ -131,14 +131,14 @@ module _ {o o′ : List ℕ} {at r : ℕ} (ks : List ℕ) (b : Body) (j : ℕ) w
 pub branch-form : (thumb : Bool) (cycles : ℕ) (i : Instr) (link : Bool) (target back key : ℕ)
     → back ≡ (i .addr + 4) % 2 ^ 32
     → key ≡ keyOf target thumb
-    → cond (isAl (i .cond)) (jump (flushTicks cycles ++ apart (branchRegs link back target)) key)
+    → cond (isAl (i .cond)) (jump (flushTicks cycles ++ eachOnLine (branchRegs link back target)) key)
     (branchIf (flushTicks cycles) (condExpr (i .cond)) (branchRegs link back target) key)
     ≡ emitBranch thumb cycles i link target
 branch-form thumb cycles i link target back key p q =
     ap (λ (n : ℕ). cond (isAl (i .cond))
-    (jump (flushTicks cycles ++ apart (branchRegs link n target)) key)
+    (jump (flushTicks cycles ++ eachOnLine (branchRegs link n target)) key)
     (branchIf (flushTicks cycles) (condExpr (i .cond)) (branchRegs link n target) key)) p
     ∙ ap (λ (n : ℕ). cond (isAl (i .cond))
-    (jump (flushTicks cycles ++ apart (branchRegs link ((i .addr + 4) % 2 ^ 32) target)) n)
+    (jump (flushTicks cycles ++ eachOnLine (branchRegs link ((i .addr + 4) % 2 ^ 32) target)) n)
     (branchIf (flushTicks cycles) (condExpr (i .cond))
     (branchRegs link ((i .addr + 4) % 2 ^ 32) target) n)) q

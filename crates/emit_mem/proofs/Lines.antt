@@ -9,7 +9,7 @@ use Rattle.c_tree.specs.Print.{codeText}
 use Rattle.emit_operands.proofs.Lines.{lines-after}
 use Rattle.lower_forms.specs.Forms.{Lines}
 use Rattle.emit_mem.proofs.Listed.{listed-suc}
-use Rattle.lower_forms.specs.InlineBody.{only, apart, setReg, aligned, listed, advance, loads}
+use Rattle.lower_forms.specs.InlineBody.{listIf, eachOnLine, setReg, aligned, listed, advance, loads}
 use Rattle.lower_forms.specs.InlineBody.{stores}
 use Rattle.armv4t.specs.RegisterList.{isListed}
 use Rattle.lower_units.specs.Block.{lines}
@@ -23,15 +23,15 @@ lines-both n ls ms c k =
     ∙ lines-after common n ls (lines common n ms c) k)
 
 -- statements after statements, each in a line of its own
-apart-append : (ps qs : List Plain) → apart (ps ++ qs) ≡ apart ps ++ apart qs
+apart-append : (ps qs : List Plain) → eachOnLine (ps ++ qs) ≡ eachOnLine ps ++ eachOnLine qs
 apart-append [] qs = refl
 apart-append (p ∷ ps) qs = ap (_∷_ (p ∷ [])) (apart-append ps qs)
 
 pub apart-both : (n : ℕ) (ps qs : List Plain)
-    → flat (codeText (lines common n (apart ps) end) ▸ codeText (lines common n (apart qs) end)) []
-    ≡ flat (codeText (lines common n (apart (ps ++ qs)) end)) []
+    → flat (codeText (lines common n (eachOnLine ps) end) ▸ codeText (lines common n (eachOnLine qs) end)) []
+    ≡ flat (codeText (lines common n (eachOnLine (ps ++ qs)) end)) []
 apart-both n ps qs =
-    lines-both n (apart ps) (apart qs) end []
+    lines-both n (eachOnLine ps) (eachOnLine qs) end []
     ∙ ap (λ (ls : Lines). flat (codeText (lines common n ls end)) []) (sym (apart-append ps qs))
 
 -- the loads and the stores of two names of registers, one after the other
@@ -49,20 +49,20 @@ stores-append value (x ∷ xs) ys =
 -- the lines of one register more
 pub loads-more : (n rlist r : ℕ)
     → flat (codeText (lines common n (loads (listed rlist r)) end)
-    ▸ codeText (lines common n (loads (only (isListed rlist r) r)) end)) []
+    ▸ codeText (lines common n (loads (listIf (isListed rlist r) r)) end)) []
     ≡ flat (codeText (lines common n (loads (listed rlist (r + 1))) end)) []
 loads-more n rlist r =
-    lines-both n (loads (listed rlist r)) (loads (only (isListed rlist r) r)) end []
+    lines-both n (loads (listed rlist r)) (loads (listIf (isListed rlist r) r)) end []
     ∙ ap (λ (ls : Lines). flat (codeText (lines common n ls end)) [])
-    (sym (loads-append (listed rlist r) (only (isListed rlist r) r))
+    (sym (loads-append (listed rlist r) (listIf (isListed rlist r) r))
     ∙ ap loads (sym (listed-suc rlist r)))
 
 pub stores-more : (n : ℕ) (value : ℕ → Expr) (rlist r : ℕ)
     → flat (codeText (lines common n (stores value (listed rlist r)) end)
-    ▸ codeText (lines common n (stores value (only (isListed rlist r) r)) end)) []
+    ▸ codeText (lines common n (stores value (listIf (isListed rlist r) r)) end)) []
     ≡ flat (codeText (lines common n (stores value (listed rlist (r + 1))) end)) []
 stores-more n value rlist r =
-    lines-both n (stores value (listed rlist r)) (stores value (only (isListed rlist r) r)) end []
+    lines-both n (stores value (listed rlist r)) (stores value (listIf (isListed rlist r) r)) end []
     ∙ ap (λ (ls : Lines). flat (codeText (lines common n ls end)) [])
-    (sym (stores-append value (listed rlist r) (only (isListed rlist r) r))
+    (sym (stores-append value (listed rlist r) (listIf (isListed rlist r) r))
     ∙ ap (stores value) (sym (listed-suc rlist r)))

@@ -6,11 +6,11 @@ use mathlib.Core.Path.{_≡_, refl, sym, ap, _∙_}
 use mathlib.Core.Bool.{true, false}
 use mathlib.Core.List.{List, [], _∷_, _++_}
 use lib.ListN.{length, getD, length-append}
-use Rattle.lower_forms.specs.InlineBody.{only, listed}
+use Rattle.lower_forms.specs.InlineBody.{listIf, listed}
 use Rattle.armv4t.specs.RegisterList.{isListed}
 
 -- one register more
-pub listed-suc : (rlist n : ℕ) → listed rlist (n + 1) ≡ listed rlist n ++ only (isListed rlist n) n
+pub listed-suc : (rlist n : ℕ) → listed rlist (n + 1) ≡ listed rlist n ++ listIf (isListed rlist n) n
 unfolding listed
 listed-suc rlist n = rw (add-one) refl
 
@@ -30,9 +30,9 @@ lowest-first rlist r named none (suc m) k e =
     let before : ℕ = r + 1 + m in
     let IH = lowest-first rlist r named none m before refl in
     let next : k ≡ before + 1 = omega (arith, e) in (
-      IH .0 ++ only (isListed rlist before) before,
+      IH .0 ++ listIf (isListed rlist before) before,
       ap (listed rlist) next ∙ listed-suc rlist before
-          ∙ ap (λ (xs : List ℕ). xs ++ only (isListed rlist before) before) (IH .1),
+          ∙ ap (λ (xs : List ℕ). xs ++ listIf (isListed rlist before) before) (IH .1),
     )
 
 -- the bytes of one register more

@@ -11,7 +11,7 @@ use Rattle.c_tree.specs.Expr.{read}
 use Rattle.c_tree.specs.Stmt.{Plain, Owner, common, plain, Code, end, _⨾_, braces}
 use Rattle.c_tree.specs.Print.{codeText}
 use Rattle.lower_forms.specs.Forms.{Lines}
-use Rattle.lower_forms.specs.InlineBody.{apart, let32, setReg, aligned, loads}
+use Rattle.lower_forms.specs.InlineBody.{eachOnLine, let32, setReg, aligned, loads}
 use Rattle.lower_forms.specs.Block.{flushTicks, emitPop}
 use Rattle.lower_units.specs.Block.{nl, sp, lines, leave, nativeText, linesText}
 use Rattle.emit_operands.proofs.Lines.{lines-owner, lines-after}
@@ -44,15 +44,15 @@ pub pop-text : (thumb : Bool) (rn : ℕ) (regs : List ℕ)
     ((text "    { "
     ▸ codeText
     (plain common (let32 x-addr (get (reg rn))) ⨾ nl ⨾ lines common 6 (loads regs) end))
-    ▸ codeText (lines common 6 (apart (popBase rn regs ∷ [])) end) ▸ lastText thumb) []
+    ▸ codeText (lines common 6 (eachOnLine (popBase rn regs ∷ [])) end) ▸ lastText thumb) []
     ≡ flat (codeText (nativeText [] 0 common (emitPop thumb 0 rn regs) end)) []
 unfolding nativeText
 pop-text thumb rn regs =
     ap (λ (s : List ℕ). flat
     (text "    { " ▸ codeText (plain common (let32 x-addr (get (reg rn))) ⨾ nl ⨾ end)) s)
     (ap (λ (s : List ℕ). flat (codeText (lines common 6 (loads regs) end))
-    (flat (codeText (lines common 6 (apart (popBase rn regs ∷ [])) end)) s)) (last-text thumb)
-    ∙ lines-both 6 (loads regs) (apart (popBase rn regs ∷ [])) (popTail common thumb)
+    (flat (codeText (lines common 6 (eachOnLine (popBase rn regs ∷ [])) end)) s)) (last-text thumb)
+    ∙ lines-both 6 (loads regs) (eachOnLine (popBase rn regs ∷ [])) (popTail common thumb)
     (flat (text "}\n") []))
 
 -- a pop without its ticks, with an owner
@@ -61,14 +61,14 @@ popCode o thumb rn regs =
     sp 4
     ⨾ braces
     (sp 1 ⨾ plain o (let32 x-addr (get (reg rn))) ⨾ nl
-    ⨾ lines o 6 (loads regs ++ apart (popBase rn regs ∷ [])) (popTail o thumb))
+    ⨾ lines o 6 (loads regs ++ eachOnLine (popBase rn regs ∷ [])) (popTail o thumb))
     (nl ⨾ end)
 
 -- the owner prints nothing
 code-owner : (o : Owner) (thumb : Bool) (rn : ℕ) (regs : List ℕ) (k : List ℕ)
     → flat (codeText (popCode o thumb rn regs)) k ≡ flat (codeText (popCode common thumb rn regs)) k
 code-owner o thumb rn regs k =
-    let ls : Lines = loads regs ++ apart (popBase rn regs ∷ []) in
+    let ls : Lines = loads regs ++ eachOnLine (popBase rn regs ∷ []) in
     let k′ : List ℕ = flat (text "}" ▸ codeText (nl ⨾ end)) k in
     ap (λ (s : List ℕ). flat
     (text "    { " ▸ codeText (plain common (let32 x-addr (get (reg rn))) ⨾ nl ⨾ end)) s)

@@ -11,7 +11,7 @@ ghost use Rattle.armv4t.specs.declared.MemWidth.the-variants.{Byte, Half};
 ghost use Rattle.c_tree.specs.Expr.{x-ob, reg, get};
 ghost use Rattle.c_tree.specs.Preamble.{v32};
 ghost use Rattle.c_tree.specs.Print.{exprText};
-ghost use Rattle.lower_forms.specs.InlineBody.{only, apart, setReg, loaded, stored, access};
+ghost use Rattle.lower_forms.specs.InlineBody.{listIf, eachOnLine, setReg, loaded, stored, access};
 ghost use Rattle.lower_units.specs.Block.{linesText};
 
 // A byte as it is loaded.
@@ -61,7 +61,7 @@ fn put_loaded(out: &mut [u8], at: usize, width: MemWidth, signed: bool) -> usize
 
 // The line that loads.
 fn put_load_line(out: &mut [u8], at: usize, width: MemWidth, signed: bool, rd: u8) -> usize
-    ensures { λ n. ⌜ Wrote (now (out .entry)) at (linesText 8 (apart (setReg rd (loaded width signed) ∷ []))) (now (out .exit)) n ⌝ }
+    ensures { λ n. ⌜ Wrote (now (out .entry)) at (linesText 8 (eachOnLine (setReg rd (loaded width signed) ∷ []))) (now (out .exit)) n ⌝ }
 {
     let p = put_then_dec(out, at, b"        c[", rd as u64);
     let q = put(out, p, b"] = ");
@@ -71,7 +71,7 @@ fn put_load_line(out: &mut [u8], at: usize, width: MemWidth, signed: bool, rd: u
 
 // The line that stores.
 fn put_store_line(out: &mut [u8], at: usize, width: MemWidth, rd: u8) -> usize
-    ensures { λ n. ⌜ Wrote (now (out .entry)) at (linesText 8 (apart (stored width (get (reg rd)) ∷ []))) (now (out .exit)) n ⌝ }
+    ensures { λ n. ⌜ Wrote (now (out .entry)) at (linesText 8 (eachOnLine (stored width (get (reg rd)) ∷ []))) (now (out .exit)) n ⌝ }
 {
     match width {
         MemWidth::Byte => {
@@ -90,8 +90,8 @@ fn put_store_line(out: &mut [u8], at: usize, width: MemWidth, rd: u8) -> usize
 }
 
 // The line that writes the base back.
-fn put_ob(out: &mut [u8], at: usize, rn: u8) -> usize
-    ensures { λ n. ⌜ Wrote (now (out .entry)) at (linesText 8 (apart (setReg rn (v32 x-ob) ∷ []))) (now (out .exit)) n ⌝ }
+fn put_moved_base(out: &mut [u8], at: usize, rn: u8) -> usize
+    ensures { λ n. ⌜ Wrote (now (out .entry)) at (linesText 8 (eachOnLine (setReg rn (v32 x-ob) ∷ []))) (now (out .exit)) n ⌝ }
 {
     let p = put_then_dec(out, at, b"        c[", rn as u64);
     put(out, p, b"] = ob;\n")
@@ -99,7 +99,7 @@ fn put_ob(out: &mut [u8], at: usize, rn: u8) -> usize
 
 // The write-back of a load, which does not undo the load.
 fn put_load_ob(out: &mut [u8], at: usize, rd: u8, rn: u8, wb: bool) -> usize
-    ensures { λ n. ⌜ Wrote (now (out .entry)) at (linesText 8 (apart (only (wb && not (eqb rn rd) && not (eqb rn 15)) (setReg rn (v32 x-ob))))) (now (out .exit)) n ⌝ }
+    ensures { λ n. ⌜ Wrote (now (out .entry)) at (linesText 8 (eachOnLine (listIf (wb && not (eqb rn rd) && not (eqb rn 15)) (setReg rn (v32 x-ob))))) (now (out .exit)) n ⌝ }
 {
     if wb {
         if rn == rd {
@@ -108,20 +108,20 @@ fn put_load_ob(out: &mut [u8], at: usize, rd: u8, rn: u8, wb: bool) -> usize
         if rn == PC {
             return at;
         }
-        return put_ob(out, at, rn);
+        return put_moved_base(out, at, rn);
     }
     at
 }
 
 // The write-back of a store.
 fn put_store_ob(out: &mut [u8], at: usize, rn: u8, wb: bool) -> usize
-    ensures { λ n. ⌜ Wrote (now (out .entry)) at (linesText 8 (apart (only (wb && not (eqb rn 15)) (setReg rn (v32 x-ob))))) (now (out .exit)) n ⌝ }
+    ensures { λ n. ⌜ Wrote (now (out .entry)) at (linesText 8 (eachOnLine (listIf (wb && not (eqb rn 15)) (setReg rn (v32 x-ob))))) (now (out .exit)) n ⌝ }
 {
     if wb {
         if rn == PC {
             return at;
         }
-        return put_ob(out, at, rn);
+        return put_moved_base(out, at, rn);
     }
     at
 }
@@ -136,7 +136,7 @@ fn put_mem_load(
     rn: u8,
     wb: bool,
 ) -> usize
-    ensures { λ n. ⌜ Wrote (now (out .entry)) at (linesText 8 (apart (access true width signed rd rn wb))) (now (out .exit)) n ⌝ }
+    ensures { λ n. ⌜ Wrote (now (out .entry)) at (linesText 8 (eachOnLine (access true width signed rd rn wb))) (now (out .exit)) n ⌝ }
 {
     let p = put_load_ob(out, at, rd, rn, wb);
     put_load_line(out, p, width, signed, rd)
@@ -152,7 +152,7 @@ fn put_mem_store(
     rn: u8,
     wb: bool,
 ) -> usize
-    ensures { λ n. ⌜ Wrote (now (out .entry)) at (linesText 8 (apart (access false width signed rd rn wb))) (now (out .exit)) n ⌝ }
+    ensures { λ n. ⌜ Wrote (now (out .entry)) at (linesText 8 (eachOnLine (access false width signed rd rn wb))) (now (out .exit)) n ⌝ }
 {
     let p = put_store_line(out, at, width, rd);
     put_store_ob(out, p, rn, wb)
@@ -169,7 +169,7 @@ pub(crate) fn put_access(
     rn: u8,
     wb: bool,
 ) -> usize
-    ensures { λ n. ⌜ Wrote (now (out .entry)) at (linesText 8 (apart (access load width signed rd rn wb))) (now (out .exit)) n ⌝ }
+    ensures { λ n. ⌜ Wrote (now (out .entry)) at (linesText 8 (eachOnLine (access load width signed rd rn wb))) (now (out .exit)) n ⌝ }
 {
     if load {
         put_mem_load(out, at, width, signed, rd, rn, wb)

@@ -16,7 +16,7 @@ ghost use lib.Dec.{eqb};
 ghost use Rattle.base_text.specs.Wrote.{Wrote};
 ghost use Rattle.c_tree.specs.Expr.{x-base, x-addr, get, reg};
 ghost use Rattle.c_tree.specs.Print.{exprText};
-ghost use Rattle.lower_forms.specs.InlineBody.{only, apart, let32, setReg, listed, movedBase};
+ghost use Rattle.lower_forms.specs.InlineBody.{listIf, eachOnLine, let32, setReg, listed, movedBase};
 ghost use Rattle.lower_forms.specs.InlineBody.{start, loadsOrStores, blockMemBody};
 ghost use Rattle.armv4t.specs.RegisterList.{isListed};
 ghost use Rattle.lower_units.specs.Block.{linesText};
@@ -48,7 +48,7 @@ fn put_start(out: &mut [u8], at: usize, up: bool, pre: bool, total: u32) -> usiz
 
 // The line that writes the base back.
 fn put_write_back(out: &mut [u8], at: usize, rn: u8, up: bool, total: u32) -> usize
-    ensures { λ n. ⌜ Wrote (now (out .entry)) at (linesText 8 (apart (setReg rn (movedBase up total) ∷ []))) (now (out .exit)) n ⌝ }
+    ensures { λ n. ⌜ Wrote (now (out .entry)) at (linesText 8 (eachOnLine (setReg rn (movedBase up total) ∷ []))) (now (out .exit)) n ⌝ }
 {
     let p = put_then_dec(out, at, b"        c[", rn as u64);
     let q = put(out, p, b"] = ");
@@ -67,7 +67,7 @@ fn put_load_back(
     up: bool,
     total: u32,
 ) -> usize
-    ensures { λ n. ⌜ Wrote (now (out .entry)) at (linesText 8 (apart (only (writeback && not in_list) (setReg rn (movedBase up total))))) (now (out .exit)) n ⌝ }
+    ensures { λ n. ⌜ Wrote (now (out .entry)) at (linesText 8 (eachOnLine (listIf (writeback && not in_list) (setReg rn (movedBase up total))))) (now (out .exit)) n ⌝ }
 {
     if writeback {
         if in_list {
@@ -80,7 +80,7 @@ fn put_load_back(
 
 // The write-back of a store: the base is written back if writeback is set.
 fn put_store_back(out: &mut [u8], at: usize, rn: u8, writeback: bool, up: bool, total: u32) -> usize
-    ensures { λ n. ⌜ Wrote (now (out .entry)) at (linesText 8 (apart (only writeback (setReg rn (movedBase up total))))) (now (out .exit)) n ⌝ }
+    ensures { λ n. ⌜ Wrote (now (out .entry)) at (linesText 8 (eachOnLine (listIf writeback (setReg rn (movedBase up total))))) (now (out .exit)) n ⌝ }
 {
     if writeback {
         return put_write_back(out, at, rn, up, total);
@@ -126,7 +126,7 @@ fn put_block_stores(
 
 // The base, and the lowest address.
 fn put_block_base(out: &mut [u8], at: usize, rn: u8, pre: bool, up: bool, total: u32) -> usize
-    ensures { λ n. ⌜ Wrote (now (out .entry)) at (linesText 8 (apart (let32 x-base (get (reg rn)) ∷ let32 x-addr (start up pre total) ∷ []))) (now (out .exit)) n ⌝ }
+    ensures { λ n. ⌜ Wrote (now (out .entry)) at (linesText 8 (eachOnLine (let32 x-base (get (reg rn)) ∷ let32 x-addr (start up pre total) ∷ []))) (now (out .exit)) n ⌝ }
 {
     let p = put_then_dec(out, at, b"        uint32_t base = c[", rn as u64);
     let q = put(out, p, b"];\n        uint32_t addr = ");

@@ -23,7 +23,7 @@ ghost use Rattle.c_tree.specs.Expr.{word, uhex, x-base, x-ob, x-addr, operator,
 ghost use Rattle.c_tree.specs.Preamble.{v32};
 ghost use Rattle.c_tree.specs.Print.{exprText};
 ghost use Rattle.lower_forms.specs.Forms.{Lines};
-ghost use Rattle.lower_forms.specs.InlineBody.{apart, let32, baseExpr, offsetExpr, addOrSub};
+ghost use Rattle.lower_forms.specs.InlineBody.{eachOnLine, let32, baseExpr, offsetExpr, addOrSub};
 ghost use Rattle.lower_forms.specs.InlineBody.{access, memBody, memLines};
 ghost use Rattle.lower_units.specs.Block.{linesText};
 ghost use Rattle.emit_mem.specs.Mem.{offsetOf};
@@ -71,7 +71,7 @@ fn put_offset(out: &mut [u8], at: usize, offset: MemOffset, pc: u32) -> usize
 
 // The line of the base.
 fn put_base_line(out: &mut [u8], at: usize, thumb: bool, i: Instr, rn: u8) -> usize
-    ensures { λ n. ⌜ Wrote (now (out .entry)) at (linesText 8 (apart (let32 x-base (baseExpr thumb i rn) ∷ []))) (now (out .exit)) n ⌝ }
+    ensures { λ n. ⌜ Wrote (now (out .entry)) at (linesText 8 (eachOnLine (let32 x-base (baseExpr thumb i rn) ∷ []))) (now (out .exit)) n ⌝ }
 {
     let p = put(out, at, b"        uint32_t base = ");
     let q = put_base(out, p, thumb, i, rn);
@@ -90,8 +90,8 @@ fn put_step(out: &mut [u8], at: usize, up: bool) -> usize
 }
 
 // The line of the base with its offset.
-fn put_ob_line(out: &mut [u8], at: usize, up: bool, offset: MemOffset, pc: u32) -> usize
-    ensures { λ n. ⌜ Wrote (now (out .entry)) at (linesText 8 (apart (let32 x-ob (bin (addOrSub up) (v32 x-base) (offsetOf pc offset)) ∷ []))) (now (out .exit)) n ⌝ }
+fn put_moved_base_line(out: &mut [u8], at: usize, up: bool, offset: MemOffset, pc: u32) -> usize
+    ensures { λ n. ⌜ Wrote (now (out .entry)) at (linesText 8 (eachOnLine (let32 x-ob (bin (addOrSub up) (v32 x-base) (offsetOf pc offset)) ∷ []))) (now (out .exit)) n ⌝ }
 {
     let p = put_step(out, at, up);
     let q = put_offset(out, p, offset, pc);
@@ -100,7 +100,7 @@ fn put_ob_line(out: &mut [u8], at: usize, up: bool, offset: MemOffset, pc: u32) 
 
 // The line of the address.
 fn put_addr_line(out: &mut [u8], at: usize, pre: bool) -> usize
-    ensures { λ n. ⌜ Wrote (now (out .entry)) at (linesText 8 (apart (let32 x-addr (v32 (cond pre x-ob x-base)) ∷ []))) (now (out .exit)) n ⌝ }
+    ensures { λ n. ⌜ Wrote (now (out .entry)) at (linesText 8 (eachOnLine (let32 x-addr (v32 (cond pre x-ob x-base)) ∷ []))) (now (out .exit)) n ⌝ }
 {
     if pre {
         put(out, at, b"        uint32_t addr = ob;\n")
@@ -124,7 +124,7 @@ fn put_address(
 {
     let pc = i.pc_value();
     let p = put_base_line(out, at, thumb, i, rn);
-    let q = put_ob_line(out, p, up, offset, pc);
+    let q = put_moved_base_line(out, p, up, offset, pc);
     put_addr_line(out, q, pre)
 }
 

@@ -20,7 +20,7 @@ ghost use Rattle.armv4t.specs.Cond.{isAl};
 ghost use Rattle.c_tree.specs.Expr.{udec, x-addr, reg, add, lit, get, bin};
 ghost use Rattle.c_tree.specs.Stmt.{common, plain, end, _⨾_};
 ghost use Rattle.c_tree.specs.Print.{codeText};
-ghost use Rattle.lower_forms.specs.InlineBody.{apart, let32, setReg, listed, loads};
+ghost use Rattle.lower_forms.specs.InlineBody.{eachOnLine, let32, setReg, listed, loads};
 ghost use Rattle.armv4t.specs.RegisterList.{isListed};
 ghost use Rattle.lower_forms.specs.Block.{isPop, emitPop};
 ghost use Rattle.lower_units.specs.Block.{nl, lines, nativeText};
@@ -36,7 +36,7 @@ fn put_pop_loads(out: &mut [u8], at: usize, rn: u8, rlist: u16) -> usize
 
 // The line that writes the base back.
 fn put_pop_base(out: &mut [u8], at: usize, rn: u8, rlist: u16) -> usize
-    ensures { λ n. ⌜ Wrote (now (out .entry)) at (codeText (lines common 6 (apart (setReg rn (bin add (get (reg rn)) (lit udec ((length (listed rlist 15) + 1) * 4))) ∷ [])) end)) (now (out .exit)) n ⌝ }
+    ensures { λ n. ⌜ Wrote (now (out .entry)) at (codeText (lines common 6 (eachOnLine (setReg rn (bin add (get (reg rn)) (lit udec ((length (listed rlist 15) + 1) * 4))) ∷ [])) end)) (now (out .exit)) n ⌝ }
 {
     let total = bytes_listed(rlist, 15) + 4;
     let p = put_then_dec(out, at, b"      c[", rn as u64);

@@ -14,7 +14,7 @@ ghost use Prim.Native.Nat.{_+_, _%_, _^_};
 ghost use Rattle.armv4t.specs.Instr.{pcValue};
 ghost use Rattle.c_tree.specs.Expr.{word, lit};
 ghost use Rattle.c_tree.specs.Print.{exprText, spaces, codeText};
-ghost use Rattle.lower_forms.specs.InlineBody.{only, listed, loads, movedBase, storedReg, stores};
+ghost use Rattle.lower_forms.specs.InlineBody.{listIf, listed, loads, movedBase, storedReg, stores};
 ghost use Rattle.armv4t.specs.RegisterList.{isListed};
 ghost use Rattle.lower_units.specs.Block.{lines, linesText};
 
@@ -39,7 +39,7 @@ fn put_load(out: &mut [u8], at: usize, pop: bool, r: u8) -> usize
 
 // The line that loads a register, if it is listed.
 fn put_listed_load(out: &mut [u8], at: usize, pop: bool, rlist: u16, r: u8) -> usize
-    ensures { λ n. ⌜ Wrote (now (out .entry)) at (codeText (lines common (cond pop 6 8) (loads (only (isListed rlist r) r)) end)) (now (out .exit)) n ⌝ }
+    ensures { λ n. ⌜ Wrote (now (out .entry)) at (codeText (lines common (cond pop 6 8) (loads (listIf (isListed rlist r) r)) end)) (now (out .exit)) n ⌝ }
 {
     if is_listed(rlist, r) {
         return put_load(out, at, pop, r);
@@ -136,7 +136,7 @@ fn put_listed_store(
     total: u32,
     r: u8,
 ) -> usize
-    ensures { λ n. ⌜ Wrote (now (out .entry)) at (linesText 8 (stores (storedReg i rn lowest (movedBase up total)) (only (isListed rlist r) r))) (now (out .exit)) n ⌝ }
+    ensures { λ n. ⌜ Wrote (now (out .entry)) at (linesText 8 (stores (storedReg i rn lowest (movedBase up total)) (listIf (isListed rlist r) r))) (now (out .exit)) n ⌝ }
 {
     if is_listed(rlist, r) {
         return put_store(out, at, i, rn, lowest, up, total, r);

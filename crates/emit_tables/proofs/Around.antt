@@ -9,7 +9,7 @@ use lib.ListN.{length, getD, take, length-map}
 use lib.Seq.{take-suc, take-all, length-take-le}
 use Rattle.base_text.specs.Doc.{Doc, nothing, text, _▸_, flat, each}
 use Rattle.base_text.specs.Wrote.{Wrote}
-use Rattle.base_text.proofs.Laws.{seq, said}
+use Rattle.base_text.proofs.Laws.{seq, wrote-as}
 use Rattle.file_blocks.specs.Parse.{Block, blockKey}
 use Rattle.plan_members.specs.Members.{memberKeys}
 use Rattle.c_tree.specs.Stmt.{call, end, _⨾_, block, function, extern, count}
@@ -96,7 +96,7 @@ pub numbered-more : (f : ℕ → ℕ → Doc) (ks : List ℕ) (i j : ℕ) {o o�
     → Wrote o at (numbered f 0 (take (i + 1) ks)) o₂ r₂
 numbered-more f ks i j h e v w =
     let places : i ≡ 0 + length (take i ks) = omega (arith, length-take-le i ks (omega arith)) in
-    said (seq v w)
+    wrote-as (seq v w)
     (ap₂ (λ (m l : ℕ). flat (numbered f 0 (take i ks) ▸ f m l) []) places e
     ∙ numbered-append f 0 (take i ks) (getD ks i 0) []
     ∙ ap (λ (ls : List ℕ). flat (numbered f 0 ls) [])

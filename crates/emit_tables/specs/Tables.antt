@@ -6,7 +6,7 @@ use mathlib.Core.List.{List, map}
 use Rattle.file_blocks.specs.Parse.{blocksOf, blockKey}
 use Rattle.plan_groups.specs.Plan.{groups}
 use Rattle.plan_members.specs.Members.{startOf}
-use Rattle.plan_members.specs.Prepared.{Ready}
+use Rattle.plan_members.specs.Prepared.{HoldsPlan}
 use Rattle.lower_forms.specs.Forms.{Body}
 use Rattle.lower_units.specs.Block.{bodyKey}
 
@@ -20,6 +20,6 @@ HaveKeys bs ks = map bodyKey bs ≡ ks
 
 -- the rows from p to the one before end are those of group g
 pub record IsGroup (f : List ℕ) (n limit : ℕ) (work : List ℕ) (g p end : ℕ) : Type 0 where
-  pub ready : Ready f n limit work
+  pub ready : HoldsPlan f n limit work
   pub first : p ≡ startOf (groups limit (blocksOf f)) g
   pub next : end ≡ startOf (groups limit (blocksOf f)) (suc g)

@@ -9,7 +9,7 @@ ghost use lib.ListN.{length, getD};
 ghost use Rattle.file_blocks.specs.Parse.{blocksOf, Accepted};
 ghost use Rattle.plan_groups.specs.Plan.{groups};
 ghost use Rattle.plan_members.specs.Members.{membersOf, startOf, groupKeys};
-ghost use Rattle.plan_members.specs.Prepared.{Ready};
+ghost use Rattle.plan_members.specs.Prepared.{HoldsPlan};
 ghost use Rattle.emit_tables.specs.Tables.{fileKeys};
 
 // The key of block i, or 0 where there is none.
@@ -25,7 +25,7 @@ pub fn block_key(file: &[u8], i: usize) -> u32
 // The key of the block in row p.
 pub fn row_key(file: &[u8], work: &[u32], p: usize) -> u32
     requires { ⌜ p < length (now work) ⌝ }
-    ensures { λ r. ⌜ ((n limit g k : ℕ) → Ready (now (file .entry)) n limit (now (work .entry)) → p ≡ startOf (groups limit (blocksOf (now (file .entry)))) g + k → k < length (membersOf limit (blocksOf (now (file .entry))) g) → r ≡ getD (groupKeys limit (now (file .entry)) g) k 0) ⌝ }
+    ensures { λ r. ⌜ ((n limit g k : ℕ) → HoldsPlan (now (file .entry)) n limit (now (work .entry)) → p ≡ startOf (groups limit (blocksOf (now (file .entry)))) g + k → k < length (membersOf limit (blocksOf (now (file .entry))) g) → r ≡ getD (groupKeys limit (now (file .entry)) g) k 0) ⌝ }
 {
     block_key(file, row_block(work, p))
 }

@@ -15,12 +15,12 @@ use Rattle.base_hash.specs.Fnv.{hashMultiplier}
 use Rattle.file_blocks.specs.Parse.{blocksOf, Accepted}
 use Rattle.plan_groups.specs.Plan.{groups}
 use Rattle.plan_members.specs.Members.{startOf}
-use Rattle.plan_members.specs.Prepared.{Ready}
+use Rattle.plan_members.specs.Prepared.{HoldsPlan}
 use Rattle.plan_members.proofs.Places.{start-next, start-inside, group-left, group-has}
 use Rattle.c_tree.specs.Stmt.{Top}
 use Rattle.lower_forms.specs.Forms.{Body}
 use Rattle.lower_units.specs.Units.{TranslationUnit, emitGroup, unitHead, lastUnitEnd, textOf, cut}
-use Rattle.lower_units.specs.Units.{defaultBody, bodiesOf, unitsOf, unitsFor, fileUnits}
+use Rattle.lower_units.specs.Units.{defaultBody, bodiesOf, emitCChunked, unitsBy, units}
 use Rattle.lower_units.proofs.Lengths.{text-append, units-short}
 use Rattle.emit_units.specs.declared.extents.Extent.{Extent}
 use Rattle.emit_group.specs.Groups.{fileBodies}
@@ -130,8 +130,8 @@ module _ (f : List ℕ) (limit max : ℕ) where
       (map (bodiesOf (fileBodies f)) hs)) (ap (λ (i : ℕ). drop i gs) e ∙ drop-length gs)
 
   -- the units from group 0 on are all
-  pub units-all : unitsFrom f limit max 0 ≡ fileUnits hashMultiplier limit max (blocksOf f)
-  unfolding unitsFor unitsOf startOf
+  pub units-all : unitsFrom f limit max 0 ≡ units hashMultiplier limit max (blocksOf f)
+  unfolding unitsBy emitCChunked startOf
   units-all = refl
 
 -- the length of a tree and another after it
@@ -163,7 +163,7 @@ walked-none f limit max g p at h e long =
     same : g ≡ g + 0
     same = omega arith
 
-module _ {f : List ℕ} {n limit : ℕ} {work : List ℕ} (ready : Ready f n limit work) {max g q at : ℕ}
+module _ {f : List ℕ} {n limit : ℕ} {work : List ℕ} (ready : HoldsPlan f n limit work) {max g q at : ℕ}
     (w : Walked f limit max g q at) where
   abbrev sofar : List Top
   sofar = unitGroups f limit g (w .size)
@@ -263,7 +263,7 @@ pub record Reached (f : List ℕ) (limit max i p : ℕ) : Type 0 where
   pub within : group ≤ length (groups limit (blocksOf f))
   pub here : p ≡ startOf (groups limit (blocksOf f)) group
   pub units : (j : ℕ)
-      → getElem? (fileUnits hashMultiplier limit max (blocksOf f)) (i + j)
+      → getElem? (units hashMultiplier limit max (blocksOf f)) (i + j)
       ≡ getElem? (unitsFrom f limit max group) j
 
 pub reached-none : (f : List ℕ) (limit max : ℕ) → Reached f limit max 0 0
@@ -298,7 +298,7 @@ module _ {f : List ℕ} {limit max i p : ℕ} (r : Reached f limit max i p) {e :
   after = cond (e .last) [] (unitsFrom f limit max (r .group + u .size))
 
   units-at : (j : ℕ)
-      → getElem? (fileUnits hashMultiplier limit max (blocksOf f)) (i + j)
+      → getElem? (units hashMultiplier limit max (blocksOf f)) (i + j)
       ≡ getElem? (here ∷ after) j
   units-at j = r .units j ∙ ap (λ (us : List TranslationUnit). getElem? us j) (u .units)
 
@@ -310,7 +310,7 @@ module _ {f : List ℕ} {limit max i p : ℕ} (r : Reached f limit max i p) {e :
         within = u .takes .within;
         here = u .takes .end;
         units = λ j.
-            ap (getElem? (fileUnits hashMultiplier limit max (blocksOf f)))
+            ap (getElem? (units hashMultiplier limit max (blocksOf f)))
             (let same : i + 1 + j ≡ i + suc j = omega arith in same)
             ∙ units-at (suc j)
             ∙ ap (λ (x : Bool). getElem? (cond x [] (unitsFrom f limit max (r .group + u .size))) j)
@@ -319,9 +319,9 @@ module _ {f : List ℕ} {limit max i p : ℕ} (r : Reached f limit max i p) {e :
 
   -- none after the last
   pub reached-past : e .last ≡ true → (k : ℕ) → i < k
-      → getElem? (fileUnits hashMultiplier limit max (blocksOf f)) k ≡ none
+      → getElem? (units hashMultiplier limit max (blocksOf f)) k ≡ none
   reached-past over k later =
-      ap (getElem? (fileUnits hashMultiplier limit max (blocksOf f)))
+      ap (getElem? (units hashMultiplier limit max (blocksOf f)))
       (let same : k ≡ i + suc (k - suc i) = omega arith in same)
       ∙ units-at (suc (k - suc i))
       ∙ ap (λ (x : Bool). getElem? (cond x [] (unitsFrom f limit max (r .group + u .size)))
@@ -329,11 +329,11 @@ module _ {f : List ℕ} {limit max i p : ℕ} (r : Reached f limit max i p) {e :
 
   -- the unit that is looked for
   pub reached-unit : Accepted f → (k : ℕ) → i ≡ k → IsUnit f limit max k e
-  unfolding unitsFor
+  unfolding unitsBy
   reached-unit ok k at =
-      let found : getElem? (fileUnits hashMultiplier limit max (blocksOf f)) k
+      let found : getElem? (units hashMultiplier limit max (blocksOf f)) k
       ≡ some here =
-      ap (getElem? (fileUnits hashMultiplier limit max (blocksOf f)))
+      ap (getElem? (units hashMultiplier limit max (blocksOf f)))
       (let same : k ≡ i + 0 = omega arith in same) ∙ units-at 0 in
       record {
         unit = here;

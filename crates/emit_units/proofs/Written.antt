@@ -9,11 +9,11 @@ use lib.ListN.{length, getD, take, drop, length-drop}
 use lib.Seq.{getD-drop}
 use Rattle.base_text.specs.Doc.{_▸_, flat, each}
 use Rattle.base_text.specs.Wrote.{maxUsize, Wrote}
-use Rattle.base_text.proofs.Laws.{none, seq, said, each-append, each-more}
+use Rattle.base_text.proofs.Laws.{none, seq, wrote-as, each-append, each-more}
 use Rattle.file_blocks.specs.Parse.{blocksOf}
 use Rattle.plan_groups.specs.Plan.{groups}
 use Rattle.plan_members.specs.Members.{startOf}
-use Rattle.plan_members.specs.Prepared.{Ready}
+use Rattle.plan_members.specs.Prepared.{HoldsPlan}
 use Rattle.plan_members.proofs.Places.{start-next, group-has}
 use Rattle.c_tree.specs.Stmt.{Top}
 use Rattle.c_tree.specs.Print.{topText, unitText}
@@ -23,7 +23,7 @@ use Rattle.lower_units.specs.Units.{emitGroup, unitHead, lastUnitEnd, bodiesOf}
 use Rattle.lower_units.proofs.Measured.{hashed-written}
 use Rattle.emit_units.specs.declared.extents.Extent.{Extent}
 use Rattle.emit_group.specs.Groups.{fileBodies, groupText}
-use Rattle.emit_units.specs.Units.{grown, unitGroups, unitTree, Takes}
+use Rattle.emit_units.specs.Units.{grown, unitGroups, unitTree, SpansGroups}
 
 -- bodies as they are written are themselves
 all-written : (bs : List Body) → map (hashedIf true) bs ≡ bs
@@ -55,7 +55,7 @@ module _ (f : List ℕ) (limit g size : ℕ) {o o₁ o₂ : List ℕ} {r₁ r₂
   -- a unit that is not the last
   pub unit-handed : last ≡ false → Wrote o 0 (unitText tree) o₂ r₂
   unit-handed e =
-      said (seq head body)
+      wrote-as (seq head body)
       (grown-text f unitHead gs []
       ∙ ap (λ (ts : List Top). flat (unitText ts) []) (sym (is ∙ ap (unitTree f limit g size) e)))
 
@@ -63,7 +63,7 @@ module _ (f : List ℕ) (limit g size : ℕ) {o o₁ o₂ : List ℕ} {r₁ r₂
   pub unit-last : {o₃ : List ℕ} {r₃ : ℕ} → last ≡ true
       → Wrote o₂ r₂ (unitText (lastUnitEnd (fileBodies f))) o₃ r₃ → Wrote o 0 (unitText tree) o₃ r₃
   unit-last e end =
-      said (seq head (seq body end))
+      wrote-as (seq head (seq body end))
       (grown-text f unitHead gs (flat (unitText (lastUnitEnd (fileBodies f))) [])
       ∙ each-append topText (unitGroups f limit g size) (lastUnitEnd (fileBodies f)) []
       ∙ ap (λ (ts : List Top). flat (unitText ts) []) (sym (is ∙ ap (unitTree f limit g size) e)))
@@ -89,7 +89,7 @@ pub record PutTo (f : List ℕ) (limit g size p : ℕ) (o : List ℕ) (at : ℕ)
   pub wrote : Wrote o at (each (groupText true f) (take count (drop g (groups limit (blocksOf f)))))
       o′ r
 
-pub put-none : {f : List ℕ} {limit g size : ℕ} {e : Extent} → Takes f limit g size e
+pub put-none : {f : List ℕ} {limit g size : ℕ} {e : Extent} → SpansGroups f limit g size e
     → (o : List ℕ) (at : ℕ) → length o ≤ maxUsize → at ≤ maxUsize
     → PutTo f limit g size (e .start) o at o at
 put-none {f} {limit} {g} t o at h k =
@@ -101,8 +101,8 @@ put-none {f} {limit} {g} t o at h k =
       wrote = none h k;
     }
 
-module _ {f : List ℕ} {n limit : ℕ} {work : List ℕ} (ready : Ready f n limit work) {g size : ℕ}
-    {e : Extent} (t : Takes f limit g size e) {p at r₁ : ℕ} {o o₁ : List ℕ}
+module _ {f : List ℕ} {n limit : ℕ} {work : List ℕ} (ready : HoldsPlan f n limit work) {g size : ℕ}
+    {e : Extent} (t : SpansGroups f limit g size e) {p at r₁ : ℕ} {o o₁ : List ℕ}
     (put : PutTo f limit g size p o at o₁ r₁) where
   -- a row is left, so a group is
   pub group-more : p < e .end → put .count < size
@@ -135,7 +135,7 @@ module _ {f : List ℕ} {n limit : ℕ} {work : List ℕ} (ready : Ready f n lim
         wrote =
             each-more (groupText true f) (drop g (groups limit (blocksOf f))) [] (put .count)
             (omega (arith, length-drop g (groups limit (blocksOf f)), t .within)) (put .wrote)
-            (said w (ap (λ (is : List ℕ). flat (groupText true f is) [])
+            (wrote-as w (ap (λ (is : List ℕ). flat (groupText true f is) [])
             (sym (getD-drop g (groups limit (blocksOf f)) (put .count) []))));
       }
 

@@ -13,7 +13,7 @@ use Rattle.plan_members.specs.Members.{startOf}
 use Rattle.c_tree.specs.Stmt.{Top}
 use Rattle.lower_forms.specs.Forms.{Body}
 use Rattle.lower_units.specs.Units.{TranslationUnit, emitGroup, unitHead, lastUnitEnd, textOf, cut}
-use Rattle.lower_units.specs.Units.{bodiesOf, fileUnits}
+use Rattle.lower_units.specs.Units.{bodiesOf, units}
 use Rattle.emit_units.specs.declared.extents.Extent.{Extent}
 use Rattle.emit_units.specs.declared.extents.FoundUnit.{FoundUnit}
 use Rattle.emit_group.specs.Groups.{fileBodies}
@@ -48,7 +48,7 @@ abbrev pub unitsFrom : List ℕ → ℕ → ℕ → ℕ → List TranslationUnit
 unitsFrom f limit max g = unitsWith f limit max unitHead g
 
 -- the rows of so many groups from group g on
-pub record Takes (f : List ℕ) (limit g size : ℕ) (e : Extent) : Type 0 where
+pub record SpansGroups (f : List ℕ) (limit g size : ℕ) (e : Extent) : Type 0 where
   pub within : g + size ≤ length (groups limit (blocksOf f))
   pub start : e .start ≡ startOf (groups limit (blocksOf f)) g
   pub end : e .end ≡ startOf (groups limit (blocksOf f)) (g + size)
@@ -56,7 +56,7 @@ pub record Takes (f : List ℕ) (limit g size : ℕ) (e : Extent) : Type 0 where
 -- an extent is that of the first unit of the groups from group g on
 pub record FirstUnit (f : List ℕ) (limit max g : ℕ) (e : Extent) : Type 0 where
   pub size : ℕ
-  pub takes : Takes f limit g size e
+  pub takes : SpansGroups f limit g size e
   pub bytes : e .length ≡ after 0 (unitTree f limit g size (e .last))
   pub units : unitsFrom f limit max g
       ≡ record { tree = unitTree f limit g size (e .last); done = e .end; last = e .last }
@@ -65,17 +65,17 @@ pub record FirstUnit (f : List ℕ) (limit max g : ℕ) (e : Extent) : Type 0 wh
 -- an extent is that of unit k
 pub record IsUnit (f : List ℕ) (limit max k : ℕ) (e : Extent) : Type 0 where
   pub unit : TranslationUnit
-  pub found : getElem? (fileUnits hashMultiplier limit max (blocksOf f)) k ≡ some unit
+  pub found : getElem? (units hashMultiplier limit max (blocksOf f)) k ≡ some unit
   pub bytes : e .length ≡ length (textOf (unit .tree))
   pub done : e .end ≡ unit .done
   pub last : e .last ≡ unit .last
   pub group : ℕ
   pub size : ℕ
-  pub takes : Takes f limit group size e
+  pub takes : SpansGroups f limit group size e
   pub tree : unit .tree ≡ unitTree f limit group size (e .last)
 
 -- what is found is unit k, or there is none
-unfoldable pub describes : List ℕ → ℕ → ℕ → ℕ → FoundUnit → Type 0
-describes f limit max k FoundUnit.Nothing =
-    getElem? (fileUnits hashMultiplier limit max (blocksOf f)) k ≡ none
-describes f limit max k (FoundUnit.At e) = IsUnit f limit max k e
+unfoldable pub IsFoundUnit : List ℕ → ℕ → ℕ → ℕ → FoundUnit → Type 0
+IsFoundUnit f limit max k FoundUnit.Nothing =
+    getElem? (units hashMultiplier limit max (blocksOf f)) k ≡ none
+IsFoundUnit f limit max k (FoundUnit.At e) = IsUnit f limit max k e

@@ -9,8 +9,8 @@ ghost use lib.ListN.{length};
 ghost use Rattle.file_blocks.specs.Parse.{blocksOf, Accepted};
 ghost use Rattle.plan_groups.specs.Plan.{groups};
 ghost use Rattle.plan_members.specs.Members.{startOf};
-ghost use Rattle.plan_members.specs.Prepared.{Ready};
-ghost use Rattle.emit_units.specs.Units.{FirstUnit, describes};
+ghost use Rattle.plan_members.specs.Prepared.{HoldsPlan};
+ghost use Rattle.emit_units.specs.Units.{FirstUnit, IsFoundUnit};
 ghost use Rattle.plan_groups.specs.Groups.{HasRoom};
 
 // A unit: the rows from start to the one before end, the length of its text, and whether it is the
@@ -33,7 +33,7 @@ fn measure_unit(file: &[u8], work: &[u32], n: usize, max: u64, p: usize) -> Exte
     requires { ⌜ HasRoom (now file) (now work) n × (p ≤ n) ⌝ }
     requires { ⌜ Accepted (now file) ⌝ }
     ensures { λ r. ⌜ r .end ≤ n ⌝ }
-    ensures { λ r. ⌜ ((limit g : ℕ) → Ready (now (file .entry)) n limit (now (work .entry)) → g ≤ length (groups limit (blocksOf (now (file .entry)))) → p ≡ startOf (groups limit (blocksOf (now (file .entry)))) g → FirstUnit (now (file .entry)) limit max g r) ⌝ }
+    ensures { λ r. ⌜ ((limit g : ℕ) → HoldsPlan (now (file .entry)) n limit (now (work .entry)) → g ≤ length (groups limit (blocksOf (now (file .entry)))) → p ≡ startOf (groups limit (blocksOf (now (file .entry)))) g → FirstUnit (now (file .entry)) limit max g r) ⌝ }
 {
     let mut at = after_preamble();
     let mut q = p;
@@ -62,7 +62,7 @@ fn measure_unit(file: &[u8], work: &[u32], n: usize, max: u64, p: usize) -> Exte
 pub fn find_unit(file: &[u8], work: &[u32], n: usize, max: u64, k: u64) -> FoundUnit
     requires { ⌜ HasRoom (now file) (now work) n ⌝ }
     requires { ⌜ Accepted (now file) ⌝ }
-    ensures { λ r. ⌜ ((limit : ℕ) → Ready (now (file .entry)) n limit (now (work .entry)) → describes (now (file .entry)) limit max k r) ⌝ }
+    ensures { λ r. ⌜ ((limit : ℕ) → HoldsPlan (now (file .entry)) n limit (now (work .entry)) → IsFoundUnit (now (file .entry)) limit max k r) ⌝ }
 {
     let mut p = 0;
     let mut i = 0;

@@ -5,7 +5,7 @@ ghost use lib.ListN.{length};
 ghost use Rattle.file_records.specs.Bytes.{halfAt, wordAt};
 
 // A byte as a word. The bound is what the sums below need of it.
-fn wide(b: u8) -> u32
+fn byte_word(b: u8) -> u32
     ensures { λ r. ⌜ (r ≡ b) × (r < 256) ⌝ }
 {
     b as u32
@@ -16,8 +16,8 @@ pub fn half(s: &[u8], at: usize) -> u16
     requires { ⌜ at + 2 ≤ length (now s) ⌝ }
     ensures { λ r. ⌜ r ≡ halfAt (now (s .entry)) at ⌝ }
 {
-    let low = wide(s[at]);
-    let high = wide(s[at + 1]);
+    let low = byte_word(s[at]);
+    let high = byte_word(s[at + 1]);
     (low + 256 * high) as u16
 }
 
@@ -26,9 +26,9 @@ pub fn word(s: &[u8], at: usize) -> u32
     requires { ⌜ at + 4 ≤ length (now s) ⌝ }
     ensures { λ r. ⌜ r ≡ wordAt (now (s .entry)) at ⌝ }
 {
-    let a = wide(s[at]);
-    let b = wide(s[at + 1]);
-    let c = wide(s[at + 2]);
-    let d = wide(s[at + 3]);
+    let a = byte_word(s[at]);
+    let b = byte_word(s[at + 1]);
+    let c = byte_word(s[at + 2]);
+    let d = byte_word(s[at + 3]);
     a + 256 * b + 65536 * c + 16777216 * d
 }

@@ -29,7 +29,7 @@ use Rattle.lower_forms.specs.Agree.{Agrees, Makes}
 use Rattle.lower_forms.proofs.Gives.{Reads, to, r-udec, r-par, r-not, r-and, r-or, r-xor}
 use Rattle.lower_forms.proofs.Gives.{r-add, r-var}
 use Rattle.lower_forms.proofs.Flags.{nz-ok, c-ok, adds-ok}
-use Rattle.lower_forms.proofs.Operands.{Regs, Carries, carry-reads}
+use Rattle.lower_forms.proofs.Operands.{Regs, CarryIs, carry-reads}
 use Rattle.lower_forms.proofs.Steps.{step, stop, opened, given, within, do-declare, do-adds}
 use Rattle.lower_forms.proofs.Steps.{do-nz, do-c, do-reg, with-scopes, with-reg, with-flags}
 
@@ -58,7 +58,7 @@ module _ {z : State} {m : Machine} (s : Sound m) (a : Agrees z m) (rd : ℕ) (h 
 
     -- uint32_t r = e; f_nz(c, r); f_c(c, co); and the last
     logical-ok : (w : Bool) (e : Expr) (co : Option Expr) (x : ℕ) (new : Bool) → Always e m x
-        → ((y : State) → Regs y m → Carries co y (m .c) new)
+        → ((y : State) → Regs y m → CarryIs co y (m .c) new)
         → Makes (let32 x-r e ∷ (cond w (run f-nz (v32 x-r) ∷ logicalC co) [] ++ (tail ∷ [])))
         (enter z) (let m1 =
         cond w (setFlags (bit x 31) (eqb x 0) new (m .v) m) m in cond b m1 (M.setReg rd x m1))
@@ -213,7 +213,7 @@ module _ {z : State} {m : Machine} (s : Sound m) (a : Agrees z m) (rd : ℕ) (h 
   -- every operation, on operands without locals
   pub alu-ok : (o : AluOp) (w : Bool) (d e : Expr) (co : Option Expr) (x y : ℕ) (new : Bool)
       → Always d m x → Always e m y
-      → ((u : State) → Regs u m → Carries co u (m .c) new)
+      → ((u : State) → Regs u m → CarryIs co u (m .c) new)
       → Makes (alu o w rd d e co) (enter z) (settle o w rd (D.alu o x y new (m .c) (m .v)) m)
   unfolding tail
   alu-ok And w d e co x y new p q k =

@@ -39,7 +39,7 @@ use Rattle.c_tree.specs.Binds.{level, binds, declaratorsBind, plainBinds}
 use Rattle.lower_forms.specs.Forms.{Lines, Native, straight, straightIf, branchIf, jump, pair}
 use Rattle.lower_forms.specs.Forms.{bx, pop, Form, native, shell}
 use Rattle.lower_forms.specs.Operands.{condExpr, regExpr, carryIn, shiftExprs, op2Exprs}
-use Rattle.lower_forms.specs.InlineBody.{only, apart, let32, setReg, result, logicalC}
+use Rattle.lower_forms.specs.InlineBody.{listIf, eachOnLine, let32, setReg, result, logicalC}
 use Rattle.lower_forms.specs.InlineBody.{logical, sum, alu, aluBody, mulBody, mulLongBody}
 use Rattle.lower_forms.specs.InlineBody.{baseExpr, shiftedOffset, offsetExpr, addOrSub}
 use Rattle.lower_forms.specs.InlineBody.{loaded, stored, access, memBody, listed, loads}
@@ -211,10 +211,10 @@ lines-append {ks} {ls} h k = record { lines = go ks (h .lines) }
         both _ _ (left (plainsBind l) (linesBind ks) h)
         (go ks (right (plainsBind l) (linesBind ks) h))
 
-apart-bound : {ps : List Plain} → Plains ps → Bound (apart ps)
+apart-bound : {ps : List Plain} → Plains ps → Bound (eachOnLine ps)
 apart-bound {ps} h = record { lines = go ps (h .plains) }
   where
-    go : (ps : List Plain) → plainsBind ps ≡ true → linesBind (apart ps) ≡ true
+    go : (ps : List Plain) → plainsBind ps ≡ true → linesBind (eachOnLine ps) ≡ true
     go [] h = refl
     go (p ∷ ps) h =
         both _ _ (both _ _ (left (plainBinds false p) (plainsBind ps) h) refl)
@@ -231,7 +231,7 @@ let-binds : (x : Name) (e : Expr) → binds false e ≡ true → plainBinds fals
 unfolding declaratorsBind plainBinds
 let-binds x e h = both (binds false e) true h refl
 
-only-plains : (b : Bool) (p : Plain) → plainBinds false p ≡ true → Plains (only b p)
+only-plains : (b : Bool) (p : Plain) → plainBinds false p ≡ true → Plains (listIf b p)
 only-plains true p h = one h
 only-plains false p h = record { plains = refl }
 
@@ -502,7 +502,7 @@ branch-fits : (thumb : Bool) (cycles : ℕ) (i : Instr) (link : Bool) (target : 
     → nativeBinds (emitBranch thumb cycles i link target) ≡ true
 branch-fits thumb cycles i link target =
     let regs : Plains
-    (only link (setWord 14 ((i .addr + 4) % 2 ^ 32)) ++ (setWord 15 target ∷ [])) =
+    (listIf link (setWord 14 ((i .addr + 4) % 2 ^ 32)) ++ (setWord 15 target ∷ [])) =
     plains-append (only-plains link _ (word-binds 14 _)) (one (word-binds 15 target)) in
     either (λ r. nativeBinds r ≡ true) (isAl (i .cond))
     (lines-append (ticks-bound cycles) (apart-bound regs) .lines)

@@ -23,7 +23,7 @@ use Rattle.c_tree.specs.Preamble.{v32}
 use Rattle.c_meaning.specs.State.{State, enter}
 use Rattle.lower_forms.specs.Forms.{Lines}
 use Rattle.lower_forms.specs.Operands.{regExpr, op2Exprs}
-use Rattle.lower_forms.specs.InlineBody.{apart, let32, aluBody, mulBody, baseExpr}
+use Rattle.lower_forms.specs.InlineBody.{eachOnLine, let32, aluBody, mulBody, baseExpr}
 use Rattle.lower_forms.specs.InlineBody.{shiftedOffset, offsetExpr, addOrSub, access, memBody}
 use Rattle.armv4t_manual.specs.Machine.{Machine, R, Sound}
 use Rattle.armv4t.specs.InRange.{OperandInRange, OffsetInRange, InRange}
@@ -69,13 +69,13 @@ or-r true y q = absurd (subst T q tt)
 or-r false y q = q
 
 -- statements each in a line of its own
-pub all-of : (ps : List Plain) → statements (apart ps) ≡ ps
+pub all-of : (ps : List Plain) → statements (eachOnLine ps) ≡ ps
 all-of [] = refl
 all-of (p ∷ ps) = ap (λ (qs : List Plain). p ∷ qs) (all-of ps)
 
 -- lines of one statement each do what the statements do
 apart-makes : (ps : List Plain) {z : State} {m : Machine} → Makes ps z m
-    → Makes (statements (apart ps)) z m
+    → Makes (statements (eachOnLine ps)) z m
 apart-makes ps {z} {m} h = subst (λ (qs : List Plain). Makes qs z m) (sym (all-of ps)) h
 
 module _ (i : Instr) {z : State} {m : Machine} (s : Sound m) (a : Agrees z m) (op : AluOp)
@@ -165,7 +165,7 @@ mul-means i acc w rd rn rs rm r ls q z m s a bad d next o = go (eqb rd 15) refl 
         (or-r (eqb rd 15 || eqb rs 15 || eqb rm 15) (acc && eqb rn 15) bad))
 
     go : (b : Bool) → eqb rd 15 ≡ b
-        → cond b none (some (apart (mulBody acc w rd rn rs rm))) ≡ some ls → Leads i ls z next
+        → cond b none (some (eachOnLine (mulBody acc w rd rn rs rm))) ≡ some ls → Leads i ls z next
     go true e q = absurd (not-none q)
     go false e q =
         subst (λ (n : Machine × ℕ). Leads i ls z n) (some-same o) (
@@ -239,7 +239,7 @@ module _ (i : Instr) {m : Machine} (s : Sound m) where
 mem-offset : (b : Expr) (up pre : Bool) (rest : List Plain) (off : Option Expr) (ls : Lines)
     → memBody b up pre rest off ≡ some ls
     → (e : Expr) × (off ≡ some e)
-    × (apart
+    × (eachOnLine
     (let32 x-base b ∷ let32 x-ob (bin (addOrSub up) (v32 x-base) e)
     ∷ let32 x-addr (v32 (cond pre x-ob x-base)) ∷ rest) ≡ ls)
 mem-offset b up pre rest none ls q = absurd (not-none q)

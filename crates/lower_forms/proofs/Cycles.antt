@@ -22,7 +22,7 @@ use Rattle.c_tree.specs.Stmt.{tick}
 use Rattle.lower_forms.specs.Forms.{Lines, straight, straightIf, branchIf, jump, pair, bx}
 use Rattle.lower_forms.specs.Forms.{pop, Form, native, shell}
 use Rattle.lower_forms.proofs.RecordCount.{recordCount, instr-count}
-use Rattle.lower_forms.specs.InlineBody.{apart, inlineBody}
+use Rattle.lower_forms.specs.InlineBody.{eachOnLine, inlineBody}
 use Rattle.lower_forms.specs.Block.{flushTicks, setWord, emitPair, emitBranch, nativeExit}
 use Rattle.lower_forms.specs.Block.{isPop, emitLines, emitStraight, emitOp, emitInstr}
 use Rattle.lower_forms.specs.Block.{emitInstrs, bodyOf, pcLine}
@@ -125,7 +125,7 @@ branch-ticks thumb cycles i true target =
     (omega (
       arith,
       ticks-all cycles
-          (apart (setWord 14 ((i .addr + 4) % 2 ^ 32) ∷ setWord 15 target ∷ [])),
+          (eachOnLine (setWord 14 ((i .addr + 4) % 2 ^ 32) ∷ setWord 15 target ∷ [])),
     ))
     (ticks-alone cycles)
 branch-ticks thumb cycles i false target =
@@ -177,7 +177,7 @@ charged-one r rs x xs h = rw h (ap (λ n. n + charged rs xs) (own-one r (x .cost
 
 pair-ticks : (cycles target ret : ℕ) → formTicks (native (emitPair cycles target ret)) ≡ cycles
 pair-ticks cycles target ret =
-    omega (arith, ticks-all cycles (apart (setWord 14 ret ∷ setWord 15 (clearBit0 target) ∷ [])))
+    omega (arith, ticks-all cycles (eachOnLine (setWord 14 ret ∷ setWord 15 (clearBit0 target) ∷ [])))
 
 -- forms for some instructions, with cycles pending before and after them
 record AllKept (cycles : ℕ) (xs : List TimedInstr) (rs : List Form × ℕ) : Type 0 where

@@ -39,7 +39,7 @@ use Rattle.c_tree.specs.Print.{exprText, plainText}
 use Rattle.lower_forms.specs.Forms.{Lines, Native, straight, straightIf, branchIf, jump, pair}
 use Rattle.lower_forms.specs.Forms.{bx, pop, Form, native, shell}
 use Rattle.lower_forms.specs.Operands.{condExpr, regExpr, shiftExprs, op2Exprs}
-use Rattle.lower_forms.specs.InlineBody.{only, apart, setReg, result, logical, sum, alu}
+use Rattle.lower_forms.specs.InlineBody.{listIf, eachOnLine, setReg, result, logical, sum, alu}
 use Rattle.lower_forms.specs.InlineBody.{aluBody, mulBody, mulLongBody, baseExpr}
 use Rattle.lower_forms.specs.InlineBody.{shiftedOffset, offsetExpr, loaded, stored, access}
 use Rattle.lower_forms.specs.InlineBody.{memBody, listed, loads, movedBase, start, storedReg}
@@ -155,7 +155,7 @@ result-brief op rd =
     (record { brief = omega arith })
 
 logical-within : (op : AluOp) (s : Bool) (rd : ℕ) (carry : Option Expr) (e : Expr)
-    → MaybeShort 170 carry → most (exprText e) ≤ 220 → Within 2100 (apart (logical op s rd carry e))
+    → MaybeShort 170 carry → most (exprText e) ≤ 220 → Within 2100 (eachOnLine (logical op s rd carry e))
 logical-within op true rd none e k h =
     record { within = omega (arith, h, result-brief op rd .brief) }
 logical-within op true rd (some c) e k h =
@@ -165,12 +165,12 @@ logical-within op false rd carry e k h =
 
 sum-within : (op : AluOp) (s : Bool) (rd : ℕ) (x y carry : Expr)
     → most (exprText x) + most (exprText y) + most (exprText carry) ≤ 320
-    → Within 2100 (apart (sum op s rd x y carry))
+    → Within 2100 (eachOnLine (sum op s rd x y carry))
 sum-within op true rd x y carry h = record { within = omega (arith, h, result-brief op rd .brief) }
 sum-within op false rd x y carry h = record { within = omega (arith, h, result-brief op rd .brief) }
 
 alu-within : (op : AluOp) (s : Bool) (rd : ℕ) (a b : Expr) (carry : Option Expr) → Short 23 a
-    → Short 170 b → MaybeShort 170 carry → Within 2100 (apart (alu op s rd a b carry))
+    → Short 170 b → MaybeShort 170 carry → Within 2100 (eachOnLine (alu op s rd a b carry))
 alu-within And s rd a b carry h k c =
     logical-within And s rd carry _ c (omega (arith, h .short, k .short))
 alu-within Eor s rd a b carry h k c =
@@ -201,14 +201,14 @@ alu-body : (op : AluOp) (s : Bool) (rd : ℕ) (a : Expr) (o : Option (Expr × Op
 alu-body op s rd a none h k = tt
 alu-body op s rd a (some b) h k = alu-within op s rd a (b .0) (b .1) h (k .0) (k .1)
 
-mul-within : (acc s : Bool) (rd rn rs rm : ℕ) → Within 2100 (apart (mulBody acc s rd rn rs rm))
+mul-within : (acc s : Bool) (rd rn rs rm : ℕ) → Within 2100 (eachOnLine (mulBody acc s rd rn rs rm))
 mul-within true true rd rn rs rm = record { within = omega arith }
 mul-within true false rd rn rs rm = record { within = omega arith }
 mul-within false true rd rn rs rm = record { within = omega arith }
 mul-within false false rd rn rs rm = record { within = omega arith }
 
 mulLong-within : (signed acc s : Bool) (hi lo rs rm : ℕ)
-    → Within 2100 (apart (mulLongBody signed acc s hi lo rs rm))
+    → Within 2100 (eachOnLine (mulLongBody signed acc s hi lo rs rm))
 mulLong-within true true true hi lo rs rm = record { within = omega arith }
 mulLong-within true true false hi lo rs rm = record { within = omega arith }
 mulLong-within true false true hi lo rs rm = record { within = omega arith }
@@ -248,7 +248,7 @@ stored-brief Half rd = record { brief = omega arith }
 stored-brief Word rd = record { brief = omega arith }
 
 only-within : (b : Bool) (p : Plain) (n : ℕ) → most (plainText p) ≤ n
-    → linesMost (apart (only b p)) ≤ n + 11
+    → linesMost (eachOnLine (listIf b p)) ≤ n + 11
 only-within true p n h = omega (arith, h)
 only-within false p n h = omega arith
 
@@ -257,11 +257,11 @@ lines-append [] ls = omega arith
 lines-append (k ∷ ks) ls = omega (arith, lines-append ks ls)
 
 access-within : (load : Bool) (w : MemWidth) (signed : Bool) (rd rn : ℕ) (wb : Bool)
-    → linesMost (apart (access load w signed rd rn wb)) ≤ 350
+    → linesMost (eachOnLine (access load w signed rd rn wb)) ≤ 350
 access-within true w signed rd rn wb = go (wb && not (eqb rn rd) && not (eqb rn 15))
   where
     go : (b : Bool)
-        → linesMost (apart (only b (setReg rn (v32 x-ob)) ++ (setReg rd (loaded w signed) ∷ [])))
+        → linesMost (eachOnLine (listIf b (setReg rn (v32 x-ob)) ++ (setReg rd (loaded w signed) ∷ [])))
         ≤ 350
     go true = omega (arith, loaded-short w signed .short)
     go false = omega (arith, loaded-short w signed .short)
@@ -274,7 +274,7 @@ access-within false w signed rd rn wb =
     )
 
 mem-within : (base : Expr) (up pre : Bool) (rest : List Plain) (off : Option Expr) → Short 23 base
-    → linesMost (apart rest) ≤ 350 → MaybeShort 170 off
+    → linesMost (eachOnLine rest) ≤ 350 → MaybeShort 170 off
     → MaybeWithin 2100 (memBody base up pre rest off)
 mem-within base up pre rest none h k o = tt
 mem-within base true true rest (some off) h k o =
@@ -294,13 +294,13 @@ listed-length rlist zero = omega arith
 listed-length rlist (suc n) =
     omega (
       arith,
-      length-append (listed rlist n) (only (isListed rlist n) n),
+      length-append (listed rlist n) (listIf (isListed rlist n) n),
       one
           (isListed rlist n),
       listed-length rlist n,
     )
   where
-    one : (b : Bool) → length (only b n) ≤ 1
+    one : (b : Bool) → length (listIf b n) ≤ 1
     one true = omega arith
     one false = omega arith
 
@@ -337,7 +337,7 @@ transfers-within : (load : Bool) (i : Instr) (rn : ℕ) (writeback inList : Bool
 transfers-within true i rn writeback inList moved regs h l =
     omega (
       arith,
-      lines-append (apart (only (writeback && not inList) (setReg rn moved))) (loads regs),
+      lines-append (eachOnLine (listIf (writeback && not inList) (setReg rn moved))) (loads regs),
       only-within (writeback && not inList) (setReg rn moved) 60 (omega (arith, h .short)),
       loads-within regs,
       l,
@@ -346,7 +346,7 @@ transfers-within false i rn writeback inList moved regs h l =
     omega (
       arith,
       lines-append (stores (storedReg i rn (getD regs 0 16) moved) regs)
-          (apart (only writeback (setReg rn moved))),
+          (eachOnLine (listIf writeback (setReg rn moved))),
       only-within writeback (setReg rn moved) 60 (omega (arith, h .short)),
       stores-within (storedReg i rn (getD regs 0 16) moved)
           (storedReg-short i rn (getD regs 0 16) moved h) regs,
@@ -432,7 +432,7 @@ branch-fits thumb cycles i true target =
     (omega (
       arith,
       lines-append (flushTicks cycles)
-          (apart (setWord 14 ((i .addr + 4) % 2 ^ 32) ∷ setWord 15 target ∷ [])),
+          (eachOnLine (setWord 14 ((i .addr + 4) % 2 ^ 32) ∷ setWord 15 target ∷ [])),
       ticks-within
           cycles,
     ))
@@ -451,7 +451,7 @@ pop-fits thumb cycles rn regs l =
       loads-within regs,
       l,
       lines-append (loads regs)
-          (apart (setReg rn (bin add (get (reg rn)) (lit udec ((length regs + 1) * 4))) ∷ [])),
+          (eachOnLine (setReg rn (bin add (get (reg rn)) (lit udec ((length regs + 1) * 4))) ∷ [])),
     )
 
 bx-fits : (cycles : ℕ) (i : Instr) (rm : ℕ)
@@ -463,7 +463,7 @@ pair-fits cycles target ret =
     omega (
       arith,
       lines-append (flushTicks cycles)
-          (apart (setWord 14 ret ∷ setWord 15 (clearBit0 target) ∷ [])),
+          (eachOnLine (setWord 14 ret ∷ setWord 15 (clearBit0 target) ∷ [])),
       ticks-within cycles,
     )
 

@@ -18,5 +18,5 @@ pub mod Body
 pub mod Listed
 pub mod Multiple
 pub mod BodyMultiple
-pub mod Theorem
+pub mod OpMeans
 pub mod Thumb

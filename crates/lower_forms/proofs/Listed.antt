@@ -8,7 +8,7 @@ use native.Mathlib.Omega.{arith}
 use lib.Dec.{T, eqb, eqb→eq, eqb-refl}
 use Rattle.base_words.specs.Word.{bit}
 use Rattle.base_words.proofs.Bits.{is-true}
-use Rattle.lower_forms.specs.InlineBody.{only}
+use Rattle.lower_forms.specs.InlineBody.{listIf}
 use Rattle.lower_forms.specs.InlineBody as F
 use Rattle.armv4t_manual.specs.Machine.{update}
 use Rattle.armv4t_manual.specs.Transfer.{Memory4}
@@ -17,7 +17,7 @@ use Rattle.lower_forms.proofs.Operands.{same-of, ne-of}
 use Rattle.armv4t_manual.proofs.All.{All, all-append, all-map}
 
 -- the emitter's list is the manual's
-only-same : (b : Bool) (n : ℕ) → only b n ≡ cond b (n ∷ []) []
+only-same : (b : Bool) (n : ℕ) → listIf b n ≡ cond b (n ∷ []) []
 only-same true n = refl
 only-same false n = refl
 

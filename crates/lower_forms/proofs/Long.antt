@@ -17,7 +17,7 @@ use Rattle.c_meaning.specs.State.{State, Scope, empty, bind, update, value, set
 use Rattle.c_meaning.specs.Eval.{ty, eval, evalAs}
 use Rattle.c_meaning.specs.Exec.{on, exec, others}
 use Rattle.c_meaning.specs.Helpers.{called, rotated}
-use Rattle.lower_forms.specs.InlineBody.{only, setReg, wide, r64, mulLongBody}
+use Rattle.lower_forms.specs.InlineBody.{listIf, setReg, widened, r64, mulLongBody}
 use Rattle.armv4t_manual.specs.Machine.{Machine, setFlags, Sound}
 use Rattle.armv4t_manual.specs.Machine as M
 use Rattle.armv4t_manual.specs.Operators.{CarryFrom}
@@ -108,7 +108,7 @@ fits-below k h = is-false _ λ t. clash k h (ltb→lt 9223372036854775808 k t)
 module _ {z : State} {d e : Expr} {x y : ℕ} (p : Reads d z x) (q : Reads e z y) where
   -- (uint64_t)(wide d * wide e)
   product-is : (sig : Bool)
-      → Is u64 (cast u64 (par (bin mul (wide sig d) (wide sig e)))) z (product sig x y)
+      → Is u64 (cast u64 (par (bin mul (widened sig d) (widened sig e)))) z (product sig x y)
   unfolding eval
   product-is false =
       record {
@@ -247,7 +247,7 @@ module _ {z : State} {m : Machine} (s : Sound m) (a : Agrees z m) (rh rl rs rm :
   long-end : (w : Bool) (u : State) (r h l : ℕ) → Agrees u m → value (var (u64, x-r)) u ≡ some r
       → r < 18446744073709551616 → r / 4294967296 % 4294967296 ≡ h → r % 4294967296 ≡ l
       → Makes (setReg rl (cast u32 r64) ∷ setReg rh (cast u32 (par (bin shr r64 (lit int 32))))
-      ∷ only w (run f-nz64 r64)) u
+      ∷ listIf w (run f-nz64 r64)) u
       (M.setReg rh h
       (M.setReg rl l (cond w (setFlags (bit h 31) (eqb h 0 && eqb l 0) (m .c) (m .v) m) m)))
   long-end false u r h l b q k eh el =
@@ -282,12 +282,12 @@ module _ {z : State} {m : Machine} (s : Sound m) (a : Agrees z m) (rh rl rs rm :
       lt = product-lt sig (m .r rm) (m .r rs) (s .words rm hm) (s .words rs hs)
 
       go : (c : Bool)
-          → Makes (only c
+          → Makes (listIf c
           (set (var (u64, x-r)) plus
           (bin bor (par (bin shl (cast u64 (get (reg rh))) (lit int 32)))
           (cast u64 (get (reg rl)))))
           ++ (setReg rl (cast u32 r64) ∷ setReg rh (cast u32 (par (bin shr r64 (lit int 32))))
-          ∷ only w (run f-nz64 r64))) (within (given64 p) (z .scopes) z)
+          ∷ listIf w (run f-nz64 r64))) (within (given64 p) (z .scopes) z)
           (let l = (p % 4294967296 + cond c (m .r rl) 0) % 4294967296 in
           let h =
           (p / 4294967296 + cond c (m .r rh) 0 + oneIf

@@ -15,7 +15,7 @@ use Rattle.c_tree.specs.Preamble.{v32}
 use Rattle.c_meaning.specs.State.{State, Scope, empty, index, value, update, setC, setMem, load}
 use Rattle.c_meaning.specs.State.{store, enter}
 use Rattle.lower_forms.specs.Forms.{Lines}
-use Rattle.lower_forms.specs.InlineBody.{only, apart, let32, setReg, loads, movedBase, start}
+use Rattle.lower_forms.specs.InlineBody.{listIf, eachOnLine, let32, setReg, loads, movedBase, start}
 use Rattle.lower_forms.specs.InlineBody.{storedReg, stores, loadsOrStores, blockMemBody}
 use Rattle.armv4t_manual.specs.Machine.{Machine, R, setRegs, Sound}
 use Rattle.armv4t_manual.specs.Machine as M
@@ -88,7 +88,7 @@ module _ {z : State} {m : Machine} (s : Sound m) (a : Agrees z m) (i : Instr) (r
   place : (up pre : Bool) (ls : Lines) {m1 : Machine}
       → Makes (statements ls) (within (placedScope up pre) (z .scopes) z) m1
       → Makes (statements
-      (apart (let32 x-base (get (reg rn)) ∷ let32 x-addr (start up pre (length regs * 4)) ∷ [])
+      (eachOnLine (let32 x-base (get (reg rn)) ∷ let32 x-addr (start up pre (length regs * 4)) ∷ [])
       ++ ls)) (enter z) m1
   place up pre ls p =
       step (do-declare x-base empty (z .scopes) z refl
@@ -240,7 +240,7 @@ module _ {z : State} {m : Machine} (s : Sound m) (a : Agrees z m) (i : Instr) (r
   store-multiple-ok up pre wb inList h =
       place up pre (loadsOrStores false i rn wb inList (movedBase up (length regs * 4)) regs)
       (stores-ok _ (storedValue up wb)
-      (apart (only wb (setReg rn (movedBase up (length regs * 4))))) regs (placedScope up pre)
+      (eachOnLine (listIf wb (setReg rn (movedBase up (length regs * 4))))) regs (placedScope up pre)
       (z .scopes) z (m .mem)
       (MM.start up pre (m .r rn) (length regs)) (all-map (Stored wb) _ (stored-reads up wb) regs h)
       (record { regs = a .regs; flags = a .flags; memory = a .memory }) refl refl (start-lt up pre)
@@ -256,7 +256,7 @@ module _ {z : State} {m : Machine} (s : Sound m) (a : Agrees z m) (i : Instr) (r
 
       go : (w : Bool) (f : Scope) (y : State) → Agrees y m1
           → f (index x-base) ≡ some (u32, some (m .r rn))
-          → Makes (statements (apart (only w (setReg rn (movedBase up (length regs * 4))))))
+          → Makes (statements (eachOnLine (listIf w (setReg rn (movedBase up (length regs * 4))))))
           (within f (z .scopes) y) (cond w (M.setReg rn x m1) m1)
       go false f y b q = stop (with-scopes b _)
       go true f y b q =

@@ -12,7 +12,7 @@ use Rattle.c_tree.specs.Expr.{u32, x-r, reg, var, get}
 use Rattle.c_tree.specs.Stmt.{plus, f-nz, set, run}
 use Rattle.c_tree.specs.Preamble.{v32}
 use Rattle.c_meaning.specs.State.{State, Scope, empty, value, setC, enter}
-use Rattle.lower_forms.specs.InlineBody.{only, setReg, mulBody}
+use Rattle.lower_forms.specs.InlineBody.{listIf, setReg, mulBody}
 use Rattle.armv4t_manual.specs.Machine.{Machine, setFlags, Sound}
 use Rattle.armv4t_manual.specs.Machine as M
 use Rattle.armv4t_manual.specs.Multiply.{multiply}
@@ -32,7 +32,7 @@ module _ {z : State} {m : Machine} (s : Sound m) (a : Agrees z m) (rd rn rs rm :
   -- c[rd] = r; f_nz(c, r);
   multiply-end : (w : Bool) (x : ℕ) → x < 4294967296 → (u : State) → Agrees u m
       → value (var (u32, x-r)) u ≡ some x
-      → Makes (setReg rd (v32 x-r) ∷ only w (run f-nz (v32 x-r))) u
+      → Makes (setReg rd (v32 x-r) ∷ listIf w (run f-nz (v32 x-r))) u
       (M.setReg rd x (cond w (setFlags (bit x 31) (eqb x 0) (m .c) (m .v) m) m))
   multiply-end false x l u b q =
       step (do-reg (r-var (u32, x-r) refl q l) rd (omega (arith, hd))) (stop (with-reg b rd x hd))
@@ -56,8 +56,8 @@ module _ {z : State} {m : Machine} (s : Sound m) (a : Agrees z m) (rd rn rs rm :
       f = given x-r (m .r rm * m .r rs % 4294967296) empty
 
       go : (c : Bool) → (c ≡ true → rn < 15)
-          → Makes (only c (set (var (u32, x-r)) plus (get (reg rn)))
-          ++ (setReg rd (v32 x-r) ∷ only w (run f-nz (v32 x-r)))) (within f (z .scopes) z)
+          → Makes (listIf c (set (var (u32, x-r)) plus (get (reg rn)))
+          ++ (setReg rd (v32 x-r) ∷ listIf w (run f-nz (v32 x-r)))) (within f (z .scopes) z)
           (let x : ℕ = (m .r rm * m .r rs + cond c (m .r rn) 0) % 4294967296 in
           M.setReg rd x (cond w (setFlags (bit x 31) (eqb x 0) (m .c) (m .v) m) m))
       go false h =

@@ -121,13 +121,13 @@ module _ (z : State) (n zf c v : Bool) (low : ℕ) (h : low < 2 ^ 28)
   shift-reads Ror (suc i) l = r-ror p (r-udec (count-lt l)) l
 
 -- a carry that is not written stays
-abbrev pub Carries : Option Expr → State → Bool → Bool → Type 0
-Carries none z old new = new ≡ old
-Carries (some e) z old new = Reads e z (oneIf new)
+abbrev pub CarryIs : Option Expr → State → Bool → Bool → Type 0
+CarryIs none z old new = new ≡ old
+CarryIs (some e) z old new = Reads e z (oneIf new)
 
 pub shift-carries : (z : State) {e : Expr} {x : ℕ} → Reads e z x
     → (c : Bool) (k : ShiftKind) (i : ℕ) → i < 32
-    → Carries (shiftExprs e k i .1) z c (shift k x i c .1)
+    → CarryIs (shiftExprs e k i .1) z c (shift k x i c .1)
 shift-carries z p c Lsl zero l = refl
 shift-carries z p c Lsl (suc i) l = r-bit p (32 - suc i) (omega arith)
 shift-carries z {x = x} p c Lsr zero l =
@@ -152,18 +152,18 @@ module _ (z : State) (m : Machine) (s : Sound m) (i : Instr) (g : Regs z m) wher
 
   -- the carry out of a value, and out of a register shifted
   pub value-carries : (x rot : ℕ)
-      → Carries (cond (eqb rot 0) none (some (lit udec (x / 2 ^ 31 % 2)))) z (m .c)
+      → CarryIs (cond (eqb rot 0) none (some (lit udec (x / 2 ^ 31 % 2)))) z (m .c)
       (cond (eqb rot 0) (m .c) (bit x 31))
   value-carries x rot = go (eqb rot 0)
     where
       go : (b : Bool)
-          → Carries (cond b none (some (lit udec (x / 2 ^ 31 % 2)))) z (m .c)
+          → CarryIs (cond b none (some (lit udec (x / 2 ^ 31 % 2)))) z (m .c)
           (cond b (m .c) (bit x 31))
       go true = refl
       go false =
           to (sym (bit-num x 31)) (r-udec (le-trans (mod-lt (x / 2 ^ 31) (lit< tt)) (lit≤ tt)))
 
   pub shifted-carries : (rm : ℕ) (k : ShiftKind) (n : ℕ) → rm ≤ 15 → n < 32
-      → Carries (shiftExprs (regExpr i rm) k n .1) z (m .c)
+      → CarryIs (shiftExprs (regExpr i rm) k n .1) z (m .c)
       (shift k (R m (pcValue i) rm) n (m .c) .1)
   shifted-carries rm k n h l = shift-carries z (operand-reads z m s i g rm h) (m .c) k n l

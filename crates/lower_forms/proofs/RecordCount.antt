@@ -10,7 +10,7 @@ use Rattle.armv4t.specs.Fused.{fuse}
 use Rattle.file_instrs.specs.declared.decode.TimedInstr.{TimedInstr}
 use Rattle.file_blocks.specs.Parse.{Block}
 use Rattle.armv4t.specs.Cond.{isAl}
-use Rattle.lower_forms.specs.Forms.{Lines, records, Form, native, shell}
+use Rattle.lower_forms.specs.Forms.{Lines, recordsIn, Form, native, shell}
 use Rattle.lower_forms.specs.InlineBody.{inlineBody}
 use Rattle.lower_forms.specs.Block.{emitLines, emitInstr, emitInstrs, bodyOf}
 use Rattle.file_blocks.specs.Address.{region}
@@ -19,7 +19,7 @@ use Rattle.armv4t.proofs.Bools.{either}
 
 -- how many records a form stands for
 abbrev pub recordCount : Form → ℕ
-recordCount (native r) = records r
+recordCount (native r) = recordsIn r
 recordCount (shell h t k) = 1
 
 -- how many records some forms stand for
@@ -31,7 +31,7 @@ lines-count : (thumb touchesBus : Bool) (cycles : ℕ) (x : TimedInstr) (body : 
     → recordCount (emitLines thumb touchesBus cycles x body .0) ≡ 1
 lines-count thumb touchesBus cycles x none = refl
 lines-count thumb touchesBus cycles x (some body) =
-    either (λ r. records r ≡ 1) (isAl (x .instr .cond)) refl refl
+    either (λ r. recordsIn r ≡ 1) (isAl (x .instr .cond)) refl refl
 
 -- an instruction that is not fused is one record
 pub instr-count : (thumb : Bool) (region cycles : ℕ) (x : TimedInstr)
@@ -40,7 +40,7 @@ instr-count =
     every-instr (λ r. recordCount r ≡ 1) (λ thumb high cycles i. refl)
     (λ thumb touchesBus cycles x. lines-count thumb touchesBus cycles x
     (inlineBody thumb (x .instr)))
-    (λ thumb cycles i link target. either (λ r. records r ≡ 1) (isAl (i .cond)) refl refl)
+    (λ thumb cycles i link target. either (λ r. recordsIn r ≡ 1) (isAl (i .cond)) refl refl)
     (λ cycles i rm. refl)
     (λ thumb cycles rn rlist. refl)
 

@@ -17,7 +17,7 @@ use Rattle.c_tree.specs.Preamble.{v32}
 use Rattle.c_meaning.specs.State.{State, empty, value, setC, setMem, load, store, enter}
 use Rattle.c_meaning.specs.Eval.{evalAs}
 use Rattle.c_meaning.specs.Exec.{exec}
-use Rattle.lower_forms.specs.InlineBody.{only, let32, setReg, addOrSub, loaded, stored}
+use Rattle.lower_forms.specs.InlineBody.{listIf, let32, setReg, addOrSub, loaded, stored}
 use Rattle.lower_forms.specs.InlineBody.{access}
 use Rattle.armv4t_manual.specs.Machine.{Machine, Sound}
 use Rattle.armv4t_manual.specs.Machine as M
@@ -207,7 +207,7 @@ module _ {z : State} {m : Machine} (s : Sound m) (a : Agrees z m) (b : Expr) (x 
       m1 = M.setMem (T.stored k (address pre up x y) (m .r rd) (m .mem)) m
 
       go : (w c : Bool) → eqb rn 15 ≡ c → (f : ℕ → ℕ) → Agrees (setMem f placed) m1
-          → Makes (only (w && not c) (setReg rn (v32 x-ob))) (setMem f placed)
+          → Makes (listIf (w && not c) (setReg rn (v32 x-ob))) (setMem f placed)
           (cond w (M.setReg rn (moved up x y) m1) m1)
       go false c q f b = stop b
       go true true q f b = stop (with-pc b rn (moved up x y) (same-of rn 15 q))
@@ -233,7 +233,7 @@ module _ {z : State} {m : Machine} (s : Sound m) (a : Agrees z m) (b : Expr) (x 
       last u q e b = step (do-reg (value-reads k sig u q e) rd (omega (arith, hd))) (stop b)
 
       go : (w b : Bool) → eqb rn rd ≡ b → (c : Bool) → eqb rn 15 ≡ c
-          → Makes (only (w && not b && not c) (setReg rn (v32 x-ob))
+          → Makes (listIf (w && not b && not c) (setReg rn (v32 x-ob))
           ++ (setReg rd (loaded k sig) ∷ [])) placed
           (M.setReg rd v (cond w (M.setReg rn (moved up x y) m) m))
       go false b p c q = last placed refl (a .memory) (with-reg placed-same rd v hd)

@@ -25,7 +25,7 @@ use Rattle.c_tree.specs.Stmt.{Plain, tick}
 use Rattle.lower_forms.specs.Forms.{Lines, Native, straight, straightIf, branchIf, jump, pair}
 use Rattle.lower_forms.specs.Forms.{bx, pop, Form, native, shell, Body}
 use Rattle.lower_forms.specs.Operands.{condExpr, regExpr}
-use Rattle.lower_forms.specs.InlineBody.{only, apart, let32, setReg, aligned, listed, loads}
+use Rattle.lower_forms.specs.InlineBody.{listIf, eachOnLine, let32, setReg, aligned, listed, loads}
 use Rattle.lower_forms.specs.InlineBody.{inlineBody}
 use Rattle.armv4t.specs.RegisterList.{isListed}
 use Rattle.base_hash.specs.Fnv.{fnv64}
@@ -41,7 +41,7 @@ setWord r n = setReg r (lit word n)
 
 -- c[15] = 0x{:08x}u; in a line of its own
 abbrev pub pcLine : ℕ → Lines
-pcLine a = apart (setWord 15 a ∷ [])
+pcLine a = eachOnLine (setWord 15 a ∷ [])
 
 -- emit_shell: high if it is for an unfused ThumbBlHigh
 abbrev pub emitShell : Bool → Bool → ℕ → Instr → Form
@@ -51,18 +51,18 @@ emitShell thumb high cycles i =
 -- a fused pair to a target; the cycles are those pending with its own
 abbrev pub emitPair : ℕ → ℕ → ℕ → Native
 emitPair cycles target ret =
-    pair (flushTicks cycles ++ apart (setWord 14 ret ∷ setWord 15 (clearBit0 target) ∷ []))
+    pair (flushTicks cycles ++ eachOnLine (setWord 14 ret ∷ setWord 15 (clearBit0 target) ∷ []))
     (setBit0 target)
 
 -- the registers that a branch sets
 abbrev pub branchRegs : Bool → ℕ → ℕ → List Plain
-branchRegs link ret target = only link (setWord 14 ret) ++ (setWord 15 target ∷ [])
+branchRegs link ret target = listIf link (setWord 14 ret) ++ (setWord 15 target ∷ [])
 
 -- Branch
 abbrev pub emitBranch : Bool → ℕ → Instr → Bool → ℕ → Native
 emitBranch thumb cycles i link target =
     let regs : List Plain = branchRegs link ((i .addr + 4) % 2 ^ 32) target in
-    cond (isAl (i .cond)) (jump (flushTicks cycles ++ apart regs) (keyOf target thumb))
+    cond (isAl (i .cond)) (jump (flushTicks cycles ++ eachOnLine regs) (keyOf target thumb))
     (branchIf (flushTicks cycles) (condExpr (i .cond)) regs (keyOf target thumb))
 
 -- whether an indirect exit, Bx or pop of PC, is native: condition Al, outside region 0
@@ -80,7 +80,7 @@ abbrev pub emitPop : Bool → ℕ → ℕ → List ℕ → Native
 emitPop thumb cycles rn regs =
     pop (flushTicks cycles) (let32 x-addr (get (reg rn)))
     (loads regs
-    ++ apart (setReg rn (bin add (get (reg rn)) (lit udec ((length regs + 1) * 4))) ∷ []))
+    ++ eachOnLine (setReg rn (bin add (get (reg rn)) (lit udec ((length regs + 1) * 4))) ∷ []))
     (setReg 15 (bin band (read w32 (aligned 3)) (un compl (lit udec (cond thumb 1 3)))))
     (bin bor (get (reg 15)) (lit udec (cond thumb 1 0)))
 

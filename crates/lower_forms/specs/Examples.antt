@@ -27,7 +27,7 @@ use Rattle.c_tree.specs.Stmt.{Plain, tick}
 use Rattle.c_tree.specs.Preamble.{v32}
 use Rattle.c_tree.specs.Print.{plainText, spaces}
 use Rattle.lower_forms.specs.Forms.{Lines, straight, branchIf, pair, bx, pop, native, shell}
-use Rattle.lower_forms.specs.InlineBody.{apart, let32, setReg, mulBody, aligned, listed}
+use Rattle.lower_forms.specs.InlineBody.{eachOnLine, let32, setReg, mulBody, aligned, listed}
 use Rattle.lower_forms.specs.InlineBody.{advance, blockMemBody, inlineBody}
 use Rattle.lower_forms.specs.Block.{setWord, emitInstr, emitInstrs}
 
@@ -226,7 +226,7 @@ abbrev mul : ℕ → TimedInstr
 mul cost = timed cost (always false (Mul false false 0 0 2 1))
 
 abbrev mulLines : Lines
-mulLines = apart (mulBody false false 0 0 2 1)
+mulLines = eachOnLine (mulBody false false 0 0 2 1)
 
 -- stmia sp, {r0}, its text
 abbrev stmia : Op

@@ -39,14 +39,14 @@ pub data Form : Type 0 where
   shell : Bool → Lines → ℕ → Form
 
 -- how many records a native form carries out
-abbrev pub records : Native → ℕ
-records (straight t l) = 1
-records (straightIf t e l) = 1
-records (branchIf t e s k) = 1
-records (jump t k) = 1
-records (pair t k) = 2
-records (bx t e) = 1
-records (pop t s l u e) = 1
+abbrev pub recordsIn : Native → ℕ
+recordsIn (straight t l) = 1
+recordsIn (straightIf t e l) = 1
+recordsIn (branchIf t e s k) = 1
+recordsIn (jump t k) = 1
+recordsIn (pair t k) = 2
+recordsIn (bx t e) = 1
+recordsIn (pop t s l u e) = 1
 
 -- a block as it is printed: its address, whether it is Thumb, how many instructions it has, the
 -- hash of its code bytes or their absence, the forms of its instructions in their order, and the

@@ -34,14 +34,14 @@ use Rattle.lower_forms.specs.Forms.{Lines}
 use Rattle.lower_forms.specs.Operands.{regExpr, carryIn, shiftExprs, op2Exprs}
 
 -- x if b, else nothing
-abbrev pub only : {A : Type 0} → Bool → A → List A
-only true x = x ∷ []
-only false x = []
+abbrev pub listIf : {A : Type 0} → Bool → A → List A
+listIf true x = x ∷ []
+listIf false x = []
 
 -- each statement in a line of its own
-abbrev pub apart : List Plain → Lines
-apart [] = []
-apart (p ∷ ps) = (p ∷ []) ∷ apart ps
+abbrev pub eachOnLine : List Plain → Lines
+eachOnLine [] = []
+eachOnLine (p ∷ ps) = (p ∷ []) ∷ eachOnLine ps
 
 -- uint32_t x = e;
 abbrev pub let32 : Name → Expr → Plain
@@ -95,19 +95,19 @@ alu Mvn s rd a b carry = logical Mvn s rd carry (par (un compl b))
 -- Alu, if its second operand can be printed
 abbrev pub aluBody : AluOp → Bool → ℕ → Expr → Option (Expr × Option Expr) → Option Lines
 aluBody op s rd a none = none
-aluBody op s rd a (some b) = some (apart (alu op s rd a (b .0) (b .1)))
+aluBody op s rd a (some b) = some (eachOnLine (alu op s rd a (b .0) (b .1)))
 
 -- Mul
 abbrev pub mulBody : Bool → Bool → ℕ → ℕ → ℕ → ℕ → List Plain
 mulBody acc s rd rn rs rm =
     let32 x-r (bin mul (get (reg rm)) (get (reg rs)))
-    ∷ only acc (set (var (u32, x-r)) plus (get (reg rn)))
-    ++ (setReg rd (v32 x-r) ∷ only s (run f-nz (v32 x-r)))
+    ∷ listIf acc (set (var (u32, x-r)) plus (get (reg rn)))
+    ++ (setReg rd (v32 x-r) ∷ listIf s (run f-nz (v32 x-r)))
 
 -- a factor of MulLong
-abbrev pub wide : Bool → Expr → Expr
-wide true e = cast s64 (cast s32 e)
-wide false e = cast u64 e
+abbrev pub widened : Bool → Expr → Expr
+widened true e = cast s64 (cast s32 e)
+widened false e = cast u64 e
 
 -- the r of MulLong
 abbrev pub r64 : Expr
@@ -117,12 +117,12 @@ r64 = get (var (u64, x-r))
 abbrev pub mulLongBody : Bool → Bool → Bool → ℕ → ℕ → ℕ → ℕ → List Plain
 mulLongBody signed acc s hi lo rs rm =
     declare (u64, x-r)
-    (cast u64 (par (bin mul (wide signed (get (reg rm))) (wide signed (get (reg rs)))))) []
-    ∷ only acc
+    (cast u64 (par (bin mul (widened signed (get (reg rm))) (widened signed (get (reg rs)))))) []
+    ∷ listIf acc
     (set (var (u64, x-r)) plus
     (bin bor (par (bin shl (cast u64 (get (reg hi))) (lit int 32))) (cast u64 (get (reg lo)))))
     ++ (setReg lo (cast u32 r64) ∷ setReg hi (cast u32 (par (bin shr r64 (lit int 32))))
-    ∷ only s (run f-nz64 r64))
+    ∷ listIf s (run f-nz64 r64))
 
 -- the base of a Mem: PC is word-aligned in a Thumb block
 abbrev pub baseExpr : Bool → Instr → ℕ → Expr
@@ -177,16 +177,16 @@ stored Word e = write w32 (aligned 3) e
 -- a load or a store, after the lines that both have; wb: the base is written back
 abbrev pub access : Bool → MemWidth → Bool → ℕ → ℕ → Bool → List Plain
 access true width signed rd rn wb =
-    only (wb && not (eqb rn rd) && not (eqb rn 15)) (setReg rn (v32 x-ob))
+    listIf (wb && not (eqb rn rd) && not (eqb rn 15)) (setReg rn (v32 x-ob))
     ++ (setReg rd (loaded width signed) ∷ [])
-access false width signed rd rn wb = stored width (get (reg rd)) ∷ only (wb && not (eqb rn 15))
+access false width signed rd rn wb = stored width (get (reg rd)) ∷ listIf (wb && not (eqb rn 15))
     (setReg rn (v32 x-ob))
 
 -- the lines of a Mem, by its base, whether the offset is added, whether it counts before the
 -- access, the statements of the access, and the offset
 abbrev pub memLines : Expr → Bool → Bool → List Plain → Expr → Lines
 memLines base up pre rest off =
-    apart (let32 x-base base ∷ let32 x-ob (bin (addOrSub up) (v32 x-base) off)
+    eachOnLine (let32 x-base base ∷ let32 x-ob (bin (addOrSub up) (v32 x-base) off)
     ∷ let32 x-addr (v32 (cond pre x-ob x-base)) ∷ rest)
 
 -- Mem, if its offset can be printed
@@ -197,7 +197,7 @@ memBody base up pre rest (some off) = some (memLines base up pre rest off)
 -- the registers below n that a register list names, in rising order
 unfoldable pub listed : ℕ → ℕ → List ℕ
 listed rlist zero = []
-listed rlist (suc n) = listed rlist n ++ only (isListed rlist n) n
+listed rlist (suc n) = listed rlist n ++ listIf (isListed rlist n) n
 
 -- addr += 4u;
 abbrev pub advance : Plain
@@ -235,15 +235,15 @@ stores value (r ∷ rs) = (write w32 (aligned 3) (value r) ∷ advance ∷ []) �
 -- back and is listed, the base after, the registers
 abbrev pub loadsOrStores : Bool → Instr → ℕ → Bool → Bool → Expr → List ℕ → Lines
 loadsOrStores true i rn writeback inList moved regs =
-    apart (only (writeback && not inList) (setReg rn moved)) ++ loads regs
+    eachOnLine (listIf (writeback && not inList) (setReg rn moved)) ++ loads regs
 loadsOrStores false i rn writeback inList moved regs =
-    stores (storedReg i rn (getD regs 0 16) moved) regs ++ apart (only writeback (setReg rn moved))
+    stores (storedReg i rn (getD regs 0 16) moved) regs ++ eachOnLine (listIf writeback (setReg rn moved))
 
 -- BlockMem: inList if its base register is listed
 abbrev pub blockMemBody : Instr → Bool → ℕ → Bool → Bool → Bool → Bool → List ℕ → Lines
 blockMemBody i load rn inList pre up writeback regs =
     let total : ℕ = length regs * 4 in
-    apart (let32 x-base (get (reg rn)) ∷ let32 x-addr (start up pre total) ∷ [])
+    eachOnLine (let32 x-base (get (reg rn)) ∷ let32 x-addr (start up pre total) ∷ [])
     ++ loadsOrStores load i rn writeback inList (movedBase up total) regs
 
 -- inline_body by the operation, in a block that is Thumb or not; none where the interpreter is to
@@ -252,9 +252,9 @@ abbrev pub opBody : Bool → Instr → Op → Option Lines
 opBody thumb i (Alu op s rd rn op2) =
     cond (eqb rd 15) none (aluBody op s rd (regExpr i rn) (op2Exprs i op2))
 opBody thumb i (Mul acc s rd rn rs rm) =
-    cond (eqb rd 15) none (some (apart (mulBody acc s rd rn rs rm)))
+    cond (eqb rd 15) none (some (eachOnLine (mulBody acc s rd rn rs rm)))
 opBody thumb i (MulLong signed acc s hi lo rs rm) =
-    some (apart (mulLongBody signed acc s hi lo rs rm))
+    some (eachOnLine (mulLongBody signed acc s hi lo rs rm))
 opBody thumb i (Swap byte rd rm rn) = none
 opBody thumb i (Bx rm) = none
 opBody thumb i (Branch link target) = none

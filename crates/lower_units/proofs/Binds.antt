@@ -17,7 +17,7 @@ use Rattle.c_tree.specs.Binds.{level, binds, declaratorsBind, plainBinds, testB
 use Rattle.c_tree.specs.Binds.{codeBinds, topBinds, treeBinds}
 use Rattle.c_tree.proofs.Laws.{binds-append}
 use Rattle.lower_forms.specs.Forms.{Lines, Native, straight, straightIf, branchIf, jump, pair, bx}
-use Rattle.lower_forms.specs.Forms.{pop, Form, shell, records, Body}
+use Rattle.lower_forms.specs.Forms.{pop, Form, shell, recordsIn, Body}
 use Rattle.lower_forms.specs.Block.{bodyOf}
 use Rattle.lower_forms.proofs.Binds.{plainsBind, linesBind, nativeBinds, formBinds, forms-bind}
 use Rattle.lower_forms.proofs.Binds.{closing-lines-bind}
@@ -28,7 +28,7 @@ use Rattle.lower_units.specs.Block.{blockCode, bodyEnd, closingLines}
 use Rattle.file_blocks.specs.Address.{among, outsideRomBios}
 use Rattle.lower_units.specs.Units.{withLocals, emitBlock, labelled, groupCode, forwarders}
 use Rattle.lower_units.specs.Units.{emitGroup, unitHead, lastUnitEnd, TranslationUnit, textOf}
-use Rattle.lower_units.specs.Units.{cut, defaultBody, bodiesOf, unitsOf}
+use Rattle.lower_units.specs.Units.{cut, defaultBody, bodiesOf, emitCChunked}
 use Rattle.armv4t.proofs.Bools.{left-true as left, right-true, both-true as both}
 
 -- either of two
@@ -135,7 +135,7 @@ module _ (ks : List ℕ) (b : Body) where
   unfolding codeBinds simpleBinds testBinds binds level codeFrom
   code-from-binds i [] h = closing-binds
   code-from-binds i (Form.native r ∷ rs) h =
-      native-binds ks (b .addr) _ r _ (h .0) (code-from-binds (i + records r) rs (h .1))
+      native-binds ks (b .addr) _ r _ (h .0) (code-from-binds (i + recordsIn r) rs (h .1))
   code-from-binds i (shell true t k ∷ []) h = lines-bind common 4 t _ (h .0) closing-binds
   code-from-binds i (shell false t k ∷ []) h = lines-bind common 4 t _ (h .0) refl
   code-from-binds i (shell u t k ∷ r ∷ rs) h =
@@ -279,8 +279,8 @@ tree-binds (t ∷ ts) h =
 
 -- every unit of some blocks, in any groups and at any wished size
 pub units-bind : (multiplier max : ℕ) (bs : List Block) (gs : List (List ℕ)) (u : TranslationUnit)
-    → List·Memᴰ u (unitsOf max (map (bodyOf multiplier) bs) gs) → treeBinds (u .tree) ≡ true
-unfolding unitsOf
+    → List·Memᴰ u (emitCChunked max (map (bodyOf multiplier) bs) gs) → treeBinds (u .tree) ≡ true
+unfolding emitCChunked
 units-bind multiplier max bs gs u m =
     let bodies = map (bodyOf multiplier) bs in
     tree-binds (u .tree)

@@ -19,7 +19,7 @@ use Rattle.c_meaning.specs.State.{State}
 use Rattle.lower_forms.specs.Forms.{Native, jump}
 use Rattle.lower_forms.specs.Forms as F
 use Rattle.lower_forms.specs.Operands.{condExpr}
-use Rattle.lower_forms.specs.InlineBody.{apart}
+use Rattle.lower_forms.specs.InlineBody.{eachOnLine}
 use Rattle.lower_forms.specs.Block.{flushTicks, branchRegs, emitBranch}
 use Rattle.lower_units.specs.Block.{nativeText}
 use Rattle.armv4t_manual.specs.Machine.{Machine, setReg, Sound}
@@ -82,7 +82,7 @@ module _ (i : Instr) (link : Bool) (target : ℕ) (r : InRange (Branch link targ
   -- the form, under Al or not
   form : Bool → Native
   form b =
-      cond b (jump (flushTicks n ++ apart (branchRegs link ret target)) k)
+      cond b (jump (flushTicks n ++ eachOnLine (branchRegs link ret target)) k)
       (F.branchIf (flushTicks n) (condExpr (i .cond)) (branchRegs link ret target) k)
 
   -- no Thumb instruction but the pair links

@@ -15,7 +15,7 @@ use Rattle.c_meaning.specs.Exec.{Goes, on, to, back, Outcome, next, asks, exec,
 use Rattle.c_meaning.specs.Helpers.{rotated, perform, run}
 use Rattle.lower_forms.specs.Forms.{Lines, jump, branchIf}
 use Rattle.lower_forms.specs.Operands.{condExpr, flags}
-use Rattle.lower_forms.specs.InlineBody.{only, apart}
+use Rattle.lower_forms.specs.InlineBody.{listIf, eachOnLine}
 use Rattle.lower_forms.specs.Block.{flushTicks, setWord}
 use Rattle.file_blocks.specs.Address.{among}
 use Rattle.lower_units.specs.Block.{nl, sp, line, conditional, gotoCode, transfer, nativeText}
@@ -96,7 +96,7 @@ abbrev branched : Bool → ℕ → ℕ → State → State
 branched link ret target z = setC 15 target (cond link (setC 14 ret z) z)
 
 sets-do : (link : Bool) (ret target : ℕ) → ret < 4294967296 → target < 4294967296 → (z : State)
-    → perform (only link (setWord 14 ret) ++ (setWord 15 target ∷ [])) z
+    → perform (listIf link (setWord 14 ret) ++ (setWord 15 target ∷ [])) z
     ≡ some (branched link ret target z)
 unfolding perform execs exec eval
 sets-do true ret target h l z = rw (lt-true h, lt-true l)
@@ -135,7 +135,7 @@ module _ (ks : List ℕ) (a : ℕ) (o : Owner) (n : ℕ) (link : Bool) (ret targ
   -- ..; transfer
   pub jump-leaves : Leaves
       (nativeText ks a o
-      (jump (flushTicks n ++ apart (only link (setWord 14 ret) ++ (setWord 15 target ∷ []))) k)) z
+      (jump (flushTicks n ++ eachOnLine (listIf link (setWord 14 ret) ++ (setWord 15 target ∷ []))) k)) z
       (cond link (setReg 14 ret m) m, k)
   unfolding nativeText
   jump-leaves =
@@ -145,9 +145,9 @@ module _ (ks : List ℕ) (a : ℕ) (o : Owner) (n : ℕ) (link : Bool) (ret targ
         end = t .end;
         exit = t .exit;
         ends = λ c.
-            run-lines o 4 (flushTicks n ++ apart ps) (transfer ks a o 4 k end) z
+            run-lines o 4 (flushTicks n ++ eachOnLine ps) (transfer ks a o 4 k end) z
             ∙ ap (λ (q : Option State). bind q (run (transfer ks a o 4 k end)))
-            (ticks-first n (apart ps) z ∙ ap (λ (qs : List Plain). perform qs z) (all-of ps)
+            (ticks-first n (eachOnLine ps) z ∙ ap (λ (qs : List Plain). perform qs z) (all-of ps)
             ∙ sets-do link ret target hr ht z)
             ∙ t .ends end;
         leads = t .leads;
@@ -156,7 +156,7 @@ module _ (ks : List ℕ) (a : ℕ) (o : Owner) (n : ℕ) (link : Bool) (ret targ
       }
     where
       ps : List Plain
-      ps = only link (setWord 14 ret) ++ (setWord 15 target ∷ [])
+      ps = listIf link (setWord 14 ret) ++ (setWord 15 target ∷ [])
 
 -- what leads away leads past what stands after
 away : (w : Goes) (z : State) (f : State → Outcome) {k : ℕ} → destination w ≡ some k
@@ -189,7 +189,7 @@ module _ (ks : List ℕ) (a : ℕ) (o : Owner) (n : ℕ) (link : Bool) (ret targ
       → Leaves
       (nativeText ks a o
       (branchIf (flushTicks n) (condExpr c)
-      (only link (setWord 14 ret) ++ (setWord 15 target ∷ [])) k)) z
+      (listIf link (setWord 14 ret) ++ (setWord 15 target ∷ [])) k)) z
       (cond link (setReg 14 ret m) m, k)
   unfolding nativeText run runs step
   branch-leaves pass =
@@ -225,11 +225,11 @@ module _ (ks : List ℕ) (a : ℕ) (o : Owner) (n : ℕ) (link : Bool) (ret targ
       }
     where
       ps : List Plain
-      ps = only link (setWord 14 ret) ++ (setWord 15 target ∷ [])
+      ps = listIf link (setWord 14 ret) ++ (setWord 15 target ∷ [])
 
       b : Code
       b = sp 1
-          ⨾ line o (only link (setWord 14 ret) ++ (setWord 15 target ∷ []))
+          ⨾ line o (listIf link (setWord 14 ret) ++ (setWord 15 target ∷ []))
           (nl ⨾ transfer ks a o 8 k (sp 6 ⨾ end))
 
   -- and where it fails
@@ -237,7 +237,7 @@ module _ (ks : List ℕ) (a : ℕ) (o : Owner) (n : ℕ) (link : Bool) (ret targ
       → Continues
       (nativeText ks a o
       (branchIf (flushTicks n) (condExpr c)
-      (only link (setWord 14 ret) ++ (setWord 15 target ∷ [])) k)) z m
+      (listIf link (setWord 14 ret) ++ (setWord 15 target ∷ [])) k)) z m
   unfolding nativeText
   branch-continues fail =
       record {
@@ -250,5 +250,5 @@ module _ (ks : List ℕ) (a : ℕ) (o : Owner) (n : ℕ) (link : Bool) (ret targ
     where
       b : Code
       b = sp 1
-          ⨾ line o (only link (setWord 14 ret) ++ (setWord 15 target ∷ []))
+          ⨾ line o (listIf link (setWord 14 ret) ++ (setWord 15 target ∷ []))
           (nl ⨾ transfer ks a o 8 k (sp 6 ⨾ end))

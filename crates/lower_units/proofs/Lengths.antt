@@ -30,7 +30,7 @@ use Rattle.c_tree.specs.Print.{exprText, keyText, spaces, casesText, codeText, 
 use Rattle.c_tree.proofs.Laws.{length-unit}
 use Rattle.c_tree.proofs.Lengths.{most-append}
 use Rattle.lower_forms.specs.Forms.{Lines, Native, straight, straightIf, branchIf, jump, pair, bx}
-use Rattle.lower_forms.specs.Forms.{pop, Form, shell, records, Body}
+use Rattle.lower_forms.specs.Forms.{pop, Form, shell, recordsIn, Body}
 use Rattle.lower_forms.proofs.RecordCount.{recordCounts, body-count}
 use Rattle.lower_forms.specs.Block.{bodyOf}
 use Rattle.lower_forms.proofs.Every.{Each}
@@ -43,7 +43,7 @@ use Rattle.file_records.specs.BlockRecord.{keyPlus}
 use Rattle.file_blocks.specs.Address.{among, outsideRomBios}
 use Rattle.lower_units.specs.Units.{withLocals, emitBlock, labelled, groupCode, forwarders}
 use Rattle.lower_units.specs.Units.{emitGroup, unitHead, lastUnitEnd, TranslationUnit, textOf}
-use Rattle.lower_units.specs.Units.{cut, defaultBody, bodiesOf, unitsOf}
+use Rattle.lower_units.specs.Units.{cut, defaultBody, bodiesOf, emitCChunked}
 use Rattle.armv4t.proofs.Bools.{either}
 
 -- the most bytes of the text of code
@@ -146,7 +146,7 @@ native-most ks a o (pop t p l q e) c =
     )
 
 -- a form stands for a record at least
-records-some : (r : Native) → 1 ≤ records r
+records-some : (r : Native) → 1 ≤ recordsIn r
 records-some (straight t l) = omega arith
 records-some (straightIf t e l) = omega arith
 records-some (branchIf t e s k) = omega arith
@@ -182,8 +182,8 @@ module _ (ks : List ℕ) (b : Body) (short : Short b) where
         arith,
         h .0,
         records-some r,
-        native-most ks (b .addr) (Owner.native (bodyKey b)) r (codeFrom ks b (i + records r) rs),
-        code-from-most (i + records r) rs (h .1),
+        native-most ks (b .addr) (Owner.nativeOf (bodyKey b)) r (codeFrom ks b (i + recordsIn r) rs),
+        code-from-most (i + recordsIn r) rs (h .1),
       )
   code-from-most i (shell true t k ∷ []) h =
       omega (
@@ -479,9 +479,9 @@ module _ (limit : ℕ) (bs : List Block) where
 
   -- the text of a unit: at most all blocks, PREAMBLE and the table, whatever the blocks
   pub units-most : (multiplier max : ℕ) (u : TranslationUnit)
-      → List·Memᴰ u (unitsOf max (map (bodyOf multiplier) bs) (groups limit bs))
+      → List·Memᴰ u (emitCChunked max (map (bodyOf multiplier) bs) (groups limit bs))
       → length (textOf (u .tree)) ≤ 4200 + length bs * 800 + instrTotal bs * 2600
-  unfolding unitsOf
+  unfolding emitCChunked
   units-most multiplier max u m =
       let bodies : List Body = map (bodyOf multiplier) bs in
       omega (
@@ -497,7 +497,7 @@ module _ (limit : ℕ) (bs : List Block) where
 -- the text of every unit of an accepted file: at most 2,778,730,600 bytes by its limits
 pub units-short : (f : List ℕ) (bs : List Block) → parse f ≡ Parsed.accepted bs
     → (multiplier limit max : ℕ) (u : TranslationUnit)
-    → List·Memᴰ u (unitsOf max (map (bodyOf multiplier) bs) (groups limit bs))
+    → List·Memᴰ u (emitCChunked max (map (bodyOf multiplier) bs) (groups limit bs))
     → length (textOf (u .tree)) < maxUsize
 units-short f bs accepted multiplier limit max u m =
     omega (

@@ -18,5 +18,5 @@ pub mod Pop
 pub mod Outcome
 pub mod Pairs
 pub mod States
-pub mod Theorem
+pub mod RecordMeans
 pub mod Thumbs

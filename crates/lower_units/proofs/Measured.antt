@@ -13,7 +13,7 @@ use Rattle.base_text.proofs.Numerals.{length-fixed}
 use Rattle.c_tree.specs.Stmt.{Owner, common, recordMark, call, Code, end, _⨾_, when, braces, _⧺_}
 use Rattle.c_tree.specs.Stmt.{block, Top, function, extern, table, count}
 use Rattle.c_tree.specs.Print.{casesText, codeText, unitText}
-use Rattle.lower_forms.specs.Forms.{Form, shell, records, Body}
+use Rattle.lower_forms.specs.Forms.{Form, shell, recordsIn, Body}
 use Rattle.lower_units.specs.Block.{bodyKey, nl, sp, lines, closing, nativeText, shellCode}
 use Rattle.lower_units.specs.Block.{codeFrom, underGuard, blockCode}
 use Rattle.file_blocks.specs.Address.{outsideRomBios}
@@ -74,9 +74,9 @@ module _ (written : Bool) where
   unfolding codeFrom closing
   code-hashed ks b i [] = refl
   code-hashed ks b i (Form.native r ∷ rs) =
-      ap (λ (c : Code). recordMark (bodyKey b) i (records r)
-      ⨾ nativeText ks (b .addr) (Owner.native (bodyKey b)) r c)
-      (code-hashed ks b (i + records r) rs)
+      ap (λ (c : Code). recordMark (bodyKey b) i (recordsIn r)
+      ⨾ nativeText ks (b .addr) (Owner.nativeOf (bodyKey b)) r c)
+      (code-hashed ks b (i + recordsIn r) rs)
   code-hashed ks b i (shell h t k ∷ []) = refl
   code-hashed ks b i (shell h t k ∷ r ∷ rs) =
       ap (λ (c : Code). lines common 4 t (shellCode b i k c)) (code-hashed ks b (i + 1) (r ∷ rs))

@@ -19,7 +19,7 @@ use Rattle.c_meaning.specs.State as S
 use Rattle.c_meaning.specs.Exec.{back, execs, step, runs}
 use Rattle.c_meaning.specs.Helpers.{perform, run}
 use Rattle.lower_forms.specs.Forms.{Lines}
-use Rattle.lower_forms.specs.InlineBody.{apart, let32, setReg, aligned, listed, loads}
+use Rattle.lower_forms.specs.InlineBody.{eachOnLine, let32, setReg, aligned, listed, loads}
 use Rattle.lower_forms.specs.Block.{emitPop}
 use Rattle.lower_units.specs.Block.{nl, sp, lines, nativeText}
 use Rattle.lower_units.specs.Block as L
@@ -116,19 +116,19 @@ module _ {z : State} {m : Machine} (s : Sound m) (a : Agrees z m) (rn : ℕ) (hn
   few k h = omega arith
 
   -- what the state after the lines has
-  Ready : State → Type 0
-  Ready y = Agrees y popped × (value (var (u32, x-addr)) y ≡ some (addressAfter is (m .r rn)))
+  PopReady : State → Type 0
+  PopReady y = Agrees y popped × (value (var (u32, x-addr)) y ≡ some (addressAfter is (m .r rn)))
       × (addressAfter is (m .r rn) < 4294967296)
 
   lines-reach : Reaches
       (statements
       (loads is
-      ++ apart (setReg rn (bin add (get (reg rn)) (lit udec ((length is + 1) * 4))) ∷ [])))
-      (within (given x-addr (m .r rn) empty) (z .scopes) z) Ready
-  unfolding Ready
+      ++ eachOnLine (setReg rn (bin add (get (reg rn)) (lit udec ((length is + 1) * 4))) ∷ [])))
+      (within (given x-addr (m .r rn) empty) (z .scopes) z) PopReady
+  unfolding PopReady
   lines-reach =
       loads-reach is (given x-addr (m .r rn) empty) (z .scopes) z m (m .r rn)
-      (apart (setReg rn (bin add (get (reg rn)) (lit udec ((length is + 1) * 4))) ∷ [])) hi
+      (eachOnLine (setReg rn (bin add (get (reg rn)) (lit udec ((length is + 1) * 4))) ∷ [])) hi
       (s .bytes) a refl (s .words rn hn)
       λ h y b q l.
       go-on
@@ -144,8 +144,8 @@ module _ {z : State} {m : Machine} (s : Sound m) (a : Agrees z m) (rn : ℕ) (hn
       ))
 
   -- what is read for PC
-  word-reads : (y : State) → Ready y → Reads (read w32 (aligned 3)) y loaded
-  unfolding Ready
+  word-reads : (y : State) → PopReady y → Reads (read w32 (aligned 3)) y loaded
+  unfolding PopReady
   word-reads y r =
       to (ap (λ (f : ℕ → ℕ). load w32 f (addressAfter is (m .r rn) / 4 * 4)) (r .0 .memory))
       (r-read (r-aligned (r-var (u32, x-addr) refl (r .1) (r .2)))
@@ -154,12 +154,12 @@ module _ {z : State} {m : Machine} (s : Sound m) (a : Agrees z m) (rn : ℕ) (hn
   module _ (ks : List ℕ) (at : ℕ) (o : Owner) (n : ℕ) where
     -- the text, where c[15] becomes v and k is returned
     pop-text : (thumb : Bool) (v k : ℕ)
-        → ((y : State) → Ready y
+        → ((y : State) → PopReady y
         → Reads (bin band (read w32 (aligned 3)) (un compl (lit udec (cond thumb 1 3)))) y v)
         → ((y : State) → y .c 15 ≡ v
         → Reads (bin bor (get (reg 15)) (lit udec (cond thumb 1 0))) y k) → v ≡ k / 2 * 2
         → Leaves (nativeText ks at o (emitPop thumb n rn is)) z (popped, k)
-    unfolding Ready nativeText run runs step
+    unfolding PopReady nativeText run runs step
     pop-text thumb v k p e h =
         let r = lines-reach in
         let y : State = setC 15 v (r .end) in
@@ -194,7 +194,7 @@ module _ {z : State} {m : Machine} (s : Sound m) (a : Agrees z m) (rn : ℕ) (hn
         ls : Lines
         ls =
             loads is
-            ++ apart (setReg rn (bin add (get (reg rn)) (lit udec ((length is + 1) * 4))) ∷ [])
+            ++ eachOnLine (setReg rn (bin add (get (reg rn)) (lit udec ((length is + 1) * 4))) ∷ [])
 
         out : Code
         out =

@@ -27,7 +27,7 @@ use Rattle.lower_units.specs.Block.{gotoCode, transfer, closing, nativeT
 use Rattle.lower_units.specs.Block.{underGuard, blockCode}
 use Rattle.file_blocks.specs.Address.{outsideRomBios}
 use Rattle.lower_units.specs.Units.{withLocals, emitBlock, emitGroup, lastUnitEnd, textOf}
-use Rattle.lower_units.specs.Units.{cut, bodiesOf, unitsOf, unitsFor, unitCount}
+use Rattle.lower_units.specs.Units.{cut, bodiesOf, emitCChunked, unitsBy, unitCount}
 use Rattle.plan_search.specs.Target.{target}
 use Rattle.plan_groups.specs.Plan.{joinExits, joinBlocks, parents, withRoot, insert, sortByKey}
 use Rattle.plan_groups.specs.Plan.{parts, groupsFrom, groups, rowsFrom, plan}
@@ -160,7 +160,7 @@ each g h (List·Memᴰ·tail m) e = each g h m (cc)
 pub starred : (c : Case) → List·Memᴰ c cases → defined c ≡ stated c
 unfolding exits instrExits fuse cases one pair long short two timed swi from lone defined stated
     bodyOf emitInstrs emitInstr inlineBody blockCode outsideRomBios underGuard codeFrom nativeText
-    transfer gotoCode closing unitsFor unitsOf cut bodiesOf lastUnitEnd textOf emitGroup emitBlock
+    transfer gotoCode closing unitsBy emitCChunked cut bodiesOf lastUnitEnd textOf emitGroup emitBlock
     withLocals print decimal numeral hexadecimal hexadecimal8 hexadecimal16 lastDigits plan rowsFrom
     groups groupsFrom parts sortByKey insert withRoot parents joinBlocks joinExits target follow
 starred c m = each defined stated m refl

@@ -30,7 +30,7 @@ use Rattle.lower_units.specs.Block.{nativeText}
 use Rattle.lower_units.specs.Text.{Leaves}
 use Rattle.lower_units.specs.Records.{isNamedDifference, RecordMeans, ThumbMeans}
 use Rattle.lower_units.specs.Records.{ThumbPairMeans}
-use Rattle.lower_units.proofs.Theorem.{record-means}
+use Rattle.lower_units.proofs.RecordMeans.{record-means}
 use Rattle.lower_units.proofs.Pairs.{pair-means}
 
 -- neither of two, the second after a test

@@ -15,7 +15,7 @@ use Rattle.plan_groups.specs.Plan.{groups}
 use Rattle.c_tree.specs.Stmt.{Top}
 use Rattle.lower_forms.specs.Forms.{Body}
 use Rattle.lower_units.specs.Units.{TranslationUnit, emitGroup, unitHead, lastUnitEnd, textOf}
-use Rattle.lower_units.specs.Units.{cut, defaultBody, bodiesOf, unitsOf, unitsFor}
+use Rattle.lower_units.specs.Units.{cut, defaultBody, bodiesOf, emitCChunked, unitsBy}
 
 -- how many blocks some groups have
 abbrev pub blocksIn : {A : Type 0} → List (List A) → ℕ
@@ -137,17 +137,17 @@ blocks-of bs (g ∷ gs) =
 -- every unit but the last is long enough and not the last; the last has the table, and all blocks
 -- are done with it
 pub units-end : (max : ℕ) (bs : List Body) (gs : List (List ℕ))
-    → Ends max (lastUnitEnd bs) (blocksIn gs) (unitsOf max bs gs)
-unfolding unitsOf
+    → Ends max (lastUnitEnd bs) (blocksIn gs) (emitCChunked max bs gs)
+unfolding emitCChunked
 units-end max bs gs =
     let same : 0 + blocksIn (map (bodiesOf bs) gs) ≡ blocksIn gs = omega (arith, blocks-of bs gs) in
-    subst (λ (n : ℕ). Ends max (lastUnitEnd bs) n (unitsOf max bs gs)) same
+    subst (λ (n : ℕ). Ends max (lastUnitEnd bs) n (emitCChunked max bs gs)) same
     (cut-ends max (lastUnitEnd bs) (map (bodiesOf bs) gs) unitHead 0)
 
 -- every unit opens with PREAMBLE and a newline
 pub unit-opens : (max : ℕ) (bs : List Body) (gs : List (List ℕ)) (u : TranslationUnit)
-    → List·Memᴰ u (unitsOf max bs gs) → (r : List Top) × (u .tree ≡ unitHead ++ r)
-unfolding unitsOf
+    → List·Memᴰ u (emitCChunked max bs gs) → (r : List Top) × (u .tree ≡ unitHead ++ r)
+unfolding emitCChunked
 unit-opens max bs gs u m =
     cut-opens max (lastUnitEnd bs) (map (bodiesOf bs) gs) unitHead 0 [] refl u m
 
@@ -158,10 +158,10 @@ blocks-flat (g ∷ gs) = omega (arith, length-append g (flatten gs), blocks-flat
 
 -- with the last unit of a file's blocks all of them are done
 pub file-ends : (bodyOf : Block → Body) (limit max : ℕ) (bs : List Block)
-    → Ends max (lastUnitEnd (map bodyOf bs)) (length bs) (unitsFor bodyOf limit max bs)
-unfolding unitsFor
+    → Ends max (lastUnitEnd (map bodyOf bs)) (length bs) (unitsBy bodyOf limit max bs)
+unfolding unitsBy
 file-ends bodyOf limit max bs =
     subst (λ (n : ℕ). Ends max (lastUnitEnd (map bodyOf bs)) n
-    (unitsOf max (map bodyOf bs) (groups limit bs)))
+    (emitCChunked max (map bodyOf bs) (groups limit bs)))
     (blocks-flat (groups limit bs) ∙ groups-length bs limit)
     (units-end max (map bodyOf bs) (groups limit bs))

@@ -33,7 +33,7 @@ use Rattle.lower_units.specs.Block.{underGuard, blockCode}
 use Rattle.file_blocks.specs.Address.{outsideRomBios}
 use Rattle.lower_units.specs.Units.{withLocals, emitBlock, labelled, groupCode, forwarders}
 use Rattle.lower_units.specs.Units.{emitGroup, unitHead, lastUnitEnd, madeUnit, textOf, cut}
-use Rattle.lower_units.specs.Units.{bodiesOf, unitsOf, unitsFor, fileUnits}
+use Rattle.lower_units.specs.Units.{bodiesOf, emitCChunked, unitsBy, units}
 
 timed : ℕ → Bool → Cond → Op → ℕ → TimedInstr
 timed at thumb k op cost =
@@ -99,7 +99,7 @@ blocks =
     }
     ∷ []
 
-whole : map madeUnit (fileUnits hashMultiplier partLimit 1_000_000 blocks)
+whole : map madeUnit (units hashMultiplier partLimit 1_000_000 blocks)
     ≡ record {
       values = record { length = 5074; done = 7; last = true };
       content = textOf unitHead
@@ -109,7 +109,7 @@ whole : map madeUnit (fileUnits hashMultiplier partLimit 1_000_000 blocks)
     }
     ∷ []
 unfolding blocks timed fuse fnv64 fnvFrom bodyOf emitInstrs emitInstr inlineBody blockCode
-    outsideRomBios underGuard codeFrom nativeText transfer gotoCode closing unitsOf unitsFor cut
+    outsideRomBios underGuard codeFrom nativeText transfer gotoCode closing emitCChunked unitsBy cut
     bodiesOf lastUnitEnd textOf emitGroup emitBlock labelled groupCode forwarders withLocals print
     decimal numeral hexadecimal hexadecimal8 hexadecimal16 lastDigits groups groupsFrom parts
     sortByKey insert withRoot parents joinBlocks joinExits target follow exits instrExits

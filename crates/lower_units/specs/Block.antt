@@ -19,7 +19,7 @@ use Rattle.file_blocks.specs.Address.{outsideRomBios, among}
 use Rattle.lower_forms.specs.Operands.{flags}
 use Rattle.lower_forms.specs.Block.{flushTicks, pcLine}
 use Rattle.lower_forms.specs.Forms.{Lines, Native, straight, straightIf, branchIf, jump, pair, bx}
-use Rattle.lower_forms.specs.Forms.{pop, Form, shell, records, Body}
+use Rattle.lower_forms.specs.Forms.{pop, Form, shell, recordsIn, Body}
 
 -- the key of a block: its address plus the Thumb bit
 abbrev pub bodyKey : Body → ℕ
@@ -139,8 +139,8 @@ shellCode b i k c = sp 4 ⨾ interp (bodyKey b) i ⨾ sp 1
 -- returns; after an unfused half that is last stands the closing transfer
 unfoldable pub codeFrom : List ℕ → Body → ℕ → List Form → Code
 codeFrom ks b i [] = closing ks b
-codeFrom ks b i (Form.native r ∷ rs) = recordMark (bodyKey b) i (records r)
-    ⨾ nativeText ks (b .addr) (Owner.native (bodyKey b)) r (codeFrom ks b (i + records r) rs)
+codeFrom ks b i (Form.native r ∷ rs) = recordMark (bodyKey b) i (recordsIn r)
+    ⨾ nativeText ks (b .addr) (Owner.nativeOf (bodyKey b)) r (codeFrom ks b (i + recordsIn r) rs)
 codeFrom ks b i (shell h t k ∷ []) =
     lines common 4 t (sp 4 ⨾ retInterp (bodyKey b) i ⨾ nl ⨾ cond h (closing ks b) end)
 codeFrom ks b i (shell h t k ∷ r ∷ rs) =

@@ -23,7 +23,7 @@ use Rattle.lower_units.specs.Block.{underGuard, blockCode}
 use Rattle.file_blocks.specs.Address.{outsideRomBios}
 use Rattle.lower_units.specs.Units.{TranslationUnit, withLocals, emitBlock, labelled}
 use Rattle.lower_units.specs.Units.{groupCode, forwarders, emitGroup, textOf, cut, bodiesOf}
-use Rattle.lower_units.specs.Units.{unitsOf}
+use Rattle.lower_units.specs.Units.{emitCChunked}
 
 -- c[15] = a, and that after a tick
 abbrev to : ℕ → Lines
@@ -265,26 +265,26 @@ owners (braces b c) = owners b ++ owners c
 
 -- guard and interpreter, straight, shell, branchIf, straightIf, closing
 ram-owners : owners (blockCode [] ram)
-    ≡ replicate 2 common ++ replicate 2 (Owner.native 0x02000000) ++ replicate 3 common
-    ++ replicate 11 (Owner.native 0x02000000) ++ replicate 3 common
+    ≡ replicate 2 common ++ replicate 2 (Owner.nativeOf 0x02000000) ++ replicate 3 common
+    ++ replicate 11 (Owner.nativeOf 0x02000000) ++ replicate 3 common
 unfolding blockCode outsideRomBios underGuard codeFrom nativeText transfer closing
 ram-owners = refl
 
 -- straight and bx; a fused pair; pop; branchIf, straight and jump in a group
-lone-owners : owners (blockCode [] lone) ≡ replicate 11 (Owner.native 0x08000000)
+lone-owners : owners (blockCode [] lone) ≡ replicate 11 (Owner.nativeOf 0x08000000)
 unfolding blockCode outsideRomBios codeFrom nativeText
 lone-owners = refl
 
-fused-owners : owners (blockCode [] fused) ≡ replicate 4 (Owner.native 0x08000221)
+fused-owners : owners (blockCode [] fused) ≡ replicate 4 (Owner.nativeOf 0x08000221)
 unfolding blockCode outsideRomBios codeFrom nativeText transfer
 fused-owners = refl
 
-popped-owners : owners (blockCode [] popped) ≡ replicate 7 (Owner.native 0x08000211)
+popped-owners : owners (blockCode [] popped) ≡ replicate 7 (Owner.nativeOf 0x08000211)
 unfolding blockCode outsideRomBios codeFrom nativeText
 popped-owners = refl
 
 loop-owners : owners (blockCode (0x08000100 ∷ 0x08000104 ∷ []) loop)
-    ≡ replicate 12 (Owner.native 0x08000100)
+    ≡ replicate 12 (Owner.nativeOf 0x08000100)
 unfolding blockCode outsideRomBios codeFrom nativeText transfer gotoCode
 loop-owners = refl
 
@@ -321,6 +321,6 @@ zero-leb n = le-leb 0 n zero-le
 
 -- a group of two is done at once
 one-pair : (a b : Body)
-    → map ends (unitsOf 0 (a ∷ b ∷ []) ((0 ∷ 1 ∷ []) ∷ [])) ≡ (2, false) ∷ (2, true) ∷ []
-unfolding unitsOf cut bodiesOf
+    → map ends (emitCChunked 0 (a ∷ b ∷ []) ((0 ∷ 1 ∷ []) ∷ [])) ≡ (2, false) ∷ (2, true) ∷ []
+unfolding emitCChunked cut bodiesOf
 one-pair a b = rw zero-leb

@@ -99,17 +99,17 @@ bodiesOf bs is = map (λ (i : ℕ). getD bs i defaultBody) is
 
 -- emit_c_chunked: the units of some blocks at a wished size (document 01), the groups being lists
 -- of block numbers
-unfoldable pub unitsOf : ℕ → List Body → List (List ℕ) → List TranslationUnit
-unitsOf max bs gs = cut max (lastUnitEnd bs) unitHead 0 (map (bodiesOf bs) gs)
+unfoldable pub emitCChunked : ℕ → List Body → List (List ℕ) → List TranslationUnit
+emitCChunked max bs gs = cut max (lastUnitEnd bs) unitHead 0 (map (bodiesOf bs) gs)
 
 -- the units of some blocks, where toBody says how one is printed: grouped by a limit, cut at a
 -- wished size
-unfoldable pub unitsFor : (Block → Body) → ℕ → ℕ → List Block → List TranslationUnit
-unitsFor toBody limit max bs = unitsOf max (map toBody bs) (groups limit bs)
+unfoldable pub unitsBy : (Block → Body) → ℕ → ℕ → List Block → List TranslationUnit
+unitsBy toBody limit max bs = emitCChunked max (map toBody bs) (groups limit bs)
 
 -- the units of a file's blocks, where the guards' hashes are made with a multiplier
-abbrev pub fileUnits : ℕ → ℕ → ℕ → List Block → List TranslationUnit
-fileUnits multiplier = unitsFor (bodyOf multiplier)
+abbrev pub units : ℕ → ℕ → ℕ → List Block → List TranslationUnit
+units multiplier = unitsBy (bodyOf multiplier)
 
 -- what is answered of a unit: how long its text is, how many blocks are done up to its end, from
 -- the first unit on, and whether it is the last
@@ -130,8 +130,8 @@ madeUnit u =
 
 -- what the call for unit k of a file's blocks makes, if there is such a unit
 abbrev pub unit : ℕ → ℕ → ℕ → List Block → ℕ → Option (Made UnitAnswer)
-unit multiplier limit max bs k = getElem? (map madeUnit (fileUnits multiplier limit max bs)) k
+unit multiplier limit max bs k = getElem? (map madeUnit (units multiplier limit max bs)) k
 
 -- how many units there are
 abbrev pub unitCount : ℕ → ℕ → ℕ → List Block → ℕ
-unitCount multiplier limit max bs = length (fileUnits multiplier limit max bs)
+unitCount multiplier limit max bs = length (units multiplier limit max bs)

@@ -1,6 +1,6 @@
 // The groups of an accepted file in the work numbers, four quarters of n numbers each.
+use crate::links::as_index;
 use crate::links::link_members;
-use crate::links::wide;
 use crate::order::count_of;
 use crate::order::place_blocks;
 use base_forest::find;
@@ -67,7 +67,7 @@ fn join_block(file: &[u8], work: &mut [u32], n: usize, i: usize)
     if !on_page_8(block.addr) {
         return;
     }
-    let first = wide(work[i]);
+    let first = as_index(work[i]);
     let exits = exits_at(file, block, first);
     join_exits(file, work, n, i, exits);
 }

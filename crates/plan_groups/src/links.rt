@@ -26,13 +26,13 @@ fn link_one(work: &mut [u32], n: u32, i: u32)
 {
     let size = n as usize;
     let at = i as usize;
-    let r = wide(work[2 * size + at]);
+    let r = as_index(work[2 * size + at]);
     work[size + at] = work[3 * size + r];
     work[3 * size + r] = i;
 }
 
 // A number as an index; nothing is lost.
-pub(crate) fn wide(x: u32) -> usize
+pub(crate) fn as_index(x: u32) -> usize
     ensures { λ r. ⌜ r ≡ x ⌝ }
 {
     x as usize

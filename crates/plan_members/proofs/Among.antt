@@ -21,7 +21,7 @@ use Rattle.plan_search.proofs.Searching.{target-some}
 use Rattle.plan_groups.proofs.Listing.{map-at}
 use Rattle.plan_members.specs.Members.{membersOf, memberKeys}
 use Rattle.file_blocks.specs.Address.{among}
-use Rattle.plan_members.specs.Prepared.{Ready}
+use Rattle.plan_members.specs.Prepared.{HoldsPlan}
 use Rattle.plan_members.proofs.GroupOf.{group-listed}
 use Rattle.plan_members.proofs.Places.{list-at, has-member, blocks-all}
 use Rattle.file_blocks.proofs.Nowhere.{nowhere}
@@ -74,7 +74,7 @@ place-of : {is : List ℕ} {gs : List (List ℕ)} → List·Memᴰ is gs → (g 
 place-of (List·Memᴰ·head e) = (0, e)
 place-of (List·Memᴰ·tail m) = (let there = place-of m in (suc (there .0), there .1))
 
-module _ {f : List ℕ} {n limit : ℕ} {work : List ℕ} (ready : Ready f n limit work) where
+module _ {f : List ℕ} {n limit : ℕ} {work : List ℕ} (ready : HoldsPlan f n limit work) where
   abbrev bs : List Block
   bs = blocksOf f
 

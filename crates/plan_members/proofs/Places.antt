@@ -16,7 +16,7 @@ use Rattle.plan_groups.proofs.GroupLaws.{group-some, group-inside}
 use Rattle.plan_groups.proofs.Listing.{member-at}
 use Rattle.plan_groups.proofs.PlanLength.{rows-length, plan-length}
 use Rattle.plan_members.specs.Members.{membersOf, startOf}
-use Rattle.plan_members.specs.Prepared.{Ready}
+use Rattle.plan_members.specs.Prepared.{HoldsPlan}
 
 -- row p of some rows: its group and its block
 unfoldable rowOf : List ℕ → ℕ → ℕ × ℕ
@@ -107,7 +107,7 @@ has-member [] g h = absurd (omega arith)
 has-member (is ∷ gs) zero h = omega arith
 has-member (is ∷ gs) (suc g) h = omega (arith, has-member gs g h)
 
-module _ {f : List ℕ} {n limit : ℕ} {work : List ℕ} (ready : Ready f n limit work) where
+module _ {f : List ℕ} {n limit : ℕ} {work : List ℕ} (ready : HoldsPlan f n limit work) where
   abbrev gs : List (List ℕ)
   gs = groups limit (blocksOf f)
 

@@ -21,7 +21,7 @@ pub record FirstsTo (f : List ℕ) (n m : ℕ) (work work′ : List ℕ) : Type 
 
 -- the work numbers of an accepted file with n blocks: quarters 2 and 0 have the rows of the plan,
 -- quarter 1 the group of each block, quarter 3 the number of its first instruction
-pub record Ready (f : List ℕ) (n limit : ℕ) (work : List ℕ) : Type 0 where
+pub record HoldsPlan (f : List ℕ) (n limit : ℕ) (work : List ℕ) : Type 0 where
   pub accepted : Accepted f
   pub all : n ≡ blockCount f
   pub room : 4 * n ≤ length work
@@ -33,4 +33,4 @@ pub record Ready (f : List ℕ) (n limit : ℕ) (work : List ℕ) : Type 0 where
 pub record Prepared (f : List ℕ) (n limit : ℕ) (work work′ : List ℕ) : Type 0 where
   pub same : length work′ ≡ length work
   pub after : (k : ℕ) → 4 * n ≤ k → getD work′ k 0 ≡ getD work k 0
-  pub ready : Ready f n limit work′
+  pub ready : HoldsPlan f n limit work′

@@ -8,7 +8,7 @@ use Rattle.base_text.proofs.put.Tie as tie
 returns : tie.Need-returns
 returns c =
     lent (search needs) (c .before .before .before .before .before .least .ensures)
-    (c .before .before .before .line .ensures) (c .after .ensures)
+    (c .before .before .before .raw .ensures) (c .after .ensures)
 
 pub put-spec : {M : Type 1} → statement M
 put-spec =

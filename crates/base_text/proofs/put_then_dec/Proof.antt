@@ -1,7 +1,7 @@
 -- `text::put_then_dec` meets its contract: what its calls write, one after another.
 use mathlib.Core.Path.{refl}
 use borrow.Author.Needs.{needs}
-use Rattle.base_text.proofs.Laws.{seq, said, kept}
+use Rattle.base_text.proofs.Laws.{seq, wrote-as, kept}
 use Rattle.base_text.proofs.put_then_dec.Statement.{statement}
 use Rattle.base_text.proofs.put_then_dec.Tie as tie
 
@@ -9,7 +9,7 @@ returns : tie.Need-returns
 returns c =
     let c2 = c .before .before in
     let c1 = c2 .before .before .before .before in
-    said (seq (c1 .put .ensures) (c2 .put-dec .ensures)) refl
+    wrote-as (seq (c1 .put .ensures) (c2 .put-dec .ensures)) refl
 
 pub put-then-dec-spec : {M : Type 1} → statement M
 put-then-dec-spec =

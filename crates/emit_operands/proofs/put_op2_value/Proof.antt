@@ -2,7 +2,7 @@
 -- Assumes nothing.
 use mathlib.Core.Path.{refl}
 use borrow.Author.Needs.{needs}
-use Rattle.base_text.proofs.Laws.{said, kept}
+use Rattle.base_text.proofs.Laws.{wrote-as, kept}
 use Rattle.emit_operands.proofs.put_op2_value.Statement.{statement}
 use Rattle.emit_operands.proofs.put_op2_value.Tie as tie
 
@@ -10,13 +10,13 @@ returns : tie.Need-returns
 returns c =
     let c2 = c .before .before in
     let c1 = c2 .before .before .before in
-    rw (c1 .op2 .given .1) (said (c2 .put-word .ensures) refl)
+    rw (c1 .op2 .given .1) (wrote-as (c2 .put-word .ensures) refl)
 
 returns-2 : tie.Need-returns-2
 returns-2 c =
     let c2 = c .before .before in
     let c1 = c2 .before .before .before in
-    rw (c1 .op22 .given .1) (said (c2 .put-shifted .ensures) refl)
+    rw (c1 .op22 .given .1) (wrote-as (c2 .put-shifted .ensures) refl)
 
 pub put-op2-value-spec : {M : Type 1} → statement M
 put-op2-value-spec =

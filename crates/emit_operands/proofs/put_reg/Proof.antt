@@ -3,7 +3,7 @@
 use mathlib.Core.Path.{refl}
 use borrow.Author.Needs.{needs}
 use borrow.Author.Tests.{eq-eqb, ne-eqb}
-use Rattle.base_text.proofs.Laws.{said, kept}
+use Rattle.base_text.proofs.Laws.{wrote-as, kept}
 use Rattle.emit_operands.proofs.put_reg.Statement.{statement}
 use Rattle.emit_operands.proofs.put_reg.Tie as tie
 
@@ -11,13 +11,13 @@ returns : tie.Need-returns
 returns c =
     let c2 = c .before .before in
     let c1 = c2 .before .before in
-    rw (eq-eqb _ _ (c1 .if1 .taken)) (said (c2 .put-word .ensures) refl)
+    rw (eq-eqb _ _ (c1 .if1 .taken)) (wrote-as (c2 .put-word .ensures) refl)
 
 returns-2 : tie.Need-returns-2
 returns-2 c =
     let c2 = c .before .before in
     let c1 = c2 .before .before in
-    rw (ne-eqb _ _ (c1 .if1 .left)) (said (c2 .put-place .ensures) refl)
+    rw (ne-eqb _ _ (c1 .if1 .left)) (wrote-as (c2 .put-place .ensures) refl)
 
 pub put-reg-spec : {M : Type 1} → statement M
 put-reg-spec =

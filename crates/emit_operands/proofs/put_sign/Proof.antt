@@ -3,7 +3,7 @@
 use mathlib.Core.Path.{refl}
 use borrow.Author.Needs.{needs}
 use borrow.Author.Tests.{eq-eqb, ne-eqb}
-use Rattle.base_text.proofs.Laws.{none, seq, said, kept}
+use Rattle.base_text.proofs.Laws.{none, seq, wrote-as, kept}
 use Rattle.emit_operands.proofs.put_sign.Statement.{statement}
 use Rattle.emit_operands.proofs.put_sign.Tie as tie
 
@@ -16,7 +16,7 @@ returns-2 c =
     let c3 = c .before .before in
     let c2 = c3 .before .before .before .before .before in
     let c1 = c2 .before .before in
-    rw (ne-eqb _ _ (c1 .if1 .left)) (said (seq (c2 .put-dec .ensures) (c3 .put .ensures)) refl)
+    rw (ne-eqb _ _ (c1 .if1 .left)) (wrote-as (seq (c2 .put-dec .ensures) (c3 .put .ensures)) refl)
 
 pub put-sign-spec : {M : Type 1} → statement M
 put-sign-spec =

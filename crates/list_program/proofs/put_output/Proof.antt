@@ -3,7 +3,7 @@
 use Rattle.list_program.proofs.Room.{long-shown, short-shown}
 use Rattle.list_program.proofs.put_output.Statement.{statement}
 use Rattle.list_program.proofs.put_output.Tie as tie
-use Rattle.base_text.proofs.Laws.{said}
+use Rattle.base_text.proofs.Laws.{wrote-as}
 use borrow.Author.Needs.{needs}
 use mathlib.Core.Path.{refl}
 use native.Mathlib.Omega.{arith}
@@ -11,7 +11,7 @@ use native.Mathlib.Omega.{arith}
 returns : tie.Need-returns
 returns c =
     long-shown _ (c .before .before .before .before .before .before .before .before .pre)
-    (omega arith) (said (c .before .before .put .ensures) refl)
+    (omega arith) (wrote-as (c .before .before .put .ensures) refl)
 
 returns-2 : tie.Need-returns-2
 returns-2 c = short-shown _ _ _ (omega arith) (c .before .before .put-answer .ensures)

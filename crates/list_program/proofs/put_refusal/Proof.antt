@@ -2,13 +2,13 @@
 -- Assumes nothing.
 use Rattle.list_program.proofs.put_refusal.Statement.{statement}
 use Rattle.list_program.proofs.put_refusal.Tie as tie
-use Rattle.base_text.proofs.Laws.{seq, said}
+use Rattle.base_text.proofs.Laws.{seq, wrote-as}
 use borrow.Author.Needs.{needs}
 use mathlib.Core.Path.{refl}
 
 returns : tie.Need-returns
 returns c =
-    said (seq
+    wrote-as (seq
     (c .before .before .before .before .before .before .before .before .before .before .before
     .before .put-then-dec .ensures)
     (seq (c .before .before .before .before .before .before .before .put-then-dec2 .ensures)

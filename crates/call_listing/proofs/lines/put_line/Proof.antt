@@ -4,11 +4,11 @@ use borrow.Author.Needs.{needs}
 use mathlib.Core.Path.{refl}
 use Rattle.call_listing.proofs.lines.put_line.Statement.{statement}
 use Rattle.call_listing.proofs.lines.put_line.Tie as tie
-use Rattle.base_text.proofs.Laws.{seq, said}
+use Rattle.base_text.proofs.Laws.{seq, wrote-as}
 
 returns : tie.Need-returns
 returns c =
-    said (seq
+    wrote-as (seq
     (c .before .before .before .before .before .before .before .before .before .before .before
     .before .before .before .before .before .put-hex8 .ensures)
     (seq (c .before .before .before .before .before .before .before .before .before .before .before

@@ -19,7 +19,7 @@ use Rattle.file_blocks.proofs.IsBlock.{missing, sum-next, nth-block}
 use Rattle.file_blocks.specs.Read.{IsBlock}
 use Rattle.plan_groups.specs.Calls.{partLimit}
 use Rattle.plan_groups.specs.Plan.{plan}
-use Rattle.base_text.proofs.Laws.{seq, said, kept}
+use Rattle.base_text.proofs.Laws.{seq, wrote-as, kept}
 use Rattle.base_text.specs.Doc.{Doc, text, _▸_, flat}
 use Rattle.base_text.specs.Wrote.{Wrote}
 
@@ -37,7 +37,7 @@ abbrev μ-loop : tie.MeasureT-loop
 
 loop-holds : tie.Need-loop-holds Inv-loop μ-loop
 unfolding countSum linesFrom
-loop-holds c = (omega arith, refl, λ o w. said w refl)
+loop-holds c = (omega arith, refl, λ o w. wrote-as w refl)
 
 same-length : tie.Need-same-length Inv-loop μ-loop
 same-length c =
@@ -122,7 +122,7 @@ loop-again c = let pre =
       omega arith,
       c .wrapping-add-usize .ensures
           ∙ sum-next is,
-      λ o w. said
+      λ o w. wrote-as
           (seq (inv .2 o w) (c .before .before .before .before .put-block .ensures _ is))
           (lines-next header _
           (blocksOf
@@ -135,7 +135,7 @@ loop-again c = let pre =
 
 same-length-2 : tie.Need-same-length-2 Inv-loop μ-loop
 same-length-2 c =
-    kept (c .before .loop .inv .2 _ (said (c .before .before .before .before .put .ensures) refl))
+    kept (c .before .loop .inv .2 _ (wrote-as (c .before .before .before .before .put .ensures) refl))
 
 returns-2 : tie.Need-returns-2 Inv-loop μ-loop
 unfolding listing
@@ -153,7 +153,7 @@ returns-2 c = let f =
       c .before .before .before .before .before .before .before .before .before .before .pre
           .0 .2,
     )) in
-    said (c .before .loop .inv .2 _ (said (c .before .before .before .before .put .ensures) refl))
+    wrote-as (c .before .loop .inv .2 _ (wrote-as (c .before .before .before .before .put .ensures) refl))
     (ap (λ (bs : List Block). flat (header ▸ linesFrom (plan partLimit (blocksOf f)) 0 bs) [])
     all)
 

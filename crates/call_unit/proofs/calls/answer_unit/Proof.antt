@@ -11,7 +11,7 @@ use Rattle.plan_members.proofs.Places.{start-inside}
 use Rattle.plan_groups.specs.Calls.{partLimit}
 use Rattle.base_text.proofs.Laws.{whole}
 use Rattle.call_unit.specs.Calls.{translatedOf}
-use Rattle.emit_units.specs.Units.{IsUnit, describes}
+use Rattle.emit_units.specs.Units.{IsUnit, IsFoundUnit}
 use Rattle.call_unit.proofs.Answers.{unit-none, unit-long, unit-made}
 use Rattle.call_unit.proofs.calls.answer_unit.Statement.{statement}
 use Rattle.call_unit.proofs.calls.answer_unit.Tie as tie
@@ -25,28 +25,28 @@ find-unit-requires c κs =
     )
 
 returns : tie.Need-returns
-unfolding describes translatedOf
+unfolding IsFoundUnit translatedOf
 returns c = λ w.
     let a = c .before .before .before .before .before .before .args in
     let f = a .file .now in
     unit-none f partLimit (a .max) (a .k) w _
-    (subst (describes f partLimit (a .max) (a .k)) (c .enum-told .given .1)
+    (subst (IsFoundUnit f partLimit (a .max) (a .k)) (c .enum-told .given .1)
     (c .before .before .find-unit .ensures partLimit
     (c .before .before .before .before .before .before .pre)))
 
 returns-2 : tie.Need-returns-2
-unfolding describes translatedOf
+unfolding IsFoundUnit translatedOf
 returns-2 c = λ w.
     let a = c .before .before .before .before .before .before .before .before .before .args in
     let f = a .file .now in
     let ready = c .before .before .before .before .before .before .before .before .before .pre in
     let is : IsUnit f partLimit (a .max) (a .k) _ =
-    subst (describes f partLimit (a .max) (a .k)) (c .before .before .before .e .given .1)
+    subst (IsFoundUnit f partLimit (a .max) (a .k)) (c .before .before .before .e .given .1)
     (c .before .before .before .before .before .find-unit .ensures partLimit ready) in
     unit-long f partLimit (a .max) (a .k) w _ is (omega arith)
 
 write-unit-requires : tie.Need-write-unit-requires
-unfolding describes
+unfolding IsFoundUnit
 write-unit-requires c κs =
     let a =
     c .before .before .before .before .before .before .before .before .before .before .args in
@@ -54,7 +54,7 @@ write-unit-requires c κs =
     let ready =
     c .before .before .before .before .before .before .before .before .before .before .pre in
     let is : IsUnit f partLimit (a .max) (a .k) _ =
-    subst (describes f partLimit (a .max) (a .k))
+    subst (IsFoundUnit f partLimit (a .max) (a .k))
     (c .before .before .before .before .e .given .1)
     (c .before .before .before .before .before .before .find-unit .ensures partLimit ready) in (
       (
@@ -66,7 +66,7 @@ write-unit-requires c κs =
     )
 
 returns-3 : tie.Need-returns-3
-unfolding describes translatedOf textOf
+unfolding IsFoundUnit translatedOf textOf
 returns-3 c = λ w.
     let a =
     c .before .before .before .before .before .before .before .before .before .before .before
@@ -76,7 +76,7 @@ returns-3 c = λ w.
     c .before .before .before .before .before .before .before .before .before .before .before
     .before .before .pre in
     let is : IsUnit f partLimit (a .max) (a .k) _ =
-    subst (describes f partLimit (a .max) (a .k))
+    subst (IsFoundUnit f partLimit (a .max) (a .k))
     (c .before .before .before .before .before .before .before .e .given .1)
     (c .before .before .before .before .before .before .before .before .before .find-unit
     .ensures partLimit ready) in

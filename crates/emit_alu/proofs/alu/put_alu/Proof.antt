@@ -7,7 +7,7 @@ use Rattle.emit_operands.proofs.Operands.{carry-in-text}
 use Rattle.lower_forms.specs.Operands.{carryIn, operandOf}
 use Rattle.c_tree.specs.Expr.{udec, compl, lit, un}
 use borrow.Author.Needs.{needs}
-use Rattle.base_text.proofs.Laws.{said, kept}
+use Rattle.base_text.proofs.Laws.{wrote-as, kept}
 use Rattle.emit_alu.proofs.alu.put_alu.Statement.{statement}
 use Rattle.emit_alu.proofs.alu.put_alu.Tie as tie
 
@@ -15,13 +15,13 @@ returns : tie.Need-returns
 returns c =
     let c2 = c .before .before in
     let c1 = c2 .before .before .before in
-    rw (c1 .enum-told .given .1) (said (c2 .put-two .ensures) refl)
+    rw (c1 .enum-told .given .1) (wrote-as (c2 .put-two .ensures) refl)
 
 returns-2 : tie.Need-returns-2
 returns-2 c =
     let c2 = c .before .before in
     let c1 = c2 .before .before .before in
-    rw (c1 .enum-told2 .given .1) (said (c2 .put-two2 .ensures) refl)
+    rw (c1 .enum-told2 .given .1) (wrote-as (c2 .put-two2 .ensures) refl)
 
 returns-3 : tie.Need-returns-3
 returns-3 c =
@@ -73,13 +73,13 @@ returns-9 : tie.Need-returns-9
 returns-9 c =
     let c2 = c .before .before in
     let c1 = c2 .before .before .before in
-    rw (c1 .enum-told9 .given .1) (said (c2 .put-two3 .ensures) refl)
+    rw (c1 .enum-told9 .given .1) (wrote-as (c2 .put-two3 .ensures) refl)
 
 returns-10 : tie.Need-returns-10
 returns-10 c =
     let c2 = c .before .before in
     let c1 = c2 .before .before .before in
-    rw (c1 .enum-told10 .given .1) (said (c2 .put-two4 .ensures) refl)
+    rw (c1 .enum-told10 .given .1) (wrote-as (c2 .put-two4 .ensures) refl)
 
 returns-11 : tie.Need-returns-11
 returns-11 c =
@@ -102,25 +102,25 @@ returns-13 : tie.Need-returns-13
 returns-13 c =
     let c2 = c .before .before in
     let c1 = c2 .before .before .before in
-    rw (c1 .enum-told13 .given .1) (said (c2 .put-two5 .ensures) refl)
+    rw (c1 .enum-told13 .given .1) (wrote-as (c2 .put-two5 .ensures) refl)
 
 returns-14 : tie.Need-returns-14
 returns-14 c =
     let c2 = c .before .before in
     let c1 = c2 .before .before .before .before in
-    rw (c1 .enum-told14 .given .1) (said (c2 .put-one .ensures) refl)
+    rw (c1 .enum-told14 .given .1) (wrote-as (c2 .put-one .ensures) refl)
 
 returns-15 : tie.Need-returns-15
 returns-15 c =
     let c2 = c .before .before in
     let c1 = c2 .before .before .before in
-    rw (c1 .enum-told15 .given .1) (said (c2 .put-two6 .ensures) refl)
+    rw (c1 .enum-told15 .given .1) (wrote-as (c2 .put-two6 .ensures) refl)
 
 returns-16 : tie.Need-returns-16
 returns-16 c =
     let c2 = c .before .before in
     let c1 = c2 .before .before .before .before in
-    rw (c1 .enum-told16 .given .1) (said (c2 .put-one2 .ensures) refl)
+    rw (c1 .enum-told16 .given .1) (wrote-as (c2 .put-one2 .ensures) refl)
 
 pub put-alu-spec : {M : Type 1} → statement M
 put-alu-spec =

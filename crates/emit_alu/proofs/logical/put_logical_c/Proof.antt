@@ -4,7 +4,7 @@ use mathlib.Core.Path.{sym, _∙_}
 use Rattle.emit_alu.proofs.Texts.{with-carry, without-carry}
 use mathlib.Core.List.{[]}
 use borrow.Author.Needs.{needs}
-use Rattle.base_text.proofs.Laws.{none, seq, said, kept}
+use Rattle.base_text.proofs.Laws.{none, seq, wrote-as, kept}
 use Rattle.emit_alu.proofs.logical.put_logical_c.Statement.{statement}
 use Rattle.emit_alu.proofs.logical.put_logical_c.Tie as tie
 use Rattle.lower_forms.specs.Operands.{operandOf}
@@ -17,7 +17,7 @@ returns c =
     let c2 = c3 .before .before .before in
     let c1 = c2 .before in
     let a = c1 .before .before .args in
-    said (seq (c3 .put .ensures) (seq (c4 .put-op2-carry .ensures) (c5 .put2 .ensures)))
+    wrote-as (seq (c3 .put .ensures) (seq (c4 .put-op2-carry .ensures) (c5 .put2 .ensures)))
     (with-carry (operandOf (a .pc) (a .op2) .1)
     (sym (c1 .op2-has-carry .ensures (a .pc)) ∙ c2 .if1 .taken) [])
 
@@ -25,7 +25,7 @@ returns-2 : tie.Need-returns-2
 returns-2 c =
     let c1 = c .before in
     let a = c1 .before .before .args in
-    said (none (search needs) (search needs))
+    wrote-as (none (search needs) (search needs))
     (without-carry (operandOf (a .pc) (a .op2) .1)
     (sym (c1 .op2-has-carry .ensures (a .pc)) ∙ c .if1 .left) [])
 

@@ -8,7 +8,7 @@ use Rattle.c_tree.specs.Preamble.{v32}
 use Rattle.c_tree.specs.Stmt.{f-nz, run}
 use Rattle.lower_forms.specs.InlineBody.{result, logicalC}
 use borrow.Author.Needs.{needs}
-use Rattle.base_text.proofs.Laws.{seq, said, kept}
+use Rattle.base_text.proofs.Laws.{seq, wrote-as, kept}
 use Rattle.emit_alu.proofs.logical.put_logical_rest.Statement.{statement}
 use Rattle.emit_alu.proofs.logical.put_logical_rest.Tie as tie
 use Rattle.lower_forms.specs.Operands.{operandOf}
@@ -18,7 +18,7 @@ returns c =
     let c2 = c .before .before in
     let c1 = c2 .before .before .before .before in
     let a = c1 .before .before .before .args in
-    said (seq (c1 .put-flags .ensures) (c2 .put-result .ensures))
+    wrote-as (seq (c1 .put-flags .ensures) (c2 .put-result .ensures))
     (rows-append (cond (a .s) (run f-nz (v32 x-r) ∷ logicalC (operandOf (a .pc) (a .op2) .1)) [])
     (result (a .op) (a .rd) ∷ []) [])
 

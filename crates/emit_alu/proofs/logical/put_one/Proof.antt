@@ -2,7 +2,7 @@
 -- nothing.
 use mathlib.Core.Path.{refl}
 use borrow.Author.Needs.{needs}
-use Rattle.base_text.proofs.Laws.{seq, said, kept}
+use Rattle.base_text.proofs.Laws.{seq, wrote-as, kept}
 use Rattle.emit_alu.proofs.logical.put_one.Statement.{statement}
 use Rattle.emit_alu.proofs.logical.put_one.Tie as tie
 
@@ -12,7 +12,7 @@ returns c =
     let c3 = c4 .before .before .before .before in
     let c2 = c3 .before .before .before .before in
     let c1 = c2 .before .before .before .before in
-    said (seq (c1 .put .ensures)
+    wrote-as (seq (c1 .put .ensures)
     (seq (c2 .put-op2-value .ensures)
     (seq (c3 .put2 .ensures) (c4 .put-logical-rest .ensures)))) refl
 

@@ -3,7 +3,7 @@
 use Rattle.emit_alu.proofs.Texts.{halves-text}
 use mathlib.Core.List.{[]}
 use borrow.Author.Needs.{needs}
-use Rattle.base_text.proofs.Laws.{seq, said, kept}
+use Rattle.base_text.proofs.Laws.{seq, wrote-as, kept}
 use Rattle.emit_alu.proofs.mul.put_halves.Statement.{statement}
 use Rattle.emit_alu.proofs.mul.put_halves.Tie as tie
 
@@ -13,7 +13,7 @@ returns c =
     let c2 = c3 .before .before .before .before .before in
     let c1 = c2 .before .before .before .before .before in
     let a = c1 .before .before .before .before .args in
-    said (seq (c1 .put-then-dec .ensures) (seq (c2 .put-then-dec2 .ensures) (c3 .put .ensures)))
+    wrote-as (seq (c1 .put-then-dec .ensures) (seq (c2 .put-then-dec2 .ensures) (c3 .put .ensures)))
     (halves-text (a .hi) (a .lo) [])
 
 pub put-halves-spec : {M : Type 1} → statement M

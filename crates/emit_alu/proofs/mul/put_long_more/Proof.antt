@@ -3,7 +3,7 @@
 use Rattle.emit_alu.proofs.Texts.{more-text}
 use mathlib.Core.List.{[]}
 use borrow.Author.Needs.{needs}
-use Rattle.base_text.proofs.Laws.{none, seq, said, kept}
+use Rattle.base_text.proofs.Laws.{none, seq, wrote-as, kept}
 use Rattle.emit_alu.proofs.mul.put_long_more.Statement.{statement}
 use Rattle.emit_alu.proofs.mul.put_long_more.Tie as tie
 
@@ -15,7 +15,7 @@ returns c =
     let c1 = c2 .before .before .before in
     let a = c1 .before .before .args in
     rw (c1 .if1 .taken)
-    (said (seq (c2 .put-then-dec .ensures)
+    (wrote-as (seq (c2 .put-then-dec .ensures)
     (seq (c3 .put-then-dec2 .ensures) (c4 .put .ensures))) (more-text (a .hi) (a .lo) []))
 
 returns-2 : tie.Need-returns-2

@@ -2,7 +2,7 @@
 -- Assumes nothing.
 use mathlib.Core.Path.{refl}
 use borrow.Author.Needs.{needs}
-use Rattle.base_text.proofs.Laws.{seq, said, kept}
+use Rattle.base_text.proofs.Laws.{seq, wrote-as, kept}
 use Rattle.emit_alu.proofs.mul.put_long_product.Statement.{statement}
 use Rattle.emit_alu.proofs.mul.put_long_product.Tie as tie
 
@@ -13,7 +13,7 @@ returns c =
     let c3 = c4 .before .before .before .before in
     let c2 = c3 .before .before .before .before .before in
     let c1 = c2 .before .before .before .before in
-    said (seq (c1 .put .ensures)
+    wrote-as (seq (c1 .put .ensures)
     (seq (c2 .put-wide .ensures)
     (seq (c3 .put2 .ensures) (seq (c4 .put-wide2 .ensures) (c5 .put3 .ensures))))) refl
 

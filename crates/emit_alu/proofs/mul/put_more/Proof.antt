@@ -2,7 +2,7 @@
 -- nothing.
 use mathlib.Core.Path.{refl}
 use borrow.Author.Needs.{needs}
-use Rattle.base_text.proofs.Laws.{none, seq, said, kept}
+use Rattle.base_text.proofs.Laws.{none, seq, wrote-as, kept}
 use Rattle.emit_alu.proofs.mul.put_more.Statement.{statement}
 use Rattle.emit_alu.proofs.mul.put_more.Tie as tie
 
@@ -11,7 +11,7 @@ returns c =
     let c3 = c .before .before in
     let c2 = c3 .before .before .before .before .before in
     let c1 = c2 .before .before .before in
-    rw (c1 .if1 .taken) (said (seq (c2 .put-then-dec .ensures) (c3 .put .ensures)) refl)
+    rw (c1 .if1 .taken) (wrote-as (seq (c2 .put-then-dec .ensures) (c3 .put .ensures)) refl)
 
 returns-2 : tie.Need-returns-2
 returns-2 c =

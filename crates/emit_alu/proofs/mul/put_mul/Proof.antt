@@ -3,7 +3,7 @@
 use Rattle.emit_alu.proofs.Texts.{mul-text}
 use mathlib.Core.List.{[]}
 use borrow.Author.Needs.{needs}
-use Rattle.base_text.proofs.Laws.{seq, said, kept}
+use Rattle.base_text.proofs.Laws.{seq, wrote-as, kept}
 use Rattle.emit_alu.proofs.mul.put_mul.Statement.{statement}
 use Rattle.emit_alu.proofs.mul.put_mul.Tie as tie
 
@@ -14,7 +14,7 @@ returns c =
     let c2 = c3 .before .before .before .before in
     let c1 = c2 .before .before .before .before in
     let a = c1 .before .before .before .args in
-    said (seq (c1 .put-product .ensures)
+    wrote-as (seq (c1 .put-product .ensures)
     (seq (c2 .put-more .ensures) (seq (c3 .put-low .ensures) (c4 .put-nz .ensures))))
     (mul-text (a .acc) (a .s) (a .rd) (a .rn) (a .rs) (a .rm) [])
 

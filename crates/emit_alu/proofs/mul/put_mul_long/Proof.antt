@@ -3,7 +3,7 @@
 use Rattle.emit_alu.proofs.Texts.{mul-long-text}
 use mathlib.Core.List.{[]}
 use borrow.Author.Needs.{needs}
-use Rattle.base_text.proofs.Laws.{seq, said, kept}
+use Rattle.base_text.proofs.Laws.{seq, wrote-as, kept}
 use Rattle.emit_alu.proofs.mul.put_mul_long.Statement.{statement}
 use Rattle.emit_alu.proofs.mul.put_mul_long.Tie as tie
 
@@ -14,7 +14,7 @@ returns c =
     let c2 = c3 .before .before .before .before in
     let c1 = c2 .before .before .before .before in
     let a = c1 .before .before .before .args in
-    said (seq (c1 .put-long-product .ensures)
+    wrote-as (seq (c1 .put-long-product .ensures)
     (seq (c2 .put-long-more .ensures) (seq (c3 .put-halves .ensures) (c4 .put-nz64 .ensures))))
     (mul-long-text (a .signed) (a .acc) (a .s) (a .hi) (a .lo) (a .rs) (a .rm) [])
 

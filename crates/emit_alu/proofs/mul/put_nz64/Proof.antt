@@ -2,7 +2,7 @@
 -- nothing.
 use mathlib.Core.Path.{refl}
 use borrow.Author.Needs.{needs}
-use Rattle.base_text.proofs.Laws.{none, said, kept}
+use Rattle.base_text.proofs.Laws.{none, wrote-as, kept}
 use Rattle.emit_alu.proofs.mul.put_nz64.Statement.{statement}
 use Rattle.emit_alu.proofs.mul.put_nz64.Tie as tie
 
@@ -10,7 +10,7 @@ returns : tie.Need-returns
 returns c =
     let c2 = c .before .before in
     let c1 = c2 .before .before .before in
-    rw (c1 .if1 .taken) (said (c2 .put .ensures) refl)
+    rw (c1 .if1 .taken) (wrote-as (c2 .put .ensures) refl)
 
 returns-2 : tie.Need-returns-2
 returns-2 c =

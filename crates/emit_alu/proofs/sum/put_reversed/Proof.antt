@@ -8,7 +8,7 @@ use Rattle.c_tree.specs.Print.{exprText}
 use Rattle.base_text.specs.Doc.{raw, text, _▸_}
 use mathlib.Core.List.{[]}
 use borrow.Author.Needs.{needs}
-use Rattle.base_text.proofs.Laws.{seq, said, kept}
+use Rattle.base_text.proofs.Laws.{seq, wrote-as, kept}
 use Rattle.emit_alu.proofs.sum.put_reversed.Statement.{statement}
 use Rattle.emit_alu.proofs.sum.put_reversed.Tie as tie
 
@@ -22,7 +22,7 @@ returns c =
     let c1 = c2 .before .before .before .before in
     let a = c1 .before .before .before .before .args in
     let e = regOf (a .pc) (a .rn) in
-    λ z q. said
+    λ z q. wrote-as
     (seq (c1 .put-before .ensures)
     (seq (c2 .put-op2-value .ensures)
     (seq (c3 .put-between .ensures)

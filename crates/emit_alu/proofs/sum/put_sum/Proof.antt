@@ -6,7 +6,7 @@ use Rattle.c_tree.specs.Print.{exprText}
 use Rattle.base_text.specs.Doc.{raw, _▸_}
 use mathlib.Core.List.{[]}
 use borrow.Author.Needs.{needs}
-use Rattle.base_text.proofs.Laws.{seq, said, kept}
+use Rattle.base_text.proofs.Laws.{seq, wrote-as, kept}
 use Rattle.emit_alu.proofs.sum.put_sum.Statement.{statement}
 use Rattle.emit_alu.proofs.sum.put_sum.Tie as tie
 
@@ -19,7 +19,7 @@ returns c =
     let c2 = c3 .before .before .before .before in
     let c1 = c2 .before .before .before .before in
     let a = c1 .before .before .before .before .before .args in
-    λ y z p q. said
+    λ y z p q. wrote-as
     (seq (c1 .put-before .ensures)
     (seq (c2 .put-reg .ensures)
     (seq (c3 .put-between .ensures)

@@ -2,7 +2,7 @@
 -- Assumes nothing.
 use mathlib.Core.Path.{refl}
 use borrow.Author.Needs.{needs}
-use Rattle.base_text.proofs.Laws.{seq, said, kept}
+use Rattle.base_text.proofs.Laws.{seq, wrote-as, kept}
 use Rattle.emit_alu.proofs.sum.put_sum_rest.Statement.{statement}
 use Rattle.emit_alu.proofs.sum.put_sum_rest.Tie as tie
 
@@ -12,7 +12,7 @@ returns c =
     let c3 = c4 .before .before .before .before in
     let c2 = c3 .before .before .before .before in
     let c1 = c2 .before .before .before .before in
-    said (seq (c1 .put-between .ensures)
+    wrote-as (seq (c1 .put-between .ensures)
     (seq (c2 .put .ensures) (seq (c3 .put-after .ensures) (c4 .put-result .ensures)))) refl
 
 pub put-sum-rest-spec : {M : Type 1} → statement M

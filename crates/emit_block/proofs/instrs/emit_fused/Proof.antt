@@ -20,10 +20,10 @@ returns c =
     λ ks b j fs s e.
     same-from _ (code-native ks b j (emitPair (v .cycles) (v .target) (v .ret)) fs)
     (subst (λ (a : ℕ). Onward (now (v .out)) (v .at)
-    (nativeText ks a (Owner.native (bodyKey b)) (emitPair (v .cycles) (v .target) (v .ret))
+    (nativeText ks a (Owner.nativeOf (bodyKey b)) (emitPair (v .cycles) (v .target) (v .ret))
     (codeFrom ks b (j + 2) fs)) end (c .before .before .emit-pair .last .0)
     (c .before .before .emit-pair .result)) (sym e)
-    (start (c .before .before .emit-pair .ensures ks (Owner.native (bodyKey b))
+    (start (c .before .before .emit-pair .ensures ks (Owner.nativeOf (bodyKey b))
     (codeFrom ks b (j + 2) fs)
     (ap (λ (k : ℕ). among k ks)
     (sym (c .before .before .before .before .before .set-bit0 .ensures))

@@ -2,14 +2,14 @@
 -- Assumes nothing.
 use mathlib.Core.Path.{refl}
 use borrow.Author.Needs.{needs}
-use Rattle.base_text.proofs.Laws.{said, kept}
+use Rattle.base_text.proofs.Laws.{wrote-as, kept}
 use Rattle.emit_flow.proofs.braces.close_straight.Statement.{statement}
 use Rattle.emit_flow.proofs.braces.close_straight.Tie as tie
 
 returns : tie.Need-returns
 returns c =
     let c1 = c .before .before in
-    said (c1 .put .ensures) refl
+    wrote-as (c1 .put .ensures) refl
 
 pub close-straight-spec : {M : Type 1} → statement M
 close-straight-spec =

@@ -4,7 +4,7 @@ use mathlib.Core.Path.{refl}
 use borrow.Author.Needs.{needs}
 use Rattle.base_text.specs.Digits.{numeral}
 use Rattle.base_text.specs.Doc.{decimal}
-use Rattle.base_text.proofs.Laws.{said, kept}
+use Rattle.base_text.proofs.Laws.{wrote-as, kept}
 use Rattle.emit_flow.proofs.braces.open_conditional.Statement.{statement}
 use Rattle.emit_flow.proofs.braces.open_conditional.Tie as tie
 
@@ -12,7 +12,7 @@ returns : tie.Need-returns
 unfolding decimal numeral
 returns c =
     let c1 = c .before .before in
-    said (c1 .put .ensures) refl
+    wrote-as (c1 .put .ensures) refl
 
 pub open-conditional-spec : {M : Type 1} → statement M
 open-conditional-spec =

@@ -2,14 +2,14 @@
 -- another. Assumes nothing.
 use mathlib.Core.Path.{refl}
 use borrow.Author.Needs.{needs}
-use Rattle.base_text.proofs.Laws.{said, kept}
+use Rattle.base_text.proofs.Laws.{wrote-as, kept}
 use Rattle.emit_flow.proofs.braces.open_straight_if.Statement.{statement}
 use Rattle.emit_flow.proofs.braces.open_straight_if.Tie as tie
 
 returns : tie.Need-returns
 returns c =
     let c1 = c .before .before in
-    said (c1 .put .ensures) refl
+    wrote-as (c1 .put .ensures) refl
 
 pub open-straight-if-spec : {M : Type 1} → statement M
 open-straight-if-spec =

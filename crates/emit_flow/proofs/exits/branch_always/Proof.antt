@@ -2,7 +2,7 @@
 -- Assumes nothing.
 use borrow.Author.Needs.{needs}
 use Rattle.emit_flow.proofs.Pieces.{jumped}
-use Rattle.base_text.proofs.Laws.{seq, said}
+use Rattle.base_text.proofs.Laws.{seq, wrote-as}
 use Rattle.emit_flow.proofs.exits.branch_always.Statement.{statement}
 use Rattle.emit_flow.proofs.exits.branch_always.Tie as tie
 
@@ -13,7 +13,7 @@ returns c =
     let c2 = c3 .before .before .before .before in
     let c1 = c2 .before .before .before .before in
     let v = c1 .before .before .before .args in
-    λ ks o d h. said
+    λ ks o d h. wrote-as
     (seq (c1 .flush-ticks .ensures)
     (seq (c2 .set-link .ensures) (seq (c3 .set-pc .ensures) (c4 .transfer .ensures ks o h))))
     (jumped ks (v .src) o (v .cycles) (v .link) (v .ret) (v .target) (v .key) d)

@@ -3,7 +3,7 @@
 use borrow.Author.Needs.{needs}
 use Rattle.emit_flow.proofs.Pieces.{taken}
 use Rattle.lower_forms.specs.Block.{branchRegs}
-use Rattle.base_text.proofs.Laws.{seq, said}
+use Rattle.base_text.proofs.Laws.{seq, wrote-as}
 use Rattle.emit_flow.proofs.exits.branch_taken.Statement.{statement}
 use Rattle.emit_flow.proofs.exits.branch_taken.Tie as tie
 
@@ -13,7 +13,7 @@ returns c =
     let c2 = c3 .before .before .before .before .before in
     let c1 = c2 .before .before .before .before in
     let v = c1 .before .before .before .args in
-    λ ks o h. said
+    λ ks o h. wrote-as
     (seq (c1 .put-taken .ensures) (seq (c2 .transfer .ensures ks o h) (c3 .put .ensures)))
     (taken ks (v .src) o (branchRegs (v .link) (v .ret) (v .target)) (v .key))
 

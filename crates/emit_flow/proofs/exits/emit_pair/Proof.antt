@@ -5,7 +5,7 @@ use Prim.Native.Nat.{ℕ}
 use borrow.Author.Needs.{needs}
 use Rattle.emit_flow.proofs.Pieces.{paired}
 use Rattle.file_blocks.specs.Address.{among}
-use Rattle.base_text.proofs.Laws.{seq, said}
+use Rattle.base_text.proofs.Laws.{seq, wrote-as}
 use Rattle.emit_flow.proofs.exits.emit_pair.Statement.{statement}
 use Rattle.emit_flow.proofs.exits.emit_pair.Tie as tie
 
@@ -18,7 +18,7 @@ returns c =
     let c2 = c3 .before .before .before .before in
     let c1 = c2 .before .before .before .before in
     let v = c1 .before .before .before .args in
-    λ ks o d h. said
+    λ ks o d h. wrote-as
     (seq (c1 .flush-ticks .ensures)
     (seq (c2 .set-lr .ensures)
     (seq (c4 .set-pc .ensures)

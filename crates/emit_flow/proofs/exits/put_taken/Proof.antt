@@ -4,7 +4,7 @@ use mathlib.Core.Path.{refl}
 use borrow.Author.Needs.{needs}
 use Rattle.base_text.specs.Digits.{numeral}
 use Rattle.base_text.specs.Doc.{decimal}
-use Rattle.base_text.proofs.Laws.{seq, said, kept}
+use Rattle.base_text.proofs.Laws.{seq, wrote-as, kept}
 use Rattle.emit_flow.proofs.exits.put_taken.Statement.{statement}
 use Rattle.emit_flow.proofs.exits.put_taken.Tie as tie
 
@@ -16,7 +16,7 @@ returns c =
     let c2 = c3 .before .before .before .before .before in
     let c1 = c2 .before .before .before in
     rw (c1 .if1 .taken)
-    (said (seq (c2 .put-then-hex8 .ensures)
+    (wrote-as (seq (c2 .put-then-hex8 .ensures)
     (seq (c3 .put-then-hex82 .ensures) (c4 .put .ensures))) refl)
 
 returns-2 : tie.Need-returns-2
@@ -25,7 +25,7 @@ returns-2 c =
     let c3 = c .before .before in
     let c2 = c3 .before .before .before .before .before in
     let c1 = c2 .before .before .before in
-    rw (c1 .if1 .left) (said (seq (c2 .put-then-hex83 .ensures) (c3 .put2 .ensures)) refl)
+    rw (c1 .if1 .left) (wrote-as (seq (c2 .put-then-hex83 .ensures) (c3 .put2 .ensures)) refl)
 
 pub put-taken-spec : {M : Type 1} → statement M
 put-taken-spec =

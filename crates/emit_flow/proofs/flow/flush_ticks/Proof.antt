@@ -2,7 +2,7 @@
 -- Assumes nothing.
 use borrow.Author.Needs.{needs}
 use Rattle.emit_flow.proofs.Pieces.{ticks}
-use Rattle.base_text.proofs.Laws.{none, seq, said, kept}
+use Rattle.base_text.proofs.Laws.{none, seq, wrote-as, kept}
 use Rattle.emit_flow.proofs.flow.flush_ticks.Statement.{statement}
 use Rattle.emit_flow.proofs.flow.flush_ticks.Tie as tie
 
@@ -15,7 +15,7 @@ returns-2 c =
     let c3 = c .before .before in
     let c2 = c3 .before .before .before .before .before in
     let c1 = c2 .before .before .before in
-    said (seq (c2 .put-then-dec .ensures) (c3 .put .ensures)) (ticks _ (c1 .if1 .left))
+    wrote-as (seq (c2 .put-then-dec .ensures) (c3 .put .ensures)) (ticks _ (c1 .if1 .left))
 
 pub flush-ticks-spec : {M : Type 1} → statement M
 flush-ticks-spec =

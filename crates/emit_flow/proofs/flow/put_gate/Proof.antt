@@ -2,7 +2,7 @@
 -- nothing.
 use mathlib.Core.Path.{refl}
 use borrow.Author.Needs.{needs}
-use Rattle.base_text.proofs.Laws.{seq, said, kept}
+use Rattle.base_text.proofs.Laws.{seq, wrote-as, kept}
 use Rattle.emit_flow.proofs.flow.put_gate.Statement.{statement}
 use Rattle.emit_flow.proofs.flow.put_gate.Tie as tie
 
@@ -11,7 +11,7 @@ returns c =
     let c3 = c .before .before in
     let c2 = c3 .before .before .before .before .before in
     let c1 = c2 .before .before .before .before .before in
-    said (seq (c1 .put-indent .ensures) (seq (c2 .put-then-hex8 .ensures) (c3 .put .ensures))) refl
+    wrote-as (seq (c1 .put-indent .ensures) (seq (c2 .put-then-hex8 .ensures) (c3 .put .ensures))) refl
 
 pub put-gate-spec : {M : Type 1} → statement M
 put-gate-spec =

@@ -3,7 +3,7 @@
 use mathlib.Core.Path.{refl}
 use borrow.Author.Needs.{needs}
 use Rattle.lower_units.specs.Block.{gotoCode}
-use Rattle.base_text.proofs.Laws.{seq, said, kept}
+use Rattle.base_text.proofs.Laws.{seq, wrote-as, kept}
 use Rattle.emit_flow.proofs.flow.put_goto.Statement.{statement}
 use Rattle.emit_flow.proofs.flow.put_goto.Tie as tie
 
@@ -13,7 +13,7 @@ returns c =
     let c3 = c .before .before in
     let c2 = c3 .before .before .before .before .before in
     let c1 = c2 .before .before .before .before .before in
-    said (seq (c1 .put-indent .ensures) (seq (c2 .put-then-key .ensures) (c3 .put .ensures))) refl
+    wrote-as (seq (c1 .put-indent .ensures) (seq (c2 .put-then-key .ensures) (c3 .put .ensures))) refl
 
 pub put-goto-spec : {M : Type 1} → statement M
 put-goto-spec =

@@ -2,7 +2,7 @@
 -- nothing.
 use borrow.Author.Needs.{needs}
 use Rattle.emit_flow.proofs.Pieces.{lr-set}
-use Rattle.base_text.proofs.Laws.{seq, said, kept}
+use Rattle.base_text.proofs.Laws.{seq, wrote-as, kept}
 use Rattle.emit_flow.proofs.flow.set_lr.Statement.{statement}
 use Rattle.emit_flow.proofs.flow.set_lr.Tie as tie
 
@@ -10,7 +10,7 @@ returns : tie.Need-returns
 returns c =
     let c2 = c .before .before in
     let c1 = c2 .before .before .before .before .before in
-    said (seq (c1 .put-then-hex8 .ensures) (c2 .put .ensures)) (lr-set _)
+    wrote-as (seq (c1 .put-then-hex8 .ensures) (c2 .put .ensures)) (lr-set _)
 
 pub set-lr-spec : {M : Type 1} → statement M
 set-lr-spec =

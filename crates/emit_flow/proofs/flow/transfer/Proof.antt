@@ -8,7 +8,7 @@ use borrow.Author.Needs.{needs}
 use borrow.Author.Tests.{not-true, not-false, le-leb, lt-leb}
 use Rattle.emit_flow.proofs.Pieces.{returned, gated, ungated}
 use Rattle.emit_flow.specs.Pieces.{indent}
-use Rattle.base_text.proofs.Laws.{seq, said}
+use Rattle.base_text.proofs.Laws.{seq, wrote-as}
 use Rattle.emit_flow.proofs.flow.transfer.Statement.{statement}
 use Rattle.emit_flow.proofs.flow.transfer.Tie as tie
 
@@ -16,7 +16,7 @@ returns : tie.Need-returns
 returns c =
     let c2 = c .before .before in
     let c1 = c2 .before .before in
-    λ ks o h. said (c2 .put-return .ensures) (returned ks _ o _ _ (h ∙ not-true _ (c1 .if1 .taken)))
+    λ ks o h. wrote-as (c2 .put-return .ensures) (returned ks _ o _ _ (h ∙ not-true _ (c1 .if1 .taken)))
 
 returns-2 : tie.Need-returns-2
 returns-2 c =
@@ -26,7 +26,7 @@ returns-2 c =
     let c2 = c3 .before in
     let c1 = c2 .before in
     let v = c1 .before .before .args in
-    λ ks o h. said (seq (c4 .put-gate .ensures) (c5 .put-goto .ensures))
+    λ ks o h. wrote-as (seq (c4 .put-gate .ensures) (c5 .put-goto .ensures))
     (gated ks (v .src) o (indent (v .deep)) (v .key) (h ∙ not-false _ (c1 .if1 .left))
     (ap (λ (n : ℕ). leb n (v .src)) (sym (c2 .clear-bit0 .ensures))
     ∙ le-leb (c2 .clear-bit0 .result) (v .src) (omega (arith, c3 .if2 .taken))))
@@ -38,7 +38,7 @@ returns-3 c =
     let c2 = c3 .before in
     let c1 = c2 .before in
     let v = c1 .before .before .args in
-    λ ks o h. said (c4 .put-goto2 .ensures)
+    λ ks o h. wrote-as (c4 .put-goto2 .ensures)
     (ungated ks (v .src) o (indent (v .deep)) (v .key) (h ∙ not-false _ (c1 .if1 .left))
     (ap (λ (n : ℕ). leb n (v .src)) (sym (c2 .clear-bit0 .ensures))
     ∙ lt-leb (c2 .clear-bit0 .result) (v .src) (omega (arith, c3 .if2 .left))))

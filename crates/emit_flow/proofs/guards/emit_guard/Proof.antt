@@ -2,7 +2,7 @@
 -- Assumes nothing.
 use borrow.Author.Needs.{needs}
 use Rattle.emit_flow.proofs.Pieces.{guarding}
-use Rattle.base_text.proofs.Laws.{seq, said}
+use Rattle.base_text.proofs.Laws.{seq, wrote-as}
 use Rattle.emit_flow.proofs.guards.emit_guard.Statement.{statement}
 use Rattle.emit_flow.proofs.guards.emit_guard.Tie as tie
 
@@ -14,7 +14,7 @@ returns c =
     let c3 = c4 .before .before .before .before in
     let c2 = c3 .before .before .before .before .before in
     let c1 = c2 .before .before .before .before .before in
-    λ b e. said
+    λ b e. wrote-as
     (seq (c1 .put-then-hex8 .ensures)
     (seq (c2 .put-then-dec .ensures)
     (seq (c3 .put .ensures)

@@ -2,7 +2,7 @@
 -- Assumes nothing.
 use mathlib.Core.Path.{refl}
 use borrow.Author.Needs.{needs}
-use Rattle.base_text.proofs.Laws.{seq, said, kept}
+use Rattle.base_text.proofs.Laws.{seq, wrote-as, kept}
 use Rattle.emit_flow.proofs.heads.put_forwarder.Statement.{statement}
 use Rattle.emit_flow.proofs.heads.put_forwarder.Tie as tie
 
@@ -12,7 +12,7 @@ returns c =
     let c3 = c4 .before .before .before .before .before in
     let c2 = c3 .before .before .before .before .before in
     let c1 = c2 .before .before .before .before .before in
-    said (seq (c1 .put-then-key .ensures)
+    wrote-as (seq (c1 .put-then-key .ensures)
     (seq (c2 .put-then-hex8 .ensures) (seq (c3 .put-then-dec .ensures) (c4 .put .ensures))))
     refl
 

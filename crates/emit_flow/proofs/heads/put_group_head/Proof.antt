@@ -3,7 +3,7 @@
 use mathlib.Core.Path.{refl}
 use borrow.Author.Needs.{needs}
 use Rattle.lower_units.specs.Units.{withLocals}
-use Rattle.base_text.proofs.Laws.{seq, said, kept}
+use Rattle.base_text.proofs.Laws.{seq, wrote-as, kept}
 use Rattle.emit_flow.proofs.heads.put_group_head.Statement.{statement}
 use Rattle.emit_flow.proofs.heads.put_group_head.Tie as tie
 
@@ -12,7 +12,7 @@ unfolding withLocals
 returns c =
     let c2 = c .before .before in
     let c1 = c2 .before .before .before .before .before in
-    said (seq (c1 .put-then-hex8 .ensures) (c2 .put .ensures)) refl
+    wrote-as (seq (c1 .put-then-hex8 .ensures) (c2 .put .ensures)) refl
 
 pub put-group-head-spec : {M : Type 1} → statement M
 put-group-head-spec =

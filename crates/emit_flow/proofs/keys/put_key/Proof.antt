@@ -6,7 +6,7 @@ use Prim.Native.Nat.{ℕ}
 use borrow.Author.Needs.{needs}
 use borrow.Author.Tests.{eq-eqb, ne-eqb}
 use Rattle.base_text.specs.Doc.{text, hex8, _▸_, flat}
-use Rattle.base_text.proofs.Laws.{seq, said, kept}
+use Rattle.base_text.proofs.Laws.{seq, wrote-as, kept}
 use Rattle.emit_flow.proofs.keys.put_key.Statement.{statement}
 use Rattle.emit_flow.proofs.keys.put_key.Tie as tie
 
@@ -17,7 +17,7 @@ returns c =
     let c2 = c3 .before .before .before in
     let c1 = c2 .before in
     rw (eq-eqb _ _ (c3 .if1 .taken))
-    (said (seq (c2 .put-hex8 .ensures) (c4 .put .ensures))
+    (wrote-as (seq (c2 .put-hex8 .ensures) (c4 .put .ensures))
     (ap (λ (n : ℕ). flat (hex8 n ▸ text "_t") []) (c1 .clear-bit0 .ensures)))
 
 returns-2 : tie.Need-returns-2
@@ -27,7 +27,7 @@ returns-2 c =
     let c2 = c3 .before .before .before in
     let c1 = c2 .before in
     rw (ne-eqb _ _ (c3 .if1 .left))
-    (said (seq (c2 .put-hex8 .ensures) (c4 .put2 .ensures))
+    (wrote-as (seq (c2 .put-hex8 .ensures) (c4 .put2 .ensures))
     (ap (λ (n : ℕ). flat (hex8 n ▸ text "_a") []) (c1 .clear-bit0 .ensures)))
 
 pub put-key-spec : {M : Type 1} → statement M

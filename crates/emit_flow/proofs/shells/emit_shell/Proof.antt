@@ -5,7 +5,7 @@ use Rattle.emit_flow.proofs.Pieces.{ticked}
 use Rattle.c_tree.specs.Stmt.{common, end}
 use Rattle.lower_units.specs.Block.{shellCode}
 use Rattle.lower_forms.specs.Block.{pcLine}
-use Rattle.base_text.proofs.Laws.{seq, said}
+use Rattle.base_text.proofs.Laws.{seq, wrote-as}
 use Rattle.emit_flow.proofs.shells.emit_shell.Statement.{statement}
 use Rattle.emit_flow.proofs.shells.emit_shell.Tie as tie
 
@@ -16,7 +16,7 @@ returns c =
     let c2 = c3 .before .before .before .before .before in
     let c1 = c2 .before .before .before .before in
     let v = c1 .before .before .before .args in
-    λ b i. said
+    λ b i. wrote-as
     (seq (c1 .flush-ticks .ensures)
     (seq (c2 .set-pc .ensures) (seq (c3 .put-then-hex8 .ensures) (c4 .put .ensures))))
     (ticked common (v .cycles) (pcLine (v .addr)) (shellCode b i (v .expect) end))

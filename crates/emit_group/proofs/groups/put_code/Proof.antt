@@ -9,7 +9,7 @@ use native.Mathlib.Omega.{arith}
 use Rattle.plan_members.proofs.Places.{row-block-inside}
 use Rattle.plan_members.specs.Members.{membersOf, keysWithin}
 use Rattle.file_blocks.specs.Parse.{blocksOf}
-use Rattle.base_text.proofs.Laws.{said}
+use Rattle.base_text.proofs.Laws.{wrote-as}
 use Rattle.base_text.specs.Doc.{flat}
 use Rattle.emit_group.specs.Groups.{memberText}
 use Rattle.emit_group.proofs.groups.put_code.Statement.{statement}
@@ -24,7 +24,7 @@ returns c = λ limit g k ready is inside some.
     c .before .before .before .before .before .before .before .before .before .before .args in
     let f = a .file .now in
     let same = number .row-group .ensures .1 f limit g k ready is inside in
-    said
+    wrote-as
     (put .emit-block .ensures (keysWithin (a .several) limit f g)
     (record {
       limit = limit;

@@ -7,7 +7,7 @@ use mathlib.Core.Path.{ap, _∙_}
 use Rattle.c_tree.specs.Print.{codeText}
 use Rattle.c_tree.specs.Stmt.{label, end, _⨾_}
 use Rattle.lower_units.specs.Block.{nl}
-use Rattle.base_text.proofs.Laws.{seq, said}
+use Rattle.base_text.proofs.Laws.{seq, wrote-as}
 use Rattle.base_text.specs.Doc.{flat}
 use Rattle.emit_group.proofs.Functions.{member-key}
 use Rattle.emit_group.proofs.groups.put_member.Statement.{statement}
@@ -23,7 +23,7 @@ returns c = λ limit g k ready is inside some.
     .before .before .before .before .before .args .file .now in
     let key = head .before .row-key .ensures _ limit g k ready is inside
     ∙ member-key limit f g k inside in
-    seq (said (head .put-label .ensures)
+    seq (wrote-as (head .put-label .ensures)
     (ap (λ (j : ℕ). flat (codeText (label j ⨾ nl ⨾ end)) []) key))
     (seq (code .put-code .ensures limit g k ready is inside (λ _. some))
     (close .put-member-end .ensures))

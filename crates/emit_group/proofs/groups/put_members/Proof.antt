@@ -10,7 +10,7 @@ use Rattle.emit_tables.proofs.Rows.{group-size}
 use Rattle.emit_tables.specs.Tables.{IsGroup}
 use Rattle.plan_members.specs.Members.{membersOf, groupKeys}
 use Rattle.file_blocks.specs.Parse.{blocksOf}
-use Rattle.base_text.proofs.Laws.{none, said, each-more, each-all}
+use Rattle.base_text.proofs.Laws.{none, wrote-as, each-more, each-all}
 use Rattle.base_text.specs.Doc.{each}
 use Rattle.base_text.specs.Wrote.{Wrote}
 use Rattle.emit_group.specs.Groups.{labelledText}
@@ -59,7 +59,7 @@ returns c = λ limit g is some.
     let a = c .before .before .before .before .before .args in
     let f = a .file .now in
     let ms = membersOf limit (blocksOf f) g in
-    said (each-all (labelledText (a .hashing) f (groupKeys limit f g)) ms (c .before .loop .k)
+    wrote-as (each-all (labelledText (a .hashing) f (groupKeys limit f g)) ms (c .before .loop .k)
     (omega (arith, group-size is)) (c .before .loop .inv .2 limit g is some))
     (members-each (a .hashing) f (groupKeys limit f g) ms [])
 

@@ -7,7 +7,7 @@ use Rattle.c_tree.specs.Stmt.{Owner}
 use Rattle.base_text.proofs.Laws.{seq}
 use Rattle.lower_forms.specs.Forms.{Form}
 use Rattle.lower_forms.specs.Operands.{condExpr}
-use Rattle.lower_forms.specs.InlineBody.{apart}
+use Rattle.lower_forms.specs.InlineBody.{eachOnLine}
 use Rattle.lower_forms.specs.Block.{flushTicks, branchRegs}
 use Rattle.armv4t.specs.Cond.{isAl}
 use Rattle.lower_units.specs.Block.{bodyKey, codeFrom}
@@ -33,11 +33,11 @@ returns c =
     (back .wrapping-add-u32 .ensures) (key .key-of .ensures)))
     (record {
       onward =
-          jump-step ks b j (isAl (a .i .cond)) (flushTicks (a .cycles) ++ apart regs)
+          jump-step ks b j (isAl (a .i .cond)) (flushTicks (a .cycles) ++ eachOnLine regs)
           (flushTicks (a .cycles)) (condExpr (a .i .cond)) regs
           (key .key-of .result) (a .src) fs
           (sym (c1 .before .is-al .ensures) ∙ c1 .if1 .taken) e
-          (c2 .branch-always .ensures ks (Owner.native (bodyKey b)) (codeFrom ks b (j + 1) fs)
+          (c2 .branch-always .ensures ks (Owner.nativeOf (bodyKey b)) (codeFrom ks b (j + 1) fs)
           (ap (λ (n : ℕ). among n ks) (key .key-of .ensures) ∙ h));
       cycles = refl;
     })
@@ -58,12 +58,12 @@ returns-2 c =
     (back .wrapping-add-u32 .ensures) (key .key-of .ensures)))
     (record {
       onward =
-          branch-step ks b j (isAl (a .i .cond)) (flushTicks (a .cycles) ++ apart regs)
+          branch-step ks b j (isAl (a .i .cond)) (flushTicks (a .cycles) ++ eachOnLine regs)
           (flushTicks (a .cycles)) (condExpr (a .i .cond)) regs
           (key .key-of .result) (a .src) fs
           (sym (c1 .before .is-al .ensures) ∙ c1 .if1 .left) e
           (seq (c2 .put-condition .ensures)
-          (c3 .branch-taken .ensures ks (Owner.native (bodyKey b))
+          (c3 .branch-taken .ensures ks (Owner.nativeOf (bodyKey b))
           (ap (λ (n : ℕ). among n ks) (key .key-of .ensures) ∙ h)));
       cycles = refl;
     })

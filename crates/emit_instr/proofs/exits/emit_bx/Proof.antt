@@ -3,7 +3,7 @@
 use borrow.Author.Needs.{needs}
 use Rattle.emit_flow.proofs.Pieces.{bx-text}
 use Rattle.lower_forms.specs.Operands.{regOf}
-use Rattle.base_text.proofs.Laws.{seq, said}
+use Rattle.base_text.proofs.Laws.{seq, wrote-as}
 use Rattle.emit_instr.proofs.exits.emit_bx.Statement.{statement}
 use Rattle.emit_instr.proofs.exits.emit_bx.Tie as tie
 
@@ -14,7 +14,7 @@ returns c =
     let c2 = c3 .before .before .before .before in
     let c1 = c2 .before .before .before .before .before in
     let v = c1 .before .before .before .args in
-    λ ks a o d. said
+    λ ks a o d. wrote-as
     (seq (c1 .flush-ticks .ensures)
     (seq (c2 .put .ensures) (seq (c3 .put-reg .ensures) (c4 .put2 .ensures))))
     (bx-text ks a o (v .cycles) (regOf (v .pc) (v .r)) d)

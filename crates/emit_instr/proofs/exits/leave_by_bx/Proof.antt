@@ -4,7 +4,7 @@ use Prim.Native.Nat.{ℕ, _+_}
 use mathlib.Core.Path.{refl, ap}
 use mathlib.Core.List.{[]}
 use Rattle.base_text.specs.Doc.{flat}
-use Rattle.base_text.proofs.Laws.{said}
+use Rattle.base_text.proofs.Laws.{wrote-as}
 use Rattle.c_tree.specs.Stmt.{Owner}
 use Rattle.c_tree.specs.Print.{codeText}
 use Rattle.lower_forms.specs.Forms.{bx}
@@ -25,11 +25,11 @@ returns c =
     record {
       onward =
           exit-step ks b j (bx (flushTicks (a .cycles)) (regExpr (a .i) (a .rm))) (b .addr) fs refl
-          (said (c2 .emit-bx .ensures ks (b .addr) (Owner.native (bodyKey b))
+          (wrote-as (c2 .emit-bx .ensures ks (b .addr) (Owner.nativeOf (bodyKey b))
           (codeFrom ks b (j + 1) fs))
           (ap (λ (n : ℕ). flat
           (codeText
-          (nativeText ks (b .addr) (Owner.native (bodyKey b))
+          (nativeText ks (b .addr) (Owner.nativeOf (bodyKey b))
           (bx (flushTicks (a .cycles)) (regOf n (a .rm))) (codeFrom ks b (j + 1) fs))) [])
           (c1 .pc-value .ensures)));
       cycles = refl;

@@ -4,7 +4,7 @@ use Prim.Native.Nat.{_+_}
 use mathlib.Core.Path.{refl, sym}
 use mathlib.Core.List.{[]}
 use Rattle.c_tree.specs.Stmt.{Owner}
-use Rattle.base_text.proofs.Laws.{seq, said}
+use Rattle.base_text.proofs.Laws.{seq, wrote-as}
 use Rattle.lower_forms.specs.InlineBody.{listed}
 use Rattle.lower_forms.specs.Block.{emitPop}
 use Rattle.lower_units.specs.Block.{bodyKey, codeFrom}
@@ -24,8 +24,8 @@ returns c =
       onward =
           exit-step ks b j (emitPop (a .thumb) (a .cycles) (a .rn) (listed (a .rlist) 15)) (b .addr)
           fs refl
-          (said (seq (c1 .flush-ticks .ensures) (c2 .put-pop .ensures))
-          (sym (ticks-then-pop ks (b .addr) (Owner.native (bodyKey b)) (a .thumb) (a .cycles)
+          (wrote-as (seq (c1 .flush-ticks .ensures) (c2 .put-pop .ensures))
+          (sym (ticks-then-pop ks (b .addr) (Owner.nativeOf (bodyKey b)) (a .thumb) (a .cycles)
           (a .rn) (listed (a .rlist) 15) (codeFrom ks b (j + 1) fs) [])));
       cycles = refl;
     }

@@ -4,7 +4,7 @@ use Prim.Native.Nat.{ℕ}
 use mathlib.Core.Path.{ap}
 use mathlib.Core.List.{[], _++_}
 use Rattle.base_text.specs.Doc.{flat}
-use Rattle.base_text.proofs.Laws.{said}
+use Rattle.base_text.proofs.Laws.{wrote-as}
 use Rattle.c_tree.specs.Stmt.{common, end}
 use Rattle.c_tree.specs.Print.{codeText}
 use Rattle.plan_exits.specs.Exits.{fallThrough}
@@ -35,7 +35,7 @@ returns-2 c =
     let t : Lines = flushTicks (a .cycles) ++ pcLine (a .i .addr) in
     λ high ks b j fs h.
     shell-step ks b j high (a .last) t (fallThrough (a .thumb) (a .i)) fs h (c1 .if1 .left)
-    (said (c3 .emit-shell .ensures b j)
+    (wrote-as (c3 .emit-shell .ensures b j)
     (ap (λ (n : ℕ). flat (codeText (lines common 4 t (shellCode b j n end))) [])
     (c2 .fall-through .ensures)))
 

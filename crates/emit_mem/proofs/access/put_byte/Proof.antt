@@ -2,7 +2,7 @@
 -- Assumes nothing.
 use mathlib.Core.Path.{refl}
 use borrow.Author.Needs.{needs}
-use Rattle.base_text.proofs.Laws.{said, kept}
+use Rattle.base_text.proofs.Laws.{wrote-as, kept}
 use Rattle.emit_mem.proofs.access.put_byte.Statement.{statement}
 use Rattle.emit_mem.proofs.access.put_byte.Tie as tie
 
@@ -10,13 +10,13 @@ returns : tie.Need-returns
 returns c =
     let c2 = c .before .before in
     let c1 = c2 .before .before .before in
-    rw (c1 .if1 .taken) (said (c2 .put .ensures) refl)
+    rw (c1 .if1 .taken) (wrote-as (c2 .put .ensures) refl)
 
 returns-2 : tie.Need-returns-2
 returns-2 c =
     let c2 = c .before .before in
     let c1 = c2 .before .before .before in
-    rw (c1 .if1 .left) (said (c2 .put2 .ensures) refl)
+    rw (c1 .if1 .left) (wrote-as (c2 .put2 .ensures) refl)
 
 pub put-byte-spec : {M : Type 1} → statement M
 put-byte-spec =

@@ -4,7 +4,7 @@ use mathlib.Core.Path.{refl}
 use borrow.Author.Needs.{needs}
 use Rattle.base_text.specs.Digits.{numeral}
 use Rattle.base_text.specs.Doc.{decimal}
-use Rattle.base_text.proofs.Laws.{said, kept}
+use Rattle.base_text.proofs.Laws.{wrote-as, kept}
 use Rattle.emit_mem.proofs.access.put_half.Statement.{statement}
 use Rattle.emit_mem.proofs.access.put_half.Tie as tie
 
@@ -13,14 +13,14 @@ unfolding decimal numeral
 returns c =
     let c2 = c .before .before in
     let c1 = c2 .before .before .before in
-    rw (c1 .if1 .taken) (said (c2 .put .ensures) refl)
+    rw (c1 .if1 .taken) (wrote-as (c2 .put .ensures) refl)
 
 returns-2 : tie.Need-returns-2
 unfolding decimal numeral
 returns-2 c =
     let c2 = c .before .before in
     let c1 = c2 .before .before .before in
-    rw (c1 .if1 .left) (said (c2 .put2 .ensures) refl)
+    rw (c1 .if1 .left) (wrote-as (c2 .put2 .ensures) refl)
 
 pub put-half-spec : {M : Type 1} → statement M
 put-half-spec =

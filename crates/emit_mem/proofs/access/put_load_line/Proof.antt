@@ -2,7 +2,7 @@
 -- Assumes nothing.
 use mathlib.Core.Path.{refl}
 use borrow.Author.Needs.{needs}
-use Rattle.base_text.proofs.Laws.{seq, said, kept}
+use Rattle.base_text.proofs.Laws.{seq, wrote-as, kept}
 use Rattle.emit_mem.proofs.access.put_load_line.Statement.{statement}
 use Rattle.emit_mem.proofs.access.put_load_line.Tie as tie
 
@@ -12,7 +12,7 @@ returns c =
     let c3 = c4 .before .before .before .before .before in
     let c2 = c3 .before .before .before .before in
     let c1 = c2 .before .before .before .before .before in
-    said (seq (c1 .put-then-dec .ensures)
+    wrote-as (seq (c1 .put-then-dec .ensures)
     (seq (c2 .put .ensures) (seq (c3 .put-loaded .ensures) (c4 .put2 .ensures)))) refl
 
 pub put-load-line-spec : {M : Type 1} → statement M

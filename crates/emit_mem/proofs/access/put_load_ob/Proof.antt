@@ -3,7 +3,7 @@
 use mathlib.Core.Path.{refl}
 use borrow.Author.Needs.{needs}
 use borrow.Author.Tests.{eq-eqb, ne-eqb}
-use Rattle.base_text.proofs.Laws.{none, said, kept}
+use Rattle.base_text.proofs.Laws.{none, wrote-as, kept}
 use Rattle.emit_mem.proofs.access.put_load_ob.Statement.{statement}
 use Rattle.emit_mem.proofs.access.put_load_ob.Tie as tie
 
@@ -26,7 +26,7 @@ returns-3 c =
     let c2 = c3 .before in
     let c1 = c2 .before in
     rw (c1 .if1 .taken, ne-eqb _ _ (c2 .if2 .left), ne-eqb _ _ (c3 .if3 .left))
-    (said (c4 .put-ob .ensures) refl)
+    (wrote-as (c4 .put-moved-base .ensures) refl)
 
 returns-4 : tie.Need-returns-4
 returns-4 c =

@@ -8,8 +8,8 @@ use Rattle.c_tree.specs.Expr.{x-ob}
 use Rattle.c_tree.specs.Preamble.{v32}
 use Rattle.c_tree.specs.Stmt.{Plain}
 use Rattle.emit_mem.proofs.Lines.{apart-both}
-use Rattle.lower_forms.specs.InlineBody.{only, setReg, loaded}
-use Rattle.base_text.proofs.Laws.{seq, said, kept}
+use Rattle.lower_forms.specs.InlineBody.{listIf, setReg, loaded}
+use Rattle.base_text.proofs.Laws.{seq, wrote-as, kept}
 use Rattle.emit_mem.proofs.access.put_mem_load.Statement.{statement}
 use Rattle.emit_mem.proofs.access.put_mem_load.Tie as tie
 
@@ -19,10 +19,10 @@ returns c =
     let c1 = c2 .before .before .before .before in
     let a = c1 .before .before .before .args in
     let back : List Plain =
-    only (a .wb && not (eqb (a .rn) (a .rd)) && not (eqb (a .rn) 15))
+    listIf (a .wb && not (eqb (a .rn) (a .rd)) && not (eqb (a .rn) 15))
     (setReg (a .rn) (v32 x-ob)) in
     let load : List Plain = setReg (a .rd) (loaded (a .width) (a .signed)) ∷ [] in
-    said (seq (c1 .put-load-ob .ensures) (c2 .put-load-line .ensures)) (apart-both 8 back load)
+    wrote-as (seq (c1 .put-load-ob .ensures) (c2 .put-load-line .ensures)) (apart-both 8 back load)
 
 pub put-mem-load-spec : {M : Type 1} → statement M
 put-mem-load-spec =

@@ -8,8 +8,8 @@ use Rattle.c_tree.specs.Expr.{x-ob, reg, get}
 use Rattle.c_tree.specs.Preamble.{v32}
 use Rattle.c_tree.specs.Stmt.{Plain}
 use Rattle.emit_mem.proofs.Lines.{apart-both}
-use Rattle.lower_forms.specs.InlineBody.{only, setReg, stored}
-use Rattle.base_text.proofs.Laws.{seq, said, kept}
+use Rattle.lower_forms.specs.InlineBody.{listIf, setReg, stored}
+use Rattle.base_text.proofs.Laws.{seq, wrote-as, kept}
 use Rattle.emit_mem.proofs.access.put_mem_store.Statement.{statement}
 use Rattle.emit_mem.proofs.access.put_mem_store.Tie as tie
 
@@ -19,8 +19,8 @@ returns c =
     let c1 = c2 .before .before .before .before in
     let a = c1 .before .before .before .args in
     let store : List Plain = stored (a .width) (get (reg (a .rd))) ∷ [] in
-    let back : List Plain = only (a .wb && not (eqb (a .rn) 15)) (setReg (a .rn) (v32 x-ob)) in
-    said (seq (c1 .put-store-line .ensures) (c2 .put-store-ob .ensures)) (apart-both 8 store back)
+    let back : List Plain = listIf (a .wb && not (eqb (a .rn) 15)) (setReg (a .rn) (v32 x-ob)) in
+    wrote-as (seq (c1 .put-store-line .ensures) (c2 .put-store-ob .ensures)) (apart-both 8 store back)
 
 pub put-mem-store-spec : {M : Type 1} → statement M
 put-mem-store-spec =

@@ -3,7 +3,7 @@
 use mathlib.Core.Path.{refl}
 use borrow.Author.Needs.{needs}
 use borrow.Author.Tests.{eq-eqb, ne-eqb}
-use Rattle.base_text.proofs.Laws.{none, said, kept}
+use Rattle.base_text.proofs.Laws.{none, wrote-as, kept}
 use Rattle.emit_mem.proofs.access.put_store_ob.Statement.{statement}
 use Rattle.emit_mem.proofs.access.put_store_ob.Tie as tie
 
@@ -17,7 +17,7 @@ returns-2 c =
     let c3 = c .before .before in
     let c2 = c3 .before .before in
     let c1 = c2 .before in
-    rw (c1 .if1 .taken, ne-eqb _ _ (c2 .if2 .left)) (said (c3 .put-ob .ensures) refl)
+    rw (c1 .if1 .taken, ne-eqb _ _ (c2 .if2 .left)) (wrote-as (c3 .put-moved-base .ensures) refl)
 
 returns-3 : tie.Need-returns-3
 returns-3 c =

@@ -7,8 +7,8 @@ use borrow.Author.Needs.{needs}
 use Rattle.c_tree.specs.Stmt.{end}
 use Rattle.emit_mem.proofs.Lines.{lines-both}
 use Rattle.lower_forms.specs.Forms.{Lines}
-use Rattle.lower_forms.specs.InlineBody.{only, apart, setReg, listed, loads, movedBase}
-use Rattle.base_text.proofs.Laws.{seq, said, kept}
+use Rattle.lower_forms.specs.InlineBody.{listIf, eachOnLine, setReg, listed, loads, movedBase}
+use Rattle.base_text.proofs.Laws.{seq, wrote-as, kept}
 use Rattle.emit_mem.proofs.block_mem.put_block_loads.Statement.{statement}
 use Rattle.emit_mem.proofs.block_mem.put_block_loads.Tie as tie
 
@@ -19,11 +19,11 @@ returns c =
     let c1 = c2 .before .before in
     let a = c1 .before .before .args in
     let back : Lines =
-    apart (only (a .writeback && not (c1 .is-listed .result))
+    eachOnLine (listIf (a .writeback && not (c1 .is-listed .result))
     (setReg (a .rn) (movedBase (a .up) (a .total)))) in
     let rest : Lines = loads (listed (a .rlist) 16) in
     rw (sym (c1 .is-listed .ensures))
-    (said (seq (c2 .put-load-back .ensures) (c3 .put-loads .ensures))
+    (wrote-as (seq (c2 .put-load-back .ensures) (c3 .put-loads .ensures))
     (lines-both 8 back rest end []))
 
 pub put-block-loads-spec : {M : Type 1} → statement M

@@ -8,9 +8,9 @@ use Rattle.c_tree.specs.Expr.{x-base, x-addr, reg, get}
 use Rattle.c_tree.specs.Stmt.{end}
 use Rattle.emit_mem.proofs.Lines.{lines-both}
 use Rattle.lower_forms.specs.Forms.{Lines}
-use Rattle.lower_forms.specs.InlineBody.{apart, let32, listed, movedBase, start, loadsOrStores}
+use Rattle.lower_forms.specs.InlineBody.{eachOnLine, let32, listed, movedBase, start, loadsOrStores}
 use Rattle.armv4t.specs.RegisterList.{isListed}
-use Rattle.base_text.proofs.Laws.{seq, said, kept}
+use Rattle.base_text.proofs.Laws.{seq, wrote-as, kept}
 use Rattle.emit_mem.proofs.block_mem.put_block_mem.Statement.{statement}
 use Rattle.emit_mem.proofs.block_mem.put_block_mem.Tie as tie
 
@@ -22,13 +22,13 @@ returns c =
     let a = c1 .before .before .args in
     let total : ℕ = c1 .bytes-listed .result in
     let first : Lines =
-    apart (let32 x-base (get (reg (a .rn))) ∷ let32 x-addr (start (a .up) (a .pre) total)
+    eachOnLine (let32 x-base (get (reg (a .rn))) ∷ let32 x-addr (start (a .up) (a .pre) total)
     ∷ []) in
     let rest : Lines =
     loadsOrStores (a .load) (a .i) (a .rn) (a .writeback) (isListed (a .rlist) (a .rn))
     (movedBase (a .up) total) (listed (a .rlist) 16) in
     rw (sym (c1 .bytes-listed .ensures .0))
-    (said (seq (c2 .put-block-base .ensures) (c3 .put-transfers .ensures))
+    (wrote-as (seq (c2 .put-block-base .ensures) (c3 .put-transfers .ensures))
     (lines-both 8 first rest end []))
 
 pub put-block-mem-spec : {M : Type 1} → statement M

@@ -6,8 +6,8 @@ use borrow.Author.Needs.{needs}
 use Rattle.c_tree.specs.Stmt.{end}
 use Rattle.emit_mem.proofs.Lines.{lines-both}
 use Rattle.lower_forms.specs.Forms.{Lines}
-use Rattle.lower_forms.specs.InlineBody.{only, apart, setReg, listed, movedBase, storedReg, stores}
-use Rattle.base_text.proofs.Laws.{seq, said, kept}
+use Rattle.lower_forms.specs.InlineBody.{listIf, eachOnLine, setReg, listed, movedBase, storedReg, stores}
+use Rattle.base_text.proofs.Laws.{seq, wrote-as, kept}
 use Rattle.emit_mem.proofs.block_mem.put_block_stores.Statement.{statement}
 use Rattle.emit_mem.proofs.block_mem.put_block_stores.Tie as tie
 
@@ -21,9 +21,9 @@ returns c =
     stores (storedReg (a .i) (a .rn) (c1 .lowest-listed .result) (movedBase (a .up) (a .total)))
     (listed (a .rlist) 16) in
     let back : Lines =
-    apart (only (a .writeback) (setReg (a .rn) (movedBase (a .up) (a .total)))) in
+    eachOnLine (listIf (a .writeback) (setReg (a .rn) (movedBase (a .up) (a .total)))) in
     rw (sym (c1 .lowest-listed .ensures))
-    (said (seq (c2 .put-stores .ensures) (c3 .put-store-back .ensures))
+    (wrote-as (seq (c2 .put-stores .ensures) (c3 .put-store-back .ensures))
     (lines-both 8 first back end []))
 
 pub put-block-stores-spec : {M : Type 1} → statement M

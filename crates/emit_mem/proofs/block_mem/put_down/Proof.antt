@@ -4,7 +4,7 @@ use mathlib.Core.Path.{refl}
 use borrow.Author.Needs.{needs}
 use Rattle.base_text.specs.Digits.{numeral}
 use Rattle.base_text.specs.Doc.{decimal}
-use Rattle.base_text.proofs.Laws.{seq, said, kept}
+use Rattle.base_text.proofs.Laws.{seq, wrote-as, kept}
 use Rattle.emit_mem.proofs.block_mem.put_down.Statement.{statement}
 use Rattle.emit_mem.proofs.block_mem.put_down.Tie as tie
 
@@ -14,7 +14,7 @@ returns c =
     let c3 = c .before .before in
     let c2 = c3 .before .before .before in
     let c1 = c2 .before .before .before in
-    rw (c2 .if1 .taken) (said (seq (c1 .put-then-dec .ensures) (c3 .put .ensures)) refl)
+    rw (c2 .if1 .taken) (wrote-as (seq (c1 .put-then-dec .ensures) (c3 .put .ensures)) refl)
 
 returns-2 : tie.Need-returns-2
 unfolding decimal numeral
@@ -22,7 +22,7 @@ returns-2 c =
     let c3 = c .before .before in
     let c2 = c3 .before .before .before in
     let c1 = c2 .before .before .before in
-    rw (c2 .if1 .left) (said (seq (c1 .put-then-dec .ensures) (c3 .put2 .ensures)) refl)
+    rw (c2 .if1 .left) (wrote-as (seq (c1 .put-then-dec .ensures) (c3 .put2 .ensures)) refl)
 
 pub put-down-spec : {M : Type 1} → statement M
 put-down-spec =

@@ -2,7 +2,7 @@
 -- Assumes nothing.
 use mathlib.Core.Path.{refl}
 use borrow.Author.Needs.{needs}
-use Rattle.base_text.proofs.Laws.{none, said, kept}
+use Rattle.base_text.proofs.Laws.{none, wrote-as, kept}
 use Rattle.emit_mem.proofs.block_mem.put_load_back.Statement.{statement}
 use Rattle.emit_mem.proofs.block_mem.put_load_back.Tie as tie
 
@@ -16,7 +16,7 @@ returns-2 c =
     let c3 = c .before .before in
     let c2 = c3 .before .before in
     let c1 = c2 .before in
-    rw (c2 .if2 .left, c1 .if1 .taken) (said (c3 .put-write-back .ensures) refl)
+    rw (c2 .if2 .left, c1 .if1 .taken) (wrote-as (c3 .put-write-back .ensures) refl)
 
 returns-3 : tie.Need-returns-3
 returns-3 c =

@@ -4,7 +4,7 @@ use mathlib.Core.Path.{refl}
 use borrow.Author.Needs.{needs}
 use Rattle.base_text.specs.Digits.{numeral}
 use Rattle.base_text.specs.Doc.{decimal}
-use Rattle.base_text.proofs.Laws.{said, kept}
+use Rattle.base_text.proofs.Laws.{wrote-as, kept}
 use Rattle.emit_mem.proofs.block_mem.put_start.Statement.{statement}
 use Rattle.emit_mem.proofs.block_mem.put_start.Tie as tie
 
@@ -14,7 +14,7 @@ returns c =
     let c3 = c .before .before in
     let c2 = c3 .before .before .before in
     let c1 = c2 .before in
-    rw (c2 .if2 .taken, c1 .if1 .taken) (said (c3 .put .ensures) refl)
+    rw (c2 .if2 .taken, c1 .if1 .taken) (wrote-as (c3 .put .ensures) refl)
 
 returns-2 : tie.Need-returns-2
 unfolding decimal numeral
@@ -22,14 +22,14 @@ returns-2 c =
     let c3 = c .before .before in
     let c2 = c3 .before .before .before in
     let c1 = c2 .before in
-    rw (c2 .if2 .left, c1 .if1 .taken) (said (c3 .put2 .ensures) refl)
+    rw (c2 .if2 .left, c1 .if1 .taken) (wrote-as (c3 .put2 .ensures) refl)
 
 returns-3 : tie.Need-returns-3
 unfolding decimal numeral
 returns-3 c =
     let c2 = c .before .before in
     let c1 = c2 .before .before in
-    rw (c1 .if1 .left) (said (c2 .put-down .ensures) refl)
+    rw (c1 .if1 .left) (wrote-as (c2 .put-down .ensures) refl)
 
 pub put-start-spec : {M : Type 1} → statement M
 put-start-spec =

@@ -2,7 +2,7 @@
 -- Assumes nothing.
 use mathlib.Core.Path.{refl}
 use borrow.Author.Needs.{needs}
-use Rattle.base_text.proofs.Laws.{seq, said, kept}
+use Rattle.base_text.proofs.Laws.{seq, wrote-as, kept}
 use Rattle.emit_mem.proofs.mem.put_address.Statement.{statement}
 use Rattle.emit_mem.proofs.mem.put_address.Tie as tie
 
@@ -13,7 +13,7 @@ returns c =
     let c2 = c3 .before .before .before .before in
     let c1 = c2 .before .before in
     let ob = rw (c1 .pc-value .ensures) at (c3 .put-ob-line .ensures) in
-    said (seq (c2 .put-base-line .ensures) (seq ob (c4 .put-addr-line .ensures))) refl
+    wrote-as (seq (c2 .put-base-line .ensures) (seq ob (c4 .put-addr-line .ensures))) refl
 
 pub put-address-spec : {M : Type 1} → statement M
 put-address-spec =

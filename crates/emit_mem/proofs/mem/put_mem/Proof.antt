@@ -10,14 +10,14 @@ use Rattle.emit_mem.proofs.mem.put_mem.Tie as tie
 use Rattle.lower_forms.specs.Forms.{Lines}
 use Rattle.lower_forms.specs.InlineBody.{baseExpr, access}
 use Rattle.lower_units.specs.Block.{linesText}
-use Rattle.base_text.proofs.Laws.{said, kept}
+use Rattle.base_text.proofs.Laws.{wrote-as, kept}
 use Rattle.base_text.specs.Doc.{flat}
 
 returns : tie.Need-returns
 returns c = λ ls e.
     let c1 = c .before .before in
     let a = c1 .before .before .before .args in
-    said (c1 .put-mem-lines .ensures)
+    wrote-as (c1 .put-mem-lines .ensures)
     (ap (λ (ks : Lines). flat (linesText 8 ks) [])
     (mem-lines (a .i) (baseExpr (a .thumb) (a .i) (a .rn)) (a .up) (a .pre)
     (access (a .load) (a .width) (a .signed) (a .rd) (a .rn) (not (a .pre) || a .writeback))

@@ -8,8 +8,8 @@ use Rattle.c_tree.specs.Stmt.{end}
 use Rattle.emit_mem.proofs.Lines.{lines-both}
 use Rattle.emit_mem.specs.Mem.{offsetOf}
 use Rattle.lower_forms.specs.Forms.{Lines}
-use Rattle.lower_forms.specs.InlineBody.{apart, baseExpr, access, memLines}
-use Rattle.base_text.proofs.Laws.{seq, said, kept}
+use Rattle.lower_forms.specs.InlineBody.{eachOnLine, baseExpr, access, memLines}
+use Rattle.base_text.proofs.Laws.{seq, wrote-as, kept}
 use Rattle.emit_mem.proofs.mem.put_mem_lines.Statement.{statement}
 use Rattle.emit_mem.proofs.mem.put_mem_lines.Tie as tie
 
@@ -23,9 +23,9 @@ returns c =
     memLines (baseExpr (a .thumb) (a .i) (a .rn)) (a .up) (a .pre) []
     (offsetOf (pcValue (a .i)) (a .offset)) in
     let rest : Lines =
-    apart (access (a .load) (a .width) (a .signed) (a .rd) (a .rn) (c1 .writes-back .result)) in
+    eachOnLine (access (a .load) (a .width) (a .signed) (a .rd) (a .rn) (c1 .writes-back .result)) in
     rw (sym (c1 .writes-back .ensures))
-    (said (seq (c2 .put-address .ensures) (c3 .put-access .ensures))
+    (wrote-as (seq (c2 .put-address .ensures) (c3 .put-access .ensures))
     (lines-both 8 first rest end []))
 
 pub put-mem-lines-spec : {M : Type 1} → statement M

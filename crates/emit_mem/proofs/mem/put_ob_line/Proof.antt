@@ -1,17 +1,17 @@
--- `mem::put_ob_line` meets its contract: what its calls write, one after another.
+-- `mem::put_moved_base_line` meets its contract: what its calls write, one after another.
 -- Assumes nothing.
 use mathlib.Core.Path.{refl}
 use borrow.Author.Needs.{needs}
-use Rattle.base_text.proofs.Laws.{seq, said, kept}
-use Rattle.emit_mem.proofs.mem.put_ob_line.Statement.{statement}
-use Rattle.emit_mem.proofs.mem.put_ob_line.Tie as tie
+use Rattle.base_text.proofs.Laws.{seq, wrote-as, kept}
+use Rattle.emit_mem.proofs.mem.put_moved_base_line.Statement.{statement}
+use Rattle.emit_mem.proofs.mem.put_moved_base_line.Tie as tie
 
 returns : tie.Need-returns
 returns c =
     let c3 = c .before .before in
     let c2 = c3 .before .before .before .before .before in
     let c1 = c2 .before .before .before .before in
-    said (seq (c1 .put-step .ensures) (seq (c2 .put-offset .ensures) (c3 .put .ensures))) refl
+    wrote-as (seq (c1 .put-step .ensures) (seq (c2 .put-offset .ensures) (c3 .put .ensures))) refl
 
 pub put-ob-line-spec : {M : Type 1} → statement M
 put-ob-line-spec =

@@ -2,7 +2,7 @@
 -- Assumes nothing.
 use mathlib.Core.Path.{refl}
 use borrow.Author.Needs.{needs}
-use Rattle.base_text.proofs.Laws.{seq, said, kept}
+use Rattle.base_text.proofs.Laws.{seq, wrote-as, kept}
 use Rattle.emit_mem.proofs.mem.put_offset_value.Statement.{statement}
 use Rattle.emit_mem.proofs.mem.put_offset_value.Tie as tie
 
@@ -11,7 +11,7 @@ returns c =
     let c3 = c .before .before in
     let c2 = c3 .before .before .before .before .before in
     let c1 = c2 .before .before .before .before in
-    said (seq (c1 .put .ensures) (seq (c2 .put-hex .ensures) (c3 .put2 .ensures))) refl
+    wrote-as (seq (c1 .put .ensures) (seq (c2 .put-hex .ensures) (c3 .put2 .ensures))) refl
 
 pub put-offset-value-spec : {M : Type 1} → statement M
 put-offset-value-spec =

@@ -4,7 +4,7 @@ use mathlib.Core.Bool.{true, false}
 use borrow.Author.Needs.{needs}
 use Rattle.emit_mem.proofs.PopText.{pop-text}
 use Rattle.lower_forms.specs.InlineBody.{listed}
-use Rattle.base_text.proofs.Laws.{seq, said, kept}
+use Rattle.base_text.proofs.Laws.{seq, wrote-as, kept}
 use Rattle.emit_mem.proofs.pop.put_pop.Statement.{statement}
 use Rattle.emit_mem.proofs.pop.put_pop.Tie as tie
 
@@ -16,7 +16,7 @@ returns c =
     let c1 = c2 .before .before .before .before in
     let a = c1 .before .before .before .args in
     rw (c3 .if1 .taken)
-    (said (seq (c1 .put-pop-loads .ensures)
+    (wrote-as (seq (c1 .put-pop-loads .ensures)
     (seq (c2 .put-pop-base .ensures) (c4 .put .ensures)))
     (pop-text true (a .rn) (listed (a .rlist) 15)))
 
@@ -28,7 +28,7 @@ returns-2 c =
     let c1 = c2 .before .before .before .before in
     let a = c1 .before .before .before .args in
     rw (c3 .if1 .left)
-    (said (seq (c1 .put-pop-loads .ensures)
+    (wrote-as (seq (c1 .put-pop-loads .ensures)
     (seq (c2 .put-pop-base .ensures) (c4 .put2 .ensures)))
     (pop-text false (a .rn) (listed (a .rlist) 15)))
 

@@ -6,7 +6,7 @@ use lib.ListN.{length}
 use native.Mathlib.Omega.{arith}
 use borrow.Author.Needs.{needs}
 use Rattle.lower_forms.specs.InlineBody.{listed}
-use Rattle.base_text.proofs.Laws.{seq, said, kept}
+use Rattle.base_text.proofs.Laws.{seq, wrote-as, kept}
 use Rattle.emit_mem.proofs.pop.put_pop_base.Statement.{statement}
 use Rattle.emit_mem.proofs.pop.put_pop_base.Tie as tie
 
@@ -22,7 +22,7 @@ returns c =
     let c1 = c2 .before .before .before in
     let e : (length (listed (c1 .before .before .args .rlist) 15) + 1) * 4
     ≡ c1 .bytes-listed .result + 4 = omega (arith, c1 .bytes-listed .ensures .0) in
-    rw (e) (said
+    rw (e) (wrote-as
     (seq (c2 .put-then-dec .ensures)
     (seq (c3 .put-then-dec2 .ensures) (seq (c4 .put-then-dec3 .ensures) (c5 .put .ensures))))
     refl)

@@ -2,7 +2,7 @@
 -- Assumes nothing.
 use mathlib.Core.Path.{refl, sym, _∙_}
 use borrow.Author.Needs.{needs}
-use Rattle.base_text.proofs.Laws.{none, said, kept}
+use Rattle.base_text.proofs.Laws.{none, wrote-as, kept}
 use Rattle.emit_mem.proofs.transfers.put_listed_load.Statement.{statement}
 use Rattle.emit_mem.proofs.transfers.put_listed_load.Tie as tie
 
@@ -11,7 +11,7 @@ returns c =
     let c3 = c .before .before in
     let c2 = c3 .before .before in
     let c1 = c2 .before in
-    rw (sym (c1 .is-listed .ensures) ∙ c2 .if1 .taken) (said (c3 .put-load .ensures) refl)
+    rw (sym (c1 .is-listed .ensures) ∙ c2 .if1 .taken) (wrote-as (c3 .put-load .ensures) refl)
 
 returns-2 : tie.Need-returns-2
 returns-2 c =

@@ -4,7 +4,7 @@ use mathlib.Core.Path.{refl}
 use borrow.Author.Needs.{needs}
 use Rattle.base_text.specs.Digits.{numeral}
 use Rattle.base_text.specs.Doc.{decimal}
-use Rattle.base_text.proofs.Laws.{seq, said, kept}
+use Rattle.base_text.proofs.Laws.{seq, wrote-as, kept}
 use Rattle.emit_mem.proofs.transfers.put_load.Statement.{statement}
 use Rattle.emit_mem.proofs.transfers.put_load.Tie as tie
 
@@ -13,7 +13,7 @@ unfolding decimal numeral
 returns c =
     let c2 = c .before .before in
     let c1 = c2 .before .before .before .before .before in
-    said (seq (c1 .put-target .ensures) (c2 .put .ensures)) refl
+    wrote-as (seq (c1 .put-target .ensures) (c2 .put .ensures)) refl
 
 pub put-load-spec : {M : Type 1} → statement M
 put-load-spec =

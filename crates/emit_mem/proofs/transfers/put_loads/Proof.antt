@@ -12,7 +12,7 @@ use Rattle.emit_mem.proofs.transfers.put_loads.Statement.{statement}
 use Rattle.emit_mem.proofs.transfers.put_loads.Tie as tie
 use Rattle.lower_forms.specs.InlineBody.{loads, listed}
 use Rattle.lower_units.specs.Block.{lines}
-use Rattle.base_text.proofs.Laws.{none, seq, said, kept}
+use Rattle.base_text.proofs.Laws.{none, seq, wrote-as, kept}
 use Rattle.base_text.specs.Wrote.{Wrote}
 
 abbrev Inv-loop : tie.InvT-loop
@@ -30,7 +30,7 @@ loop-again : tie.Need-loop-again Inv-loop μ-loop
 loop-again c =
     let b = c .before .before in
     let t = b .before .before .before in
-    (omega arith, said (seq (t .loop .inv .1) (b .put-listed-load .ensures)) (loads-more _ _ _))
+    (omega arith, wrote-as (seq (t .loop .inv .1) (b .put-listed-load .ensures)) (loads-more _ _ _))
 
 returns : tie.Need-returns Inv-loop μ-loop
 returns c = let e : c .before .loop .r ≡ c .before .before .before .args .limit = omega arith in

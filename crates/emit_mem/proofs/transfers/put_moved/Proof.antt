@@ -2,7 +2,7 @@
 -- Assumes nothing.
 use mathlib.Core.Path.{refl}
 use borrow.Author.Needs.{needs}
-use Rattle.base_text.proofs.Laws.{seq, said, kept}
+use Rattle.base_text.proofs.Laws.{seq, wrote-as, kept}
 use Rattle.emit_mem.proofs.transfers.put_moved.Statement.{statement}
 use Rattle.emit_mem.proofs.transfers.put_moved.Tie as tie
 
@@ -11,14 +11,14 @@ returns c =
     let c3 = c .before .before in
     let c2 = c3 .before .before .before .before .before in
     let c1 = c2 .before .before .before in
-    rw (c1 .if1 .taken) (said (seq (c2 .put-then-dec .ensures) (c3 .put .ensures)) refl)
+    rw (c1 .if1 .taken) (wrote-as (seq (c2 .put-then-dec .ensures) (c3 .put .ensures)) refl)
 
 returns-2 : tie.Need-returns-2
 returns-2 c =
     let c3 = c .before .before in
     let c2 = c3 .before .before .before .before .before in
     let c1 = c2 .before .before .before in
-    rw (c1 .if1 .left) (said (seq (c2 .put-then-dec2 .ensures) (c3 .put2 .ensures)) refl)
+    rw (c1 .if1 .left) (wrote-as (seq (c2 .put-then-dec2 .ensures) (c3 .put2 .ensures)) refl)
 
 pub put-moved-spec : {M : Type 1} → statement M
 put-moved-spec =

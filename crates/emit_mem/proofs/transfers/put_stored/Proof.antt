@@ -3,7 +3,7 @@
 use mathlib.Core.Path.{refl}
 use borrow.Author.Needs.{needs}
 use borrow.Author.Tests.{eq-eqb, ne-eqb}
-use Rattle.base_text.proofs.Laws.{said, kept}
+use Rattle.base_text.proofs.Laws.{wrote-as, kept}
 use Rattle.emit_mem.proofs.transfers.put_stored.Statement.{statement}
 use Rattle.emit_mem.proofs.transfers.put_stored.Tie as tie
 
@@ -11,7 +11,7 @@ returns : tie.Need-returns
 returns c =
     let c2 = c .before .before in
     let c1 = c2 .before .before in
-    rw (eq-eqb _ _ (c1 .if1 .taken)) (said (c2 .put-stored-pc .ensures) refl)
+    rw (eq-eqb _ _ (c1 .if1 .taken)) (wrote-as (c2 .put-stored-pc .ensures) refl)
 
 returns-2 : tie.Need-returns-2
 returns-2 c =
@@ -20,7 +20,7 @@ returns-2 c =
     let c2 = c3 .before in
     let c1 = c2 .before in
     rw (ne-eqb _ _ (c1 .if1 .left), eq-eqb _ _ (c2 .if2 .taken), eq-eqb _ _ (c3 .if3 .taken))
-    (said (c4 .put .ensures) refl)
+    (wrote-as (c4 .put .ensures) refl)
 
 returns-3 : tie.Need-returns-3
 returns-3 c =
@@ -29,14 +29,14 @@ returns-3 c =
     let c2 = c3 .before in
     let c1 = c2 .before in
     rw (ne-eqb _ _ (c1 .if1 .left), eq-eqb _ _ (c2 .if2 .taken), ne-eqb _ _ (c3 .if3 .left))
-    (said (c4 .put-moved .ensures) refl)
+    (wrote-as (c4 .put-moved .ensures) refl)
 
 returns-4 : tie.Need-returns-4
 returns-4 c =
     let c3 = c .before .before in
     let c2 = c3 .before .before in
     let c1 = c2 .before in
-    rw (ne-eqb _ _ (c1 .if1 .left), ne-eqb _ _ (c2 .if2 .left)) (said (c3 .put-place .ensures) refl)
+    rw (ne-eqb _ _ (c1 .if1 .left), ne-eqb _ _ (c2 .if2 .left)) (wrote-as (c3 .put-place .ensures) refl)
 
 pub put-stored-spec : {M : Type 1} → statement M
 put-stored-spec =

@@ -9,7 +9,7 @@ use Rattle.emit_mem.proofs.transfers.put_stores.Statement.{statement}
 use Rattle.emit_mem.proofs.transfers.put_stores.Tie as tie
 use Rattle.lower_forms.specs.InlineBody.{listed, movedBase, storedReg, stores}
 use Rattle.lower_units.specs.Block.{linesText}
-use Rattle.base_text.proofs.Laws.{none, seq, said, kept}
+use Rattle.base_text.proofs.Laws.{none, seq, wrote-as, kept}
 use Rattle.base_text.specs.Wrote.{Wrote}
 
 abbrev Inv-loop : tie.InvT-loop
@@ -28,7 +28,7 @@ loop-again : tie.Need-loop-again Inv-loop μ-loop
 loop-again c =
     let b = c .before .before in
     let t = b .before .before .before in
-    (omega arith, said (seq (t .loop .inv .1) (b .put-listed-store .ensures)) (stores-more _ _ _ _))
+    (omega arith, wrote-as (seq (t .loop .inv .1) (b .put-listed-store .ensures)) (stores-more _ _ _ _))
 
 returns : tie.Need-returns Inv-loop μ-loop
 returns c = let e : c .before .loop .r ≡ 16 = omega arith in rw (sym e) (c .before .loop .inv .1)

@@ -4,7 +4,7 @@ use mathlib.Core.List.{[]}
 use Rattle.lower_forms.specs.Operands.{regOf}
 use borrow.Author.Needs.{needs}
 use Rattle.emit_operands.proofs.Operands.{bit-text}
-use Rattle.base_text.proofs.Laws.{said, kept}
+use Rattle.base_text.proofs.Laws.{wrote-as, kept}
 use Rattle.emit_operands.proofs.shifts.put_bit.Statement.{statement}
 use Rattle.emit_operands.proofs.shifts.put_bit.Tie as tie
 
@@ -12,7 +12,7 @@ returns : tie.Need-returns
 returns c =
     let c1 = c .before .before in
     let a = c1 .before .before .before .before .before .before .args in
-    said (c1 .put-amount .ensures) (bit-text (regOf (a .pc) (a .rm)) (a .n) [])
+    wrote-as (c1 .put-amount .ensures) (bit-text (regOf (a .pc) (a .rm)) (a .n) [])
 
 pub put-bit-spec : {M : Type 1} → statement M
 put-bit-spec =

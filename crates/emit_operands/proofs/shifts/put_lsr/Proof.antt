@@ -3,7 +3,7 @@
 use mathlib.Core.List.{[]}
 use borrow.Author.Needs.{needs}
 use Rattle.emit_operands.proofs.Operands.{zero-text, lsr-text}
-use Rattle.base_text.proofs.Laws.{said, kept}
+use Rattle.base_text.proofs.Laws.{wrote-as, kept}
 use Rattle.emit_operands.proofs.shifts.put_lsr.Statement.{statement}
 use Rattle.emit_operands.proofs.shifts.put_lsr.Tie as tie
 
@@ -11,13 +11,13 @@ returns : tie.Need-returns
 returns c =
     let c2 = c .before .before in
     let c1 = c2 .before .before .before in
-    rw (c1 .if1 .taken) (said (c2 .put .ensures) (zero-text []))
+    rw (c1 .if1 .taken) (wrote-as (c2 .put .ensures) (zero-text []))
 
 returns-2 : tie.Need-returns-2
 returns-2 c =
     let c2 = c .before .before in
     let c1 = c2 .before .before .before .before .before in
-    said (c2 .put-amount .ensures) (lsr-text _ _ (c1 .if1 .left) [])
+    wrote-as (c2 .put-amount .ensures) (lsr-text _ _ (c1 .if1 .left) [])
 
 pub put-lsr-spec : {M : Type 1} → statement M
 put-lsr-spec =

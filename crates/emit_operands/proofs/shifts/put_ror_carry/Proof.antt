@@ -4,7 +4,7 @@ use mathlib.Core.List.{[]}
 use Rattle.lower_forms.specs.Operands.{regOf}
 use borrow.Author.Needs.{needs}
 use Rattle.emit_operands.proofs.Operands.{ror-carry, rrx-carry}
-use Rattle.base_text.proofs.Laws.{said, kept}
+use Rattle.base_text.proofs.Laws.{wrote-as, kept}
 use Rattle.emit_operands.proofs.shifts.put_ror_carry.Statement.{statement}
 use Rattle.emit_operands.proofs.shifts.put_ror_carry.Tie as tie
 
@@ -13,13 +13,13 @@ returns c =
     let c2 = c .before .before in
     let c1 = c2 .before .before .before .before in
     let a = c1 .before .before .args in
-    rw (c1 .if1 .taken) (said (c2 .put-around .ensures) (rrx-carry (regOf (a .pc) (a .rm)) []))
+    rw (c1 .if1 .taken) (wrote-as (c2 .put-around .ensures) (rrx-carry (regOf (a .pc) (a .rm)) []))
 
 returns-2 : tie.Need-returns-2
 returns-2 c =
     let c2 = c .before .before in
     let c1 = c2 .before .before in
-    said (c2 .put-bit .ensures) (ror-carry _ _ (c1 .if1 .left) [])
+    wrote-as (c2 .put-bit .ensures) (ror-carry _ _ (c1 .if1 .left) [])
 
 pub put-ror-carry-spec : {M : Type 1} → statement M
 put-ror-carry-spec =

@@ -9,7 +9,7 @@ use mathlib.Core.Option.{Option}
 use mathlib.Core.List.{[]}
 use borrow.Author.Needs.{needs}
 use Rattle.emit_operands.proofs.Operands.{asr-carry}
-use Rattle.base_text.proofs.Laws.{said, kept}
+use Rattle.base_text.proofs.Laws.{wrote-as, kept}
 use Rattle.emit_operands.proofs.shifts.put_shift_carry.Statement.{statement}
 use Rattle.emit_operands.proofs.shifts.put_shift_carry.Tie as tie
 
@@ -17,13 +17,13 @@ returns : tie.Need-returns
 returns c =
     let c2 = c .before .before in
     let c1 = c2 .before .before in
-    rw (c1 .enum-told .given .1) (said (c2 .put-left-carry .ensures) refl)
+    rw (c1 .enum-told .given .1) (wrote-as (c2 .put-left-carry .ensures) refl)
 
 returns-2 : tie.Need-returns-2
 returns-2 c =
     let c2 = c .before .before in
     let c1 = c2 .before .before in
-    rw (c1 .enum-told2 .given .1) (said (c2 .put-right-carry .ensures) refl)
+    rw (c1 .enum-told2 .given .1) (wrote-as (c2 .put-right-carry .ensures) refl)
 
 returns-3 : tie.Need-returns-3
 returns-3 c =
@@ -31,7 +31,7 @@ returns-3 c =
     let c1 = c2 .before .before in
     let a = c1 .before .before .before .args in
     rw (c1 .enum-told3 .given .1)
-    (said (c2 .put-right-carry2 .ensures)
+    (wrote-as (c2 .put-right-carry2 .ensures)
     (ap (λ (o : Option Expr). flat (carryText o) [])
     (asr-carry (regOf (a .pc) (a .rm)) (a .amount))))
 
@@ -39,7 +39,7 @@ returns-4 : tie.Need-returns-4
 returns-4 c =
     let c2 = c .before .before in
     let c1 = c2 .before .before in
-    rw (c1 .enum-told4 .given .1) (said (c2 .put-ror-carry .ensures) refl)
+    rw (c1 .enum-told4 .given .1) (wrote-as (c2 .put-ror-carry .ensures) refl)
 
 pub put-shift-carry-spec : {M : Type 1} → statement M
 put-shift-carry-spec =

@@ -2,7 +2,7 @@
 -- another. Assumes nothing.
 use mathlib.Core.Path.{refl}
 use borrow.Author.Needs.{needs}
-use Rattle.base_text.proofs.Laws.{said, kept}
+use Rattle.base_text.proofs.Laws.{wrote-as, kept}
 use Rattle.emit_operands.proofs.shifts.put_shift_value.Statement.{statement}
 use Rattle.emit_operands.proofs.shifts.put_shift_value.Tie as tie
 
@@ -10,25 +10,25 @@ returns : tie.Need-returns
 returns c =
     let c2 = c .before .before in
     let c1 = c2 .before .before in
-    rw (c1 .enum-told .given .1) (said (c2 .put-lsl .ensures) refl)
+    rw (c1 .enum-told .given .1) (wrote-as (c2 .put-lsl .ensures) refl)
 
 returns-2 : tie.Need-returns-2
 returns-2 c =
     let c2 = c .before .before in
     let c1 = c2 .before .before in
-    rw (c1 .enum-told2 .given .1) (said (c2 .put-lsr .ensures) refl)
+    rw (c1 .enum-told2 .given .1) (wrote-as (c2 .put-lsr .ensures) refl)
 
 returns-3 : tie.Need-returns-3
 returns-3 c =
     let c2 = c .before .before in
     let c1 = c2 .before .before in
-    rw (c1 .enum-told3 .given .1) (said (c2 .put-asr .ensures) refl)
+    rw (c1 .enum-told3 .given .1) (wrote-as (c2 .put-asr .ensures) refl)
 
 returns-4 : tie.Need-returns-4
 returns-4 c =
     let c2 = c .before .before in
     let c1 = c2 .before .before in
-    rw (c1 .enum-told4 .given .1) (said (c2 .put-ror .ensures) refl)
+    rw (c1 .enum-told4 .given .1) (wrote-as (c2 .put-ror .ensures) refl)
 
 pub put-shift-value-spec : {M : Type 1} → statement M
 put-shift-value-spec =

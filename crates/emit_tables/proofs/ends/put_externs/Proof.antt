@@ -8,7 +8,7 @@ use native.Mathlib.Omega.{arith}
 use lib.ListN.{take}
 use Rattle.c_tree.specs.Print.{topText}
 use Rattle.c_tree.specs.Stmt.{extern}
-use Rattle.base_text.proofs.Laws.{none, said, each-more, each-all, kept}
+use Rattle.base_text.proofs.Laws.{none, wrote-as, each-more, each-all, kept}
 use Rattle.base_text.specs.Doc.{flat, each}
 use Rattle.base_text.specs.Wrote.{Wrote}
 use Rattle.emit_tables.proofs.Rows.{file-length}
@@ -36,7 +36,7 @@ loop-again c =
       omega arith,
       each-more (λ (k : ℕ). topText (extern k)) ks 0 _
           (omega (arith, pre .0, file-length _ (pre .1))) (turn .loop .inv .1)
-          (said (put .put-extern .ensures)
+          (wrote-as (put .put-extern .ensures)
           (ap (λ (k : ℕ). flat (topText (extern k)) []) (key .block-key .ensures (pre .1)))),
     )
 

@@ -7,7 +7,7 @@ use mathlib.Core.Path.{ap}
 use native.Mathlib.Omega.{arith}
 use lib.ListN.{take}
 use Rattle.c_tree.specs.Print.{rowText}
-use Rattle.base_text.proofs.Laws.{none, said, each-more, each-all, kept}
+use Rattle.base_text.proofs.Laws.{none, wrote-as, each-more, each-all, kept}
 use Rattle.base_text.specs.Doc.{flat, each}
 use Rattle.base_text.specs.Wrote.{Wrote}
 use Rattle.emit_tables.proofs.Rows.{file-length}
@@ -35,7 +35,7 @@ loop-again c =
       omega arith,
       each-more rowText ks 0 _ (omega (arith, pre .0, file-length _ (pre .1)))
           (turn .loop .inv .1)
-          (said (put .put-row .ensures)
+          (wrote-as (put .put-row .ensures)
           (ap (λ (k : ℕ). flat (rowText k) []) (key .block-key .ensures (pre .1)))),
     )
 

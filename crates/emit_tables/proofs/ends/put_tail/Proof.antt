@@ -3,7 +3,7 @@
 use borrow.Author.Needs.{needs}
 use mathlib.Core.List.{[]}
 use mathlib.Core.Path.{sym, _∙_}
-use Rattle.base_text.proofs.Laws.{seq, said}
+use Rattle.base_text.proofs.Laws.{seq, wrote-as}
 use Rattle.emit_tables.proofs.Around.{end-keys}
 use Rattle.emit_tables.proofs.Rows.{file-length}
 use Rattle.emit_tables.proofs.ends.put_tail.Statement.{statement}
@@ -17,7 +17,7 @@ returns c = λ bs keys.
     let c2 = c3 .before .before .before .before in
     let c1 = c2 .before .before .before .before in
     let pre = c1 .before .before .before .before .pre in
-    said
+    wrote-as
     (seq (c1 .put-externs .ensures)
     (seq (c2 .put-table-head .ensures)
     (seq (c3 .put-rows .ensures) (seq (c4 .put-table-end .ensures) (c5 .put-count .ensures)))))

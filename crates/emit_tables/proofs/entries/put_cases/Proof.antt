@@ -9,7 +9,7 @@ use native.Mathlib.Omega.{arith}
 use Rattle.c_tree.specs.Print.{casesText}
 use Rattle.plan_members.specs.Members.{membersOf, groupKeys}
 use Rattle.file_blocks.specs.Parse.{blocksOf}
-use Rattle.base_text.proofs.Laws.{none, said, kept}
+use Rattle.base_text.proofs.Laws.{none, wrote-as, kept}
 use Rattle.base_text.specs.Doc.{Doc}
 use Rattle.base_text.specs.Wrote.{Wrote}
 use Rattle.emit_tables.proofs.Around.{numbered, numbered-more, cases-keys}
@@ -58,7 +58,7 @@ same-length c = c .before .loop .inv .1
 returns : tie.Need-returns Inv-loop μ-loop
 returns c = λ limit g is bs keys.
     let file = c .before .before .before .before .before .args .file .now in
-    said (c .before .loop .inv .2 limit g is)
+    wrote-as (c .before .loop .inv .2 limit g is)
     (cases-keys bs (groupKeys limit file g) (c .before .loop .k) [] keys
     (omega (arith, keys-size is, group-size is)))
 

@@ -8,7 +8,7 @@ use mathlib.Core.Path.{_≡_, refl, _∙_}
 use native.Mathlib.Omega.{arith}
 use Rattle.plan_members.specs.Members.{membersOf, groupKeys}
 use Rattle.file_blocks.specs.Parse.{blocksOf}
-use Rattle.base_text.proofs.Laws.{none, seq, said, kept}
+use Rattle.base_text.proofs.Laws.{none, seq, wrote-as, kept}
 use Rattle.base_text.specs.Wrote.{Wrote}
 use Rattle.emit_tables.proofs.Around.{numbered, numbered-more, entry, forwarders-keys}
 use Rattle.emit_tables.proofs.Rows.{group-size, keys-size}
@@ -61,7 +61,7 @@ returns c = λ limit g is b bs keys.
     let group = turn .before in
     let file = group .before .before .before .before .args .file .now in
     let inside : 0 < length (membersOf limit (blocksOf file) g) = omega (arith, group-size is) in
-    said (seq (turn .loop .inv .2 limit g is) (put .put .ensures))
+    wrote-as (seq (turn .loop .inv .2 limit g is) (put .put .ensures))
     (forwarders-keys b bs (groupKeys limit file g) (group .row-key .result) (turn .loop .k) [] keys
     (group .row-key .ensures _ limit g 0 (is .ready) (omega (arith, is .first)) inside)
     (omega (arith, keys-size is, group-size is)))

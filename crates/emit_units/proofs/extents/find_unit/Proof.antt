@@ -3,8 +3,8 @@
 use Prim.Native.Nat.{ℕ, _-_, _≤_}
 use borrow.Author.Needs.{needs}
 use native.Mathlib.Omega.{arith}
-use Rattle.plan_members.specs.Prepared.{Ready}
-use Rattle.emit_units.specs.Units.{describes}
+use Rattle.plan_members.specs.Prepared.{HoldsPlan}
+use Rattle.emit_units.specs.Units.{IsFoundUnit}
 use Rattle.emit_units.proofs.Cuts.{Reached, reached-none, reached-more, reached-past}
 use Rattle.emit_units.proofs.Cuts.{reached-unit}
 use Rattle.emit_units.proofs.extents.find_unit.Statement.{statement}
@@ -12,7 +12,7 @@ use Rattle.emit_units.proofs.extents.find_unit.Tie as tie
 
 abbrev Inv-loop : tie.InvT-loop
 Inv-loop file work n max k p₀ i₀ p i =
-    (p ≤ n) × (i ≤ k) × ((limit : ℕ) → Ready file n limit work → Reached file limit max i p)
+    (p ≤ n) × (i ≤ k) × ((limit : ℕ) → HoldsPlan file n limit work → Reached file limit max i p)
 
 abbrev μ-loop : tie.MeasureT-loop
 μ-loop file work n max k p₀ i₀ p i = k - i
@@ -21,7 +21,7 @@ loop-holds : tie.Need-loop-holds Inv-loop μ-loop
 loop-holds c = (omega arith, omega arith, λ limit ready. reached-none _ limit _)
 
 returns : tie.Need-returns Inv-loop μ-loop
-unfolding describes
+unfolding IsFoundUnit
 returns c = λ limit ready.
     let r = c .before .before .before .loop .inv .2 limit ready in
     reached-past r
@@ -41,7 +41,7 @@ loop-again c =
     )
 
 returns-2 : tie.Need-returns-2 Inv-loop μ-loop
-unfolding describes
+unfolding IsFoundUnit
 returns-2 c = λ limit ready.
     let r = c .before .before .loop .inv .2 limit ready in
     reached-unit r (c .measure-unit2 .ensures .1 limit (r .group) ready (r .within) (r .here))

@@ -6,7 +6,7 @@ use lib.ListN.{length}
 use mathlib.Core.Path.{_≡_}
 use native.Mathlib.Omega.{arith}
 use Rattle.plan_members.specs.Members.{startOf}
-use Rattle.plan_members.specs.Prepared.{Ready}
+use Rattle.plan_members.specs.Prepared.{HoldsPlan}
 use Rattle.file_blocks.specs.Parse.{blocksOf}
 use Rattle.plan_groups.specs.Plan.{groups}
 use Rattle.emit_units.proofs.Cuts.{Walked, walked-none, walked-more, walked-handed}
@@ -17,7 +17,7 @@ use Rattle.emit_units.proofs.extents.measure_unit.Tie as tie
 abbrev Inv-loop : tie.InvT-loop
 Inv-loop file work n max p at₀ q₀ at q =
     (q ≤ n)
-    × ((limit g : ℕ) → Ready file n limit work → g ≤ length (groups limit (blocksOf file))
+    × ((limit g : ℕ) → HoldsPlan file n limit work → g ≤ length (groups limit (blocksOf file))
     → p ≡ startOf (groups limit (blocksOf file)) g
     → Walked file limit max g q at)
 

@@ -5,8 +5,8 @@ use borrow.Author.Needs.{needs}
 use lib.ListN.{length}
 use mathlib.Core.Path.{_≡_, refl, _∙_}
 use native.Mathlib.Omega.{arith}
-use Rattle.plan_members.specs.Prepared.{Ready}
-use Rattle.emit_units.specs.Units.{Takes}
+use Rattle.plan_members.specs.Prepared.{HoldsPlan}
+use Rattle.emit_units.specs.Units.{SpansGroups}
 use Rattle.emit_units.proofs.Written.{PutTo, put-none, put-more, put-all}
 use Rattle.emit_units.proofs.writing.put_groups.Statement.{statement}
 use Rattle.emit_units.proofs.writing.put_groups.Tie as tie
@@ -14,7 +14,7 @@ use Rattle.emit_units.proofs.writing.put_groups.Tie as tie
 abbrev Inv-loop : tie.InvT-loop
 Inv-loop out₀ at file work n e q₀ p₀ out q p =
     (length out ≡ length out₀)
-    × ((limit g size : ℕ) → Ready file n limit work → Takes file limit g size e
+    × ((limit g size : ℕ) → HoldsPlan file n limit work → SpansGroups file limit g size e
     → PutTo file limit g size p out₀ at out q)
 
 abbrev μ-loop : tie.MeasureT-loop

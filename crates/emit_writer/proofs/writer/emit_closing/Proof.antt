@@ -46,7 +46,7 @@ use denote.Triple.Walked.{Walks, ends-at, walked, walk-meets}
 use denote.Exit.{yes}
 use denote.Signature.{plain}
 use Rattle.base_text.specs.Wrote.{Wrote}
-use Rattle.base_text.proofs.Laws.{seq, said, kept}
+use Rattle.base_text.proofs.Laws.{seq, wrote-as, kept}
 use Rattle.file_blocks.specs.Address.{among}
 use Rattle.c_tree.specs.Stmt.{common, end}
 use Rattle.c_tree.specs.Print.{codeText}
@@ -153,7 +153,7 @@ module _ {M : Type 1} (𝓤 : URA M) (H : Heap 𝓤) (A : Atoms 𝓤) (W : Given
   both : (zs : List ℕ) (r : ℕ) → Closed zs r → (ks : List ℕ) → among key ks ≡ inside
       → Wrote ys n (codeText (exitCode ks src common (flushTicks c ++ pcLine next) key)) zs r
   both zs r e ks p =
-      said (seq ticked-first (e ks p))
+      wrote-as (seq ticked-first (e ks p))
       (ticked common c (pcLine next) (transfer ks src common 4 key end))
 
   -- the machine value of a writer has the struct's MIR type, whose lifetimes a local's erases

@@ -19,7 +19,7 @@ use Rattle.lower_forms.specs.Forms.{Body}
 use Rattle.lower_units.specs.Block.{bodyKey, blockCode}
 use Rattle.file_blocks.specs.Address.{outsideRomBios}
 use Rattle.lower_units.specs.Units.{withLocals, groupCode, emitGroup, unitHead, lastUnitEnd}
-use Rattle.lower_units.specs.Units.{bodiesOf, unitsOf, unitsFor}
+use Rattle.lower_units.specs.Units.{bodiesOf, emitCChunked, unitsBy}
 use Rattle.claim_ways.specs.Ways.{Event, said, Way, stop, w-gap, w-call}
 use Rattle.claim_ways.proofs.Faithful.{Faithful}
 use Rattle.claim_ways.specs.Claim.{AtNative, allUnits, Passed, WayClaim, ClaimOf, Claim}
@@ -83,7 +83,7 @@ module _ (F : File) (max : ℕ) where
   in-group : (t : Top) → Own t → List·Memᴰ t (allUnits bodyOf limit max bs)
       → (g : List ℕ) × List·Memᴰ g (groups limit bs)
       × List·Memᴰ t (emitGroup (bodiesOf (bodies F) g))
-  unfolding allUnits unitsFor unitsOf
+  unfolding allUnits unitsBy emitCChunked
   in-group t o m =
       go (from-cut max (lastUnitEnd (bodies F)) (end-foreign (bodies F)) t o
       (map (bodiesOf (bodies F)) (groups limit bs)) unitHead 0 m)
@@ -203,10 +203,10 @@ module _ (F : File) (max : ℕ) where
         kept-several (a .0) (a .1 .0) (a .1 .1) (a .1 .2) (q .0) (q .1)
 
 -- demand 3
-pub theorem : (hashOf : Block → Option ℕ) (bodyOf : Block → Body) → Faithful hashOf bodyOf
+pub every-way : (hashOf : Block → Option ℕ) (bodyOf : Block → Body) → Faithful hashOf bodyOf
     → Claim hashOf bodyOf
 unfolding Claim ClaimOf
-theorem hashOf bodyOf faithful limit max f bs accepted i b e c m xs es w =
+every-way hashOf bodyOf faithful limit max f bs accepted i b e c m xs es w =
     let F : File =
     record {
       hashOf = hashOf;

@@ -30,7 +30,7 @@ use Rattle.armv4t_manual.specs.Execute.{operation, execute, loadMultiplePc, key
 use Rattle.armv4t_manual.proofs.Kept.{WrittenOut, execute-said}
 use Rattle.lower_forms.proofs.Operands.{ne-of, under}
 use Rattle.lower_forms.proofs.Body.{some-same, not-none, or-l, or-r}
-use Rattle.lower_forms.proofs.Theorem.{op-means}
+use Rattle.lower_forms.proofs.OpMeans.{op-means}
 use Rattle.lower_units.specs.Text.{Leaves, Acts, continues, leaves}
 use Rattle.lower_units.specs.Records.{isTransfer, isTaken, isNamedDifference, RecordMeans}
 use Rattle.lower_units.proofs.Outcome.{al-passes, always}
