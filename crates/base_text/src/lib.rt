@@ -67,7 +67,9 @@ fn clip(part: &mut [u8], s: &[u8])
 // Stores the last hexadecimal digit of n at index at of part, if part has that index, and answers n
 // without it.
 fn digit(part: &mut [u8], at: usize, n: u64) -> u64
-    ensures { λ r. ⌜ (now (part .exit) ≡ set (now (part .entry)) at (glyph (n % 16))) × (r ≡ n / 16) ⌝ }
+    ensures { λ r. ⌜
+        (now (part .exit) ≡ set (now (part .entry)) at (glyph (n % 16))) × (r ≡ n / 16)
+        ⌝ }
 {
     store(part, at, digits::glyph(n % 16));
     n / 16
@@ -213,7 +215,9 @@ pub fn put_dec(out: &mut [u8], at: usize, n: u64) -> usize
 // s and then n in decimal. A literal and the number after it in one call halve the calls, and with
 // them the cost of a caller's check.
 pub fn put_then_dec(out: &mut [u8], at: usize, s: &[u8], n: u64) -> usize
-    ensures { λ r. ⌜ Wrote (now (out .entry)) at (raw (now (s .entry)) ▸ dec n) (now (out .exit)) r ⌝ }
+    ensures { λ r. ⌜
+        Wrote (now (out .entry)) at (raw (now (s .entry)) ▸ dec n) (now (out .exit)) r
+        ⌝ }
 {
     let p = put(out, at, s);
     put_dec(out, p, n)
@@ -221,7 +225,9 @@ pub fn put_then_dec(out: &mut [u8], at: usize, s: &[u8], n: u64) -> usize
 
 // s and then n with 8 hexadecimal digits.
 pub fn put_then_hex8(out: &mut [u8], at: usize, s: &[u8], n: u32) -> usize
-    ensures { λ r. ⌜ Wrote (now (out .entry)) at (raw (now (s .entry)) ▸ hex8 n) (now (out .exit)) r ⌝ }
+    ensures { λ r. ⌜
+        Wrote (now (out .entry)) at (raw (now (s .entry)) ▸ hex8 n) (now (out .exit)) r
+        ⌝ }
 {
     let p = put(out, at, s);
     put_hex8(out, p, n)

@@ -9,7 +9,8 @@ use Rattle.c_tree.specs.Expr.{u32, word, udec, int, x-r, x-s, x-cn, x-cz
 use Rattle.c_tree.specs.Expr.{reg, lnot, shl, shr, band, ne, land, Expr, lit, get, par, un}
 use Rattle.c_tree.specs.Expr.{bin}
 use Rattle.c_tree.specs.Stmt.{is, f-nz, f-c, Plain, registers, local, declare, set, discard}
-use Rattle.c_tree.specs.Stmt.{run, tick, guard, gate, other, nativeOf, common, gap, recordMark}
+use Rattle.c_tree.specs.Stmt.{run, tick, guard, gate, other, nativeOf, common, gap}
+use Rattle.c_tree.specs.Stmt.{recordMark}
 use Rattle.c_tree.specs.Stmt.{plain, label, goto, ret, retIf, interp, retInterp, call, switch}
 use Rattle.c_tree.specs.Stmt.{Code, end, _⨾_, when, braces, block, group, Top, function}
 use Rattle.c_tree.specs.Stmt.{blank, extern, table, count}

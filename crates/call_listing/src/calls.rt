@@ -30,7 +30,11 @@ pub enum Listed {
 // The length of the listing: it is written to no bytes at all.
 fn listing_length(file: &[u8], work: &[u32], n: usize) -> usize
     requires { ⌜ HasRoom (now file) (now work) n ⌝ }
-    requires { ⌜ Accepted (now file) × ((i : ℕ) → i < n → getD (now work) (n + i) 0 ≡ groupOf i (plan partLimit (blocksOf (now file)))) ⌝ }
+    requires { ⌜
+        Accepted (now file)
+        × ((i : ℕ) → i < n
+        → getD (now work) (n + i) 0 ≡ groupOf i (plan partLimit (blocksOf (now file))))
+        ⌝ }
     ensures { λ r. ⌜ r ≡ length (print (listing partLimit (blocksOf (now (file .entry))))) ⌝ }
 {
     let mut nothing = [0u8; 0];
@@ -40,7 +44,11 @@ fn listing_length(file: &[u8], work: &[u32], n: usize) -> usize
 // The listing of an accepted file with n blocks.
 fn list_blocks(file: &[u8], work: &mut [u32], out: &mut [u8], n: u32) -> Listed
     requires { ⌜ Accepted (now file) × (n ≡ blockCount (now file)) ⌝ }
-    ensures { λ r. ⌜ record { answer = listedOf r; work = now (work .exit); result = now (out .exit) } ≡ listingCall (Parsed.accepted (blocksOf (now (file .entry)))) (now (work .entry)) (now (out .entry)) ⌝ }
+    ensures { λ r. ⌜
+        record { answer = listedOf r; work = now (work .exit); result = now (out .exit) }
+        ≡ listingCall (Parsed.accepted (blocksOf (now (file .entry)))) (now (work .entry))
+        (now (out .entry))
+        ⌝ }
 {
     let size = n as usize;
     if work.len() < 4 * size {
@@ -60,7 +68,10 @@ fn list_blocks(file: &[u8], work: &mut [u32], out: &mut [u8], n: u32) -> Listed
 
 // The listing of a file: its text in the front of `out`.
 pub fn listing_of(file: &[u8], work: &mut [u32], out: &mut [u8]) -> Listed
-    ensures { λ r. ⌜ record { answer = listedOf r; work = now (work .exit); result = now (out .exit) } ≡ listingCall (parse (now (file .entry))) (now (work .entry)) (now (out .entry)) ⌝ }
+    ensures { λ r. ⌜
+        record { answer = listedOf r; work = now (work .exit); result = now (out .exit) }
+        ≡ listingCall (parse (now (file .entry))) (now (work .entry)) (now (out .entry))
+        ⌝ }
 {
     match check(file) {
         Checked::Accepted { blocks, .. } => list_blocks(file, work, out, blocks as u32),

@@ -35,7 +35,9 @@ fn put_exits(out: &mut [u8], at: usize, exits: Exits) -> usize
 
 // A line: key, group, exits.
 fn put_line(out: &mut [u8], at: usize, key: u32, group: u32, exits: Exits) -> usize
-    ensures { λ r. ⌜ Wrote (now (out .entry)) at (line key group (keysOf exits)) (now (out .exit)) r ⌝ }
+    ensures { λ r. ⌜
+        Wrote (now (out .entry)) at (line key group (keysOf exits)) (now (out .exit)) r
+        ⌝ }
 {
     let p = base_text::put_hex8(out, at, key);
     let q = base_text::put_then_dec(out, p, b" ", group as u64);
@@ -52,7 +54,12 @@ fn put_block(
     block: BlockRecord,
     first: usize,
 ) -> usize
-    ensures { λ r. ⌜ ((i : ℕ) → IsBlock (now (file .entry)) i block first → Wrote (now (out .entry)) at (blockLine group (blockAt (now (file .entry)) (blockStart (now (file .entry)) i) first)) (now (out .exit)) r) ⌝ }
+    ensures { λ r. ⌜
+        ((i : ℕ) → IsBlock (now (file .entry)) i block first
+        → Wrote (now (out .entry)) at
+        (blockLine group (blockAt (now (file .entry)) (blockStart (now (file .entry)) i) first))
+        (now (out .exit)) r)
+        ⌝ }
 {
     let exits = exits_at(file, block, first);
     put_line(out, at, key_of(block.addr, block.thumb), group, exits)
@@ -62,8 +69,15 @@ fn put_block(
 // the work numbers.
 pub(crate) fn put_listing(file: &[u8], work: &[u32], n: usize, out: &mut [u8]) -> usize
     requires { ⌜ HasRoom (now file) (now work) n ⌝ }
-    requires { ⌜ Accepted (now file) × ((i : ℕ) → i < n → getD (now work) (n + i) 0 ≡ groupOf i (plan partLimit (blocksOf (now file)))) ⌝ }
-    ensures { λ r. ⌜ Wrote (now (out .entry)) 0 (listing partLimit (blocksOf (now (file .entry)))) (now (out .exit)) r ⌝ }
+    requires { ⌜
+        Accepted (now file)
+        × ((i : ℕ) → i < n
+        → getD (now work) (n + i) 0 ≡ groupOf i (plan partLimit (blocksOf (now file))))
+        ⌝ }
+    ensures { λ r. ⌜
+        Wrote (now (out .entry)) 0 (listing partLimit (blocksOf (now (file .entry))))
+        (now (out .exit)) r
+        ⌝ }
 {
     let mut at = base_text::put(out, 0, b"key group exits\n");
     let mut first: usize = 0;

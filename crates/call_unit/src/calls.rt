@@ -29,7 +29,12 @@ pub enum Translated {
 // Unit k of an accepted file with n blocks, by the plan in the work numbers.
 fn answer_unit(file: &[u8], max: u64, k: u64, work: &[u32], out: &mut [u8], n: usize) -> Translated
     requires { ⌜ HoldsPlan (now file) n partLimit (now work) ⌝ }
-    ensures { λ r. ⌜ ((w : List ℕ) → record { answer = translatedOf r; work = w; result = now (out .exit) } ≡ handOver (unit hashMultiplier partLimit max (blocksOf (now (file .entry))) k) w (now (out .entry))) ⌝ }
+    ensures { λ r. ⌜
+        ((w : List ℕ)
+        → record { answer = translatedOf r; work = w; result = now (out .exit) }
+        ≡ handOver (unit hashMultiplier partLimit max (blocksOf (now (file .entry))) k) w
+        (now (out .entry)))
+        ⌝ }
 {
     let FoundUnit::At(e) = find_unit(file, work, n, max, k) else {
         return Translated::Refused { number: 9, at: 0 };
@@ -48,7 +53,11 @@ fn answer_unit(file: &[u8], max: u64, k: u64, work: &[u32], out: &mut [u8], n: u
 // Unit k of an accepted file with n blocks.
 fn emit_unit(file: &[u8], max: u64, k: u64, work: &mut [u32], out: &mut [u8], n: u32) -> Translated
     requires { ⌜ Accepted (now file) × (n ≡ blockCount (now file)) ⌝ }
-    ensures { λ r. ⌜ record { answer = translatedOf r; work = now (work .exit); result = now (out .exit) } ≡ unitCall max k (Parsed.accepted (blocksOf (now (file .entry)))) (now (work .entry)) (now (out .entry)) ⌝ }
+    ensures { λ r. ⌜
+        record { answer = translatedOf r; work = now (work .exit); result = now (out .exit) }
+        ≡ unitCall max k (Parsed.accepted (blocksOf (now (file .entry)))) (now (work .entry))
+        (now (out .entry))
+        ⌝ }
 {
     let size = n as usize;
     if work.len() < 4 * size {
@@ -63,7 +72,10 @@ fn emit_unit(file: &[u8], max: u64, k: u64, work: &mut [u32], out: &mut [u8], n:
 // Unit k of a file, where a unit is handed on once it has max bytes: its text in the front of
 // `out`.
 pub fn unit_of(file: &[u8], max: u64, k: u64, work: &mut [u32], out: &mut [u8]) -> Translated
-    ensures { λ r. ⌜ record { answer = translatedOf r; work = now (work .exit); result = now (out .exit) } ≡ unitCall max k (parse (now (file .entry))) (now (work .entry)) (now (out .entry)) ⌝ }
+    ensures { λ r. ⌜
+        record { answer = translatedOf r; work = now (work .exit); result = now (out .exit) }
+        ≡ unitCall max k (parse (now (file .entry))) (now (work .entry)) (now (out .entry))
+        ⌝ }
 {
     match check(file) {
         Checked::Accepted { blocks, .. } => emit_unit(file, max, k, work, out, blocks as u32),

@@ -30,7 +30,10 @@ fn answer(file: &[u8]) -> [u64; 4]
 
 // Whether the check answers all the expected numbers. Where it does not, both answers are printed.
 fn is_right(k: u64, expected: &[u64; 4], file: &[u8]) -> bool
-    ensures { λ r. ⌜ r ≡ sameNumbers (now (expected .entry)) (answerNumbers (checkAnswer (parse (now (file .entry))))) ⌝ }
+    ensures { λ r. ⌜
+        r ≡ sameNumbers (now (expected .entry))
+        (answerNumbers (checkAnswer (parse (now (file .entry)))))
+        ⌝ }
 {
     let got = answer(file);
     if compare::same(expected, &got) {

@@ -44,7 +44,10 @@ fn answer(file: &[u8], block: u64) -> [u64; 5]
 
 // Whether the call answers all the expected numbers. Where it does not, both answers are printed.
 fn is_right(k: u64, expected: &[u64; 5], file: &[u8], block: u64) -> bool
-    ensures { λ r. ⌜ r ≡ sameNumbers (now (expected .entry)) (exitsAnswer (exitsCall (parse (now (file .entry))) block)) ⌝ }
+    ensures { λ r. ⌜
+        r ≡ sameNumbers (now (expected .entry))
+        (exitsAnswer (exitsCall (parse (now (file .entry))) block))
+        ⌝ }
 {
     let got = answer(file, block);
     if compare::same(expected, &got) {

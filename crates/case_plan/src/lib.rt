@@ -42,7 +42,10 @@ fn numbers(planned: Planned) -> [u64; 3]
 // Puts lent numbers into a list from place `at` on.
 fn put(list: &mut [u64], at: usize, lent: &[u32])
     requires { ⌜ at + length (now lent) ≤ length (now list) ⌝ }
-    ensures { λ _. ⌜ now (list .exit) ≡ paste (now (list .entry)) at (now (lent .entry)) (length (now (lent .entry))) ⌝ }
+    ensures { λ _. ⌜
+        now (list .exit)
+        ≡ paste (now (list .entry)) at (now (lent .entry)) (length (now (lent .entry)))
+        ⌝ }
 {
     let mut i = 0;
     while i < lent.len() {
@@ -55,7 +58,11 @@ fn put(list: &mut [u64], at: usize, lent: &[u32])
 // result.
 fn answer(got: &mut [u64], file: &[u8], work: &mut [u32], result: &mut [u32])
     requires { ⌜ length (now got) ≡ 3 + (length (now work) + length (now result)) ⌝ }
-    ensures { λ _. ⌜ now (got .exit) ≡ planAnswer (planCall (parse (now (file .entry))) (now (work .entry)) (now (result .entry))) ⌝ }
+    ensures { λ _. ⌜
+        now (got .exit)
+        ≡ planAnswer
+        (planCall (parse (now (file .entry))) (now (work .entry)) (now (result .entry)))
+        ⌝ }
 {
     let three = numbers(recomp::plan_of(file, work, result));
     got[0] = three[0];
@@ -76,7 +83,11 @@ fn is_right(
     result: &mut [u32],
 ) -> bool
     requires { ⌜ length (now got) ≡ 3 + (length (now work) + length (now result)) ⌝ }
-    ensures { λ r. ⌜ r ≡ sameNumbers (now (expected .entry)) (planAnswer (planCall (parse (now (file .entry))) (now (work .entry)) (now (result .entry)))) ⌝ }
+    ensures { λ r. ⌜
+        r ≡ sameNumbers (now (expected .entry))
+        (planAnswer
+        (planCall (parse (now (file .entry))) (now (work .entry)) (now (result .entry))))
+        ⌝ }
 {
     answer(got, file, work, result);
     if compare::same(expected, got) {
@@ -124,7 +135,10 @@ fn replay_plan(
     work: &mut [u32],
     result: &mut [u32],
 ) -> Verdict
-    requires { ⌜ (length (now expected) ≡ 3 + (length (now work) + length (now result))) × (length (now expected) ≤ 771) ⌝ }
+    requires { ⌜
+        (length (now expected) ≡ 3 + (length (now work) + length (now result)))
+        × (length (now expected) ≤ 771)
+        ⌝ }
 {
     let n = expected.len();
     let blocks = expected[2] as usize;
@@ -153,7 +167,10 @@ fn replay_file(
     result: &mut [u32],
     cleared: usize,
 ) -> Verdict
-    requires { ⌜ (length (now expected) ≡ 3 + (length (now work) + length (now result))) × (length (now expected) ≤ 771) × (cleared ≤ length (now work)) ⌝ }
+    requires { ⌜
+        (length (now expected) ≡ 3 + (length (now work) + length (now result)))
+        × (length (now expected) ≤ 771) × (cleared ≤ length (now work))
+        ⌝ }
 {
     fill(expected);
     lend(work, expected, 3);

@@ -92,7 +92,11 @@ fn is_right(
     mut text: [u8; TEXT],
 ) -> bool
     requires { ⌜ (asked .work ≤ 576) × (asked .text ≤ 65600) ⌝ }
-    ensures { λ r. ⌜ r ≡ sameUnit (now (expected .entry)) «expected_work» «expected_text» (unitCallLeaves (asked .size) (asked .unit) (asked .work) (asked .text) (now (file .entry)) work text) ⌝ }
+    ensures { λ r. ⌜
+        r ≡ sameUnit (now (expected .entry)) «expected_work» «expected_text»
+        (unitCallLeaves (asked .size) (asked .unit) (asked .work) (asked .text)
+        (now (file .entry)) work text)
+        ⌝ }
 {
     let work_length = asked.work;
     let text_length = asked.text;

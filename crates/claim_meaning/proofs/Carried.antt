@@ -141,7 +141,8 @@ module _ {step : ℕ → ℕ → Machine → Machine × ℕ} {n : ℕ} {z : Stat
       }
 
 -- a state and a machine between two records, and the number of calls before
-pub record AtRecord (step : ℕ → ℕ → Machine → Machine × ℕ) (n : ℕ) (z : State) (m : Machine) : Type 0
+pub record AtRecord (step : ℕ → ℕ → Machine → Machine × ℕ) (n : ℕ) (z : State) (m : Machine) : Type
+    0
   where
     pub left : Left step n z
     pub declares : Declares (z .scopes) (u32, x-pc)

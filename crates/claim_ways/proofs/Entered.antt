@@ -70,7 +70,8 @@ past (braces b c) d e p = past-braces (past c d e p)
 module _ (ts : List Top) (f : Code) (k : ℕ) where
   -- some way from c on carries out the first instruction of the block with the key k
   abbrev pub CarriesFirst : Code → Type 0
-  CarriesFirst c = (xs : List Bool) × (es : List Event) × Way ts f c xs es × (1 ≤ timesCarried k 0 es)
+  CarriesFirst c =
+      (xs : List Bool) × (es : List Event) × Way ts f c xs es × (1 ≤ timesCarried k 0 es)
 
   over-gap : (l : Bool) (n : ℕ) (c : Code) → CarriesFirst c → CarriesFirst (gap l n ⨾ c)
   over-gap l n c r = (r .0, r .1, w-gap (r .2), r .3)
@@ -83,7 +84,8 @@ module _ (ts : List Top) (f : Code) (k : ℕ) where
   over-line o (p ∷ []) c r = over-plain o p c r
   over-line o (p ∷ q ∷ ps) c r = over-plain o p _ (over-gap false 1 _ (over-line o (q ∷ ps) c r))
 
-  over-lines : (o : Owner) (n : ℕ) (ls : Lines) (c : Code) → CarriesFirst c → CarriesFirst (lines o n ls c)
+  over-lines : (o : Owner) (n : ℕ) (ls : Lines) (c : Code) → CarriesFirst c
+      → CarriesFirst (lines o n ls c)
   over-lines o n [] c r = r
   over-lines o n (l ∷ ls) c r =
       over-gap false n _
@@ -115,7 +117,8 @@ module _ (ts : List Top) (f : Code) (ks : List ℕ) (b : Body) where
   shell-counts : 1 ≤ timesCarried (bodyKey b) 0 (interpreted (bodyKey b) 0 ∷ [])
   shell-counts = rw (eq-eqb (bodyKey b) (bodyKey b) refl) (omega arith)
 
-  from-code : (rs : List Form) → 1 ≤ recordCounts rs → CarriesFirst ts f (bodyKey b) (codeFrom ks b 0 rs)
+  from-code : (rs : List Form) → 1 ≤ recordCounts rs
+      → CarriesFirst ts f (bodyKey b) (codeFrom ks b 0 rs)
   unfolding codeFrom
   from-code [] h = absurd (omega arith)
   from-code (Form.native r ∷ rs) h = ([], _, w-record stop, counts r)
@@ -155,7 +158,8 @@ to-label ks b (c ∷ bs) (List·Memᴰ·tail m) =
 
 module _ (ts : List Top) (b : Body) (h : 1 ≤ recordCounts (b .forms)) where
   -- through the switch of its group
-  from-group : (g : List Body) → List·Memᴰ b g → CarriesFirst ts (groupCode g) (bodyKey b) (groupCode g)
+  from-group : (g : List Body) → List·Memᴰ b g
+      → CarriesFirst ts (groupCode g) (bodyKey b) (groupCode g)
   unfolding groupCode withLocals
   from-group g m =
       let p = to-label (map bodyKey g) b g m in

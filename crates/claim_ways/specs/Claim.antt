@@ -11,7 +11,8 @@ use Rattle.file_records.specs.BlockRecord.{lengthOf}
 use Rattle.file_blocks.specs.Parse.{Block, Parsed, parse, blockKey}
 use Rattle.file_blocks.specs.Address.{outsideRomBios}
 use Rattle.plan_groups.specs.Plan.{groups}
-use Rattle.c_tree.specs.Stmt.{Test, guard, gate, other, nativeOf, common, Code, block, Top, function}
+use Rattle.c_tree.specs.Stmt.{Test, guard, gate, other, nativeOf, common, Code, block, Top}
+use Rattle.c_tree.specs.Stmt.{function}
 use Rattle.lower_forms.specs.Forms.{Body}
 use Rattle.lower_units.specs.Units.{TranslationUnit, unitsBy}
 use Rattle.claim_ways.specs.Ways.{Event, reach, said, nativeStart, interpreted, Way}

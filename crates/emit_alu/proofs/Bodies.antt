@@ -43,7 +43,8 @@ alu-lines thumb i op s rd rn op2 ls p = of-rd (eqb rd 15) p
         (operandOf (pcValue i) op2 .1)) ≡ ls
     of-op2 none e q = absurd (Option·none-ne-some _ q)
     of-op2 (some b) e q =
-        ap (λ (x : Expr × Option Expr). eachOnLine (alu op s rd (regOf (pcValue i) rn) (x .0) (x .1)))
+        ap (λ (x : Expr × Option Expr). eachOnLine
+        (alu op s rd (regOf (pcValue i) rn) (x .0) (x .1)))
         (operand-of i op2 b e)
         ∙ Option·some-injective _ _ q
 

@@ -13,7 +13,8 @@ use Rattle.c_tree.specs.Expr.{get, par, bin, cast}
 use Rattle.c_tree.specs.Stmt.{plus, f-nz, f-nz64, Plain, declare, set, run}
 use Rattle.c_tree.specs.Preamble.{v32}
 use Rattle.c_tree.specs.Print.{exprText, plainText, spaces}
-use Rattle.lower_forms.specs.InlineBody.{listIf, let32, setReg, result, logicalC, sum, mulBody, widened}
+use Rattle.lower_forms.specs.InlineBody.{listIf, let32, setReg, result, logicalC, sum, mulBody}
+use Rattle.lower_forms.specs.InlineBody.{widened}
 use Rattle.lower_forms.specs.InlineBody.{r64, mulLongBody}
 use Rattle.emit_operands.specs.Operands.{carryText, isSome}
 use Rattle.emit_alu.specs.Rows.{statementsText, before, between, after}

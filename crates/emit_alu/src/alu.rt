@@ -20,7 +20,10 @@ ghost use Rattle.emit_alu.specs.Rows.{statementsText};
 
 // Whether data processing is lowered to lines.
 pub fn alu_is_inlined(rd: Reg, op2: Operand2) -> bool
-    ensures { λ r. ⌜ ((thumb : Bool) (i : Instr) (op : AluOp) (s : Bool) (rn : ℕ) → r ≡ isSome (opBody thumb i (Alu op s rd rn op2))) ⌝ }
+    ensures { λ r. ⌜
+        ((thumb : Bool) (i : Instr) (op : AluOp) (s : Bool) (rn : ℕ)
+        → r ≡ isSome (opBody thumb i (Alu op s rd rn op2)))
+        ⌝ }
 {
     if rd == 15 { false } else { op2_is_native(op2) }
 }
@@ -36,7 +39,11 @@ pub fn put_alu(
     op2: Operand2,
     pc: u32,
 ) -> usize
-    ensures { λ r. ⌜ Wrote (now (out .entry)) at (statementsText (alu op s rd (regOf pc rn) (operandOf pc op2 .0) (operandOf pc op2 .1))) (now (out .exit)) r ⌝ }
+    ensures { λ r. ⌜
+        Wrote (now (out .entry)) at
+        (statementsText (alu op s rd (regOf pc rn) (operandOf pc op2 .0) (operandOf pc op2 .1)))
+        (now (out .exit)) r
+        ⌝ }
 {
     match op {
         AluOp::And => put_two(out, at, AluOp::And, s, rd, rn, op2, pc, b" & "),

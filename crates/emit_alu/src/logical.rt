@@ -20,7 +20,9 @@ ghost use Rattle.emit_alu.specs.Rows.{statementsText};
 
 // The last line of data processing.
 pub(crate) fn put_result(out: &mut [u8], at: usize, op: AluOp, rd: Reg) -> usize
-    ensures { λ r. ⌜ Wrote (now (out .entry)) at (statementsText (result op rd ∷ [])) (now (out .exit)) r ⌝ }
+    ensures { λ r. ⌜
+        Wrote (now (out .entry)) at (statementsText (result op rd ∷ [])) (now (out .exit)) r
+        ⌝ }
 {
     if op.is_compare() {
         return base_text::put(out, at, b"        (void)r;\n");
@@ -31,7 +33,10 @@ pub(crate) fn put_result(out: &mut [u8], at: usize, op: AluOp, rd: Reg) -> usize
 
 // The line that sets C, if the second operand gives a carry.
 fn put_logical_c(out: &mut [u8], at: usize, op2: Operand2, pc: u32) -> usize
-    ensures { λ r. ⌜ Wrote (now (out .entry)) at (statementsText (logicalC (operandOf pc op2 .1))) (now (out .exit)) r ⌝ }
+    ensures { λ r. ⌜
+        Wrote (now (out .entry)) at (statementsText (logicalC (operandOf pc op2 .1)))
+        (now (out .exit)) r
+        ⌝ }
 {
     if op2_has_carry(op2) {
         let p = base_text::put(out, at, b"        f_c(c, ");
@@ -43,7 +48,11 @@ fn put_logical_c(out: &mut [u8], at: usize, op2: Operand2, pc: u32) -> usize
 
 // The lines that set the flags, if s is set: N and Z, and C where the second operand gives a carry.
 fn put_flags(out: &mut [u8], at: usize, s: bool, op2: Operand2, pc: u32) -> usize
-    ensures { λ r. ⌜ Wrote (now (out .entry)) at (statementsText (cond s (run f-nz (v32 x-r) ∷ logicalC (operandOf pc op2 .1)) [])) (now (out .exit)) r ⌝ }
+    ensures { λ r. ⌜
+        Wrote (now (out .entry)) at
+        (statementsText (cond s (run f-nz (v32 x-r) ∷ logicalC (operandOf pc op2 .1)) []))
+        (now (out .exit)) r
+        ⌝ }
 {
     if s {
         let p = base_text::put(out, at, b"        f_nz(c, r);\n");
@@ -62,7 +71,10 @@ fn put_logical_rest(
     op2: Operand2,
     pc: u32,
 ) -> usize
-    ensures { λ r. ⌜ Wrote (now (out .entry)) at (statementsText (logicalRest op s rd (operandOf pc op2 .1))) (now (out .exit)) r ⌝ }
+    ensures { λ r. ⌜
+        Wrote (now (out .entry)) at (statementsText (logicalRest op s rd (operandOf pc op2 .1)))
+        (now (out .exit)) r
+        ⌝ }
 {
     let p = put_flags(out, at, s, op2, pc);
     put_result(out, p, op, rd)
@@ -80,7 +92,12 @@ pub(crate) fn put_two(
     pc: u32,
     t: &[u8],
 ) -> usize
-    ensures { λ r. ⌜ Wrote (now (out .entry)) at (text "        uint32_t r = (" ▸ exprText (regOf pc rn) ▸ raw (now (t .entry)) ▸ exprText (operandOf pc op2 .0) ▸ text ");\n" ▸ statementsText (logicalRest op s rd (operandOf pc op2 .1))) (now (out .exit)) r ⌝ }
+    ensures { λ r. ⌜
+        Wrote (now (out .entry)) at
+        (text "        uint32_t r = (" ▸ exprText (regOf pc rn) ▸ raw (now (t .entry))
+        ▸ exprText (operandOf pc op2 .0) ▸ text ");\n"
+        ▸ statementsText (logicalRest op s rd (operandOf pc op2 .1))) (now (out .exit)) r
+        ⌝ }
 {
     let p = base_text::put(out, at, b"        uint32_t r = (");
     let q = put_reg(out, p, rn, pc);
@@ -102,7 +119,11 @@ pub(crate) fn put_one(
     t: &[u8],
     u: &[u8],
 ) -> usize
-    ensures { λ r. ⌜ Wrote (now (out .entry)) at (raw (now (t .entry)) ▸ exprText (operandOf pc op2 .0) ▸ raw (now (u .entry)) ▸ statementsText (logicalRest op s rd (operandOf pc op2 .1))) (now (out .exit)) r ⌝ }
+    ensures { λ r. ⌜
+        Wrote (now (out .entry)) at
+        (raw (now (t .entry)) ▸ exprText (operandOf pc op2 .0) ▸ raw (now (u .entry))
+        ▸ statementsText (logicalRest op s rd (operandOf pc op2 .1))) (now (out .exit)) r
+        ⌝ }
 {
     let p = base_text::put(out, at, t);
     let q = put_op2_value(out, p, op2, pc);

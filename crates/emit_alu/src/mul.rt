@@ -19,14 +19,21 @@ ghost use Rattle.emit_alu.specs.Rows.{statementsText};
 
 // Whether a multiplication is lowered to lines; a long one always is.
 pub fn mul_is_inlined(rd: Reg) -> bool
-    ensures { λ r. ⌜ ((thumb : Bool) (i : Instr) (acc s : Bool) (rn rs rm : ℕ) → r ≡ isSome (opBody thumb i (Mul acc s rd rn rs rm))) ⌝ }
+    ensures { λ r. ⌜
+        ((thumb : Bool) (i : Instr) (acc s : Bool) (rn rs rm : ℕ)
+        → r ≡ isSome (opBody thumb i (Mul acc s rd rn rs rm)))
+        ⌝ }
 {
     rd != 15
 }
 
 // The line of the product.
 fn put_product(out: &mut [u8], at: usize, rs: Reg, rm: Reg) -> usize
-    ensures { λ r. ⌜ Wrote (now (out .entry)) at (statementsText (let32 x-r (bin mul (get (reg rm)) (get (reg rs))) ∷ [])) (now (out .exit)) r ⌝ }
+    ensures { λ r. ⌜
+        Wrote (now (out .entry)) at
+        (statementsText (let32 x-r (bin mul (get (reg rm)) (get (reg rs))) ∷ []))
+        (now (out .exit)) r
+        ⌝ }
 {
     let p = base_text::put_then_dec(out, at, b"        uint32_t r = c[", rm as u64);
     let q = base_text::put_then_dec(out, p, b"] * c[", rs as u64);
@@ -35,7 +42,11 @@ fn put_product(out: &mut [u8], at: usize, rs: Reg, rm: Reg) -> usize
 
 // The line that adds rn, if acc is set.
 fn put_more(out: &mut [u8], at: usize, acc: bool, rn: Reg) -> usize
-    ensures { λ r. ⌜ Wrote (now (out .entry)) at (statementsText (listIf acc (set (var (u32, x-r)) plus (get (reg rn))))) (now (out .exit)) r ⌝ }
+    ensures { λ r. ⌜
+        Wrote (now (out .entry)) at
+        (statementsText (listIf acc (set (var (u32, x-r)) plus (get (reg rn)))))
+        (now (out .exit)) r
+        ⌝ }
 {
     if acc {
         let p = base_text::put_then_dec(out, at, b"        r += c[", rn as u64);
@@ -46,7 +57,9 @@ fn put_more(out: &mut [u8], at: usize, acc: bool, rn: Reg) -> usize
 
 // The line that sets rd.
 fn put_low(out: &mut [u8], at: usize, rd: Reg) -> usize
-    ensures { λ r. ⌜ Wrote (now (out .entry)) at (statementsText (setReg rd (v32 x-r) ∷ [])) (now (out .exit)) r ⌝ }
+    ensures { λ r. ⌜
+        Wrote (now (out .entry)) at (statementsText (setReg rd (v32 x-r) ∷ [])) (now (out .exit)) r
+        ⌝ }
 {
     let p = base_text::put_then_dec(out, at, b"        c[", rd as u64);
     base_text::put(out, p, b"] = r;\n")
@@ -54,7 +67,10 @@ fn put_low(out: &mut [u8], at: usize, rd: Reg) -> usize
 
 // The line that sets N and Z, if s is set.
 fn put_nz(out: &mut [u8], at: usize, s: bool) -> usize
-    ensures { λ r. ⌜ Wrote (now (out .entry)) at (statementsText (listIf s (run f-nz (v32 x-r)))) (now (out .exit)) r ⌝ }
+    ensures { λ r. ⌜
+        Wrote (now (out .entry)) at (statementsText (listIf s (run f-nz (v32 x-r))))
+        (now (out .exit)) r
+        ⌝ }
 {
     if s {
         return base_text::put(out, at, b"        f_nz(c, r);\n");
@@ -73,7 +89,9 @@ pub fn put_mul(
     rs: Reg,
     rm: Reg,
 ) -> usize
-    ensures { λ r. ⌜ Wrote (now (out .entry)) at (statementsText (mulBody acc s rd rn rs rm)) (now (out .exit)) r ⌝ }
+    ensures { λ r. ⌜
+        Wrote (now (out .entry)) at (statementsText (mulBody acc s rd rn rs rm)) (now (out .exit)) r
+        ⌝ }
 {
     let p = put_product(out, at, rs, rm);
     let q = put_more(out, p, acc, rn);
@@ -83,7 +101,9 @@ pub fn put_mul(
 
 // A factor of a long multiplication.
 fn put_wide(out: &mut [u8], at: usize, signed: bool, n: Reg) -> usize
-    ensures { λ r. ⌜ Wrote (now (out .entry)) at (exprText (widened signed (get (reg n)))) (now (out .exit)) r ⌝ }
+    ensures { λ r. ⌜
+        Wrote (now (out .entry)) at (exprText (widened signed (get (reg n)))) (now (out .exit)) r
+        ⌝ }
 {
     if signed {
         let p = base_text::put_then_dec(out, at, b"(int64_t)(int32_t)c[", n as u64);
@@ -95,7 +115,14 @@ fn put_wide(out: &mut [u8], at: usize, signed: bool, n: Reg) -> usize
 
 // The line of the product of 64 bits.
 fn put_long_product(out: &mut [u8], at: usize, signed: bool, rs: Reg, rm: Reg) -> usize
-    ensures { λ r. ⌜ Wrote (now (out .entry)) at (statementsText (declare (u64, x-r) (cast u64 (par (bin mul (widened signed (get (reg rm))) (widened signed (get (reg rs)))))) [] ∷ [])) (now (out .exit)) r ⌝ }
+    ensures { λ r. ⌜
+        Wrote (now (out .entry)) at
+        (statementsText
+        (declare (u64, x-r)
+        (cast u64
+        (par (bin mul (widened signed (get (reg rm))) (widened signed (get (reg rs)))))) []
+        ∷ [])) (now (out .exit)) r
+        ⌝ }
 {
     let p = base_text::put(out, at, b"        uint64_t r = (uint64_t)(");
     let q = put_wide(out, p, signed, rm);
@@ -106,7 +133,14 @@ fn put_long_product(out: &mut [u8], at: usize, signed: bool, rs: Reg, rm: Reg) -
 
 // The line that adds the two registers of the outcome as they were, if acc is set.
 fn put_long_more(out: &mut [u8], at: usize, acc: bool, hi: Reg, lo: Reg) -> usize
-    ensures { λ r. ⌜ Wrote (now (out .entry)) at (statementsText (listIf acc (set (var (u64, x-r)) plus (bin bor (par (bin shl (cast u64 (get (reg hi))) (lit int 32))) (cast u64 (get (reg lo))))))) (now (out .exit)) r ⌝ }
+    ensures { λ r. ⌜
+        Wrote (now (out .entry)) at
+        (statementsText
+        (listIf acc
+        (set (var (u64, x-r)) plus
+        (bin bor (par (bin shl (cast u64 (get (reg hi))) (lit int 32)))
+        (cast u64 (get (reg lo))))))) (now (out .exit)) r
+        ⌝ }
 {
     if acc {
         let p = base_text::put_then_dec(out, at, b"        r += ((uint64_t)c[", hi as u64);
@@ -118,7 +152,12 @@ fn put_long_more(out: &mut [u8], at: usize, acc: bool, hi: Reg, lo: Reg) -> usiz
 
 // Both halves of the product.
 fn put_halves(out: &mut [u8], at: usize, hi: Reg, lo: Reg) -> usize
-    ensures { λ r. ⌜ Wrote (now (out .entry)) at (statementsText (setReg lo (cast u32 r64) ∷ setReg hi (cast u32 (par (bin shr r64 (lit int 32)))) ∷ [])) (now (out .exit)) r ⌝ }
+    ensures { λ r. ⌜
+        Wrote (now (out .entry)) at
+        (statementsText
+        (setReg lo (cast u32 r64) ∷ setReg hi (cast u32 (par (bin shr r64 (lit int 32)))) ∷ []))
+        (now (out .exit)) r
+        ⌝ }
 {
     let p = base_text::put_then_dec(out, at, b"        c[", lo as u64);
     let q = base_text::put_then_dec(out, p, b"] = (uint32_t)r;\n        c[", hi as u64);
@@ -127,7 +166,9 @@ fn put_halves(out: &mut [u8], at: usize, hi: Reg, lo: Reg) -> usize
 
 // The line that sets N and Z by all 64 bits, if s is set.
 fn put_nz64(out: &mut [u8], at: usize, s: bool) -> usize
-    ensures { λ r. ⌜ Wrote (now (out .entry)) at (statementsText (listIf s (run f-nz64 r64))) (now (out .exit)) r ⌝ }
+    ensures { λ r. ⌜
+        Wrote (now (out .entry)) at (statementsText (listIf s (run f-nz64 r64))) (now (out .exit)) r
+        ⌝ }
 {
     if s {
         return base_text::put(out, at, b"        f_nz64(c, r);\n");
@@ -147,7 +188,10 @@ pub fn put_mul_long(
     rs: Reg,
     rm: Reg,
 ) -> usize
-    ensures { λ r. ⌜ Wrote (now (out .entry)) at (statementsText (mulLongBody signed acc s hi lo rs rm)) (now (out .exit)) r ⌝ }
+    ensures { λ r. ⌜
+        Wrote (now (out .entry)) at (statementsText (mulLongBody signed acc s hi lo rs rm))
+        (now (out .exit)) r
+        ⌝ }
 {
     let p = put_long_product(out, at, signed, rs, rm);
     let q = put_long_more(out, p, acc, hi, lo);

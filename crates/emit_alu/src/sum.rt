@@ -51,7 +51,11 @@ fn put_after(out: &mut [u8], at: usize, s: bool) -> usize
 
 // The third term, and the lines after the first.
 fn put_sum_rest(out: &mut [u8], at: usize, op: AluOp, s: bool, rd: Reg, carry: &[u8]) -> usize
-    ensures { λ r. ⌜ Wrote (now (out .entry)) at (between s ▸ raw (now (carry .entry)) ▸ after s ▸ statementsText (result op rd ∷ [])) (now (out .exit)) r ⌝ }
+    ensures { λ r. ⌜
+        Wrote (now (out .entry)) at
+        (between s ▸ raw (now (carry .entry)) ▸ after s ▸ statementsText (result op rd ∷ []))
+        (now (out .exit)) r
+        ⌝ }
 {
     let p = put_between(out, at, s);
     let q = base_text::put(out, p, carry);
@@ -72,7 +76,14 @@ pub(crate) fn put_sum(
     t: &[u8],
     carry: &[u8],
 ) -> usize
-    ensures { λ r. ⌜ ((y z : Expr) → ((k : List ℕ) → flat (raw (now (t .entry)) ▸ exprText (operandOf pc op2 .0)) k ≡ flat (exprText y) k) → ((k : List ℕ) → flat (raw (now (carry .entry))) k ≡ flat (exprText z) k) → Wrote (now (out .entry)) at (statementsText (sum op s rd (regOf pc rn) y z)) (now (out .exit)) r) ⌝ }
+    ensures { λ r. ⌜
+        ((y z : Expr)
+        → ((k : List ℕ)
+        → flat (raw (now (t .entry)) ▸ exprText (operandOf pc op2 .0)) k ≡ flat (exprText y) k)
+        → ((k : List ℕ) → flat (raw (now (carry .entry))) k ≡ flat (exprText z) k)
+        → Wrote (now (out .entry)) at (statementsText (sum op s rd (regOf pc rn) y z))
+        (now (out .exit)) r)
+        ⌝ }
 {
     let p = put_before(out, at, s);
     let q = put_reg(out, p, rn, pc);
@@ -94,7 +105,12 @@ pub(crate) fn put_reversed(
     pc: u32,
     carry: &[u8],
 ) -> usize
-    ensures { λ r. ⌜ ((z : Expr) → ((k : List ℕ) → flat (raw (now (carry .entry))) k ≡ flat (exprText z) k) → Wrote (now (out .entry)) at (statementsText (sum op s rd (operandOf pc op2 .0) (un compl (regOf pc rn)) z)) (now (out .exit)) r) ⌝ }
+    ensures { λ r. ⌜
+        ((z : Expr) → ((k : List ℕ) → flat (raw (now (carry .entry))) k ≡ flat (exprText z) k)
+        → Wrote (now (out .entry)) at
+        (statementsText (sum op s rd (operandOf pc op2 .0) (un compl (regOf pc rn)) z))
+        (now (out .exit)) r)
+        ⌝ }
 {
     let p = put_before(out, at, s);
     let q = put_op2_value(out, p, op2, pc);

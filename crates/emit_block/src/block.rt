@@ -53,7 +53,9 @@ fn length_of(block: BlockRecord) -> u64
 
 // The hash of a block's code bytes, or 0 where the text is only measured.
 fn guard_hash(file: &[u8], block: BlockRecord, hashing: bool) -> u64
-    ensures { λ r. ⌜ r ≡ cond hashing (fnv64 hashMultiplier (codeBytes (now (file .entry)) block)) 0 ⌝ }
+    ensures { λ r. ⌜
+        r ≡ cond hashing (fnv64 hashMultiplier (codeBytes (now (file .entry)) block)) 0
+        ⌝ }
 {
     if hashing {
         hash(code_bytes(file, block), MULTIPLIER)
@@ -73,7 +75,15 @@ pub fn emit_block(
     hashing: bool,
 ) -> usize
     requires { ⌜ HasRoom (now file) (now work) (m .blocks) × (m .index < m .blocks) ⌝ }
-    ensures { λ r. ⌜ ((ks : List ℕ) → IsMember (now (file .entry)) (now (work .entry)) m ks → Wrote (now (out .entry)) at (codeText (blockCode ks (hashedIf hashing (getD (map (bodyOf hashMultiplier) (blocksOf (now (file .entry)))) (m .index) defaultBody)))) (now (out .exit)) r) ⌝ }
+    ensures { λ r. ⌜
+        ((ks : List ℕ) → IsMember (now (file .entry)) (now (work .entry)) m ks
+        → Wrote (now (out .entry)) at
+        (codeText
+        (blockCode ks
+        (hashedIf hashing
+        (getD (map (bodyOf hashMultiplier) (blocksOf (now (file .entry)))) (m .index)
+        defaultBody)))) (now (out .exit)) r)
+        ⌝ }
 {
     let FoundBlock::At(block) = block_at(file, m.index) else {
         return at;

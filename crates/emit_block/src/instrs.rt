@@ -69,7 +69,10 @@ fn begins_bl(x: Instr) -> bool
 // is not read.
 fn next_of(file: &[u8], block: BlockRecord, first: usize, j: u32, x: Instr) -> Next
     requires { ⌜ j < block .count ⌝ }
-    ensures { λ r. ⌜ ((i : ℕ) → IsBlock (now (file .entry)) i block first → r ≡ nextOf x (drop (suc j) (instrsOf (now (file .entry)) block first))) ⌝ }
+    ensures { λ r. ⌜
+        ((i : ℕ) → IsBlock (now (file .entry)) i block first
+        → r ≡ nextOf x (drop (suc j) (instrsOf (now (file .entry)) block first)))
+        ⌝ }
 {
     if !begins_bl(x) {
         return Next::Alone;
@@ -86,7 +89,10 @@ fn next_of(file: &[u8], block: BlockRecord, first: usize, j: u32, x: Instr) -> N
 // Whether a branch goes to a block of the same group; the answer for other operations is of no use.
 fn branch_inside(file: &[u8], work: &[u32], m: Member, thumb: bool, op: Op) -> bool
     requires { ⌜ HasRoom (now file) (now work) (m .blocks) × (m .index < m .blocks) ⌝ }
-    ensures { λ r. ⌜ ((ks : List ℕ) → IsMember (now (file .entry)) (now (work .entry)) m ks → BranchInside ks thumb r op) ⌝ }
+    ensures { λ r. ⌜
+        ((ks : List ℕ) → IsMember (now (file .entry)) (now (work .entry)) m ks
+        → BranchInside ks thumb r op)
+        ⌝ }
 {
     match op {
         Op::Branch { target, .. } => is_inside(file, work, m, key_of(target, thumb)),
@@ -107,7 +113,13 @@ fn emit_fused(
     ret: u32,
 ) -> usize
     requires { ⌜ HasRoom (now file) (now work) (m .blocks) × (m .index < m .blocks) ⌝ }
-    ensures { λ r. ⌜ ((ks : List ℕ) (b : Body) (j : ℕ) (fs : List Form) → IsMember (now (file .entry)) (now (work .entry)) m ks → b .addr ≡ src → Onward (now (out .entry)) at (codeFrom ks b j (Form.native (emitPair cycles target ret) ∷ fs)) end (now (out .exit)) r) ⌝ }
+    ensures { λ r. ⌜
+        ((ks : List ℕ) (b : Body) (j : ℕ) (fs : List Form)
+        → IsMember (now (file .entry)) (now (work .entry)) m ks → b .addr ≡ src
+        → Onward (now (out .entry)) at
+        (codeFrom ks b j (Form.native (emitPair cycles target ret) ∷ fs)) end (now (out .exit))
+        r)
+        ⌝ }
 {
     let inside = is_inside(file, work, m, set_bit0(target));
     emit_pair(out, at, cycles, target, ret, inside, src)
@@ -125,8 +137,19 @@ fn emit_alone(
     x: TimedInstr,
     j: u32,
 ) -> Step
-    requires { ⌜ HasRoom (now file) (now work) (m .blocks) × (m .index < m .blocks) × (j < block .count) ⌝ }
-    ensures { λ r. ⌜ ((ks : List ℕ) (b : Body) (first : ℕ) → IsMemberBlock (now (file .entry)) (now (work .entry)) m block first ks b → drop j (instrsOf (now (file .entry)) block first) ≡ x ∷ drop (suc j) (instrsOf (now (file .entry)) block first) → nextOf (x .instr) (drop (suc j) (instrsOf (now (file .entry)) block first)) ≡ Next.Alone → x .cost ≤ 65535 → cycles ≤ 65535 * j → Recorded (now (file .entry)) block first ks b j cycles (now (out .entry)) at (now (out .exit)) r) ⌝ }
+    requires { ⌜
+        HasRoom (now file) (now work) (m .blocks) × (m .index < m .blocks) × (j < block .count)
+        ⌝ }
+    ensures { λ r. ⌜
+        ((ks : List ℕ) (b : Body) (first : ℕ)
+        → IsMemberBlock (now (file .entry)) (now (work .entry)) m block first ks b
+        → drop j (instrsOf (now (file .entry)) block first)
+        ≡ x ∷ drop (suc j) (instrsOf (now (file .entry)) block first)
+        → nextOf (x .instr) (drop (suc j) (instrsOf (now (file .entry)) block first))
+        ≡ Next.Alone → x .cost ≤ 65535 → cycles ≤ 65535 * j
+        → Recorded (now (file .entry)) block first ks b j cycles (now (out .entry)) at
+        (now (out .exit)) r)
+        ⌝ }
 {
     let instr = x.instr;
     let op = instr.op;
@@ -158,8 +181,16 @@ pub(crate) fn emit_record(
     cycles: u64,
     j: u32,
 ) -> Step
-    requires { ⌜ HasRoom (now file) (now work) (m .blocks) × (m .index < m .blocks) × (j < block .count) ⌝ }
-    ensures { λ r. ⌜ ((ks : List ℕ) (b : Body) → IsMemberBlock (now (file .entry)) (now (work .entry)) m block first ks b → cycles ≤ 65535 * j → Recorded (now (file .entry)) block first ks b j cycles (now (out .entry)) at (now (out .exit)) r) ⌝ }
+    requires { ⌜
+        HasRoom (now file) (now work) (m .blocks) × (m .index < m .blocks) × (j < block .count)
+        ⌝ }
+    ensures { λ r. ⌜
+        ((ks : List ℕ) (b : Body)
+        → IsMemberBlock (now (file .entry)) (now (work .entry)) m block first ks b
+        → cycles ≤ 65535 * j
+        → Recorded (now (file .entry)) block first ks b j cycles (now (out .entry)) at
+        (now (out .exit)) r)
+        ⌝ }
 {
     let FoundInstr::At(x) = instr_of(file, block, first, j) else {
         return Step {

@@ -22,7 +22,9 @@ pub struct Member {
 // Whether a transfer to a key is a goto. A lone block has none.
 pub(crate) fn is_inside(file: &[u8], work: &[u32], m: Member, key: u32) -> bool
     requires { ⌜ HasRoom (now file) (now work) (m .blocks) × (m .index < m .blocks) ⌝ }
-    ensures { λ r. ⌜ ((ks : List ℕ) → IsMember (now (file .entry)) (now (work .entry)) m ks → among key ks ≡ r) ⌝ }
+    ensures { λ r. ⌜
+        ((ks : List ℕ) → IsMember (now (file .entry)) (now (work .entry)) m ks → among key ks ≡ r)
+        ⌝ }
 {
     if m.several {
         in_group(file, work, m.blocks, m.group, m.index, key)

@@ -29,7 +29,12 @@ fn emit_end(
     cycles: u64,
 ) -> usize
     requires { ⌜ HasRoom (now file) (now work) (m .blocks) × (m .index < m .blocks) ⌝ }
-    ensures { λ r. ⌜ ((ks : List ℕ) (b : Body) (first j : ℕ) → IsMemberBlock (now (file .entry)) (now (work .entry)) m block first ks b → cycles ≡ formsFrom (now (file .entry)) block first 0 0 .1 → Onward (now (out .entry)) at (codeFrom ks b j []) end (now (out .exit)) r) ⌝ }
+    ensures { λ r. ⌜
+        ((ks : List ℕ) (b : Body) (first j : ℕ)
+        → IsMemberBlock (now (file .entry)) (now (work .entry)) m block first ks b
+        → cycles ≡ formsFrom (now (file .entry)) block first 0 0 .1
+        → Onward (now (out .entry)) at (codeFrom ks b j []) end (now (out .exit)) r)
+        ⌝ }
 {
     let next = instr_addr(block.addr, block.thumb, block.count);
     let key = key_of(next, block.thumb);
@@ -49,7 +54,12 @@ pub(crate) fn emit_records(
     first: usize,
 ) -> usize
     requires { ⌜ HasRoom (now file) (now work) (m .blocks) × (m .index < m .blocks) ⌝ }
-    ensures { λ r. ⌜ ((ks : List ℕ) (b : Body) → IsMemberBlock (now (file .entry)) (now (work .entry)) m block first ks b → Wrote (now (out .entry)) at (codeText (codeFrom ks b 0 (b .forms))) (now (out .exit)) r) ⌝ }
+    ensures { λ r. ⌜
+        ((ks : List ℕ) (b : Body)
+        → IsMemberBlock (now (file .entry)) (now (work .entry)) m block first ks b
+        → Wrote (now (out .entry)) at (codeText (codeFrom ks b 0 (b .forms))) (now (out .exit))
+        r)
+        ⌝ }
 {
     let mut p = at;
     let mut cycles: u64 = 0;

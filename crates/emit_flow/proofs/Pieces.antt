@@ -123,10 +123,12 @@ linked false back target o c k = refl
 -- a branch that is always taken
 pub jumped : (ks : List ℕ) (a : ℕ) (o : Owner) (cycles : ℕ) (link : Bool) (back target key : ℕ)
     (c : Code)
-    → flat (linesText 4 (flushTicks cycles) ▸ linesText 4 (eachOnLine (listIf link (setWord 14 back)))
+    → flat (linesText 4 (flushTicks cycles)
+    ▸ linesText 4 (eachOnLine (listIf link (setWord 14 back)))
     ▸ linesText 4 (pcLine target) ▸ codeText (transfer ks a o 4 key end)) []
     ≡ flat (codeText
-    (nativeText ks a o (jump (flushTicks cycles ++ eachOnLine (branchRegs link back target)) key) c))
+    (nativeText ks a o (jump (flushTicks cycles ++ eachOnLine (branchRegs link back target)) key)
+    c))
     []
 unfolding nativeText
 jumped ks a o cycles link back target key c =

@@ -23,7 +23,11 @@ ghost use Rattle.emit_flow.specs.Pieces.{afterCondition, afterConditiona
 
 // The registers of a branch, after its condition.
 fn put_taken(out: &mut [u8], at: usize, link: bool, ret: u32, target: u32) -> usize
-    ensures { λ r. ⌜ Wrote (now (out .entry)) at (afterCondition ▸ codeText (sp 1 ⨾ line common (branchRegs link ret target) (nl ⨾ end))) (now (out .exit)) r ⌝ }
+    ensures { λ r. ⌜
+        Wrote (now (out .entry)) at
+        (afterCondition ▸ codeText (sp 1 ⨾ line common (branchRegs link ret target) (nl ⨾ end)))
+        (now (out .exit)) r
+        ⌝ }
 {
     if link {
         let p = base_text::put_then_hex8(out, at, b") { c[14] = 0x", ret);
@@ -46,7 +50,15 @@ pub fn branch_taken(
     src: u32,
     key: u32,
 ) -> usize
-    ensures { λ r. ⌜ ((ks : List ℕ) (o : Owner) → among key ks ≡ inside → Wrote (now (out .entry)) at (afterCondition ▸ codeText (sp 1 ⨾ line o (branchRegs link ret target) (nl ⨾ Block·transfer ks src o 8 key (sp 6 ⨾ end))) ▸ afterConditional) (now (out .exit)) r) ⌝ }
+    ensures { λ r. ⌜
+        ((ks : List ℕ) (o : Owner) → among key ks ≡ inside
+        → Wrote (now (out .entry)) at
+        (afterCondition
+        ▸ codeText
+        (sp 1 ⨾ line o (branchRegs link ret target)
+        (nl ⨾ Block·transfer ks src o 8 key (sp 6 ⨾ end))) ▸ afterConditional) (now (out .exit))
+        r)
+        ⌝ }
 {
     let p = put_taken(out, at, link, ret, target);
     let q = transfer(out, p, inside, src, key, true);
@@ -55,7 +67,10 @@ pub fn branch_taken(
 
 // r14 set where a branch links.
 fn set_link(out: &mut [u8], at: usize, link: bool, ret: u32) -> usize
-    ensures { λ r. ⌜ Wrote (now (out .entry)) at (linesText 4 (eachOnLine (listIf link (setWord 14 ret)))) (now (out .exit)) r ⌝ }
+    ensures { λ r. ⌜
+        Wrote (now (out .entry)) at (linesText 4 (eachOnLine (listIf link (setWord 14 ret))))
+        (now (out .exit)) r
+        ⌝ }
 {
     if link { set_lr(out, at, ret) } else { at }
 }
@@ -72,7 +87,14 @@ pub fn branch_always(
     src: u32,
     key: u32,
 ) -> usize
-    ensures { λ r. ⌜ ((ks : List ℕ) (o : Owner) (c : Code) → among key ks ≡ inside → Wrote (now (out .entry)) at (codeText (nativeText ks src o (jump (flushTicks cycles ++ eachOnLine (branchRegs link ret target)) key) c)) (now (out .exit)) r) ⌝ }
+    ensures { λ r. ⌜
+        ((ks : List ℕ) (o : Owner) (c : Code) → among key ks ≡ inside
+        → Wrote (now (out .entry)) at
+        (codeText
+        (nativeText ks src o
+        (jump (flushTicks cycles ++ eachOnLine (branchRegs link ret target)) key) c))
+        (now (out .exit)) r)
+        ⌝ }
 {
     let p = flush_ticks(out, at, cycles);
     let q = set_link(out, p, link, ret);
@@ -90,7 +112,11 @@ pub fn emit_pair(
     inside: bool,
     src: u32,
 ) -> usize
-    ensures { λ r. ⌜ ((ks : List ℕ) (o : Owner) (c : Code) → among (setBit0 target) ks ≡ inside → Wrote (now (out .entry)) at (codeText (nativeText ks src o (emitPair cycles target ret) c)) (now (out .exit)) r) ⌝ }
+    ensures { λ r. ⌜
+        ((ks : List ℕ) (o : Owner) (c : Code) → among (setBit0 target) ks ≡ inside
+        → Wrote (now (out .entry)) at
+        (codeText (nativeText ks src o (emitPair cycles target ret) c)) (now (out .exit)) r)
+        ⌝ }
 {
     let p = flush_ticks(out, at, cycles);
     let q = set_lr(out, p, ret);
@@ -100,7 +126,11 @@ pub fn emit_pair(
 
 // The end of a block that goes on at address next, whose key is given too, after its ticks.
 pub fn put_closing(out: &mut [u8], at: usize, next: u32, inside: bool, src: u32, key: u32) -> usize
-    ensures { λ r. ⌜ ((ks : List ℕ) → among key ks ≡ inside → Wrote (now (out .entry)) at (codeText (exitCode ks src common (pcLine next) key)) (now (out .exit)) r) ⌝ }
+    ensures { λ r. ⌜
+        ((ks : List ℕ) → among key ks ≡ inside
+        → Wrote (now (out .entry)) at (codeText (exitCode ks src common (pcLine next) key))
+        (now (out .exit)) r)
+        ⌝ }
 {
     let p = set_pc(out, at, next);
     transfer(out, p, inside, src, key, false)

@@ -17,7 +17,9 @@ ghost use Rattle.emit_flow.specs.Pieces.{indent};
 
 // The cycles pending, if there are any.
 pub fn flush_ticks(out: &mut [u8], at: usize, cycles: u64) -> usize
-    ensures { λ r. ⌜ Wrote (now (out .entry)) at (linesText 4 (flushTicks cycles)) (now (out .exit)) r ⌝ }
+    ensures { λ r. ⌜
+        Wrote (now (out .entry)) at (linesText 4 (flushTicks cycles)) (now (out .exit)) r
+        ⌝ }
 {
     if cycles == 0 {
         return at;
@@ -28,7 +30,10 @@ pub fn flush_ticks(out: &mut [u8], at: usize, cycles: u64) -> usize
 
 // r14 set to n.
 pub(crate) fn set_lr(out: &mut [u8], at: usize, n: u32) -> usize
-    ensures { λ r. ⌜ Wrote (now (out .entry)) at (linesText 4 (eachOnLine (setWord 14 n ∷ []))) (now (out .exit)) r ⌝ }
+    ensures { λ r. ⌜
+        Wrote (now (out .entry)) at (linesText 4 (eachOnLine (setWord 14 n ∷ []))) (now (out .exit))
+        r
+        ⌝ }
 {
     let p = base_text::put_then_hex8(out, at, b"    c[14] = 0x", n);
     base_text::put(out, p, b"u;\n")
@@ -44,7 +49,9 @@ pub(crate) fn set_pc(out: &mut [u8], at: usize, n: u32) -> usize
 
 // Four spaces, or eight.
 fn put_indent(out: &mut [u8], at: usize, deep: bool) -> usize
-    ensures { λ r. ⌜ Wrote (now (out .entry)) at (codeText (sp (indent deep) ⨾ end)) (now (out .exit)) r ⌝ }
+    ensures { λ r. ⌜
+        Wrote (now (out .entry)) at (codeText (sp (indent deep) ⨾ end)) (now (out .exit)) r
+        ⌝ }
 {
     if deep {
         base_text::put(out, at, b"        ")
@@ -55,7 +62,10 @@ fn put_indent(out: &mut [u8], at: usize, deep: bool) -> usize
 
 // A goto in a line of its own.
 fn put_goto(out: &mut [u8], at: usize, key: u32, deep: bool) -> usize
-    ensures { λ r. ⌜ Wrote (now (out .entry)) at (codeText (gotoCode false common (indent deep) key end)) (now (out .exit)) r ⌝ }
+    ensures { λ r. ⌜
+        Wrote (now (out .entry)) at (codeText (gotoCode false common (indent deep) key end))
+        (now (out .exit)) r
+        ⌝ }
 {
     let p = put_indent(out, at, deep);
     let q = put_then_key(out, p, b"goto L_", key);
@@ -64,7 +74,11 @@ fn put_goto(out: &mut [u8], at: usize, key: u32, deep: bool) -> usize
 
 // The chain gate before a goto.
 fn put_gate(out: &mut [u8], at: usize, key: u32, deep: bool) -> usize
-    ensures { λ r. ⌜ Wrote (now (out .entry)) at (codeText (sp (indent deep) ⨾ retIf common gate (lit word key) ⨾ nl ⨾ end)) (now (out .exit)) r ⌝ }
+    ensures { λ r. ⌜
+        Wrote (now (out .entry)) at
+        (codeText (sp (indent deep) ⨾ retIf common gate (lit word key) ⨾ nl ⨾ end))
+        (now (out .exit)) r
+        ⌝ }
 {
     let p = put_indent(out, at, deep);
     let q = base_text::put_then_hex8(out, p, b"if (a->chain_gate(m)) return 0x", key);
@@ -73,7 +87,10 @@ fn put_gate(out: &mut [u8], at: usize, key: u32, deep: bool) -> usize
 
 // The return of a key.
 fn put_return(out: &mut [u8], at: usize, key: u32, deep: bool) -> usize
-    ensures { λ r. ⌜ Wrote (now (out .entry)) at (codeText (sp (indent deep) ⨾ ret common (lit word key) ⨾ nl ⨾ end)) (now (out .exit)) r ⌝ }
+    ensures { λ r. ⌜
+        Wrote (now (out .entry)) at
+        (codeText (sp (indent deep) ⨾ ret common (lit word key) ⨾ nl ⨾ end)) (now (out .exit)) r
+        ⌝ }
 {
     let p = put_indent(out, at, deep);
     let q = base_text::put_then_hex8(out, p, b"return 0x", key);
@@ -83,7 +100,11 @@ fn put_return(out: &mut [u8], at: usize, key: u32, deep: bool) -> usize
 // From the block at src to a key: a goto within the group, gated if it does not go up, or else a
 // return.
 pub fn transfer(out: &mut [u8], at: usize, inside: bool, src: u32, key: u32, deep: bool) -> usize
-    ensures { λ r. ⌜ ((ks : List ℕ) (o : Owner) → among key ks ≡ inside → Wrote (now (out .entry)) at (codeText (transfer ks src o (indent deep) key end)) (now (out .exit)) r) ⌝ }
+    ensures { λ r. ⌜
+        ((ks : List ℕ) (o : Owner) → among key ks ≡ inside
+        → Wrote (now (out .entry)) at (codeText (transfer ks src o (indent deep) key end))
+        (now (out .exit)) r)
+        ⌝ }
 {
     if !inside {
         return put_return(out, at, key, deep);

@@ -63,7 +63,10 @@ pub fn put_member_end(out: &mut [u8], at: usize) -> usize
 
 // The function of member n, which enters the function of its group.
 pub fn put_forwarder(out: &mut [u8], at: usize, key: u32, group: u32, n: u64) -> usize
-    ensures { λ r. ⌜ Wrote (now (out .entry)) at (topText (function (block key) (sp 1 ⨾ call group n ⨾ sp 1 ⨾ end))) (now (out .exit)) r ⌝ }
+    ensures { λ r. ⌜
+        Wrote (now (out .entry)) at
+        (topText (function (block key) (sp 1 ⨾ call group n ⨾ sp 1 ⨾ end))) (now (out .exit)) r
+        ⌝ }
 {
     let p = put_then_key(out, at, b"uint32_t b_", key);
     let q = base_text::put_then_hex8(out, p, b"(const RtApi* a, void* m) { return g_", group);

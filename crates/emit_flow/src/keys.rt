@@ -20,7 +20,9 @@ pub fn put_key(out: &mut [u8], at: usize, key: u32) -> usize
 
 // s and then a key.
 pub fn put_then_key(out: &mut [u8], at: usize, s: &[u8], key: u32) -> usize
-    ensures { λ r. ⌜ Wrote (now (out .entry)) at (raw (now (s .entry)) ▸ keyText key) (now (out .exit)) r ⌝ }
+    ensures { λ r. ⌜
+        Wrote (now (out .entry)) at (raw (now (s .entry)) ▸ keyText key) (now (out .exit)) r
+        ⌝ }
 {
     let p = base_text::put(out, at, s);
     put_key(out, p, key)
@@ -28,7 +30,9 @@ pub fn put_then_key(out: &mut [u8], at: usize, s: &[u8], key: u32) -> usize
 
 // The label of a block in its group's function.
 pub fn put_label(out: &mut [u8], at: usize, key: u32) -> usize
-    ensures { λ r. ⌜ Wrote (now (out .entry)) at (codeText (label key ⨾ nl ⨾ end)) (now (out .exit)) r ⌝ }
+    ensures { λ r. ⌜
+        Wrote (now (out .entry)) at (codeText (label key ⨾ nl ⨾ end)) (now (out .exit)) r
+        ⌝ }
 {
     let p = put_then_key(out, at, b"L_", key);
     base_text::put(out, p, b":;\n")

@@ -12,7 +12,13 @@ ghost use Rattle.lower_units.specs.Block.{nl, sp, lines, shellCode};
 
 // One that has others after it: on to them if the interpreter comes to their key.
 pub fn emit_shell(out: &mut [u8], at: usize, cycles: u64, addr: u32, expect: u32) -> usize
-    ensures { λ r. ⌜ ((b : Body) (i : ℕ) → Wrote (now (out .entry)) at (codeText (lines common 4 (flushTicks cycles ++ pcLine addr) (shellCode b i expect end))) (now (out .exit)) r) ⌝ }
+    ensures { λ r. ⌜
+        ((b : Body) (i : ℕ)
+        → Wrote (now (out .entry)) at
+        (codeText
+        (lines common 4 (flushTicks cycles ++ pcLine addr) (shellCode b i expect end)))
+        (now (out .exit)) r)
+        ⌝ }
 {
     let p = flush_ticks(out, at, cycles);
     let q = set_pc(out, p, addr);
@@ -22,7 +28,13 @@ pub fn emit_shell(out: &mut [u8], at: usize, cycles: u64, addr: u32, expect: u32
 
 // The last of a block.
 pub fn emit_last_shell(out: &mut [u8], at: usize, cycles: u64, addr: u32) -> usize
-    ensures { λ r. ⌜ ((k i : ℕ) → Wrote (now (out .entry)) at (codeText (lines common 4 (flushTicks cycles ++ pcLine addr) (sp 4 ⨾ retInterp k i ⨾ nl ⨾ end))) (now (out .exit)) r) ⌝ }
+    ensures { λ r. ⌜
+        ((k i : ℕ)
+        → Wrote (now (out .entry)) at
+        (codeText
+        (lines common 4 (flushTicks cycles ++ pcLine addr) (sp 4 ⨾ retInterp k i ⨾ nl ⨾ end)))
+        (now (out .exit)) r)
+        ⌝ }
 {
     let p = flush_ticks(out, at, cycles);
     let q = set_pc(out, p, addr);

@@ -37,7 +37,15 @@ fn put_code(
     hashing: bool,
 ) -> usize
     requires { ⌜ HasRoom (now file) (now work) n × (p < n) ⌝ }
-    ensures { λ r. ⌜ ((limit g k : ℕ) → HoldsPlan (now (file .entry)) n limit (now (work .entry)) → p ≡ startOf (groups limit (blocksOf (now (file .entry)))) g + k → k < length (membersOf limit (blocksOf (now (file .entry))) g) → (several ≡ true → 2 ≤ length (membersOf limit (blocksOf (now (file .entry))) g)) → Wrote (now (out .entry)) at (memberText hashing (now (file .entry)) (keysWithin several limit (now (file .entry)) g) (getD (membersOf limit (blocksOf (now (file .entry))) g) k 0)) (now (out .exit)) r) ⌝ }
+    ensures { λ r. ⌜
+        ((limit g k : ℕ) → HoldsPlan (now (file .entry)) n limit (now (work .entry))
+        → p ≡ startOf (groups limit (blocksOf (now (file .entry)))) g + k
+        → k < length (membersOf limit (blocksOf (now (file .entry))) g)
+        → (several ≡ true → 2 ≤ length (membersOf limit (blocksOf (now (file .entry))) g))
+        → Wrote (now (out .entry)) at
+        (memberText hashing (now (file .entry)) (keysWithin several limit (now (file .entry)) g)
+        (getD (membersOf limit (blocksOf (now (file .entry))) g) k 0)) (now (out .exit)) r)
+        ⌝ }
 {
     let index = row_block(work, p);
     if index < n {
@@ -64,7 +72,12 @@ fn put_lone(
     hashing: bool,
 ) -> usize
     requires { ⌜ HasRoom (now file) (now work) n × (p < n) ⌝ }
-    ensures { λ r. ⌜ ((limit g : ℕ) → IsGroup (now (file .entry)) n limit (now (work .entry)) g p (p + 1) → Wrote (now (out .entry)) at (groupText hashing (now (file .entry)) (membersOf limit (blocksOf (now (file .entry))) g)) (now (out .exit)) r) ⌝ }
+    ensures { λ r. ⌜
+        ((limit g : ℕ) → IsGroup (now (file .entry)) n limit (now (work .entry)) g p (p + 1)
+        → Wrote (now (out .entry)) at
+        (groupText hashing (now (file .entry))
+        (membersOf limit (blocksOf (now (file .entry))) g)) (now (out .exit)) r)
+        ⌝ }
 {
     let a = put_block_head(out, at, row_key(file, work, p));
     let b = put_code(out, a, file, work, n, p, false, hashing);
@@ -82,7 +95,15 @@ fn put_member(
     hashing: bool,
 ) -> usize
     requires { ⌜ HasRoom (now file) (now work) n × (p < n) ⌝ }
-    ensures { λ r. ⌜ ((limit g k : ℕ) → HoldsPlan (now (file .entry)) n limit (now (work .entry)) → p ≡ startOf (groups limit (blocksOf (now (file .entry)))) g + k → k < length (membersOf limit (blocksOf (now (file .entry))) g) → 2 ≤ length (membersOf limit (blocksOf (now (file .entry))) g) → Wrote (now (out .entry)) at (labelledText hashing (now (file .entry)) (groupKeys limit (now (file .entry)) g) (getD (membersOf limit (blocksOf (now (file .entry))) g) k 0)) (now (out .exit)) r) ⌝ }
+    ensures { λ r. ⌜
+        ((limit g k : ℕ) → HoldsPlan (now (file .entry)) n limit (now (work .entry))
+        → p ≡ startOf (groups limit (blocksOf (now (file .entry)))) g + k
+        → k < length (membersOf limit (blocksOf (now (file .entry))) g)
+        → 2 ≤ length (membersOf limit (blocksOf (now (file .entry))) g)
+        → Wrote (now (out .entry)) at
+        (labelledText hashing (now (file .entry)) (groupKeys limit (now (file .entry)) g)
+        (getD (membersOf limit (blocksOf (now (file .entry))) g) k 0)) (now (out .exit)) r)
+        ⌝ }
 {
     let a = put_label(out, at, row_key(file, work, p));
     let b = put_code(out, a, file, work, n, p, true, hashing);
@@ -101,7 +122,13 @@ fn put_members(
     hashing: bool,
 ) -> usize
     requires { ⌜ HasRoom (now file) (now work) n × (p < end) × (end ≤ n) ⌝ }
-    ensures { λ r. ⌜ ((limit g : ℕ) → IsGroup (now (file .entry)) n limit (now (work .entry)) g p end → 2 ≤ length (membersOf limit (blocksOf (now (file .entry))) g) → Wrote (now (out .entry)) at (membersText hashing (now (file .entry)) (groupKeys limit (now (file .entry)) g) (membersOf limit (blocksOf (now (file .entry))) g)) (now (out .exit)) r) ⌝ }
+    ensures { λ r. ⌜
+        ((limit g : ℕ) → IsGroup (now (file .entry)) n limit (now (work .entry)) g p end
+        → 2 ≤ length (membersOf limit (blocksOf (now (file .entry))) g)
+        → Wrote (now (out .entry)) at
+        (membersText hashing (now (file .entry)) (groupKeys limit (now (file .entry)) g)
+        (membersOf limit (blocksOf (now (file .entry))) g)) (now (out .exit)) r)
+        ⌝ }
 {
     let size = end - p;
     let mut q = at;
@@ -125,7 +152,13 @@ fn put_several(
     hashing: bool,
 ) -> usize
     requires { ⌜ HasRoom (now file) (now work) n × (p < end) × (end ≤ n) ⌝ }
-    ensures { λ r. ⌜ ((limit g : ℕ) → IsGroup (now (file .entry)) n limit (now (work .entry)) g p end → 2 ≤ length (membersOf limit (blocksOf (now (file .entry))) g) → Wrote (now (out .entry)) at (groupText hashing (now (file .entry)) (membersOf limit (blocksOf (now (file .entry))) g)) (now (out .exit)) r) ⌝ }
+    ensures { λ r. ⌜
+        ((limit g : ℕ) → IsGroup (now (file .entry)) n limit (now (work .entry)) g p end
+        → 2 ≤ length (membersOf limit (blocksOf (now (file .entry))) g)
+        → Wrote (now (out .entry)) at
+        (groupText hashing (now (file .entry))
+        (membersOf limit (blocksOf (now (file .entry))) g)) (now (out .exit)) r)
+        ⌝ }
 {
     let a = put_group_head(out, at, row_key(file, work, p));
     let b = put_cases(out, a, file, work, n, p, end);
@@ -148,7 +181,12 @@ pub fn emit_group(
     hashing: bool,
 ) -> usize
     requires { ⌜ HasRoom (now file) (now work) n × (p < end) × (end ≤ n) ⌝ }
-    ensures { λ r. ⌜ ((limit g : ℕ) → IsGroup (now (file .entry)) n limit (now (work .entry)) g p end → Wrote (now (out .entry)) at (groupText hashing (now (file .entry)) (membersOf limit (blocksOf (now (file .entry))) g)) (now (out .exit)) r) ⌝ }
+    ensures { λ r. ⌜
+        ((limit g : ℕ) → IsGroup (now (file .entry)) n limit (now (work .entry)) g p end
+        → Wrote (now (out .entry)) at
+        (groupText hashing (now (file .entry))
+        (membersOf limit (blocksOf (now (file .entry))) g)) (now (out .exit)) r)
+        ⌝ }
 {
     if end - p == 1 {
         put_lone(out, at, file, work, n, p, hashing)

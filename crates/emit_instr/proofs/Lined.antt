@@ -47,5 +47,6 @@ pub alu-by-pc : (thumb : Bool) (i : Instr) (op : AluOp) (s : Bool) (rd rn : ℕ)
     → opBody thumb i (Alu op s rd rn op2) ≡ some body
     → eachOnLine (alu op s rd (regOf pc rn) (operandOf pc op2 .0) (operandOf pc op2 .1)) ≡ body
 alu-by-pc thumb i op s rd rn op2 pc body p e =
-    ap (λ (n : ℕ). eachOnLine (alu op s rd (regOf n rn) (operandOf n op2 .0) (operandOf n op2 .1))) p
+    ap (λ (n : ℕ). eachOnLine (alu op s rd (regOf n rn) (operandOf n op2 .0) (operandOf n op2 .1)))
+    p
     ∙ alu-lines thumb i op s rd rn op2 body e

@@ -131,7 +131,8 @@ module _ {o o′ : List ℕ} {at r : ℕ} (ks : List ℕ) (b : Body) (j : ℕ) w
 pub branch-form : (thumb : Bool) (cycles : ℕ) (i : Instr) (link : Bool) (target back key : ℕ)
     → back ≡ (i .addr + 4) % 2 ^ 32
     → key ≡ keyOf target thumb
-    → cond (isAl (i .cond)) (jump (flushTicks cycles ++ eachOnLine (branchRegs link back target)) key)
+    → cond (isAl (i .cond))
+    (jump (flushTicks cycles ++ eachOnLine (branchRegs link back target)) key)
     (branchIf (flushTicks cycles) (condExpr (i .cond)) (branchRegs link back target) key)
     ≡ emitBranch thumb cycles i link target
 branch-form thumb cycles i link target back key p q =

@@ -41,7 +41,10 @@ pub fn is_inlined(thumb: bool, i: Instr) -> bool
 
 // The lines of an instruction that has such.
 pub fn put_body(out: &mut [u8], at: usize, thumb: bool, i: Instr) -> usize
-    ensures { λ r. ⌜ ((body : Lines) → inlineBody thumb i ≡ some body → Wrote (now (out .entry)) at (linesText 8 body) (now (out .exit)) r) ⌝ }
+    ensures { λ r. ⌜
+        ((body : Lines) → inlineBody thumb i ≡ some body
+        → Wrote (now (out .entry)) at (linesText 8 body) (now (out .exit)) r)
+        ⌝ }
 {
     let op = i.op;
     match op {

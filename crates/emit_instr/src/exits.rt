@@ -29,7 +29,11 @@ ghost use Rattle.emit_instr.specs.Steps.{FormWritten};
 
 // What stands before the registers of a conditional branch.
 fn put_condition(out: &mut [u8], at: usize, cycles: u64, cond: Cond) -> usize
-    ensures { λ r. ⌜ Wrote (now (out .entry)) at (linesText 4 (flushTicks cycles) ▸ beforeCondition ▸ exprText (condExpr cond)) (now (out .exit)) r ⌝ }
+    ensures { λ r. ⌜
+        Wrote (now (out .entry)) at
+        (linesText 4 (flushTicks cycles) ▸ beforeCondition ▸ exprText (condExpr cond))
+        (now (out .exit)) r
+        ⌝ }
 {
     let p = flush_ticks(out, at, cycles);
     let q = open_conditional(out, p);
@@ -49,7 +53,12 @@ pub(crate) fn emit_branch(
     inside: bool,
     src: u32,
 ) -> Step
-    ensures { λ r. ⌜ ((ks : List ℕ) (b : Body) (j : ℕ) (fs : List Form) → among (keyOf target thumb) ks ≡ inside → b .addr ≡ src → FormWritten (now (out .entry)) at ks b j (native (emitBranch thumb cycles i link target), 0) fs (now (out .exit)) r) ⌝ }
+    ensures { λ r. ⌜
+        ((ks : List ℕ) (b : Body) (j : ℕ) (fs : List Form) → among (keyOf target thumb) ks ≡ inside
+        → b .addr ≡ src
+        → FormWritten (now (out .entry)) at ks b j
+        (native (emitBranch thumb cycles i link target), 0) fs (now (out .exit)) r)
+        ⌝ }
 {
     let ret = std::num::wrapping_add_u32(i.addr, 4);
     let key = key_of(target, thumb);
@@ -85,7 +94,12 @@ pub(crate) fn is_native_exit(region: u32, i: Instr) -> bool
 
 // The text of a Bx.
 fn emit_bx(out: &mut [u8], at: usize, cycles: u64, r: u8, pc: u32) -> usize
-    ensures { λ n. ⌜ ((ks : List ℕ) (a : ℕ) (o : Owner) (c : Code) → Wrote (now (out .entry)) at (codeText (nativeText ks a o (bx (flushTicks cycles) (regOf pc r)) c)) (now (out .exit)) n) ⌝ }
+    ensures { λ n. ⌜
+        ((ks : List ℕ) (a : ℕ) (o : Owner) (c : Code)
+        → Wrote (now (out .entry)) at
+        (codeText (nativeText ks a o (bx (flushTicks cycles) (regOf pc r)) c)) (now (out .exit))
+        n)
+        ⌝ }
 {
     let p = flush_ticks(out, at, cycles);
     let q = base_text::put(out, p, b"    { uint32_t t = ");
@@ -99,7 +113,11 @@ fn emit_bx(out: &mut [u8], at: usize, cycles: u64, r: u8, pc: u32) -> usize
 
 // A Bx; the cycles are those pending with its own.
 pub(crate) fn leave_by_bx(out: &mut [u8], at: usize, cycles: u64, i: Instr, rm: u8) -> Step
-    ensures { λ r. ⌜ ((ks : List ℕ) (b : Body) (j : ℕ) (fs : List Form) → FormWritten (now (out .entry)) at ks b j (native (bx (flushTicks cycles) (regExpr i rm)), 0) fs (now (out .exit)) r) ⌝ }
+    ensures { λ r. ⌜
+        ((ks : List ℕ) (b : Body) (j : ℕ) (fs : List Form)
+        → FormWritten (now (out .entry)) at ks b j
+        (native (bx (flushTicks cycles) (regExpr i rm)), 0) fs (now (out .exit)) r)
+        ⌝ }
 {
     let pc = i.pc_value();
     let p = emit_bx(out, at, cycles, rm, pc);
@@ -119,7 +137,11 @@ pub(crate) fn leave_by_pop(
     rn: u8,
     rlist: u16,
 ) -> Step
-    ensures { λ r. ⌜ ((ks : List ℕ) (b : Body) (j : ℕ) (fs : List Form) → FormWritten (now (out .entry)) at ks b j (native (emitPop thumb cycles rn (listed rlist 15)), 0) fs (now (out .exit)) r) ⌝ }
+    ensures { λ r. ⌜
+        ((ks : List ℕ) (b : Body) (j : ℕ) (fs : List Form)
+        → FormWritten (now (out .entry)) at ks b j
+        (native (emitPop thumb cycles rn (listed rlist 15)), 0) fs (now (out .exit)) r)
+        ⌝ }
 {
     let p = flush_ticks(out, at, cycles);
     let q = put_pop(out, p, thumb, rn, rlist);

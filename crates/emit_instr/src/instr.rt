@@ -30,7 +30,12 @@ fn emit_any_bx(
     rm: u8,
     last: bool,
 ) -> Step
-    ensures { λ r. ⌜ ((ks : List ℕ) (b : Body) (j : ℕ) (fs : List Form) → last ≡ isEmpty fs → cycles + x .cost < 2 ^ 64 → FormWritten (now (out .entry)) at ks b j (emitOp thumb region cycles x (Bx rm)) fs (now (out .exit)) r) ⌝ }
+    ensures { λ r. ⌜
+        ((ks : List ℕ) (b : Body) (j : ℕ) (fs : List Form) → last ≡ isEmpty fs
+        → cycles + x .cost < 2 ^ 64
+        → FormWritten (now (out .entry)) at ks b j (emitOp thumb region cycles x (Bx rm)) fs
+        (now (out .exit)) r)
+        ⌝ }
 {
     let i = x.instr;
     if is_native_exit(region, i) {
@@ -57,7 +62,13 @@ fn emit_block_mem(
     writeback: bool,
     last: bool,
 ) -> Step
-    ensures { λ r. ⌜ ((ks : List ℕ) (b : Body) (j : ℕ) (fs : List Form) → last ≡ isEmpty fs → cycles + x .cost < 2 ^ 64 → FormWritten (now (out .entry)) at ks b j (emitOp thumb region cycles x (BlockMem load rn rlist pre up «s_bit» writeback)) fs (now (out .exit)) r) ⌝ }
+    ensures { λ r. ⌜
+        ((ks : List ℕ) (b : Body) (j : ℕ) (fs : List Form) → last ≡ isEmpty fs
+        → cycles + x .cost < 2 ^ 64
+        → FormWritten (now (out .entry)) at ks b j
+        (emitOp thumb region cycles x (BlockMem load rn rlist pre up «s_bit» writeback)) fs
+        (now (out .exit)) r)
+        ⌝ }
 {
     let i = x.instr;
     let condition = i.cond;
@@ -83,7 +94,12 @@ pub fn emit_instr(
     inside: bool,
     src: u32,
 ) -> Step
-    ensures { λ r. ⌜ ((ks : List ℕ) (b : Body) (j : ℕ) (fs : List Form) → last ≡ isEmpty fs → b .addr ≡ src → cycles + x .cost < 2 ^ 64 → BranchInside ks thumb inside (x .instr .op) → FormWritten (now (out .entry)) at ks b j (emitInstr thumb region cycles x) fs (now (out .exit)) r) ⌝ }
+    ensures { λ r. ⌜
+        ((ks : List ℕ) (b : Body) (j : ℕ) (fs : List Form) → last ≡ isEmpty fs → b .addr ≡ src
+        → cycles + x .cost < 2 ^ 64 → BranchInside ks thumb inside (x .instr .op)
+        → FormWritten (now (out .entry)) at ks b j (emitInstr thumb region cycles x) fs
+        (now (out .exit)) r)
+        ⌝ }
 {
     let i = x.instr;
     let op = i.op;

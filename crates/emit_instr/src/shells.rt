@@ -19,7 +19,11 @@ ghost use Rattle.plan_groups.specs.Plan.{isEmpty};
 // A shell, also for an unfused ThumbBlHigh (high), after which the closing transfer stands where it
 // is the last of its block.
 fn put_shell(out: &mut [u8], at: usize, thumb: bool, cycles: u64, i: Instr, last: bool) -> usize
-    ensures { λ r. ⌜ ((high : Bool) (ks : List ℕ) (b : Body) (j : ℕ) (fs : List Form) → last ≡ isEmpty fs → Onward (now (out .entry)) at (codeFrom ks b j (emitShell thumb high cycles i ∷ fs)) (cond (not high && last) end (codeFrom ks b (j + 1) fs)) (now (out .exit)) r) ⌝ }
+    ensures { λ r. ⌜
+        ((high : Bool) (ks : List ℕ) (b : Body) (j : ℕ) (fs : List Form) → last ≡ isEmpty fs
+        → Onward (now (out .entry)) at (codeFrom ks b j (emitShell thumb high cycles i ∷ fs))
+        (cond (not high && last) end (codeFrom ks b (j + 1) fs)) (now (out .exit)) r)
+        ⌝ }
 {
     if last {
         emit_last_shell(out, at, cycles, i.addr)
@@ -38,7 +42,11 @@ pub(crate) fn emit_interpreted(
     i: Instr,
     last: bool,
 ) -> Step
-    ensures { λ r. ⌜ ((ks : List ℕ) (b : Body) (j : ℕ) (fs : List Form) → last ≡ isEmpty fs → FormWritten (now (out .entry)) at ks b j (emitShell thumb false cycles i, 0) fs (now (out .exit)) r) ⌝ }
+    ensures { λ r. ⌜
+        ((ks : List ℕ) (b : Body) (j : ℕ) (fs : List Form) → last ≡ isEmpty fs
+        → FormWritten (now (out .entry)) at ks b j (emitShell thumb false cycles i, 0) fs
+        (now (out .exit)) r)
+        ⌝ }
 {
     Step {
         at: put_shell(out, at, thumb, cycles, i, last),
@@ -56,7 +64,11 @@ pub(crate) fn emit_half(
     i: Instr,
     last: bool,
 ) -> Step
-    ensures { λ r. ⌜ ((ks : List ℕ) (b : Body) (j : ℕ) (fs : List Form) → last ≡ isEmpty fs → FormWritten (now (out .entry)) at ks b j (emitShell thumb true cycles i, 0) fs (now (out .exit)) r) ⌝ }
+    ensures { λ r. ⌜
+        ((ks : List ℕ) (b : Body) (j : ℕ) (fs : List Form) → last ≡ isEmpty fs
+        → FormWritten (now (out .entry)) at ks b j (emitShell thumb true cycles i, 0) fs
+        (now (out .exit)) r)
+        ⌝ }
 {
     Step {
         at: put_shell(out, at, thumb, cycles, i, last),

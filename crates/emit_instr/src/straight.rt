@@ -30,7 +30,10 @@ ghost use Rattle.plan_groups.specs.Plan.{isEmpty};
 
 // The cycles pending before an instruction that touches memory; they stay pending before another.
 fn put_ticks(out: &mut [u8], at: usize, touches_bus: bool, cycles: u64) -> usize
-    ensures { λ r. ⌜ Wrote (now (out .entry)) at (linesText 4 (cond «touches_bus» (flushTicks cycles) [])) (now (out .exit)) r ⌝ }
+    ensures { λ r. ⌜
+        Wrote (now (out .entry)) at (linesText 4 (cond «touches_bus» (flushTicks cycles) []))
+        (now (out .exit)) r
+        ⌝ }
 {
     if touches_bus {
         flush_ticks(out, at, cycles)
@@ -41,7 +44,11 @@ fn put_ticks(out: &mut [u8], at: usize, touches_bus: bool, cycles: u64) -> usize
 
 // The lines of an instruction in braces.
 fn put_straight(out: &mut [u8], at: usize, thumb: bool, i: Instr) -> usize
-    ensures { λ r. ⌜ ((body : Lines) → inlineBody thumb i ≡ some body → Wrote (now (out .entry)) at (lowered true (condExpr (i .cond)) body) (now (out .exit)) r) ⌝ }
+    ensures { λ r. ⌜
+        ((body : Lines) → inlineBody thumb i ≡ some body
+        → Wrote (now (out .entry)) at (lowered true (condExpr (i .cond)) body) (now (out .exit))
+        r)
+        ⌝ }
 {
     let p = open_straight(out, at);
     let q = put_body(out, p, thumb, i);
@@ -50,7 +57,11 @@ fn put_straight(out: &mut [u8], at: usize, thumb: bool, i: Instr) -> usize
 
 // The same after its condition.
 fn put_straight_if(out: &mut [u8], at: usize, thumb: bool, i: Instr) -> usize
-    ensures { λ r. ⌜ ((body : Lines) → inlineBody thumb i ≡ some body → Wrote (now (out .entry)) at (lowered false (condExpr (i .cond)) body) (now (out .exit)) r) ⌝ }
+    ensures { λ r. ⌜
+        ((body : Lines) → inlineBody thumb i ≡ some body
+        → Wrote (now (out .entry)) at (lowered false (condExpr (i .cond)) body)
+        (now (out .exit)) r)
+        ⌝ }
 {
     let condition = i.cond;
     let p = open_conditional(out, at);
@@ -62,7 +73,11 @@ fn put_straight_if(out: &mut [u8], at: usize, thumb: bool, i: Instr) -> usize
 
 // The lines of an instruction, after its condition unless it always holds.
 fn put_lowered(out: &mut [u8], at: usize, thumb: bool, i: Instr) -> usize
-    ensures { λ r. ⌜ ((body : Lines) → inlineBody thumb i ≡ some body → Wrote (now (out .entry)) at (lowered (isAl (i .cond)) (condExpr (i .cond)) body) (now (out .exit)) r) ⌝ }
+    ensures { λ r. ⌜
+        ((body : Lines) → inlineBody thumb i ≡ some body
+        → Wrote (now (out .entry)) at (lowered (isAl (i .cond)) (condExpr (i .cond)) body)
+        (now (out .exit)) r)
+        ⌝ }
 {
     let condition = i.cond;
     if condition.is_al() {
@@ -81,7 +96,12 @@ fn emit_lowered(
     cycles: u64,
     x: TimedInstr,
 ) -> Step
-    ensures { λ r. ⌜ ((body : Lines) → inlineBody thumb (x .instr) ≡ some body → (ks : List ℕ) (b : Body) (j : ℕ) (fs : List Form) → cycles + x .cost < 2 ^ 64 → FormWritten (now (out .entry)) at ks b j (emitLines thumb «touches_bus» cycles x (some body)) fs (now (out .exit)) r) ⌝ }
+    ensures { λ r. ⌜
+        ((body : Lines) → inlineBody thumb (x .instr) ≡ some body
+        → (ks : List ℕ) (b : Body) (j : ℕ) (fs : List Form) → cycles + x .cost < 2 ^ 64
+        → FormWritten (now (out .entry)) at ks b j
+        (emitLines thumb «touches_bus» cycles x (some body)) fs (now (out .exit)) r)
+        ⌝ }
 {
     let p = put_ticks(out, at, touches_bus, cycles);
     let i = x.instr;
@@ -104,7 +124,12 @@ pub(crate) fn emit_straight(
     x: TimedInstr,
     last: bool,
 ) -> Step
-    ensures { λ r. ⌜ ((ks : List ℕ) (b : Body) (j : ℕ) (fs : List Form) → last ≡ isEmpty fs → cycles + x .cost < 2 ^ 64 → FormWritten (now (out .entry)) at ks b j (emitStraight thumb «touches_bus» cycles x) fs (now (out .exit)) r) ⌝ }
+    ensures { λ r. ⌜
+        ((ks : List ℕ) (b : Body) (j : ℕ) (fs : List Form) → last ≡ isEmpty fs
+        → cycles + x .cost < 2 ^ 64
+        → FormWritten (now (out .entry)) at ks b j (emitStraight thumb «touches_bus» cycles x)
+        fs (now (out .exit)) r)
+        ⌝ }
 {
     let i = x.instr;
     if is_inlined(thumb, i) {

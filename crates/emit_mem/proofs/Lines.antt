@@ -9,7 +9,8 @@ use Rattle.c_tree.specs.Print.{codeText}
 use Rattle.emit_operands.proofs.Lines.{lines-after}
 use Rattle.lower_forms.specs.Forms.{Lines}
 use Rattle.emit_mem.proofs.Listed.{listed-suc}
-use Rattle.lower_forms.specs.InlineBody.{listIf, eachOnLine, setReg, aligned, listed, advance, loads}
+use Rattle.lower_forms.specs.InlineBody.{listIf, eachOnLine, setReg, aligned, listed, advance}
+use Rattle.lower_forms.specs.InlineBody.{loads}
 use Rattle.lower_forms.specs.InlineBody.{stores}
 use Rattle.armv4t.specs.RegisterList.{isListed}
 use Rattle.lower_units.specs.Block.{lines}
@@ -28,7 +29,8 @@ apart-append [] qs = refl
 apart-append (p ∷ ps) qs = ap (_∷_ (p ∷ [])) (apart-append ps qs)
 
 pub apart-both : (n : ℕ) (ps qs : List Plain)
-    → flat (codeText (lines common n (eachOnLine ps) end) ▸ codeText (lines common n (eachOnLine qs) end)) []
+    → flat (codeText (lines common n (eachOnLine ps) end)
+    ▸ codeText (lines common n (eachOnLine qs) end)) []
     ≡ flat (codeText (lines common n (eachOnLine (ps ++ qs)) end)) []
 apart-both n ps qs =
     lines-both n (eachOnLine ps) (eachOnLine qs) end []

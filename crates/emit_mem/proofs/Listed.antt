@@ -10,7 +10,8 @@ use Rattle.lower_forms.specs.InlineBody.{listIf, listed}
 use Rattle.armv4t.specs.RegisterList.{isListed}
 
 -- one register more
-pub listed-suc : (rlist n : ℕ) → listed rlist (n + 1) ≡ listed rlist n ++ listIf (isListed rlist n) n
+pub listed-suc : (rlist n : ℕ)
+    → listed rlist (n + 1) ≡ listed rlist n ++ listIf (isListed rlist n) n
 unfolding listed
 listed-suc rlist n = rw (add-one) refl
 

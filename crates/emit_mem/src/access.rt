@@ -16,7 +16,9 @@ ghost use Rattle.lower_units.specs.Block.{linesText};
 
 // A byte as it is loaded.
 fn put_byte(out: &mut [u8], at: usize, signed: bool) -> usize
-    ensures { λ n. ⌜ Wrote (now (out .entry)) at (exprText (loaded Byte signed)) (now (out .exit)) n ⌝ }
+    ensures { λ n. ⌜
+        Wrote (now (out .entry)) at (exprText (loaded Byte signed)) (now (out .exit)) n
+        ⌝ }
 {
     if signed {
         put(out, at, b"(uint32_t)(int32_t)(int8_t)a->read8(m, addr)")
@@ -27,7 +29,9 @@ fn put_byte(out: &mut [u8], at: usize, signed: bool) -> usize
 
 // A half-word as it is loaded: from an odd address a signed one is a byte, and another is turned.
 fn put_half(out: &mut [u8], at: usize, signed: bool) -> usize
-    ensures { λ n. ⌜ Wrote (now (out .entry)) at (exprText (loaded Half signed)) (now (out .exit)) n ⌝ }
+    ensures { λ n. ⌜
+        Wrote (now (out .entry)) at (exprText (loaded Half signed)) (now (out .exit)) n
+        ⌝ }
 {
     if signed {
         put(
@@ -46,7 +50,9 @@ fn put_half(out: &mut [u8], at: usize, signed: bool) -> usize
 
 // What is loaded.
 fn put_loaded(out: &mut [u8], at: usize, width: MemWidth, signed: bool) -> usize
-    ensures { λ n. ⌜ Wrote (now (out .entry)) at (exprText (loaded width signed)) (now (out .exit)) n ⌝ }
+    ensures { λ n. ⌜
+        Wrote (now (out .entry)) at (exprText (loaded width signed)) (now (out .exit)) n
+        ⌝ }
 {
     match width {
         MemWidth::Byte => put_byte(out, at, signed),
@@ -61,7 +67,10 @@ fn put_loaded(out: &mut [u8], at: usize, width: MemWidth, signed: bool) -> usize
 
 // The line that loads.
 fn put_load_line(out: &mut [u8], at: usize, width: MemWidth, signed: bool, rd: u8) -> usize
-    ensures { λ n. ⌜ Wrote (now (out .entry)) at (linesText 8 (eachOnLine (setReg rd (loaded width signed) ∷ []))) (now (out .exit)) n ⌝ }
+    ensures { λ n. ⌜
+        Wrote (now (out .entry)) at
+        (linesText 8 (eachOnLine (setReg rd (loaded width signed) ∷ []))) (now (out .exit)) n
+        ⌝ }
 {
     let p = put_then_dec(out, at, b"        c[", rd as u64);
     let q = put(out, p, b"] = ");
@@ -71,7 +80,10 @@ fn put_load_line(out: &mut [u8], at: usize, width: MemWidth, signed: bool, rd: u
 
 // The line that stores.
 fn put_store_line(out: &mut [u8], at: usize, width: MemWidth, rd: u8) -> usize
-    ensures { λ n. ⌜ Wrote (now (out .entry)) at (linesText 8 (eachOnLine (stored width (get (reg rd)) ∷ []))) (now (out .exit)) n ⌝ }
+    ensures { λ n. ⌜
+        Wrote (now (out .entry)) at (linesText 8 (eachOnLine (stored width (get (reg rd)) ∷ [])))
+        (now (out .exit)) n
+        ⌝ }
 {
     match width {
         MemWidth::Byte => {
@@ -91,7 +103,10 @@ fn put_store_line(out: &mut [u8], at: usize, width: MemWidth, rd: u8) -> usize
 
 // The line that writes the base back.
 fn put_moved_base(out: &mut [u8], at: usize, rn: u8) -> usize
-    ensures { λ n. ⌜ Wrote (now (out .entry)) at (linesText 8 (eachOnLine (setReg rn (v32 x-ob) ∷ []))) (now (out .exit)) n ⌝ }
+    ensures { λ n. ⌜
+        Wrote (now (out .entry)) at (linesText 8 (eachOnLine (setReg rn (v32 x-ob) ∷ [])))
+        (now (out .exit)) n
+        ⌝ }
 {
     let p = put_then_dec(out, at, b"        c[", rn as u64);
     put(out, p, b"] = ob;\n")
@@ -99,7 +114,12 @@ fn put_moved_base(out: &mut [u8], at: usize, rn: u8) -> usize
 
 // The write-back of a load, which does not undo the load.
 fn put_load_ob(out: &mut [u8], at: usize, rd: u8, rn: u8, wb: bool) -> usize
-    ensures { λ n. ⌜ Wrote (now (out .entry)) at (linesText 8 (eachOnLine (listIf (wb && not (eqb rn rd) && not (eqb rn 15)) (setReg rn (v32 x-ob))))) (now (out .exit)) n ⌝ }
+    ensures { λ n. ⌜
+        Wrote (now (out .entry)) at
+        (linesText 8
+        (eachOnLine (listIf (wb && not (eqb rn rd) && not (eqb rn 15)) (setReg rn (v32 x-ob)))))
+        (now (out .exit)) n
+        ⌝ }
 {
     if wb {
         if rn == rd {
@@ -115,7 +135,11 @@ fn put_load_ob(out: &mut [u8], at: usize, rd: u8, rn: u8, wb: bool) -> usize
 
 // The write-back of a store.
 fn put_store_ob(out: &mut [u8], at: usize, rn: u8, wb: bool) -> usize
-    ensures { λ n. ⌜ Wrote (now (out .entry)) at (linesText 8 (eachOnLine (listIf (wb && not (eqb rn 15)) (setReg rn (v32 x-ob))))) (now (out .exit)) n ⌝ }
+    ensures { λ n. ⌜
+        Wrote (now (out .entry)) at
+        (linesText 8 (eachOnLine (listIf (wb && not (eqb rn 15)) (setReg rn (v32 x-ob)))))
+        (now (out .exit)) n
+        ⌝ }
 {
     if wb {
         if rn == PC {
@@ -136,7 +160,10 @@ fn put_mem_load(
     rn: u8,
     wb: bool,
 ) -> usize
-    ensures { λ n. ⌜ Wrote (now (out .entry)) at (linesText 8 (eachOnLine (access true width signed rd rn wb))) (now (out .exit)) n ⌝ }
+    ensures { λ n. ⌜
+        Wrote (now (out .entry)) at (linesText 8 (eachOnLine (access true width signed rd rn wb)))
+        (now (out .exit)) n
+        ⌝ }
 {
     let p = put_load_ob(out, at, rd, rn, wb);
     put_load_line(out, p, width, signed, rd)
@@ -152,7 +179,10 @@ fn put_mem_store(
     rn: u8,
     wb: bool,
 ) -> usize
-    ensures { λ n. ⌜ Wrote (now (out .entry)) at (linesText 8 (eachOnLine (access false width signed rd rn wb))) (now (out .exit)) n ⌝ }
+    ensures { λ n. ⌜
+        Wrote (now (out .entry)) at (linesText 8 (eachOnLine (access false width signed rd rn wb)))
+        (now (out .exit)) n
+        ⌝ }
 {
     let p = put_store_line(out, at, width, rd);
     put_store_ob(out, p, rn, wb)
@@ -169,7 +199,10 @@ pub(crate) fn put_access(
     rn: u8,
     wb: bool,
 ) -> usize
-    ensures { λ n. ⌜ Wrote (now (out .entry)) at (linesText 8 (eachOnLine (access load width signed rd rn wb))) (now (out .exit)) n ⌝ }
+    ensures { λ n. ⌜
+        Wrote (now (out .entry)) at (linesText 8 (eachOnLine (access load width signed rd rn wb)))
+        (now (out .exit)) n
+        ⌝ }
 {
     if load {
         put_mem_load(out, at, width, signed, rd, rn, wb)

@@ -16,14 +16,17 @@ ghost use lib.Dec.{eqb};
 ghost use Rattle.base_text.specs.Wrote.{Wrote};
 ghost use Rattle.c_tree.specs.Expr.{x-base, x-addr, get, reg};
 ghost use Rattle.c_tree.specs.Print.{exprText};
-ghost use Rattle.lower_forms.specs.InlineBody.{listIf, eachOnLine, let32, setReg, listed, movedBase};
+ghost use Rattle.lower_forms.specs.InlineBody.{listIf, eachOnLine, let32, setReg, listed};
+ghost use Rattle.lower_forms.specs.InlineBody.{movedBase};
 ghost use Rattle.lower_forms.specs.InlineBody.{start, loadsOrStores, blockMemBody};
 ghost use Rattle.armv4t.specs.RegisterList.{isListed};
 ghost use Rattle.lower_units.specs.Block.{linesText};
 
 // The lowest address, where the registers take total bytes downwards.
 fn put_down(out: &mut [u8], at: usize, pre: bool, total: u32) -> usize
-    ensures { λ n. ⌜ Wrote (now (out .entry)) at (exprText (start false pre total)) (now (out .exit)) n ⌝ }
+    ensures { λ n. ⌜
+        Wrote (now (out .entry)) at (exprText (start false pre total)) (now (out .exit)) n
+        ⌝ }
 {
     let p = put_then_dec(out, at, b"base - ", total as u64);
     if pre {
@@ -35,7 +38,9 @@ fn put_down(out: &mut [u8], at: usize, pre: bool, total: u32) -> usize
 
 // The lowest address.
 fn put_start(out: &mut [u8], at: usize, up: bool, pre: bool, total: u32) -> usize
-    ensures { λ n. ⌜ Wrote (now (out .entry)) at (exprText (start up pre total)) (now (out .exit)) n ⌝ }
+    ensures { λ n. ⌜
+        Wrote (now (out .entry)) at (exprText (start up pre total)) (now (out .exit)) n
+        ⌝ }
 {
     if up {
         if pre {
@@ -48,7 +53,10 @@ fn put_start(out: &mut [u8], at: usize, up: bool, pre: bool, total: u32) -> usiz
 
 // The line that writes the base back.
 fn put_write_back(out: &mut [u8], at: usize, rn: u8, up: bool, total: u32) -> usize
-    ensures { λ n. ⌜ Wrote (now (out .entry)) at (linesText 8 (eachOnLine (setReg rn (movedBase up total) ∷ []))) (now (out .exit)) n ⌝ }
+    ensures { λ n. ⌜
+        Wrote (now (out .entry)) at (linesText 8 (eachOnLine (setReg rn (movedBase up total) ∷ [])))
+        (now (out .exit)) n
+        ⌝ }
 {
     let p = put_then_dec(out, at, b"        c[", rn as u64);
     let q = put(out, p, b"] = ");
@@ -67,7 +75,12 @@ fn put_load_back(
     up: bool,
     total: u32,
 ) -> usize
-    ensures { λ n. ⌜ Wrote (now (out .entry)) at (linesText 8 (eachOnLine (listIf (writeback && not in_list) (setReg rn (movedBase up total))))) (now (out .exit)) n ⌝ }
+    ensures { λ n. ⌜
+        Wrote (now (out .entry)) at
+        (linesText 8
+        (eachOnLine (listIf (writeback && not in_list) (setReg rn (movedBase up total)))))
+        (now (out .exit)) n
+        ⌝ }
 {
     if writeback {
         if in_list {
@@ -80,7 +93,11 @@ fn put_load_back(
 
 // The write-back of a store: the base is written back if writeback is set.
 fn put_store_back(out: &mut [u8], at: usize, rn: u8, writeback: bool, up: bool, total: u32) -> usize
-    ensures { λ n. ⌜ Wrote (now (out .entry)) at (linesText 8 (eachOnLine (listIf writeback (setReg rn (movedBase up total))))) (now (out .exit)) n ⌝ }
+    ensures { λ n. ⌜
+        Wrote (now (out .entry)) at
+        (linesText 8 (eachOnLine (listIf writeback (setReg rn (movedBase up total)))))
+        (now (out .exit)) n
+        ⌝ }
 {
     if writeback {
         return put_write_back(out, at, rn, up, total);
@@ -99,7 +116,12 @@ fn put_block_loads(
     writeback: bool,
     total: u32,
 ) -> usize
-    ensures { λ n. ⌜ Wrote (now (out .entry)) at (linesText 8 (loadsOrStores true i rn writeback (isListed rlist rn) (movedBase up total) (listed rlist 16))) (now (out .exit)) n ⌝ }
+    ensures { λ n. ⌜
+        Wrote (now (out .entry)) at
+        (linesText 8
+        (loadsOrStores true i rn writeback (isListed rlist rn) (movedBase up total)
+        (listed rlist 16))) (now (out .exit)) n
+        ⌝ }
 {
     let in_list = is_listed(rlist, rn);
     let p = put_load_back(out, at, rn, writeback, in_list, up, total);
@@ -117,7 +139,12 @@ fn put_block_stores(
     writeback: bool,
     total: u32,
 ) -> usize
-    ensures { λ n. ⌜ Wrote (now (out .entry)) at (linesText 8 (loadsOrStores false i rn writeback (isListed rlist rn) (movedBase up total) (listed rlist 16))) (now (out .exit)) n ⌝ }
+    ensures { λ n. ⌜
+        Wrote (now (out .entry)) at
+        (linesText 8
+        (loadsOrStores false i rn writeback (isListed rlist rn) (movedBase up total)
+        (listed rlist 16))) (now (out .exit)) n
+        ⌝ }
 {
     let lowest = lowest_listed(rlist);
     let p = put_stores(out, at, i, rn, rlist, lowest, up, total);
@@ -126,7 +153,12 @@ fn put_block_stores(
 
 // The base, and the lowest address.
 fn put_block_base(out: &mut [u8], at: usize, rn: u8, pre: bool, up: bool, total: u32) -> usize
-    ensures { λ n. ⌜ Wrote (now (out .entry)) at (linesText 8 (eachOnLine (let32 x-base (get (reg rn)) ∷ let32 x-addr (start up pre total) ∷ []))) (now (out .exit)) n ⌝ }
+    ensures { λ n. ⌜
+        Wrote (now (out .entry)) at
+        (linesText 8
+        (eachOnLine (let32 x-base (get (reg rn)) ∷ let32 x-addr (start up pre total) ∷ [])))
+        (now (out .exit)) n
+        ⌝ }
 {
     let p = put_then_dec(out, at, b"        uint32_t base = c[", rn as u64);
     let q = put(out, p, b"];\n        uint32_t addr = ");
@@ -146,7 +178,12 @@ fn put_transfers(
     writeback: bool,
     total: u32,
 ) -> usize
-    ensures { λ n. ⌜ Wrote (now (out .entry)) at (linesText 8 (loadsOrStores load i rn writeback (isListed rlist rn) (movedBase up total) (listed rlist 16))) (now (out .exit)) n ⌝ }
+    ensures { λ n. ⌜
+        Wrote (now (out .entry)) at
+        (linesText 8
+        (loadsOrStores load i rn writeback (isListed rlist rn) (movedBase up total)
+        (listed rlist 16))) (now (out .exit)) n
+        ⌝ }
 {
     if load {
         put_block_loads(out, at, i, rn, rlist, up, writeback, total)
@@ -167,7 +204,12 @@ pub fn put_block_mem(
     up: bool,
     writeback: bool,
 ) -> usize
-    ensures { λ n. ⌜ Wrote (now (out .entry)) at (linesText 8 (blockMemBody i load rn (isListed rlist rn) pre up writeback (listed rlist 16))) (now (out .exit)) n ⌝ }
+    ensures { λ n. ⌜
+        Wrote (now (out .entry)) at
+        (linesText 8
+        (blockMemBody i load rn (isListed rlist rn) pre up writeback (listed rlist 16)))
+        (now (out .exit)) n
+        ⌝ }
 {
     let total = bytes_listed(rlist, 16);
     let p = put_block_base(out, at, rn, pre, up, total);
@@ -177,7 +219,9 @@ pub fn put_block_mem(
 // Whether a BlockMem is inlined: not if it touches the user's registers or SPSR, names none, is
 // based on PC or loads it.
 pub fn block_mem_is_inlined(load: bool, rn: u8, rlist: u16, s_bit: bool) -> bool
-    ensures { λ b. ⌜ b ≡ not («s_bit» || eqb rlist 0 || eqb rn 15 || (load && isListed rlist 15)) ⌝ }
+    ensures { λ b. ⌜
+        b ≡ not («s_bit» || eqb rlist 0 || eqb rn 15 || (load && isListed rlist 15))
+        ⌝ }
 {
     if s_bit {
         return false;

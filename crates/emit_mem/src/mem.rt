@@ -30,7 +30,9 @@ ghost use Rattle.emit_mem.specs.Mem.{offsetOf};
 
 // PC as a base in a Thumb block.
 fn put_aligned(out: &mut [u8], at: usize, pc: u32) -> usize
-    ensures { λ n. ⌜ Wrote (now (out .entry)) at (exprText (par (lit word (pc / 4 * 4)))) (now (out .exit)) n ⌝ }
+    ensures { λ n. ⌜
+        Wrote (now (out .entry)) at (exprText (par (lit word (pc / 4 * 4)))) (now (out .exit)) n
+        ⌝ }
 {
     let p = put_then_hex8(out, at, b"(0x", pc / 4 * 4);
     put(out, p, b"u)")
@@ -38,7 +40,9 @@ fn put_aligned(out: &mut [u8], at: usize, pc: u32) -> usize
 
 // The base.
 fn put_base(out: &mut [u8], at: usize, thumb: bool, i: Instr, rn: u8) -> usize
-    ensures { λ n. ⌜ Wrote (now (out .entry)) at (exprText (baseExpr thumb i rn)) (now (out .exit)) n ⌝ }
+    ensures { λ n. ⌜
+        Wrote (now (out .entry)) at (exprText (baseExpr thumb i rn)) (now (out .exit)) n
+        ⌝ }
 {
     let pc = i.pc_value();
     if thumb {
@@ -61,7 +65,9 @@ fn put_offset_value(out: &mut [u8], at: usize, value: u16) -> usize
 
 // The offset.
 fn put_offset(out: &mut [u8], at: usize, offset: MemOffset, pc: u32) -> usize
-    ensures { λ n. ⌜ Wrote (now (out .entry)) at (exprText (offsetOf pc offset)) (now (out .exit)) n ⌝ }
+    ensures { λ n. ⌜
+        Wrote (now (out .entry)) at (exprText (offsetOf pc offset)) (now (out .exit)) n
+        ⌝ }
 {
     match offset {
         MemOffset::Imm(value) => put_offset_value(out, at, value),
@@ -71,7 +77,10 @@ fn put_offset(out: &mut [u8], at: usize, offset: MemOffset, pc: u32) -> usize
 
 // The line of the base.
 fn put_base_line(out: &mut [u8], at: usize, thumb: bool, i: Instr, rn: u8) -> usize
-    ensures { λ n. ⌜ Wrote (now (out .entry)) at (linesText 8 (eachOnLine (let32 x-base (baseExpr thumb i rn) ∷ []))) (now (out .exit)) n ⌝ }
+    ensures { λ n. ⌜
+        Wrote (now (out .entry)) at
+        (linesText 8 (eachOnLine (let32 x-base (baseExpr thumb i rn) ∷ []))) (now (out .exit)) n
+        ⌝ }
 {
     let p = put(out, at, b"        uint32_t base = ");
     let q = put_base(out, p, thumb, i, rn);
@@ -80,7 +89,11 @@ fn put_base_line(out: &mut [u8], at: usize, thumb: bool, i: Instr, rn: u8) -> us
 
 // The line of the base with its offset, up to the offset.
 fn put_step(out: &mut [u8], at: usize, up: bool) -> usize
-    ensures { λ n. ⌜ Wrote (now (out .entry)) at (text "        uint32_t ob = base" ▸ text (operator (addOrSub up) .0)) (now (out .exit)) n ⌝ }
+    ensures { λ n. ⌜
+        Wrote (now (out .entry)) at
+        (text "        uint32_t ob = base" ▸ text (operator (addOrSub up) .0)) (now (out .exit))
+        n
+        ⌝ }
 {
     if up {
         put(out, at, b"        uint32_t ob = base + ")
@@ -91,7 +104,12 @@ fn put_step(out: &mut [u8], at: usize, up: bool) -> usize
 
 // The line of the base with its offset.
 fn put_moved_base_line(out: &mut [u8], at: usize, up: bool, offset: MemOffset, pc: u32) -> usize
-    ensures { λ n. ⌜ Wrote (now (out .entry)) at (linesText 8 (eachOnLine (let32 x-ob (bin (addOrSub up) (v32 x-base) (offsetOf pc offset)) ∷ []))) (now (out .exit)) n ⌝ }
+    ensures { λ n. ⌜
+        Wrote (now (out .entry)) at
+        (linesText 8
+        (eachOnLine (let32 x-ob (bin (addOrSub up) (v32 x-base) (offsetOf pc offset)) ∷ [])))
+        (now (out .exit)) n
+        ⌝ }
 {
     let p = put_step(out, at, up);
     let q = put_offset(out, p, offset, pc);
@@ -100,7 +118,11 @@ fn put_moved_base_line(out: &mut [u8], at: usize, up: bool, offset: MemOffset, p
 
 // The line of the address.
 fn put_addr_line(out: &mut [u8], at: usize, pre: bool) -> usize
-    ensures { λ n. ⌜ Wrote (now (out .entry)) at (linesText 8 (eachOnLine (let32 x-addr (v32 (cond pre x-ob x-base)) ∷ []))) (now (out .exit)) n ⌝ }
+    ensures { λ n. ⌜
+        Wrote (now (out .entry)) at
+        (linesText 8 (eachOnLine (let32 x-addr (v32 (cond pre x-ob x-base)) ∷ [])))
+        (now (out .exit)) n
+        ⌝ }
 {
     if pre {
         put(out, at, b"        uint32_t addr = ob;\n")
@@ -120,7 +142,11 @@ fn put_address(
     pre: bool,
     up: bool,
 ) -> usize
-    ensures { λ n. ⌜ Wrote (now (out .entry)) at (linesText 8 (memLines (baseExpr thumb i rn) up pre [] (offsetOf (pcValue i) offset))) (now (out .exit)) n ⌝ }
+    ensures { λ n. ⌜
+        Wrote (now (out .entry)) at
+        (linesText 8 (memLines (baseExpr thumb i rn) up pre [] (offsetOf (pcValue i) offset)))
+        (now (out .exit)) n
+        ⌝ }
 {
     let pc = i.pc_value();
     let p = put_base_line(out, at, thumb, i, rn);
@@ -154,7 +180,13 @@ fn put_mem_lines(
     up: bool,
     writeback: bool,
 ) -> usize
-    ensures { λ n. ⌜ Wrote (now (out .entry)) at (linesText 8 (memLines (baseExpr thumb i rn) up pre (access load width signed rd rn (not pre || writeback)) (offsetOf (pcValue i) offset))) (now (out .exit)) n ⌝ }
+    ensures { λ n. ⌜
+        Wrote (now (out .entry)) at
+        (linesText 8
+        (memLines (baseExpr thumb i rn) up pre
+        (access load width signed rd rn (not pre || writeback)) (offsetOf (pcValue i) offset)))
+        (now (out .exit)) n
+        ⌝ }
 {
     let wb = writes_back(pre, writeback);
     let p = put_address(out, at, thumb, i, rn, offset, pre, up);
@@ -177,7 +209,12 @@ pub fn put_mem(
     up: bool,
     writeback: bool,
 ) -> usize
-    ensures { λ n. ⌜ ((ls : Lines) → memBody (baseExpr thumb i rn) up pre (access load width signed rd rn (not pre || writeback)) (offsetExpr i offset) ≡ some ls → Wrote (now (out .entry)) at (linesText 8 ls) (now (out .exit)) n) ⌝ }
+    ensures { λ n. ⌜
+        ((ls : Lines)
+        → memBody (baseExpr thumb i rn) up pre
+        (access load width signed rd rn (not pre || writeback)) (offsetExpr i offset) ≡ some ls
+        → Wrote (now (out .entry)) at (linesText 8 ls) (now (out .exit)) n)
+        ⌝ }
 {
     put_mem_lines(
         out,

@@ -27,7 +27,13 @@ ghost use Rattle.lower_units.specs.Block.{nl, lines, nativeText};
 
 // The base, and the loads of the registers but PC.
 fn put_pop_loads(out: &mut [u8], at: usize, rn: u8, rlist: u16) -> usize
-    ensures { λ n. ⌜ Wrote (now (out .entry)) at (text "    { " ▸ codeText (plain common (let32 x-addr (get (reg rn))) ⨾ nl ⨾ lines common 6 (loads (listed rlist 15)) end)) (now (out .exit)) n ⌝ }
+    ensures { λ n. ⌜
+        Wrote (now (out .entry)) at
+        (text "    { "
+        ▸ codeText
+        (plain common (let32 x-addr (get (reg rn))) ⨾ nl
+        ⨾ lines common 6 (loads (listed rlist 15)) end)) (now (out .exit)) n
+        ⌝ }
 {
     let p = put_then_dec(out, at, b"    { uint32_t addr = c[", rn as u64);
     let q = put(out, p, b"];\n");
@@ -36,7 +42,14 @@ fn put_pop_loads(out: &mut [u8], at: usize, rn: u8, rlist: u16) -> usize
 
 // The line that writes the base back.
 fn put_pop_base(out: &mut [u8], at: usize, rn: u8, rlist: u16) -> usize
-    ensures { λ n. ⌜ Wrote (now (out .entry)) at (codeText (lines common 6 (eachOnLine (setReg rn (bin add (get (reg rn)) (lit udec ((length (listed rlist 15) + 1) * 4))) ∷ [])) end)) (now (out .exit)) n ⌝ }
+    ensures { λ n. ⌜
+        Wrote (now (out .entry)) at
+        (codeText
+        (lines common 6
+        (eachOnLine
+        (setReg rn (bin add (get (reg rn)) (lit udec ((length (listed rlist 15) + 1) * 4)))
+        ∷ [])) end)) (now (out .exit)) n
+        ⌝ }
 {
     let total = bytes_listed(rlist, 15) + 4;
     let p = put_then_dec(out, at, b"      c[", rn as u64);
@@ -47,7 +60,11 @@ fn put_pop_base(out: &mut [u8], at: usize, rn: u8, rlist: u16) -> usize
 
 // The text of a pop after its ticks.
 pub fn put_pop(out: &mut [u8], at: usize, thumb: bool, rn: u8, rlist: u16) -> usize
-    ensures { λ n. ⌜ Wrote (now (out .entry)) at (codeText (nativeText [] 0 common (emitPop thumb 0 rn (listed rlist 15)) end)) (now (out .exit)) n ⌝ }
+    ensures { λ n. ⌜
+        Wrote (now (out .entry)) at
+        (codeText (nativeText [] 0 common (emitPop thumb 0 rn (listed rlist 15)) end))
+        (now (out .exit)) n
+        ⌝ }
 {
     let p = put_pop_loads(out, at, rn, rlist);
     let q = put_pop_base(out, p, rn, rlist);
@@ -110,7 +127,10 @@ pub fn is_pop(
     s_bit: bool,
     writeback: bool,
 ) -> bool
-    ensures { λ b. ⌜ ((i : Instr) → al ≡ isAl (i .cond) → b ≡ isPop region i load rn rlist pre up «s_bit» writeback) ⌝ }
+    ensures { λ b. ⌜
+        ((i : Instr) → al ≡ isAl (i .cond)
+        → b ≡ isPop region i load rn rlist pre up «s_bit» writeback)
+        ⌝ }
 {
     if is_upward_load(load, pre, up, s_bit, writeback) {
         if al {

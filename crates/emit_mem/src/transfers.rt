@@ -20,7 +20,9 @@ ghost use Rattle.lower_units.specs.Block.{lines, linesText};
 
 // The indent of a line, 6 in a pop, and the register that it sets.
 fn put_target(out: &mut [u8], at: usize, pop: bool, r: u8) -> usize
-    ensures { λ n. ⌜ Wrote (now (out .entry)) at (spaces (cond pop 6 8) ▸ text "c[" ▸ dec r) (now (out .exit)) n ⌝ }
+    ensures { λ n. ⌜
+        Wrote (now (out .entry)) at (spaces (cond pop 6 8) ▸ text "c[" ▸ dec r) (now (out .exit)) n
+        ⌝ }
 {
     if pop {
         put_then_dec(out, at, b"      c[", r as u64)
@@ -31,7 +33,10 @@ fn put_target(out: &mut [u8], at: usize, pop: bool, r: u8) -> usize
 
 // The line that loads a register.
 fn put_load(out: &mut [u8], at: usize, pop: bool, r: u8) -> usize
-    ensures { λ n. ⌜ Wrote (now (out .entry)) at (codeText (lines common (cond pop 6 8) (loads (r ∷ [])) end)) (now (out .exit)) n ⌝ }
+    ensures { λ n. ⌜
+        Wrote (now (out .entry)) at (codeText (lines common (cond pop 6 8) (loads (r ∷ [])) end))
+        (now (out .exit)) n
+        ⌝ }
 {
     let p = put_target(out, at, pop, r);
     put(out, p, b"] = a->read32(m, addr & ~3u); addr += 4u;\n")
@@ -39,7 +44,11 @@ fn put_load(out: &mut [u8], at: usize, pop: bool, r: u8) -> usize
 
 // The line that loads a register, if it is listed.
 fn put_listed_load(out: &mut [u8], at: usize, pop: bool, rlist: u16, r: u8) -> usize
-    ensures { λ n. ⌜ Wrote (now (out .entry)) at (codeText (lines common (cond pop 6 8) (loads (listIf (isListed rlist r) r)) end)) (now (out .exit)) n ⌝ }
+    ensures { λ n. ⌜
+        Wrote (now (out .entry)) at
+        (codeText (lines common (cond pop 6 8) (loads (listIf (isListed rlist r) r)) end))
+        (now (out .exit)) n
+        ⌝ }
 {
     if is_listed(rlist, r) {
         return put_load(out, at, pop, r);
@@ -49,7 +58,11 @@ fn put_listed_load(out: &mut [u8], at: usize, pop: bool, rlist: u16, r: u8) -> u
 
 // The loads of the registers listed below limit, at indent 6 in a pop, else at 8.
 pub(crate) fn put_loads(out: &mut [u8], at: usize, pop: bool, rlist: u16, limit: u8) -> usize
-    ensures { λ n. ⌜ Wrote (now (out .entry)) at (codeText (lines common (cond pop 6 8) (loads (listed rlist limit)) end)) (now (out .exit)) n ⌝ }
+    ensures { λ n. ⌜
+        Wrote (now (out .entry)) at
+        (codeText (lines common (cond pop 6 8) (loads (listed rlist limit)) end))
+        (now (out .exit)) n
+        ⌝ }
 {
     let mut p = at;
     let mut r = 0;
@@ -62,7 +75,9 @@ pub(crate) fn put_loads(out: &mut [u8], at: usize, pop: bool, rlist: u16, limit:
 
 // The base after total bytes.
 pub(crate) fn put_moved(out: &mut [u8], at: usize, up: bool, total: u32) -> usize
-    ensures { λ n. ⌜ Wrote (now (out .entry)) at (exprText (movedBase up total)) (now (out .exit)) n ⌝ }
+    ensures { λ n. ⌜
+        Wrote (now (out .entry)) at (exprText (movedBase up total)) (now (out .exit)) n
+        ⌝ }
 {
     if up {
         let p = put_then_dec(out, at, b"base + ", total as u64);
@@ -75,7 +90,10 @@ pub(crate) fn put_moved(out: &mut [u8], at: usize, up: bool, total: u32) -> usiz
 
 // What a store of PC stores.
 fn put_stored_pc(out: &mut [u8], at: usize, i: Instr) -> usize
-    ensures { λ n. ⌜ Wrote (now (out .entry)) at (exprText (lit word ((pcValue i + 4) % 2 ^ 32))) (now (out .exit)) n ⌝ }
+    ensures { λ n. ⌜
+        Wrote (now (out .entry)) at (exprText (lit word ((pcValue i + 4) % 2 ^ 32)))
+        (now (out .exit)) n
+        ⌝ }
 {
     let pc = std::num::wrapping_add_u32(i.pc_value(), 4);
     put_word(out, at, pc)
@@ -92,7 +110,10 @@ fn put_stored(
     total: u32,
     r: u8,
 ) -> usize
-    ensures { λ n. ⌜ Wrote (now (out .entry)) at (exprText (storedReg i rn lowest (movedBase up total) r)) (now (out .exit)) n ⌝ }
+    ensures { λ n. ⌜
+        Wrote (now (out .entry)) at (exprText (storedReg i rn lowest (movedBase up total) r))
+        (now (out .exit)) n
+        ⌝ }
 {
     if r == 15 {
         return put_stored_pc(out, at, i);
@@ -117,7 +138,11 @@ fn put_store(
     total: u32,
     r: u8,
 ) -> usize
-    ensures { λ n. ⌜ Wrote (now (out .entry)) at (linesText 8 (stores (storedReg i rn lowest (movedBase up total)) (r ∷ []))) (now (out .exit)) n ⌝ }
+    ensures { λ n. ⌜
+        Wrote (now (out .entry)) at
+        (linesText 8 (stores (storedReg i rn lowest (movedBase up total)) (r ∷ [])))
+        (now (out .exit)) n
+        ⌝ }
 {
     let p = put(out, at, b"        a->write32(m, addr & ~3u, ");
     let q = put_stored(out, p, i, rn, lowest, up, total, r);
@@ -136,7 +161,12 @@ fn put_listed_store(
     total: u32,
     r: u8,
 ) -> usize
-    ensures { λ n. ⌜ Wrote (now (out .entry)) at (linesText 8 (stores (storedReg i rn lowest (movedBase up total)) (listIf (isListed rlist r) r))) (now (out .exit)) n ⌝ }
+    ensures { λ n. ⌜
+        Wrote (now (out .entry)) at
+        (linesText 8
+        (stores (storedReg i rn lowest (movedBase up total)) (listIf (isListed rlist r) r)))
+        (now (out .exit)) n
+        ⌝ }
 {
     if is_listed(rlist, r) {
         return put_store(out, at, i, rn, lowest, up, total, r);
@@ -155,7 +185,11 @@ pub(crate) fn put_stores(
     up: bool,
     total: u32,
 ) -> usize
-    ensures { λ n. ⌜ Wrote (now (out .entry)) at (linesText 8 (stores (storedReg i rn lowest (movedBase up total)) (listed rlist 16))) (now (out .exit)) n ⌝ }
+    ensures { λ n. ⌜
+        Wrote (now (out .entry)) at
+        (linesText 8 (stores (storedReg i rn lowest (movedBase up total)) (listed rlist 16)))
+        (now (out .exit)) n
+        ⌝ }
 {
     let mut p = at;
     let mut r = 0;

@@ -73,7 +73,11 @@ pub fn put_reg(out: &mut [u8], at: usize, n: Reg, pc: u32) -> usize
 
 // s, the register and t.
 pub(crate) fn put_around(out: &mut [u8], at: usize, s: &[u8], n: Reg, pc: u32, t: &[u8]) -> usize
-    ensures { λ r. ⌜ Wrote (now (out .entry)) at (raw (now (s .entry)) ▸ exprText (regOf pc n) ▸ raw (now (t .entry))) (now (out .exit)) r ⌝ }
+    ensures { λ r. ⌜
+        Wrote (now (out .entry)) at
+        (raw (now (s .entry)) ▸ exprText (regOf pc n) ▸ raw (now (t .entry))) (now (out .exit))
+        r
+        ⌝ }
 {
     let p = base_text::put(out, at, s);
     let q = put_reg(out, p, n, pc);
@@ -90,7 +94,10 @@ pub fn put_carry_in(out: &mut [u8], at: usize) -> usize
 // A register operand. The interpreter is to carry out a shift by a register, so no one asks for its
 // text.
 fn put_shifted(out: &mut [u8], at: usize, rm: Reg, shift: Shift, pc: u32) -> usize
-    ensures { λ r. ⌜ Wrote (now (out .entry)) at (exprText (operandOf pc (Operand2.Reg rm shift) .0)) (now (out .exit)) r ⌝ }
+    ensures { λ r. ⌜
+        Wrote (now (out .entry)) at (exprText (operandOf pc (Operand2.Reg rm shift) .0))
+        (now (out .exit)) r
+        ⌝ }
 {
     match shift {
         Shift::Imm { kind, amount } => put_shift_value(out, at, rm, pc, kind, amount),
@@ -100,7 +107,9 @@ fn put_shifted(out: &mut [u8], at: usize, rm: Reg, shift: Shift, pc: u32) -> usi
 
 // The second operand.
 pub fn put_op2_value(out: &mut [u8], at: usize, op2: Operand2, pc: u32) -> usize
-    ensures { λ r. ⌜ Wrote (now (out .entry)) at (exprText (operandOf pc op2 .0)) (now (out .exit)) r ⌝ }
+    ensures { λ r. ⌜
+        Wrote (now (out .entry)) at (exprText (operandOf pc op2 .0)) (now (out .exit)) r
+        ⌝ }
 {
     match op2 {
         Operand2::Imm { value, ror } => put_word(out, at, value),
@@ -110,7 +119,10 @@ pub fn put_op2_value(out: &mut [u8], at: usize, op2: Operand2, pc: u32) -> usize
 
 // The carry out of a rotated value.
 fn put_sign(out: &mut [u8], at: usize, value: u32, ror: u8) -> usize
-    ensures { λ r. ⌜ Wrote (now (out .entry)) at (carryText (operandOf 0 (Operand2.Imm value ror) .1)) (now (out .exit)) r ⌝ }
+    ensures { λ r. ⌜
+        Wrote (now (out .entry)) at (carryText (operandOf 0 (Operand2.Imm value ror) .1))
+        (now (out .exit)) r
+        ⌝ }
 {
     if ror == 0 {
         return at;
@@ -121,7 +133,10 @@ fn put_sign(out: &mut [u8], at: usize, value: u32, ror: u8) -> usize
 
 // The carry out of a register operand.
 fn put_shifted_carry(out: &mut [u8], at: usize, rm: Reg, shift: Shift, pc: u32) -> usize
-    ensures { λ r. ⌜ Wrote (now (out .entry)) at (carryText (operandOf pc (Operand2.Reg rm shift) .1)) (now (out .exit)) r ⌝ }
+    ensures { λ r. ⌜
+        Wrote (now (out .entry)) at (carryText (operandOf pc (Operand2.Reg rm shift) .1))
+        (now (out .exit)) r
+        ⌝ }
 {
     match shift {
         Shift::Imm { kind, amount } => put_shift_carry(out, at, rm, pc, kind, amount),
@@ -131,7 +146,9 @@ fn put_shifted_carry(out: &mut [u8], at: usize, rm: Reg, shift: Shift, pc: u32) 
 
 // The carry out of the second operand: nothing where C stays as it is.
 pub fn put_op2_carry(out: &mut [u8], at: usize, op2: Operand2, pc: u32) -> usize
-    ensures { λ r. ⌜ Wrote (now (out .entry)) at (carryText (operandOf pc op2 .1)) (now (out .exit)) r ⌝ }
+    ensures { λ r. ⌜
+        Wrote (now (out .entry)) at (carryText (operandOf pc op2 .1)) (now (out .exit)) r
+        ⌝ }
 {
     match op2 {
         Operand2::Imm { value, ror } => put_sign(out, at, value, ror),

@@ -23,7 +23,11 @@ fn put_amount(
     n: u8,
     u: &[u8],
 ) -> usize
-    ensures { λ r. ⌜ Wrote (now (out .entry)) at (raw (now (s .entry)) ▸ exprText (regOf pc rm) ▸ raw (now (t .entry)) ▸ dec n ▸ raw (now (u .entry))) (now (out .exit)) r ⌝ }
+    ensures { λ r. ⌜
+        Wrote (now (out .entry)) at
+        (raw (now (s .entry)) ▸ exprText (regOf pc rm) ▸ raw (now (t .entry)) ▸ dec n
+        ▸ raw (now (u .entry))) (now (out .exit)) r
+        ⌝ }
 {
     let p = put_around(out, at, s, rm, pc, t);
     let q = base_text::put_dec(out, p, n as u64);
@@ -32,7 +36,10 @@ fn put_amount(
 
 // A register shifted by Lsl; amount 0 leaves it as it is.
 fn put_lsl(out: &mut [u8], at: usize, rm: Reg, pc: u32, amount: u8) -> usize
-    ensures { λ r. ⌜ Wrote (now (out .entry)) at (exprText (shiftExprs (regOf pc rm) Lsl amount .0)) (now (out .exit)) r ⌝ }
+    ensures { λ r. ⌜
+        Wrote (now (out .entry)) at (exprText (shiftExprs (regOf pc rm) Lsl amount .0))
+        (now (out .exit)) r
+        ⌝ }
 {
     if amount == 0 {
         return put_reg(out, at, rm, pc);
@@ -42,7 +49,10 @@ fn put_lsl(out: &mut [u8], at: usize, rm: Reg, pc: u32, amount: u8) -> usize
 
 // A register shifted by Lsr; amount 0 means 32, and gives 0.
 fn put_lsr(out: &mut [u8], at: usize, rm: Reg, pc: u32, amount: u8) -> usize
-    ensures { λ r. ⌜ Wrote (now (out .entry)) at (exprText (shiftExprs (regOf pc rm) Lsr amount .0)) (now (out .exit)) r ⌝ }
+    ensures { λ r. ⌜
+        Wrote (now (out .entry)) at (exprText (shiftExprs (regOf pc rm) Lsr amount .0))
+        (now (out .exit)) r
+        ⌝ }
 {
     if amount == 0 {
         return base_text::put(out, at, b"0u");
@@ -52,7 +62,10 @@ fn put_lsr(out: &mut [u8], at: usize, rm: Reg, pc: u32, amount: u8) -> usize
 
 // A register shifted by Asr; amount 0 means 32, which gives the same as 31.
 fn put_asr(out: &mut [u8], at: usize, rm: Reg, pc: u32, amount: u8) -> usize
-    ensures { λ r. ⌜ Wrote (now (out .entry)) at (exprText (shiftExprs (regOf pc rm) Asr amount .0)) (now (out .exit)) r ⌝ }
+    ensures { λ r. ⌜
+        Wrote (now (out .entry)) at (exprText (shiftExprs (regOf pc rm) Asr amount .0))
+        (now (out .exit)) r
+        ⌝ }
 {
     if amount == 0 {
         return put_amount(
@@ -80,7 +93,10 @@ fn put_asr(out: &mut [u8], at: usize, rm: Reg, pc: u32, amount: u8) -> usize
 
 // A register shifted by Ror; amount 0 means RRX, which brings the carry flag in at bit 31.
 fn put_ror(out: &mut [u8], at: usize, rm: Reg, pc: u32, amount: u8) -> usize
-    ensures { λ r. ⌜ Wrote (now (out .entry)) at (exprText (shiftExprs (regOf pc rm) Ror amount .0)) (now (out .exit)) r ⌝ }
+    ensures { λ r. ⌜
+        Wrote (now (out .entry)) at (exprText (shiftExprs (regOf pc rm) Ror amount .0))
+        (now (out .exit)) r
+        ⌝ }
 {
     if amount == 0 {
         return put_around(
@@ -104,7 +120,10 @@ pub fn put_shift_value(
     kind: ShiftKind,
     amount: u8,
 ) -> usize
-    ensures { λ r. ⌜ Wrote (now (out .entry)) at (exprText (shiftExprs (regOf pc rm) kind amount .0)) (now (out .exit)) r ⌝ }
+    ensures { λ r. ⌜
+        Wrote (now (out .entry)) at (exprText (shiftExprs (regOf pc rm) kind amount .0))
+        (now (out .exit)) r
+        ⌝ }
 {
     match kind {
         ShiftKind::Lsl => put_lsl(out, at, rm, pc, amount),
@@ -116,7 +135,9 @@ pub fn put_shift_value(
 
 // Bit n of a register.
 fn put_bit(out: &mut [u8], at: usize, rm: Reg, pc: u32, n: u8) -> usize
-    ensures { λ r. ⌜ Wrote (now (out .entry)) at (exprText (bitOf (regOf pc rm) n)) (now (out .exit)) r ⌝ }
+    ensures { λ r. ⌜
+        Wrote (now (out .entry)) at (exprText (bitOf (regOf pc rm) n)) (now (out .exit)) r
+        ⌝ }
 {
     put_amount(out, at, b"((", rm, pc, b" >> ", n, b"u) & 1u)")
 }
@@ -130,7 +151,10 @@ fn last_out(amount: u8) -> u8
 
 // The carry out of Lsl: nothing with amount 0.
 fn put_left_carry(out: &mut [u8], at: usize, rm: Reg, pc: u32, amount: u8) -> usize
-    ensures { λ r. ⌜ Wrote (now (out .entry)) at (carryText (shiftExprs (regOf pc rm) Lsl amount .1)) (now (out .exit)) r ⌝ }
+    ensures { λ r. ⌜
+        Wrote (now (out .entry)) at (carryText (shiftExprs (regOf pc rm) Lsl amount .1))
+        (now (out .exit)) r
+        ⌝ }
 {
     if amount == 0 {
         return at;
@@ -140,7 +164,10 @@ fn put_left_carry(out: &mut [u8], at: usize, rm: Reg, pc: u32, amount: u8) -> us
 
 // Lsr and Asr move out the same bit.
 fn put_right_carry(out: &mut [u8], at: usize, rm: Reg, pc: u32, amount: u8) -> usize
-    ensures { λ r. ⌜ Wrote (now (out .entry)) at (carryText (shiftExprs (regOf pc rm) Lsr amount .1)) (now (out .exit)) r ⌝ }
+    ensures { λ r. ⌜
+        Wrote (now (out .entry)) at (carryText (shiftExprs (regOf pc rm) Lsr amount .1))
+        (now (out .exit)) r
+        ⌝ }
 {
     if amount == 0 {
         return put_around(out, at, b"(", rm, pc, b" >> 31u)");
@@ -150,7 +177,10 @@ fn put_right_carry(out: &mut [u8], at: usize, rm: Reg, pc: u32, amount: u8) -> u
 
 // The carry out of Ror: with amount 0 that of RRX, bit 0.
 fn put_ror_carry(out: &mut [u8], at: usize, rm: Reg, pc: u32, amount: u8) -> usize
-    ensures { λ r. ⌜ Wrote (now (out .entry)) at (carryText (shiftExprs (regOf pc rm) Ror amount .1)) (now (out .exit)) r ⌝ }
+    ensures { λ r. ⌜
+        Wrote (now (out .entry)) at (carryText (shiftExprs (regOf pc rm) Ror amount .1))
+        (now (out .exit)) r
+        ⌝ }
 {
     if amount == 0 {
         return put_around(out, at, b"(", rm, pc, b" & 1u)");
@@ -167,7 +197,10 @@ pub fn put_shift_carry(
     kind: ShiftKind,
     amount: u8,
 ) -> usize
-    ensures { λ r. ⌜ Wrote (now (out .entry)) at (carryText (shiftExprs (regOf pc rm) kind amount .1)) (now (out .exit)) r ⌝ }
+    ensures { λ r. ⌜
+        Wrote (now (out .entry)) at (carryText (shiftExprs (regOf pc rm) kind amount .1))
+        (now (out .exit)) r
+        ⌝ }
 {
     match kind {
         ShiftKind::Lsl => put_left_carry(out, at, rm, pc, amount),

@@ -21,7 +21,11 @@ ghost use Rattle.emit_tables.specs.Tables.{fileKeys, HaveKeys};
 // The declarations of the functions of n blocks.
 fn put_externs(out: &mut [u8], at: usize, file: &[u8], n: usize) -> usize
     requires { ⌜ (n ≡ blockCount (now file)) × Accepted (now file) ⌝ }
-    ensures { λ r. ⌜ Wrote (now (out .entry)) at (each (λ (k : ℕ). topText (extern k)) (fileKeys (now (file .entry)))) (now (out .exit)) r ⌝ }
+    ensures { λ r. ⌜
+        Wrote (now (out .entry)) at
+        (each (λ (k : ℕ). topText (extern k)) (fileKeys (now (file .entry)))) (now (out .exit))
+        r
+        ⌝ }
 {
     let mut p = at;
     let mut i = 0;
@@ -35,7 +39,10 @@ fn put_externs(out: &mut [u8], at: usize, file: &[u8], n: usize) -> usize
 // The rows of n blocks in the table.
 fn put_rows(out: &mut [u8], at: usize, file: &[u8], n: usize) -> usize
     requires { ⌜ (n ≡ blockCount (now file)) × Accepted (now file) ⌝ }
-    ensures { λ r. ⌜ Wrote (now (out .entry)) at (each rowText (fileKeys (now (file .entry)))) (now (out .exit)) r ⌝ }
+    ensures { λ r. ⌜
+        Wrote (now (out .entry)) at (each rowText (fileKeys (now (file .entry)))) (now (out .exit))
+        r
+        ⌝ }
 {
     let mut p = at;
     let mut i = 0;
@@ -49,7 +56,10 @@ fn put_rows(out: &mut [u8], at: usize, file: &[u8], n: usize) -> usize
 // The end of the last unit of an accepted file with n blocks.
 pub fn put_tail(out: &mut [u8], at: usize, file: &[u8], n: usize) -> usize
     requires { ⌜ (n ≡ blockCount (now file)) × Accepted (now file) ⌝ }
-    ensures { λ r. ⌜ ((bs : List Body) → HaveKeys bs (fileKeys (now (file .entry))) → Wrote (now (out .entry)) at (unitText (lastUnitEnd bs)) (now (out .exit)) r) ⌝ }
+    ensures { λ r. ⌜
+        ((bs : List Body) → HaveKeys bs (fileKeys (now (file .entry)))
+        → Wrote (now (out .entry)) at (unitText (lastUnitEnd bs)) (now (out .exit)) r)
+        ⌝ }
 {
     let p = put_externs(out, at, file, n);
     let q = put_table_head(out, p);

@@ -24,7 +24,11 @@ pub fn put_cases(
     end: usize,
 ) -> usize
     requires { ⌜ HasRoom (now file) (now work) n × (p < end) × (end ≤ n) ⌝ }
-    ensures { λ r. ⌜ ((limit g : ℕ) → IsGroup (now (file .entry)) n limit (now (work .entry)) g p end → (bs : List Body) → HaveKeys bs (groupKeys limit (now (file .entry)) g) → Wrote (now (out .entry)) at (casesText 0 (map bodyKey bs)) (now (out .exit)) r) ⌝ }
+    ensures { λ r. ⌜
+        ((limit g : ℕ) → IsGroup (now (file .entry)) n limit (now (work .entry)) g p end
+        → (bs : List Body) → HaveKeys bs (groupKeys limit (now (file .entry)) g)
+        → Wrote (now (out .entry)) at (casesText 0 (map bodyKey bs)) (now (out .exit)) r)
+        ⌝ }
 {
     let size = end - p;
     let mut q = at;
@@ -48,7 +52,13 @@ pub fn put_forwarders(
     end: usize,
 ) -> usize
     requires { ⌜ HasRoom (now file) (now work) n × (p < end) × (end ≤ n) ⌝ }
-    ensures { λ r. ⌜ ((limit g : ℕ) → IsGroup (now (file .entry)) n limit (now (work .entry)) g p end → (b : Body) (bs : List Body) → HaveKeys (b ∷ bs) (groupKeys limit (now (file .entry)) g) → Wrote (now (out .entry)) at (unitText (forwarders (bodyKey b) 0 (b ∷ bs))) (now (out .exit)) r) ⌝ }
+    ensures { λ r. ⌜
+        ((limit g : ℕ) → IsGroup (now (file .entry)) n limit (now (work .entry)) g p end
+        → (b : Body) (bs : List Body)
+        → HaveKeys (b ∷ bs) (groupKeys limit (now (file .entry)) g)
+        → Wrote (now (out .entry)) at (unitText (forwarders (bodyKey b) 0 (b ∷ bs)))
+        (now (out .exit)) r)
+        ⌝ }
 {
     let group = row_key(file, work, p);
     let size = end - p;

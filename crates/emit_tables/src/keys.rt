@@ -14,7 +14,9 @@ ghost use Rattle.emit_tables.specs.Tables.{fileKeys};
 
 // The key of block i, or 0 where there is none.
 pub fn block_key(file: &[u8], i: usize) -> u32
-    ensures { λ r. ⌜ (Accepted (now (file .entry)) → r ≡ getD (fileKeys (now (file .entry))) i 0) ⌝ }
+    ensures { λ r. ⌜
+        (Accepted (now (file .entry)) → r ≡ getD (fileKeys (now (file .entry))) i 0)
+        ⌝ }
 {
     let FoundBlock::At(block) = block_at(file, i) else {
         return 0;
@@ -25,7 +27,12 @@ pub fn block_key(file: &[u8], i: usize) -> u32
 // The key of the block in row p.
 pub fn row_key(file: &[u8], work: &[u32], p: usize) -> u32
     requires { ⌜ p < length (now work) ⌝ }
-    ensures { λ r. ⌜ ((n limit g k : ℕ) → HoldsPlan (now (file .entry)) n limit (now (work .entry)) → p ≡ startOf (groups limit (blocksOf (now (file .entry)))) g + k → k < length (membersOf limit (blocksOf (now (file .entry))) g) → r ≡ getD (groupKeys limit (now (file .entry)) g) k 0) ⌝ }
+    ensures { λ r. ⌜
+        ((n limit g k : ℕ) → HoldsPlan (now (file .entry)) n limit (now (work .entry))
+        → p ≡ startOf (groups limit (blocksOf (now (file .entry)))) g + k
+        → k < length (membersOf limit (blocksOf (now (file .entry))) g)
+        → r ≡ getD (groupKeys limit (now (file .entry)) g) k 0)
+        ⌝ }
 {
     block_key(file, row_block(work, p))
 }

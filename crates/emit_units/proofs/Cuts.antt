@@ -163,7 +163,8 @@ walked-none f limit max g p at h e long =
     same : g ≡ g + 0
     same = omega arith
 
-module _ {f : List ℕ} {n limit : ℕ} {work : List ℕ} (ready : HoldsPlan f n limit work) {max g q at : ℕ}
+module _ {f : List ℕ} {n limit : ℕ} {work : List ℕ} (ready : HoldsPlan f n limit work)
+    {max g q at : ℕ}
     (w : Walked f limit max g q at) where
   abbrev sofar : List Top
   sofar = unitGroups f limit g (w .size)

@@ -33,7 +33,12 @@ fn measure_unit(file: &[u8], work: &[u32], n: usize, max: u64, p: usize) -> Exte
     requires { ⌜ HasRoom (now file) (now work) n × (p ≤ n) ⌝ }
     requires { ⌜ Accepted (now file) ⌝ }
     ensures { λ r. ⌜ r .end ≤ n ⌝ }
-    ensures { λ r. ⌜ ((limit g : ℕ) → HoldsPlan (now (file .entry)) n limit (now (work .entry)) → g ≤ length (groups limit (blocksOf (now (file .entry)))) → p ≡ startOf (groups limit (blocksOf (now (file .entry)))) g → FirstUnit (now (file .entry)) limit max g r) ⌝ }
+    ensures { λ r. ⌜
+        ((limit g : ℕ) → HoldsPlan (now (file .entry)) n limit (now (work .entry))
+        → g ≤ length (groups limit (blocksOf (now (file .entry))))
+        → p ≡ startOf (groups limit (blocksOf (now (file .entry)))) g
+        → FirstUnit (now (file .entry)) limit max g r)
+        ⌝ }
 {
     let mut at = after_preamble();
     let mut q = p;
@@ -62,7 +67,10 @@ fn measure_unit(file: &[u8], work: &[u32], n: usize, max: u64, p: usize) -> Exte
 pub fn find_unit(file: &[u8], work: &[u32], n: usize, max: u64, k: u64) -> FoundUnit
     requires { ⌜ HasRoom (now file) (now work) n ⌝ }
     requires { ⌜ Accepted (now file) ⌝ }
-    ensures { λ r. ⌜ ((limit : ℕ) → HoldsPlan (now (file .entry)) n limit (now (work .entry)) → IsFoundUnit (now (file .entry)) limit max k r) ⌝ }
+    ensures { λ r. ⌜
+        ((limit : ℕ) → HoldsPlan (now (file .entry)) n limit (now (work .entry))
+        → IsFoundUnit (now (file .entry)) limit max k r)
+        ⌝ }
 {
     let mut p = 0;
     let mut i = 0;

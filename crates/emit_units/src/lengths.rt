@@ -32,7 +32,13 @@ pub(crate) fn after_group(
     end: usize,
 ) -> usize
     requires { ⌜ HasRoom (now file) (now work) n × (p < end) × (end ≤ n) ⌝ }
-    ensures { λ r. ⌜ ((limit g : ℕ) → IsGroup (now (file .entry)) n limit (now (work .entry)) g p end → r ≡ after at (emitGroup (bodiesOf (fileBodies (now (file .entry))) (membersOf limit (blocksOf (now (file .entry))) g)))) ⌝ }
+    ensures { λ r. ⌜
+        ((limit g : ℕ) → IsGroup (now (file .entry)) n limit (now (work .entry)) g p end
+        → r ≡ after at
+        (emitGroup
+        (bodiesOf (fileBodies (now (file .entry)))
+        (membersOf limit (blocksOf (now (file .entry))) g))))
+        ⌝ }
 {
     let mut nothing = [0u8; 0];
     emit_group(&mut nothing, at, file, work, n, p, end, false)

@@ -20,7 +20,13 @@ ghost use Rattle.plan_groups.specs.Groups.{HasRoom};
 // The groups of a unit.
 fn put_groups(out: &mut [u8], at: usize, file: &[u8], work: &[u32], n: usize, e: Extent) -> usize
     requires { ⌜ HasRoom (now file) (now work) n × (e .end ≤ n) ⌝ }
-    ensures { λ r. ⌜ ((limit g size : ℕ) → HoldsPlan (now (file .entry)) n limit (now (work .entry)) → SpansGroups (now (file .entry)) limit g size e → Wrote (now (out .entry)) at (each (groupText true (now (file .entry))) (take size (drop g (groups limit (blocksOf (now (file .entry))))))) (now (out .exit)) r) ⌝ }
+    ensures { λ r. ⌜
+        ((limit g size : ℕ) → HoldsPlan (now (file .entry)) n limit (now (work .entry))
+        → SpansGroups (now (file .entry)) limit g size e
+        → Wrote (now (out .entry)) at
+        (each (groupText true (now (file .entry)))
+        (take size (drop g (groups limit (blocksOf (now (file .entry))))))) (now (out .exit)) r)
+        ⌝ }
 {
     let mut q = at;
     let mut p = e.start;
@@ -36,7 +42,11 @@ fn put_groups(out: &mut [u8], at: usize, file: &[u8], work: &[u32], n: usize, e:
 pub fn write_unit(out: &mut [u8], file: &[u8], work: &[u32], n: usize, e: Extent) -> usize
     requires { ⌜ HasRoom (now file) (now work) n × (e .end ≤ n) ⌝ }
     requires { ⌜ Accepted (now file) ⌝ }
-    ensures { λ r. ⌜ ((limit max k : ℕ) → HoldsPlan (now (file .entry)) n limit (now (work .entry)) → (is : IsUnit (now (file .entry)) limit max k e) → Wrote (now (out .entry)) 0 (unitText (is .unit .tree)) (now (out .exit)) r) ⌝ }
+    ensures { λ r. ⌜
+        ((limit max k : ℕ) → HoldsPlan (now (file .entry)) n limit (now (work .entry))
+        → (is : IsUnit (now (file .entry)) limit max k e)
+        → Wrote (now (out .entry)) 0 (unitText (is .unit .tree)) (now (out .exit)) r)
+        ⌝ }
 {
     let at = put_preamble(out, 0);
     let q = put_groups(out, at, file, work, n, e);

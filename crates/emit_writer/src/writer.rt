@@ -48,7 +48,11 @@ pub fn flush<'a>(w: Writer<'a>) -> Writer<'a>
 // What stands after the ticks at the end of a block that goes on at address next, whose key is
 // given too.
 pub fn close<'a>(w: Writer<'a>, next: u32, inside: bool, src: u32, key: u32) -> usize
-    ensures { λ r. ⌜ ((ks : List ℕ) → among key ks ≡ inside → Wrote (now (w .entry .text)) (w .entry .at) (codeText (exitCode ks src common (pcLine next) key)) (now (w .exit .0)) r) ⌝ }
+    ensures { λ r. ⌜
+        ((ks : List ℕ) → among key ks ≡ inside
+        → Wrote (now (w .entry .text)) (w .entry .at)
+        (codeText (exitCode ks src common (pcLine next) key)) (now (w .exit .0)) r)
+        ⌝ }
 {
     let at = w.at;
     put_closing(&mut *w.text, at, next, inside, src, key)
@@ -65,7 +69,12 @@ pub fn emit_closing(
     src: u32,
     key: u32,
 ) -> usize
-    ensures { λ r. ⌜ ((ks : List ℕ) → among key ks ≡ inside → Wrote (now (out .entry)) at (codeText (exitCode ks src common (flushTicks cycles ++ pcLine next) key)) (now (out .exit)) r) ⌝ }
+    ensures { λ r. ⌜
+        ((ks : List ℕ) → among key ks ≡ inside
+        → Wrote (now (out .entry)) at
+        (codeText (exitCode ks src common (flushTicks cycles ++ pcLine next) key))
+        (now (out .exit)) r)
+        ⌝ }
 {
     let w = flush(new(out, at, cycles));
     close(w, next, inside, src, key)

@@ -34,7 +34,11 @@ pub(crate) enum Found {
 // Refusals 4 to 6. `least` is the least key that is above the one before.
 fn check_blocks(file: &[u8]) -> Found
     requires { ⌜ trailerRight (now file) ≡ true ⌝ }
-    ensures { λ r. ⌜ r ≡ found (firstBroken (now (file .entry)) (blockRows (blockCount (now (file .entry))) 0 ++ (Row.sum ∷ []))) ⌝ }
+    ensures { λ r. ⌜
+        r ≡ found
+        (firstBroken (now (file .entry))
+        (blockRows (blockCount (now (file .entry))) 0 ++ (Row.sum ∷ [])))
+        ⌝ }
 {
     let start = section_start(file, 1);
     let blocks = trailer_word(file, 2) as usize;
@@ -70,7 +74,9 @@ fn check_blocks(file: &[u8]) -> Found
 // Refusal 7, by the rows of all kinds and forms.
 fn check_records(file: &[u8], rows: &[u8]) -> Found
     requires { ⌜ (trailerRight (now file) ≡ true) × (now rows ≡ rowsTo 30) ⌝ }
-    ensures { λ r. ⌜ r ≡ found (firstBroken (now (file .entry)) (instrRows (instrCount (now (file .entry))) 0)) ⌝ }
+    ensures { λ r. ⌜
+        r ≡ found (firstBroken (now (file .entry)) (instrRows (instrCount (now (file .entry))) 0))
+        ⌝ }
 {
     let start = section_start(file, 3);
     let instrs = trailer_word(file, 4) as usize;
@@ -90,7 +96,9 @@ fn check_records(file: &[u8], rows: &[u8]) -> Found
 // Refusal 7.
 fn check_instrs(file: &[u8]) -> Found
     requires { ⌜ trailerRight (now file) ≡ true ⌝ }
-    ensures { λ r. ⌜ r ≡ found (firstBroken (now (file .entry)) (instrRows (instrCount (now (file .entry))) 0)) ⌝ }
+    ensures { λ r. ⌜
+        r ≡ found (firstBroken (now (file .entry)) (instrRows (instrCount (now (file .entry))) 0))
+        ⌝ }
 {
     let rows = all_rows();
     check_records(file, &rows[..])

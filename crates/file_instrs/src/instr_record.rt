@@ -58,7 +58,10 @@ fn row(number: u8) -> [u8; 12]
 // Writes the values of a part of a row.
 fn put(rows: &mut [u8], from: usize, part: &[u8])
     requires { ⌜ from + length (now part) ≤ length (now rows) ⌝ }
-    ensures { λ _. ⌜ now (rows .exit) ≡ paste (now (rows .entry)) from (now (part .entry)) (length (now (part .entry))) ⌝ }
+    ensures { λ _. ⌜
+        now (rows .exit)
+        ≡ paste (now (rows .entry)) from (now (part .entry)) (length (now (part .entry)))
+        ⌝ }
 {
     let mut k = 0;
     while k < part.len() {
@@ -97,7 +100,9 @@ fn row_number(kind: u8, form: u8) -> usize
 // Whether the 16 bytes at an offset are at most the values of the row that begins at another.
 fn within(file: &[u8], at: usize, rows: &[u8], from: usize) -> bool
     requires { ⌜ (at + 16 ≤ length (now file)) × (from + 16 ≤ length (now rows)) ⌝ }
-    ensures { λ r. ⌜ r ≡ row-within (now (file .entry)) at (take 16 (drop from (now (rows .entry)))) ⌝ }
+    ensures { λ r. ⌜
+        r ≡ row-within (now (file .entry)) at (take 16 (drop from (now (rows .entry))))
+        ⌝ }
 {
     let mut ok = true;
     let mut k = 0;

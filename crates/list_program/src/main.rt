@@ -31,7 +31,10 @@ fn put_refusal(out: &mut [u8], number: u32, at: u64) -> usize
 // numbers and the text always suffice.
 fn put_answer(file: &[u8], out: &mut [u8]) -> usize
     requires { ⌜ (length (now file) ≤ longest) × (room ≤ length (now out)) ⌝ }
-    ensures { λ r. ⌜ (r ≤ length (now (out .exit))) × (take r (now (out .exit)) ≡ print (answerText (parse (now (file .entry))))) ⌝ }
+    ensures { λ r. ⌜
+        (r ≤ length (now (out .exit)))
+        × (take r (now (out .exit)) ≡ print (answerText (parse (now (file .entry)))))
+        ⌝ }
 {
     let mut work = [0u32; 16384];
     match recomp::listing_of(file, &mut work, out) {
@@ -43,7 +46,10 @@ fn put_answer(file: &[u8], out: &mut [u8]) -> usize
 // Writes what is printed for a file, and answers how many bytes that is.
 fn put_output(file: &[u8], out: &mut [u8]) -> usize
     requires { ⌜ room ≤ length (now out) ⌝ }
-    ensures { λ r. ⌜ (r ≤ length (now (out .exit))) × (take r (now (out .exit)) ≡ print (output (now (file .entry)))) ⌝ }
+    ensures { λ r. ⌜
+        (r ≤ length (now (out .exit)))
+        × (take r (now (out .exit)) ≡ print (output (now (file .entry))))
+        ⌝ }
 {
     if file.len() > LONGEST {
         return base_text::put(out, 0, b"too long\n");

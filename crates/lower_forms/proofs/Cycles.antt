@@ -177,7 +177,11 @@ charged-one r rs x xs h = rw h (ap (λ n. n + charged rs xs) (own-one r (x .cost
 
 pair-ticks : (cycles target ret : ℕ) → formTicks (native (emitPair cycles target ret)) ≡ cycles
 pair-ticks cycles target ret =
-    omega (arith, ticks-all cycles (eachOnLine (setWord 14 ret ∷ setWord 15 (clearBit0 target) ∷ [])))
+    omega (
+      arith,
+      ticks-all cycles
+          (eachOnLine (setWord 14 ret ∷ setWord 15 (clearBit0 target) ∷ [])),
+    )
 
 -- forms for some instructions, with cycles pending before and after them
 record AllKept (cycles : ℕ) (xs : List TimedInstr) (rs : List Form × ℕ) : Type 0 where

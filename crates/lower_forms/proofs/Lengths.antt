@@ -39,7 +39,8 @@ use Rattle.c_tree.specs.Print.{exprText, plainText}
 use Rattle.lower_forms.specs.Forms.{Lines, Native, straight, straightIf, branchIf, jump, pair}
 use Rattle.lower_forms.specs.Forms.{bx, pop, Form, native, shell}
 use Rattle.lower_forms.specs.Operands.{condExpr, regExpr, shiftExprs, op2Exprs}
-use Rattle.lower_forms.specs.InlineBody.{listIf, eachOnLine, setReg, result, logical, sum, alu}
+use Rattle.lower_forms.specs.InlineBody.{listIf, eachOnLine, setReg, result, logical, sum}
+use Rattle.lower_forms.specs.InlineBody.{alu}
 use Rattle.lower_forms.specs.InlineBody.{aluBody, mulBody, mulLongBody, baseExpr}
 use Rattle.lower_forms.specs.InlineBody.{shiftedOffset, offsetExpr, loaded, stored, access}
 use Rattle.lower_forms.specs.InlineBody.{memBody, listed, loads, movedBase, start, storedReg}
@@ -155,7 +156,8 @@ result-brief op rd =
     (record { brief = omega arith })
 
 logical-within : (op : AluOp) (s : Bool) (rd : ℕ) (carry : Option Expr) (e : Expr)
-    → MaybeShort 170 carry → most (exprText e) ≤ 220 → Within 2100 (eachOnLine (logical op s rd carry e))
+    → MaybeShort 170 carry → most (exprText e) ≤ 220
+    → Within 2100 (eachOnLine (logical op s rd carry e))
 logical-within op true rd none e k h =
     record { within = omega (arith, h, result-brief op rd .brief) }
 logical-within op true rd (some c) e k h =
@@ -261,7 +263,8 @@ access-within : (load : Bool) (w : MemWidth) (signed : Bool) (rd rn : ℕ) (wb :
 access-within true w signed rd rn wb = go (wb && not (eqb rn rd) && not (eqb rn 15))
   where
     go : (b : Bool)
-        → linesMost (eachOnLine (listIf b (setReg rn (v32 x-ob)) ++ (setReg rd (loaded w signed) ∷ [])))
+        → linesMost
+        (eachOnLine (listIf b (setReg rn (v32 x-ob)) ++ (setReg rd (loaded w signed) ∷ [])))
         ≤ 350
     go true = omega (arith, loaded-short w signed .short)
     go false = omega (arith, loaded-short w signed .short)

@@ -15,7 +15,8 @@ use Rattle.c_tree.specs.Preamble.{v32}
 use Rattle.c_meaning.specs.State.{State, Scope, empty, index, value, update, setC, setMem, load}
 use Rattle.c_meaning.specs.State.{store, enter}
 use Rattle.lower_forms.specs.Forms.{Lines}
-use Rattle.lower_forms.specs.InlineBody.{listIf, eachOnLine, let32, setReg, loads, movedBase, start}
+use Rattle.lower_forms.specs.InlineBody.{listIf, eachOnLine, let32, setReg, loads, movedBase}
+use Rattle.lower_forms.specs.InlineBody.{start}
 use Rattle.lower_forms.specs.InlineBody.{storedReg, stores, loadsOrStores, blockMemBody}
 use Rattle.armv4t_manual.specs.Machine.{Machine, R, setRegs, Sound}
 use Rattle.armv4t_manual.specs.Machine as M
@@ -240,7 +241,8 @@ module _ {z : State} {m : Machine} (s : Sound m) (a : Agrees z m) (i : Instr) (r
   store-multiple-ok up pre wb inList h =
       place up pre (loadsOrStores false i rn wb inList (movedBase up (length regs * 4)) regs)
       (stores-ok _ (storedValue up wb)
-      (eachOnLine (listIf wb (setReg rn (movedBase up (length regs * 4))))) regs (placedScope up pre)
+      (eachOnLine (listIf wb (setReg rn (movedBase up (length regs * 4))))) regs
+      (placedScope up pre)
       (z .scopes) z (m .mem)
       (MM.start up pre (m .r rn) (length regs)) (all-map (Stored wb) _ (stored-reads up wb) regs h)
       (record { regs = a .regs; flags = a .flags; memory = a .memory }) refl refl (start-lt up pre)

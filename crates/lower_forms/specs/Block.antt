@@ -25,7 +25,8 @@ use Rattle.c_tree.specs.Stmt.{Plain, tick}
 use Rattle.lower_forms.specs.Forms.{Lines, Native, straight, straightIf, branchIf, jump, pair}
 use Rattle.lower_forms.specs.Forms.{bx, pop, Form, native, shell, Body}
 use Rattle.lower_forms.specs.Operands.{condExpr, regExpr}
-use Rattle.lower_forms.specs.InlineBody.{listIf, eachOnLine, let32, setReg, aligned, listed, loads}
+use Rattle.lower_forms.specs.InlineBody.{listIf, eachOnLine, let32, setReg, aligned, listed}
+use Rattle.lower_forms.specs.InlineBody.{loads}
 use Rattle.lower_forms.specs.InlineBody.{inlineBody}
 use Rattle.armv4t.specs.RegisterList.{isListed}
 use Rattle.base_hash.specs.Fnv.{fnv64}

@@ -237,7 +237,8 @@ abbrev pub loadsOrStores : Bool → Instr → ℕ → Bool → Bool → Expr →
 loadsOrStores true i rn writeback inList moved regs =
     eachOnLine (listIf (writeback && not inList) (setReg rn moved)) ++ loads regs
 loadsOrStores false i rn writeback inList moved regs =
-    stores (storedReg i rn (getD regs 0 16) moved) regs ++ eachOnLine (listIf writeback (setReg rn moved))
+    stores (storedReg i rn (getD regs 0 16) moved) regs
+    ++ eachOnLine (listIf writeback (setReg rn moved))
 
 -- BlockMem: inList if its base register is listed
 abbrev pub blockMemBody : Instr → Bool → ℕ → Bool → Bool → Bool → Bool → List ℕ → Lines

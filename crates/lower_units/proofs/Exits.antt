@@ -135,7 +135,8 @@ module _ (ks : List ℕ) (a : ℕ) (o : Owner) (n : ℕ) (link : Bool) (ret targ
   -- ..; transfer
   pub jump-leaves : Leaves
       (nativeText ks a o
-      (jump (flushTicks n ++ eachOnLine (listIf link (setWord 14 ret) ++ (setWord 15 target ∷ []))) k)) z
+      (jump (flushTicks n ++ eachOnLine (listIf link (setWord 14 ret) ++ (setWord 15 target ∷ [])))
+      k)) z
       (cond link (setReg 14 ret m) m, k)
   unfolding nativeText
   jump-leaves =

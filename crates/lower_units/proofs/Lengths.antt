@@ -182,7 +182,8 @@ module _ (ks : List ℕ) (b : Body) (short : Short b) where
         arith,
         h .0,
         records-some r,
-        native-most ks (b .addr) (Owner.nativeOf (bodyKey b)) r (codeFrom ks b (i + recordsIn r) rs),
+        native-most ks (b .addr) (Owner.nativeOf (bodyKey b)) r
+            (codeFrom ks b (i + recordsIn r) rs),
         code-from-most (i + recordsIn r) rs (h .1),
       )
   code-from-most i (shell true t k ∷ []) h =

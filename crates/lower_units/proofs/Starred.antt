@@ -160,7 +160,8 @@ each g h (List·Memᴰ·tail m) e = each g h m (cc)
 pub starred : (c : Case) → List·Memᴰ c cases → defined c ≡ stated c
 unfolding exits instrExits fuse cases one pair long short two timed swi from lone defined stated
     bodyOf emitInstrs emitInstr inlineBody blockCode outsideRomBios underGuard codeFrom nativeText
-    transfer gotoCode closing unitsBy emitCChunked cut bodiesOf lastUnitEnd textOf emitGroup emitBlock
+    transfer gotoCode closing unitsBy emitCChunked cut bodiesOf lastUnitEnd textOf emitGroup
+    emitBlock
     withLocals print decimal numeral hexadecimal hexadecimal8 hexadecimal16 lastDigits plan rowsFrom
     groups groupsFrom parts sortByKey insert withRoot parents joinBlocks joinExits target follow
 starred c m = each defined stated m refl

@@ -21,7 +21,9 @@ pub enum Exiting {
 // The exits of a block of an accepted file.
 fn found_or_9(file: &[u8], block: usize) -> Exiting
     requires { ⌜ Accepted (now file) ⌝ }
-    ensures { λ r. ⌜ exitingOf r ≡ foundOr9 (getElem? (map exits (blocksOf (now (file .entry)))) block) ⌝ }
+    ensures { λ r. ⌜
+        exitingOf r ≡ foundOr9 (getElem? (map exits (blocksOf (now (file .entry)))) block)
+        ⌝ }
 {
     match block_exits(file, block) {
         FoundExits::Exits(e) => Exiting::Exits(e),

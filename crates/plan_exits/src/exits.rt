@@ -133,7 +133,10 @@ pub fn instr_addr(addr: u32, thumb: bool, j: u32) -> u32
 // Instruction j of a block whose instructions are those from record `first` on. In an accepted file
 // nothing wraps.
 pub fn instr_of(file: &[u8], block: BlockRecord, first: usize, j: u32) -> FoundInstr
-    ensures { λ r. ⌜ r ≡ foundInstr (now (file .entry)) ((first + j) % 2 ^ 64) ((block .addr + sizeOf (block .thumb) * j) % 2 ^ 32) (block .thumb) ⌝ }
+    ensures { λ r. ⌜
+        r ≡ foundInstr (now (file .entry)) ((first + j) % 2 ^ 64)
+        ((block .addr + sizeOf (block .thumb) * j) % 2 ^ 32) (block .thumb)
+        ⌝ }
 {
     let at = std::num::wrapping_add_usize(first, j as usize);
     instr_at(
@@ -146,7 +149,11 @@ pub fn instr_of(file: &[u8], block: BlockRecord, first: usize, j: u32) -> FoundI
 
 // The exits of the block with a record, whose instructions are those from record `first` on.
 pub fn exits_at(file: &[u8], block: BlockRecord, first: usize) -> Exits
-    ensures { λ r. ⌜ ((i : ℕ) → IsBlock (now (file .entry)) i block first → keysOf r ≡ exits (blockAt (now (file .entry)) (blockStart (now (file .entry)) i) first)) ⌝ }
+    ensures { λ r. ⌜
+        ((i : ℕ) → IsBlock (now (file .entry)) i block first
+        → keysOf r
+        ≡ exits (blockAt (now (file .entry)) (blockStart (now (file .entry)) i) first))
+        ⌝ }
 {
     let count = block.count;
     if count == 0 {
@@ -170,7 +177,10 @@ pub fn exits_at(file: &[u8], block: BlockRecord, first: usize) -> Exits
 // The exits of block i, or Nothing. `first` sums the counts of the blocks before block k; in an
 // accepted file it does not wrap.
 pub(crate) fn block_exits(file: &[u8], i: usize) -> FoundExits
-    ensures { λ r. ⌜ (Accepted (now (file .entry)) → foundKeys r ≡ getElem? (map exits (blocksOf (now (file .entry)))) i) ⌝ }
+    ensures { λ r. ⌜
+        (Accepted (now (file .entry))
+        → foundKeys r ≡ getElem? (map exits (blocksOf (now (file .entry)))) i)
+        ⌝ }
 {
     let mut first: usize = 0;
     let mut k = 0;

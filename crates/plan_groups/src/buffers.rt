@@ -21,7 +21,9 @@ pub fn clear(work: &mut [u32], m: usize)
 // The rows of n blocks: the group numbers of quarter 2 and the blocks of quarter 0 in turn.
 pub(crate) fn put_rows(work: &[u32], n: usize, plan: &mut [u32])
     requires { ⌜ (3 * n ≤ length (now work)) × (2 * n ≤ length (now plan)) ⌝ }
-    ensures { λ _. ⌜ now (plan .exit) ≡ rowsIn n (now (work .entry)) ++ drop (2 * n) (now (plan .entry)) ⌝ }
+    ensures { λ _. ⌜
+        now (plan .exit) ≡ rowsIn n (now (work .entry)) ++ drop (2 * n) (now (plan .entry))
+        ⌝ }
 {
     let mut p = 0;
     while p < n {

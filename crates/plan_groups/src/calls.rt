@@ -23,7 +23,11 @@ pub enum Planned {
 // The plan of an accepted file with n blocks.
 fn plan_blocks(file: &[u8], work: &mut [u32], result: &mut [u32], n: u32) -> Planned
     requires { ⌜ Accepted (now file) × (n ≡ blockCount (now file)) ⌝ }
-    ensures { λ r. ⌜ record { answer = plannedOf r; work = now (work .exit); result = now (result .exit) } ≡ planCall (Parsed.accepted (blocksOf (now (file .entry)))) (now (work .entry)) (now (result .entry)) ⌝ }
+    ensures { λ r. ⌜
+        record { answer = plannedOf r; work = now (work .exit); result = now (result .exit) }
+        ≡ planCall (Parsed.accepted (blocksOf (now (file .entry)))) (now (work .entry))
+        (now (result .entry))
+        ⌝ }
 {
     let size = n as usize;
     if work.len() < 4 * size {
@@ -41,7 +45,10 @@ fn plan_blocks(file: &[u8], work: &mut [u32], result: &mut [u32], n: u32) -> Pla
 
 // The plan of a file: two numbers for each block in emission order, its group and its index.
 pub fn plan_of(file: &[u8], work: &mut [u32], result: &mut [u32]) -> Planned
-    ensures { λ r. ⌜ record { answer = plannedOf r; work = now (work .exit); result = now (result .exit) } ≡ planCall (parse (now (file .entry))) (now (work .entry)) (now (result .entry)) ⌝ }
+    ensures { λ r. ⌜
+        record { answer = plannedOf r; work = now (work .exit); result = now (result .exit) }
+        ≡ planCall (parse (now (file .entry))) (now (work .entry)) (now (result .entry))
+        ⌝ }
 {
     match check(file) {
         Checked::Accepted { blocks, .. } => plan_blocks(file, work, result, blocks as u32),

@@ -27,9 +27,15 @@ ghost use Rattle.plan_groups.specs.Groups.{AllJoined, Rooted, AllRooted,
 
 // The edge from block i to a key, if there is a block of page 8 with that key.
 fn join_key(file: &[u8], work: &mut [u32], n: usize, i: usize, key: u32)
-    requires { ⌜ (4 * n ≤ length (now work)) × (n ≤ 65536) × (i < n) × (n ≡ blockCount (now file)) ⌝ }
+    requires { ⌜
+        (4 * n ≤ length (now work)) × (n ≤ 65536) × (i < n) × (n ≡ blockCount (now file))
+        ⌝ }
     requires { ⌜ Forest (2 * n) (quarter1 n (now work)) ⌝ }
-    ensures { λ _. ⌜ Joined 1 n (now (work .entry)) (now (work .exit)) (λ q. joinTo i q (target key (blocksOf (now (file .entry))) 0)) (Accepted (now (file .entry))) ⌝ }
+    ensures { λ _. ⌜
+        Joined 1 n (now (work .entry)) (now (work .exit))
+        (λ q. joinTo i q (target key (blocksOf (now (file .entry))) 0))
+        (Accepted (now (file .entry)))
+        ⌝ }
 {
     let Target::At(j) = find_target(file, key, i) else {
         return;
@@ -40,9 +46,15 @@ fn join_key(file: &[u8], work: &mut [u32], n: usize, i: usize, key: u32)
 
 // The edges from block i, in the order of its exits.
 fn join_exits(file: &[u8], work: &mut [u32], n: usize, i: usize, exits: Exits)
-    requires { ⌜ (4 * n ≤ length (now work)) × (n ≤ 65536) × (i < n) × (n ≡ blockCount (now file)) ⌝ }
+    requires { ⌜
+        (4 * n ≤ length (now work)) × (n ≤ 65536) × (i < n) × (n ≡ blockCount (now file))
+        ⌝ }
     requires { ⌜ Forest (2 * i) (quarter1 n (now work)) ⌝ }
-    ensures { λ _. ⌜ Joined 2 n (now (work .entry)) (now (work .exit)) (λ q. joinExits (blocksOf (now (file .entry))) i q (keysOf exits)) (Accepted (now (file .entry))) ⌝ }
+    ensures { λ _. ⌜
+        Joined 2 n (now (work .entry)) (now (work .exit))
+        (λ q. joinExits (blocksOf (now (file .entry))) i q (keysOf exits))
+        (Accepted (now (file .entry)))
+        ⌝ }
 {
     match exits {
         Exits::None => {}
@@ -56,10 +68,15 @@ fn join_exits(file: &[u8], work: &mut [u32], n: usize, i: usize, exits: Exits)
 
 // The edges from block i, if it is one of page 8.
 fn join_block(file: &[u8], work: &mut [u32], n: usize, i: usize)
-    requires { ⌜ (4 * n ≤ length (now work)) × (n ≤ 65536) × (i < n) × (n ≡ blockCount (now file)) ⌝ }
+    requires { ⌜
+        (4 * n ≤ length (now work)) × (n ≤ 65536) × (i < n) × (n ≡ blockCount (now file))
+        ⌝ }
     requires { ⌜ Forest (2 * i) (quarter1 n (now work)) ⌝ }
     requires { ⌜ (Accepted (now file) → HasFirsts (now file) n (now work)) ⌝ }
-    ensures { λ _. ⌜ Joined 2 n (now (work .entry)) (now (work .exit)) (joinRecord (now (file .entry)) i) (Accepted (now (file .entry))) ⌝ }
+    ensures { λ _. ⌜
+        Joined 2 n (now (work .entry)) (now (work .exit)) (joinRecord (now (file .entry)) i)
+        (Accepted (now (file .entry)))
+        ⌝ }
 {
     let FoundBlock::At(block) = block_at(file, i) else {
         return;

@@ -43,7 +43,10 @@ pub(crate) fn link_members(work: &mut [u32], n: u32)
     requires { ⌜ 4 * n ≤ length (now work) ⌝ }
     requires { ⌜ ((i : ℕ) → i < n → getD (now work) (2 * n + i) 0 < n) ⌝ }
     ensures { λ _. ⌜ Outside n (now (work .entry)) (now (work .exit)) ⌝ }
-    ensures { λ _. ⌜ ((roots : List ℕ) → HasRoots n roots (now (work .entry)) → Linked roots n 0 (now (work .exit))) ⌝ }
+    ensures { λ _. ⌜
+        ((roots : List ℕ) → HasRoots n roots (now (work .entry))
+        → Linked roots n 0 (now (work .exit)))
+        ⌝ }
 {
     no_members(work, n);
     let mut left = n;

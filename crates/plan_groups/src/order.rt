@@ -22,7 +22,10 @@ pub(crate) struct Part {
 // How many instructions a block has.
 pub(crate) fn count_of(file: &[u8], i: usize) -> u64
     ensures { λ r. ⌜ r < 2 ^ 32 ⌝ }
-    ensures { λ r. ⌜ (Accepted (now (file .entry)) → i < blockCount (now (file .entry)) → r ≡ countAt (now (file .entry)) (blockStart (now (file .entry)) i)) ⌝ }
+    ensures { λ r. ⌜
+        (Accepted (now (file .entry)) → i < blockCount (now (file .entry))
+        → r ≡ countAt (now (file .entry)) (blockStart (now (file .entry)) i))
+        ⌝ }
 {
     let FoundBlock::At(block) = block_at(file, i) else {
         return 0;
@@ -34,7 +37,11 @@ pub(crate) fn count_of(file: &[u8], i: usize) -> u64
 // is not empty.
 fn take_block(limit: u64, part: Part, open: bool, count: u64) -> Part
     requires { ⌜ (part .group < 65536) × (part .total < 2 ^ 49) × (count < 2 ^ 32) ⌝ }
-    ensures { λ r. ⌜ r ≡ cond (closes limit (part .total) «open» count) (record { group = part .group + 1; total = count }) (record { group = part .group; total = part .total + count }) ⌝ }
+    ensures { λ r. ⌜
+        r ≡ cond (closes limit (part .total) «open» count)
+        (record { group = part .group + 1; total = count })
+        (record { group = part .group; total = part .total + count })
+        ⌝ }
 {
     let total = part.total + count;
     if limit < total {
@@ -54,7 +61,9 @@ fn take_block(limit: u64, part: Part, open: bool, count: u64) -> Part
 // A block and its group at a place of the emission order.
 fn put_row(work: &mut [u32], n: usize, place: usize, i: u32, group: u32)
     requires { ⌜ (4 * n ≤ length (now work)) × (place < n) ⌝ }
-    ensures { λ _. ⌜ now (work .exit) ≡ set (set (now (work .entry)) place i) (2 * n + place) group ⌝ }
+    ensures { λ _. ⌜
+        now (work .exit) ≡ set (set (now (work .entry)) place i) (2 * n + place) group
+        ⌝ }
 {
     work[place] = i;
     work[2 * n + place] = group;

@@ -20,7 +20,10 @@ fn no_groups(work: &mut [u32], n: usize)
 // The group of the block in row p.
 fn put_group(work: &mut [u32], n: usize, p: usize)
     requires { ⌜ (4 * n ≤ length (now work)) × (n ≤ 65536) × (p < n) ⌝ }
-    ensures { λ _. ⌜ ((work₀ : List ℕ) → GroupsFrom n (p + 1) work₀ (now (work .entry)) → GroupsFrom n p work₀ (now (work .exit))) ⌝ }
+    ensures { λ _. ⌜
+        ((work₀ : List ℕ) → GroupsFrom n (p + 1) work₀ (now (work .entry))
+        → GroupsFrom n p work₀ (now (work .exit)))
+        ⌝ }
 {
     let i = work[p] as usize;
     if i < n {

@@ -14,7 +14,11 @@ ghost use Rattle.plan_groups.specs.Groups.{HasRoom};
 // such a group has no other.
 pub fn in_group(file: &[u8], work: &[u32], n: usize, group: u32, i: usize, key: u32) -> bool
     requires { ⌜ HasRoom (now file) (now work) n × (i < n) ⌝ }
-    ensures { λ r. ⌜ ((limit : ℕ) → HoldsPlan (now (file .entry)) n limit (now (work .entry)) → 2 ≤ length (membersOf limit (blocksOf (now (file .entry))) group) → r ≡ among key (groupKeys limit (now (file .entry)) group)) ⌝ }
+    ensures { λ r. ⌜
+        ((limit : ℕ) → HoldsPlan (now (file .entry)) n limit (now (work .entry))
+        → 2 ≤ length (membersOf limit (blocksOf (now (file .entry))) group)
+        → r ≡ among key (groupKeys limit (now (file .entry)) group))
+        ⌝ }
 {
     let Target::At(j) = find_target(file, key, i) else {
         return false;

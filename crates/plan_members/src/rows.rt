@@ -13,7 +13,12 @@ ghost use Rattle.plan_members.specs.Prepared.{HoldsPlan};
 pub fn row_block(work: &[u32], p: usize) -> usize
     requires { ⌜ p < length (now work) ⌝ }
     ensures { λ r. ⌜ r ≡ getD (now (work .entry)) p 0 ⌝ }
-    ensures { λ r. ⌜ ((f : List ℕ) (n limit g k : ℕ) → HoldsPlan f n limit (now (work .entry)) → p ≡ startOf (groups limit (blocksOf f)) g + k → k < length (membersOf limit (blocksOf f) g) → r ≡ getD (membersOf limit (blocksOf f) g) k 0) ⌝ }
+    ensures { λ r. ⌜
+        ((f : List ℕ) (n limit g k : ℕ) → HoldsPlan f n limit (now (work .entry))
+        → p ≡ startOf (groups limit (blocksOf f)) g + k
+        → k < length (membersOf limit (blocksOf f) g)
+        → r ≡ getD (membersOf limit (blocksOf f) g) k 0)
+        ⌝ }
 {
     work[p] as usize
 }
@@ -22,7 +27,11 @@ pub fn row_block(work: &[u32], p: usize) -> usize
 pub fn row_group(work: &[u32], n: usize, p: usize) -> u32
     requires { ⌜ (4 * n ≤ length (now work)) × (n ≤ 65536) × (p < n) ⌝ }
     ensures { λ r. ⌜ r ≡ getD (now (work .entry)) (2 * n + p) 0 ⌝ }
-    ensures { λ r. ⌜ ((f : List ℕ) (limit g k : ℕ) → HoldsPlan f n limit (now (work .entry)) → p ≡ startOf (groups limit (blocksOf f)) g + k → k < length (membersOf limit (blocksOf f) g) → r ≡ g) ⌝ }
+    ensures { λ r. ⌜
+        ((f : List ℕ) (limit g k : ℕ) → HoldsPlan f n limit (now (work .entry))
+        → p ≡ startOf (groups limit (blocksOf f)) g + k
+        → k < length (membersOf limit (blocksOf f) g) → r ≡ g)
+        ⌝ }
 {
     work[2 * n + p]
 }
@@ -30,7 +39,9 @@ pub fn row_group(work: &[u32], n: usize, p: usize) -> u32
 // The number of the first instruction of block i, where there are n blocks.
 pub fn first_of(work: &[u32], n: usize, i: usize) -> usize
     requires { ⌜ (4 * n ≤ length (now work)) × (n ≤ 65536) × (i < n) ⌝ }
-    ensures { λ r. ⌜ ((f : List ℕ) (limit : ℕ) → HoldsPlan f n limit (now (work .entry)) → r ≡ countSum f i) ⌝ }
+    ensures { λ r. ⌜
+        ((f : List ℕ) (limit : ℕ) → HoldsPlan f n limit (now (work .entry)) → r ≡ countSum f i)
+        ⌝ }
 {
     work[3 * n + i] as usize
 }
@@ -40,7 +51,11 @@ pub fn first_of(work: &[u32], n: usize, i: usize) -> usize
 pub fn group_end(work: &[u32], n: usize, p: usize) -> usize
     requires { ⌜ (4 * n ≤ length (now work)) × (n ≤ 65536) × (p < n) ⌝ }
     ensures { λ r. ⌜ (p < r) × (r ≤ n) ⌝ }
-    ensures { λ r. ⌜ ((f : List ℕ) (limit g : ℕ) → HoldsPlan f n limit (now (work .entry)) → p ≡ startOf (groups limit (blocksOf f)) g → r ≡ startOf (groups limit (blocksOf f)) (suc g)) ⌝ }
+    ensures { λ r. ⌜
+        ((f : List ℕ) (limit g : ℕ) → HoldsPlan f n limit (now (work .entry))
+        → p ≡ startOf (groups limit (blocksOf f)) g
+        → r ≡ startOf (groups limit (blocksOf f)) (suc g))
+        ⌝ }
 {
     let group = work[2 * n + p];
     let mut end = p + 1;

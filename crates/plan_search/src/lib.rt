@@ -85,7 +85,9 @@ fn first_from(file: &[u8], key: u64, i: usize) -> usize
 pub fn find_target(file: &[u8], key: u32, i: usize) -> Target
     requires { ⌜ i < blockCount (now file) ⌝ }
     ensures { λ r. ⌜ TargetInside (now (file .entry)) r ⌝ }
-    ensures { λ r. ⌜ (Accepted (now (file .entry)) → targetOf r ≡ target key (blocksOf (now (file .entry))) 0) ⌝ }
+    ensures { λ r. ⌜
+        (Accepted (now (file .entry)) → targetOf r ≡ target key (blocksOf (now (file .entry))) 0)
+        ⌝ }
 {
     let j = first_from(file, key as u64, i);
     let FoundBlock::At(block) = block_at(file, j) else {

@@ -13,7 +13,15 @@ pub extern "C" fn recomp_check(
     blocks: &mut u64,
     instructions: &mut u64,
 ) -> u32
-    ensures { λ r. ⌜ record { number = r; at = now (at .exit); blocks = now (blocks .exit); instructions = now (instructions .exit) } ≡ checkNumbers (checkAnswer (parse (now (file .entry)))) ⌝ }
+    ensures { λ r. ⌜
+        record {
+          number = r;
+          at = now (at .exit);
+          blocks = now (blocks .exit);
+          instructions =
+              now (instructions .exit);
+        } ≡ checkNumbers (checkAnswer (parse (now (file .entry))))
+        ⌝ }
 {
     match check(file) {
         Checked::Accepted {

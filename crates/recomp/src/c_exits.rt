@@ -11,7 +11,16 @@ ghost use Rattle.recomp.specs.Answer.{exitsNumbers};
 
 // The numbers of exits: how many keys, and the keys.
 fn put_exits(exits: Exits, count: &mut u64, first: &mut u64, second: &mut u64)
-    ensures { λ _. ⌜ record { number = 0; at = 0; count = now (count .exit); first = now (first .exit); second = now (second .exit) } ≡ exitsNumbers (value (keysOf exits)) ⌝ }
+    ensures { λ _. ⌜
+        record {
+          number = 0;
+          at = 0;
+          count = now (count .exit);
+          first = now (first .exit);
+          second =
+              now (second .exit);
+        } ≡ exitsNumbers (value (keysOf exits))
+        ⌝ }
 {
     match exits {
         Exits::None => {
@@ -42,7 +51,17 @@ pub extern "C" fn recomp_exits(
     first: &mut u64,
     second: &mut u64,
 ) -> u32
-    ensures { λ r. ⌜ record { number = r; at = now (at .exit); count = now (count .exit); first = now (first .exit); second = now (second .exit) } ≡ exitsNumbers (exitsCall (parse (now (file .entry))) block) ⌝ }
+    ensures { λ r. ⌜
+        record {
+          number = r;
+          at = now (at .exit);
+          count = now (count .exit);
+          first =
+              now (first .exit);
+          second = now (second .exit);
+        }
+        ≡ exitsNumbers (exitsCall (parse (now (file .entry))) block)
+        ⌝ }
 {
     match exits_of(file, block) {
         Exiting::Exits(exits) => {

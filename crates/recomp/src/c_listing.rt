@@ -15,7 +15,18 @@ pub extern "C" fn recomp_listing(
     at: &mut u64,
     length: &mut u64,
 ) -> u32
-    ensures { λ r. ⌜ record { number = r; at = now (at .exit); count = now (length .exit); work = now (work .exit); result = now (text .exit) } ≡ outcomeNumbers (listingCall (parse (now (file .entry))) (now (work .entry)) (now (text .entry))) ⌝ }
+    ensures { λ r. ⌜
+        record {
+          number = r;
+          at = now (at .exit);
+          count = now (length .exit);
+          work =
+              now (work .exit);
+          result = now (text .exit);
+        }
+        ≡ outcomeNumbers
+        (listingCall (parse (now (file .entry))) (now (work .entry)) (now (text .entry)))
+        ⌝ }
 {
     match listing_of(file, work, text) {
         Listed::Length(n) => {

@@ -15,7 +15,18 @@ pub extern "C" fn recomp_plan(
     at: &mut u64,
     blocks: &mut u64,
 ) -> u32
-    ensures { λ r. ⌜ record { number = r; at = now (at .exit); count = now (blocks .exit); work = now (work .exit); result = now (plan .exit) } ≡ outcomeNumbers (planCall (parse (now (file .entry))) (now (work .entry)) (now (plan .entry))) ⌝ }
+    ensures { λ r. ⌜
+        record {
+          number = r;
+          at = now (at .exit);
+          count = now (blocks .exit);
+          work =
+              now (work .exit);
+          result = now (plan .exit);
+        }
+        ≡ outcomeNumbers
+        (planCall (parse (now (file .entry))) (now (work .entry)) (now (plan .entry)))
+        ⌝ }
 {
     match plan_of(file, work, plan) {
         Planned::Blocks(b) => {

@@ -24,7 +24,22 @@ pub extern "C" fn recomp_unit(
     done: &mut u64,
     last: &mut u64,
 ) -> u32
-    ensures { λ r. ⌜ record { number = r; at = now (at .exit); length = now (length .exit); done = now (done .exit); last = now (last .exit); work = now (work .exit); text = now (text .exit) } ≡ unitNumbers (unitCall «max_bytes» k (parse (now (file .entry))) (now (work .entry)) (now (text .entry))) ⌝ }
+    ensures { λ r. ⌜
+        record {
+          number = r;
+          at = now (at .exit);
+          length = now (length .exit);
+          done =
+              now (done .exit);
+          last = now (last .exit);
+          work = now (work .exit);
+          text =
+              now (text .exit);
+        }
+        ≡ unitNumbers
+        (unitCall «max_bytes» k (parse (now (file .entry))) (now (work .entry))
+        (now (text .entry)))
+        ⌝ }
     ensures { λ r. ⌜ Demand3Of hashMultiplier partLimit «max_bytes» (now (file .entry)) ⌝ }
     ensures { λ r. ⌜ MeaningOf hashMultiplier (now (file .entry)) ⌝ }
 {

@@ -13,7 +13,11 @@ ghost use Rattle.claim_meaning.specs.Meaning.{MeaningOf};
 // of that file at that size keeps demand 3, and the text of its blocks, read by C99, does what the
 // manual says of their native records, but for what docs/DIFFERENCES.md excepts.
 pub fn unit(file: &[u8], max_bytes: u64, k: u64, work: &mut [u32], text: &mut [u8]) -> Translated
-    ensures { λ r. ⌜ record { answer = translatedOf r; work = now (work .exit); result = now (text .exit) } ≡ unitCall «max_bytes» k (parse (now (file .entry))) (now (work .entry)) (now (text .entry)) ⌝ }
+    ensures { λ r. ⌜
+        record { answer = translatedOf r; work = now (work .exit); result = now (text .exit) }
+        ≡ unitCall «max_bytes» k (parse (now (file .entry))) (now (work .entry))
+        (now (text .entry))
+        ⌝ }
     ensures { λ r. ⌜ Demand3Of hashMultiplier partLimit «max_bytes» (now (file .entry)) ⌝ }
     ensures { λ r. ⌜ MeaningOf hashMultiplier (now (file .entry)) ⌝ }
 {

@@ -20,7 +20,8 @@ returns-3 : tie.Need-returns-3
 returns-3 c =
     rw (c .before .before .before .before .before .before .before .before .before .before .before
     .exits2 .given .1)
-    (wrote-as (seq (c .before .before .before .before .before .before .before .put-then-hex82 .ensures)
+    (wrote-as
+    (seq (c .before .before .before .before .before .before .before .put-then-hex82 .ensures)
     (c .before .before .put-then-hex83 .ensures)) refl)
 
 pub put-exits-spec : {M : Type 1} → statement M

@@ -135,7 +135,8 @@ loop-again c = let pre =
 
 same-length-2 : tie.Need-same-length-2 Inv-loop μ-loop
 same-length-2 c =
-    kept (c .before .loop .inv .2 _ (wrote-as (c .before .before .before .before .put .ensures) refl))
+    kept (c .before .loop .inv .2 _
+    (wrote-as (c .before .before .before .before .put .ensures) refl))
 
 returns-2 : tie.Need-returns-2 Inv-loop μ-loop
 unfolding listing
@@ -153,7 +154,9 @@ returns-2 c = let f =
       c .before .before .before .before .before .before .before .before .before .before .pre
           .0 .2,
     )) in
-    wrote-as (c .before .loop .inv .2 _ (wrote-as (c .before .before .before .before .put .ensures) refl))
+    wrote-as
+    (c .before .loop .inv .2 _
+    (wrote-as (c .before .before .before .before .put .ensures) refl))
     (ap (λ (bs : List Block). flat (header ▸ linesFrom (plan partLimit (blocksOf f)) 0 bs) [])
     all)
 

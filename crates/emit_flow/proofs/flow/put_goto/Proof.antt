@@ -13,7 +13,8 @@ returns c =
     let c3 = c .before .before in
     let c2 = c3 .before .before .before .before .before in
     let c1 = c2 .before .before .before .before .before in
-    wrote-as (seq (c1 .put-indent .ensures) (seq (c2 .put-then-key .ensures) (c3 .put .ensures))) refl
+    wrote-as (seq (c1 .put-indent .ensures) (seq (c2 .put-then-key .ensures) (c3 .put .ensures)))
+    refl
 
 pub put-goto-spec : {M : Type 1} → statement M
 put-goto-spec =

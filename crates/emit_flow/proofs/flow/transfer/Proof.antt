@@ -16,7 +16,8 @@ returns : tie.Need-returns
 returns c =
     let c2 = c .before .before in
     let c1 = c2 .before .before in
-    λ ks o h. wrote-as (c2 .put-return .ensures) (returned ks _ o _ _ (h ∙ not-true _ (c1 .if1 .taken)))
+    λ ks o h. wrote-as (c2 .put-return .ensures)
+    (returned ks _ o _ _ (h ∙ not-true _ (c1 .if1 .taken)))
 
 returns-2 : tie.Need-returns-2
 returns-2 c =

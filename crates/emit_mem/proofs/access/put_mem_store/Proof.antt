@@ -20,7 +20,8 @@ returns c =
     let a = c1 .before .before .before .args in
     let store : List Plain = stored (a .width) (get (reg (a .rd))) ∷ [] in
     let back : List Plain = listIf (a .wb && not (eqb (a .rn) 15)) (setReg (a .rn) (v32 x-ob)) in
-    wrote-as (seq (c1 .put-store-line .ensures) (c2 .put-store-ob .ensures)) (apart-both 8 store back)
+    wrote-as (seq (c1 .put-store-line .ensures) (c2 .put-store-ob .ensures))
+    (apart-both 8 store back)
 
 pub put-mem-store-spec : {M : Type 1} → statement M
 put-mem-store-spec =

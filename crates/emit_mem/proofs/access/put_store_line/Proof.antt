@@ -14,7 +14,8 @@ returns c =
     let c3 = c .before .before in
     let c2 = c3 .before .before .before .before .before in
     let c1 = c2 .before .before .before in
-    rw (c1 .enum-told .given .1) (wrote-as (seq (c2 .put-then-dec .ensures) (c3 .put .ensures)) refl)
+    rw (c1 .enum-told .given .1)
+    (wrote-as (seq (c2 .put-then-dec .ensures) (c3 .put .ensures)) refl)
 
 returns-2 : tie.Need-returns-2
 unfolding decimal numeral
@@ -22,7 +23,8 @@ returns-2 c =
     let c3 = c .before .before in
     let c2 = c3 .before .before .before .before .before in
     let c1 = c2 .before .before .before in
-    rw (c1 .enum-told2 .given .1) (wrote-as (seq (c2 .put-then-dec2 .ensures) (c3 .put2 .ensures)) refl)
+    rw (c1 .enum-told2 .given .1)
+    (wrote-as (seq (c2 .put-then-dec2 .ensures) (c3 .put2 .ensures)) refl)
 
 returns-3 : tie.Need-returns-3
 unfolding decimal numeral
@@ -30,7 +32,8 @@ returns-3 c =
     let c3 = c .before .before in
     let c2 = c3 .before .before .before .before .before in
     let c1 = c2 .before .before .before in
-    rw (c1 .enum-told3 .given .1) (wrote-as (seq (c2 .put-then-dec3 .ensures) (c3 .put3 .ensures)) refl)
+    rw (c1 .enum-told3 .given .1)
+    (wrote-as (seq (c2 .put-then-dec3 .ensures) (c3 .put3 .ensures)) refl)
 
 pub put-store-line-spec : {M : Type 1} → statement M
 put-store-line-spec =

@@ -6,7 +6,8 @@ use borrow.Author.Needs.{needs}
 use Rattle.c_tree.specs.Stmt.{end}
 use Rattle.emit_mem.proofs.Lines.{lines-both}
 use Rattle.lower_forms.specs.Forms.{Lines}
-use Rattle.lower_forms.specs.InlineBody.{listIf, eachOnLine, setReg, listed, movedBase, storedReg, stores}
+use Rattle.lower_forms.specs.InlineBody.{listIf, eachOnLine, setReg, listed, movedBase, storedReg}
+use Rattle.lower_forms.specs.InlineBody.{stores}
 use Rattle.base_text.proofs.Laws.{seq, wrote-as, kept}
 use Rattle.emit_mem.proofs.block_mem.put_block_stores.Statement.{statement}
 use Rattle.emit_mem.proofs.block_mem.put_block_stores.Tie as tie

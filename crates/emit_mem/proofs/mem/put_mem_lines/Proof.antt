@@ -23,7 +23,8 @@ returns c =
     memLines (baseExpr (a .thumb) (a .i) (a .rn)) (a .up) (a .pre) []
     (offsetOf (pcValue (a .i)) (a .offset)) in
     let rest : Lines =
-    eachOnLine (access (a .load) (a .width) (a .signed) (a .rd) (a .rn) (c1 .writes-back .result)) in
+    eachOnLine
+    (access (a .load) (a .width) (a .signed) (a .rd) (a .rn) (c1 .writes-back .result)) in
     rw (sym (c1 .writes-back .ensures))
     (wrote-as (seq (c2 .put-address .ensures) (c3 .put-access .ensures))
     (lines-both 8 first rest end []))

@@ -36,7 +36,8 @@ returns-4 c =
     let c3 = c .before .before in
     let c2 = c3 .before .before in
     let c1 = c2 .before in
-    rw (ne-eqb _ _ (c1 .if1 .left), ne-eqb _ _ (c2 .if2 .left)) (wrote-as (c3 .put-place .ensures) refl)
+    rw (ne-eqb _ _ (c1 .if1 .left), ne-eqb _ _ (c2 .if2 .left))
+    (wrote-as (c3 .put-place .ensures) refl)
 
 pub put-stored-spec : {M : Type 1} → statement M
 put-stored-spec =

@@ -27,8 +27,11 @@ loop-holds c = (omega arith, none (search needs) (search needs))
 loop-again : tie.Need-loop-again Inv-loop μ-loop
 loop-again c =
     let b = c .before .before in
-    let t = b .before .before .before in
-    (omega arith, wrote-as (seq (t .loop .inv .1) (b .put-listed-store .ensures)) (stores-more _ _ _ _))
+    let t = b .before .before .before in (
+      omega arith,
+      wrote-as (seq (t .loop .inv .1) (b .put-listed-store .ensures))
+          (stores-more _ _ _ _),
+    )
 
 returns : tie.Need-returns Inv-loop μ-loop
 returns c = let e : c .before .loop .r ≡ 16 = omega arith in rw (sym e) (c .before .loop .inv .1)

@@ -16,7 +16,8 @@ returns-2 c =
     let c3 = c .before .before in
     let c2 = c3 .before in
     let c1 = c2 .before .before in
-    wrote-as (rw (c2 .last-out .ensures) at (c3 .put-bit .ensures)) (left-carry _ _ (c1 .if1 .left) [])
+    wrote-as (rw (c2 .last-out .ensures) at (c3 .put-bit .ensures))
+    (left-carry _ _ (c1 .if1 .left) [])
 
 pub put-left-carry-spec : {M : Type 1} → statement M
 put-left-carry-spec =
