@@ -1,8 +1,9 @@
-//! Block files in plain Rust: a builder, a check, exits, plan, listing and the answers for units, a generator, damage and the stored vectors.
+//! Block files in plain Rust: a builder, a check, exits, plan, listing and the answers for units, a generator, damage and the stored vectors; and the list of crates held against the sources.
 
 pub mod check;
 pub mod damage;
 pub mod file;
+pub mod floors;
 pub mod generate;
 pub mod lent;
 pub mod listing;

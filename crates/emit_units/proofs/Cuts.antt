@@ -295,12 +295,12 @@ module _ {f : List ℕ} {limit max i p : ℕ} (r : Reached f limit max i p) {e :
             e .last;
       }
 
-  abbrev after : List TranslationUnit
-  after = cond (e .last) [] (unitsFrom f limit max (r .group + u .size))
+  abbrev later : List TranslationUnit
+  later = cond (e .last) [] (unitsFrom f limit max (r .group + u .size))
 
   units-at : (j : ℕ)
       → getElem? (units hashMultiplier limit max (blocksOf f)) (i + j)
-      ≡ getElem? (here ∷ after) j
+      ≡ getElem? (here ∷ later) j
   units-at j = r .units j ∙ ap (λ (us : List TranslationUnit). getElem? us j) (u .units)
 
   -- a unit that is not the last

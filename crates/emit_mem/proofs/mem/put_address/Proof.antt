@@ -12,7 +12,7 @@ returns c =
     let c3 = c4 .before .before .before .before in
     let c2 = c3 .before .before .before .before in
     let c1 = c2 .before .before in
-    let ob = rw (c1 .pc-value .ensures) at (c3 .put-ob-line .ensures) in
+    let ob = rw (c1 .pc-value .ensures) at (c3 .put-moved-base-line .ensures) in
     wrote-as (seq (c2 .put-base-line .ensures) (seq ob (c4 .put-addr-line .ensures))) refl
 
 pub put-address-spec : {M : Type 1} → statement M

@@ -45,7 +45,7 @@ returns-3 c = let args =
     (c .before .before .before .before .exits-at .result) _
     (λ a.
     let starts =
-    c .before .before .before .before .before .as_index .ensures ∙ pre .1 .1 a _ (pre .0 .2) in
+    c .before .before .before .before .before .as-index .ensures ∙ pre .1 .1 a _ (pre .0 .2) in
     c .before .before .before .before .exits-at .ensures _
     (record { accepted = a; found = sym reads ∙ found; starts = starts })
     ∙ ap (λ (k : ℕ). exits (blockAt (now (args .file)) (blockStart (now (args .file)) (args .i)) k))

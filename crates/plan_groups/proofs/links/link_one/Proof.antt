@@ -10,7 +10,7 @@ slice-write-work-2 : tie.Need-slice-write-work-2
 slice-write-work-2 c = simp length-set (omega arith)
 
 returns : tie.Need-returns
-returns c = rw (c .before .as_index .ensures)
+returns c = rw (c .before .as-index .ensures)
 
 pub link-one-spec : {M : Type 1} → statement M
 link-one-spec =

@@ -13,8 +13,8 @@ returns c =
     let c1 = c2 .before .before .before .before in
     wrote-as (seq (c1 .put-step .ensures) (seq (c2 .put-offset .ensures) (c3 .put .ensures))) refl
 
-pub put-ob-line-spec : {M : Type 1} → statement M
-put-ob-line-spec =
+pub put-moved-base-line-spec : {M : Type 1} → statement M
+put-moved-base-line-spec =
     tie.close
     (tie.spec (search needs) (search needs) (search needs) (search needs) (λ c. kept (returns c))
     returns)
