@@ -1,0 +1,3 @@
+-- The laws that the proofs of calls share.
+pub mod Opening
+pub mod Settling
