@@ -1,5 +1,8 @@
-//! Block files in plain Rust: a builder, a check, exits, plan, listing and the answers for units, a generator, damage and the stored vectors; and the list of crates held against the sources.
+//! Block files in plain Rust: a builder, a check, exits, plan, listing and the answers for units, a
+//! generator, damage and the stored vectors; and what is read off the sources: the list of crates, and
+//! the definitions to be believed.
 
+pub mod believed;
 pub mod check;
 pub mod damage;
 pub mod file;
