@@ -2,7 +2,7 @@
 use crate::instrs::emit_record;
 use crate::member::Member;
 use crate::member::is_inside;
-use emit_writer::emit_closing;
+use emit_flow::emit_closing;
 use file_blocks::BlockRecord;
 use plan_exits::instr_addr;
 use plan_exits::key_of;

@@ -94,12 +94,6 @@ pub ungated : (ks : List ℕ) (a : ℕ) (o : Owner) (n key : ℕ) → among key 
 unfolding transfer gotoCode
 ungated ks a o n key e f = rw (e, f) refl
 
--- cycles that are not 0 are ticked
-pub ticks : (n : ℕ) → (n ≡ 0 → ⊥)
-    → flat (text "    a->tick(m, " ▸ dec n ▸ text "u);\n") [] ≡ flat (linesText 4 (flushTicks n)) []
-ticks zero h = absurd (h refl)
-ticks (suc n) h = refl
-
 -- the lines that set r14 and r15
 pub lr-set : (n : ℕ)
     → flat (text "    c[14] = 0x" ▸ hex8 n ▸ text "u;\n") []

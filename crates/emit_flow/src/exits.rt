@@ -1,10 +1,10 @@
 // Branches, fused pairs, and the closing transfer.
-use crate::flow::flush_ticks;
 use crate::flow::set_lr;
 use crate::flow::set_pc;
 use crate::flow::transfer;
 use armv4t::clear_bit0;
 use armv4t::set_bit0;
+use emit_writer::flush_ticks;
 ghost use mathlib.Core.Path.{_≡_};
 ghost use mathlib.Core.List.{List, _++_};
 ghost use Prim.Native.Nat.{ℕ};
@@ -124,14 +124,24 @@ pub fn emit_pair(
     transfer(out, s, inside, src, set_bit0(target), false)
 }
 
-// The end of a block that goes on at address next, whose key is given too, after its ticks.
-pub fn put_closing(out: &mut [u8], at: usize, next: u32, inside: bool, src: u32, key: u32) -> usize
+// The end of a block that goes on at address next, whose key is given too.
+pub fn emit_closing(
+    out: &mut [u8],
+    at: usize,
+    cycles: u64,
+    next: u32,
+    inside: bool,
+    src: u32,
+    key: u32,
+) -> usize
     ensures { λ r. ⌜
         ((ks : List ℕ) → among key ks ≡ inside
-        → Wrote (now (out .entry)) at (codeText (exitCode ks src common (pcLine next) key))
+        → Wrote (now (out .entry)) at
+        (codeText (exitCode ks src common (flushTicks cycles ++ pcLine next) key))
         (now (out .exit)) r)
         ⌝ }
 {
-    let p = set_pc(out, at, next);
-    transfer(out, p, inside, src, key, false)
+    let p = flush_ticks(out, at, cycles);
+    let q = set_pc(out, p, next);
+    transfer(out, q, inside, src, key, false)
 }

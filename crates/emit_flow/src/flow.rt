@@ -1,4 +1,4 @@
-// Ticks, registers set to a word, and transfers.
+// Registers set to a word, and transfers.
 use crate::keys::put_then_key;
 use armv4t::clear_bit0;
 ghost use mathlib.Core.Path.{_≡_};
@@ -10,23 +10,10 @@ ghost use Rattle.c_tree.specs.Expr.{word, lit};
 ghost use Rattle.c_tree.specs.Stmt.{gate, Owner, common, ret, retIf, end, _⨾_};
 ghost use Rattle.c_tree.specs.Print.{codeText};
 ghost use Rattle.lower_forms.specs.InlineBody.{eachOnLine};
-ghost use Rattle.lower_forms.specs.Block.{flushTicks, setWord, pcLine};
+ghost use Rattle.lower_forms.specs.Block.{setWord, pcLine};
 ghost use Rattle.lower_units.specs.Block.{nl, sp, gotoCode, transfer, linesText};
 ghost use Rattle.file_blocks.specs.Address.{among};
 ghost use Rattle.emit_flow.specs.Pieces.{indent};
-
-// The cycles pending, if there are any.
-pub fn flush_ticks(out: &mut [u8], at: usize, cycles: u64) -> usize
-    ensures { λ r. ⌜
-        Wrote (now (out .entry)) at (linesText 4 (flushTicks cycles)) (now (out .exit)) r
-        ⌝ }
-{
-    if cycles == 0 {
-        return at;
-    }
-    let p = base_text::put_then_dec(out, at, b"    a->tick(m, ", cycles);
-    base_text::put(out, p, b"u);\n")
-}
 
 // r14 set to n.
 pub(crate) fn set_lr(out: &mut [u8], at: usize, n: u32) -> usize

@@ -1,6 +1,6 @@
 // A record left to the interpreter.
-use crate::flow::flush_ticks;
 use crate::flow::set_pc;
+use emit_writer::flush_ticks;
 ghost use mathlib.Core.List.{_++_};
 ghost use Prim.Native.Nat.{ℕ};
 ghost use Rattle.base_text.specs.Wrote.{Wrote};

@@ -1,3 +1,2 @@
 -- What the walks share.
 pub mod Again
-pub mod Held

@@ -1,9 +1,9 @@
-// The end of a block's code, written through a writer: a small struct that holds the lent text, the
-// place reached and the cycles pending.
+// The writer: a small struct that holds the lent text, the place reached and the cycles pending.
+// Every tick is written through it.
+mod ticks;
 mod writer;
 
 pub use writer::Writer;
-pub use writer::close;
-pub use writer::emit_closing;
 pub use writer::flush;
+pub use writer::flush_ticks;
 pub use writer::new;

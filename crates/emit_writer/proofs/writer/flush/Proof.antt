@@ -1,8 +1,8 @@
--- `block_writer::writer::flush` meets its contract: a walk of its MIR, by hand. The text is lent
--- again to `flush_ticks`, for a lifetime that is made for the call, and comes back at the list that
--- `flush_ticks` left (`Again.antt`). It goes into the result, beside the place that `flush_ticks`
--- returned and no cycles. All that the proof knows of `flush_ticks` is that it meets its contract.
--- The parameter is spent, since the result names its lifetime (`Held.antt`'s `writer-spent`).
+-- `emit_writer::writer::flush` meets its contract: a walk of its MIR, by hand. The text is lent
+-- again to `put_tick`, for a lifetime that is made for the call, and comes back at the list that
+-- `put_tick` left (`Again.antt`). It goes into the result, beside the place that `put_tick`
+-- returned and no cycles. All that the proof knows of `put_tick` is that it meets its contract.
+-- The parameter is spent, since the result names its lifetime: nothing is had of it at exit.
 -- Assumes nothing.
 use mathlib.Core.Path.{_≡_, refl, ap}
 use Prim.Native.Nat.{ℕ, _<_, _^_}
@@ -23,7 +23,7 @@ use contract.Monad.{Fun, fact}
 use contract.Running.{givenOf, tables, tablesOf}
 use types.Kit.{Given, ‵, raw, given, _⊛_, some, later, _$_, _∵_, !, qed, by, move, keep, use1, use2}
 use types.Kit.{use3, rewrite, split, join, pick, learn, fsplit, fjoin, feqL, suffices, frame, await}
-use types.Kit.{done}
+use types.Kit.{updating, now as at-once, done}
 use types.Run.{look, init, forget, stop, hop, fld, from, load, lit, addr, of-opd, and-then, no-more}
 use types.Run.{assigns, land, returns, enter, alloc1, alloc0, params1, pass1, pass0, free1, free0}
 use types.Part.{agg, whole, sub, look-in}
@@ -44,32 +44,37 @@ use denote.Triple.Statement.{Contract, Triple}
 use denote.Triple.Call.{calls-at}
 use denote.Triple.Clauses.{ensured, lasts}
 use denote.Triple.Table.{entered, cited}
-use denote.Triple.Walked.{says, Stays, walkOf, Walks, ends-at, walked, walk-meets}
-use denote.Signature.{namedLft}
-use denote.Signature.Struct.{inStruct, makes}
+use denote.Triple.Walked.{says, Stays, stay-dropped, walkOf, Goes, Walks, ends-at, walked}
+use denote.Triple.Walked.{walk-meets}
+use denote.Exit.{no}
+use denote.Signature.{Slot, namedLft, plain}
+use denote.Signature.Struct.{makes}
 use Rattle.base_text.specs.Wrote.{Wrote}
-use Rattle.emit_flow.proofs.flush_ticks as flush-ticks
-use Rattle.emit_flow.proofs.flush_ticks.Symbol as flush-ticks-def
-use Rattle.emit_flow.proofs.flush_ticks.Symbol.{name as #flush-ticks}
-use Rattle.emit_flow.proofs.flush_ticks.Met as flush-ticks-thm
+use Rattle.emit_writer.proofs.ticks.put_tick as put-tick
+use Rattle.emit_writer.proofs.ticks.put_tick.Symbol as put-tick-def
+use Rattle.emit_writer.proofs.ticks.put_tick.Symbol.{name as #put-tick}
+use Rattle.emit_writer.proofs.ticks.put_tick.Met as put-tick-thm
 use Rattle.emit_writer.specs.declared.writer.Writer.{Writer}
-use Rattle.emit_writer.specs.Writer.{ticks}
+use Rattle.emit_writer.specs.Ticks.{ticks}
 use Rattle.emit_writer.proofs.writer.Writer as T
 use Rattle.emit_writer.proofs.writer.Writer.Laws as T′
-use Rattle.emit_writer.proofs.Held.{writer-spent, writer-spent-goes}
 use Rattle.emit_writer.proofs.Again.{LentAgain, lends-again, comes-back}
 use Rattle.emit_writer.proofs.writer.flush.Key.{name as #flush}
 use Rattle.emit_writer.proofs.writer.flush as flush
 use Rattle.emit_writer.proofs.writer.flush.Statement as stated
 use Rattle.emit_writer.proofs.writer.flush.Code as code
 
+-- the parameter's place in the signature
+abbrev WriterS : Slot 1
+WriterS = plain (λ κs. T.the-row (namedLft 1 0 tt κs))
+
 abbrev stayed : Stays (flush.ended .signature .params) (flush.ended .kept)
-stayed = (writer-spent, tt)
+stayed = (stay-dropped WriterS no, tt)
 
 -- the contract that the proof cites
-abbrev FlushTicks : {M : Type 1} (𝓤 : URA M) (H : Heap 𝓤) (A : Atoms 𝓤) (mem : Memory → SProp 𝓤)
+abbrev PutTick : {M : Type 1} (𝓤 : URA M) (H : Heap 𝓤) (A : Atoms 𝓤) (mem : Memory → SProp 𝓤)
     (run : Routine → Fun 𝓤) → Contract 𝓤
-FlushTicks 𝓤 H A mem run = tripleOf 𝓤 H A flush-ticks.signature (flush-ticks.spec 𝓤 H A mem run)
+PutTick 𝓤 H A mem run = tripleOf 𝓤 H A put-tick.signature (put-tick.spec 𝓤 H A mem run)
 
 module _ {M : Type 1} (𝓤 : URA M) (H : Heap 𝓤) (A : Atoms 𝓤) (W : Given 𝓤 H A)
     (mem : Memory → SProp 𝓤) (run : Routine → Fun 𝓤) (κ : Lft) (q : Share) (b o : ℕ) (γ : GName)
@@ -105,10 +110,10 @@ module _ {M : Type 1} (𝓤 : URA M) (H : Heap 𝓤) (A : Atoms 𝓤) (W : Given
       walkOf 𝓤 H A flush.ended stayed (flush.clauses 𝓤 H A mem run) .post
       (((κ, tt), (q, tt), tt, a, vals), tt)
 
-  -- what `flush_ticks`'s triple binds outside: the slice lent again for the lifetime ν, under the
+  -- what `put_tick`'s triple binds outside: the slice lent again for the lifetime ν, under the
   -- name δ
-  abbrev to-ticks : ℕ → GName → FlushTicks 𝓤 H A mem run .Ghost
-  to-ticks ν δ = (
+  abbrev to-tick : ℕ → GName → PutTick 𝓤 H A mem run .Ghost
+  to-tick ν δ = (
     (
       (ν ∷ [], tt),
       (fullShare, tt),
@@ -122,7 +127,7 @@ module _ {M : Type 1} (𝓤 : URA M) (H : Heap 𝓤) (A : Atoms 𝓤) (W : Given
   goes : (ν : ℕ) (δ : GName)
       → ent 𝓤 (sep 𝓤 (A .lft (ν ∷ []) fullShare)
       (sem 𝓤 H A (MutSlice (named 0) (ν ∷ []) u8 .own (x δ ys) (s ∷ []))))
-      (FlushTicks 𝓤 H A mem run .pre (to-ticks ν δ))
+      (PutTick 𝓤 H A mem run .pre (to-tick ν δ))
   goes ν δ =
       qed W (‵ (flft (ν ∷ []) fullShare) ∷ ‵ (MutSlice (named 0) (ν ∷ []) u8 .own (x δ ys) (s ∷ []))
       ∷ []) ∵ nothing ! $ move ! (1 ∷ 0 ∷ []) $ join ! $
@@ -131,10 +136,7 @@ module _ {M : Type 1} (𝓤 : URA M) (H : Heap 𝓤) (A : Atoms 𝓤) (W : Given
       (2 ∷ 0 ∷ []) $ fjoin ! $
       move ! (1 ∷ 0 ∷ []) $ join ! $ frame ! $ done !
 
-  -- what is had at exit of the parameter's fields, and of the result's, at their machine values
-  abbrev had : List Val × (List Val × (List Val × Unit {0})) → Fml
-  had vss = fsep ftrue (fsep (usize .own n (vss .1 .0)) (fsep (u64 .own c (vss .1 .1 .0)) ftrue))
-
+  -- what is had at exit of the result's fields, at their machine values
   abbrev given-on : ℕ → List ℕ → List Val × (List Val × (List Val × Unit {0})) → Fml
   given-on r zs vss =
       fsep (MutSlice (named 0) κ u8 .own (x γ zs) (vss .0))
@@ -148,7 +150,7 @@ module _ {M : Type 1} (𝓤 : URA M) (H : Heap 𝓤) (A : Atoms 𝓤) (W : Given
       suffices ! _
       (ends-at 𝓤 H A flush.ended stayed (flush.clauses 𝓤 H A mem run) W
       (((κ, tt), (q, tt), tt, a, vals), tt) (mach r 0)
-      (record { text = x γ zs; at = r; cycles = 0 }) ((tt, tt), tt) ((tt, (tt, (tt, tt))), tt))
+      (record { text = x γ zs; at = r; cycles = 0 }) ((tt, tt), tt) (tt, tt))
       $
       says ! (λ i. record { text = x γ (e .bytes i); at = e .next i; cycles = 0 }) $
       nothing ! $ move ! (1 ∷ 0 ∷ []) $ join ! $ frame ! $
@@ -158,16 +160,10 @@ module _ {M : Type 1} (𝓤 : URA M) (H : Heap 𝓤) (A : Atoms 𝓤) (W : Given
       use1 W (‵ (T.the-row α .own (record { text = x γ zs; at = r; cycles = 0 }) (mach r 0 ∷ [])))
       (makes 𝓤 H A W (MutSlice (named 0) κ u8 ∷ usize ∷ u64 ∷ []) (given-on r zs)
       (s ∷ [], (vint w64 r ∷ [], (vint w64 0 ∷ [], tt)))) $
-      nothing ! $ owned ! u64 (Is u64) (uint-makes 𝓤 H A W w64) c _ (refl, c-fits) $ fjoin ! $ owned
-      ! usize (Is usize) (uint-makes 𝓤 H A W w64) n _ (refl, n-fits) $ fjoin ! $ nothing !
-      $ fjoin ! $
-      use1 W (‵ (inStruct (MutSlice (named 0) κ u8 ∷ usize ∷ u64 ∷ []) (mach n c ∷ []) had))
-      (makes 𝓤 H A W (MutSlice (named 0) κ u8 ∷ usize ∷ u64 ∷ []) had
-      (s ∷ [], (vint w64 n ∷ [], (vint w64 c ∷ [], tt)))) $
-      nothing ! $ move ! (1 ∷ 0 ∷ []) $ fjoin ! $ done !
+      nothing ! $ nothing ! $ fjoin ! $ done !
 
   module _ (C : Calls 𝓤 H) (Λ : Loops 𝓤 H) (fm : FmC 𝓤 H (W .laws) C)
-      (known : Triple 𝓤 (C #flush-ticks) (FlushTicks 𝓤 H A mem run)) where
+      (known : Triple 𝓤 (C #put-tick) (PutTick 𝓤 H A mem run)) where
     walk : Is (T.the-row α) h (mach n c ∷ []) → Room u8 (length ys)
         → ent 𝓤 (onEntry 𝓤 H A flush.signature (κ, tt) (q, tt) a vals)
         (WpFn 𝓤 H C Λ code.function (mach n c ∷ []) Post)
@@ -216,20 +212,20 @@ module _ {M : Type 1} (𝓤 : URA M) (H : Heap 𝓤) (A : Atoms 𝓤) (W : Given
         (LentAgain u8 κ (ν ∷ []) q γ b o δ ys))))
         (lends-again u8 κ (ν ∷ []) q γ b o 𝓤 H A W (named 0) (named 0) ys) $ await ! tt $ pick !
         (λ δ. split ! $
-        move ! (2 ∷ 0 ∷ []) $ use2 W (raw (FlushTicks 𝓤 H A mem run .pre (to-ticks ν δ))) (goes ν δ)
+        move ! (2 ∷ 0 ∷ []) $ use2 W (raw (PutTick 𝓤 H A mem run .pre (to-tick ν δ))) (goes ν δ)
         $
-        calls-at ! fm (FlushTicks 𝓤 H A mem run) known (to-ticks ν δ)
+        calls-at ! fm (PutTick 𝓤 H A mem run) known (to-tick ν δ)
         (and-then ! (load ! (from ! (stop !)) (look ! 9 refl))
         (and-then ! (load ! (from ! (stop !)) (look ! 17 refl))
         (and-then ! (load ! (from ! (stop !)) (look ! 15 refl)) (no-more !)))) (λ w.
         use1 W (later
         (some (λ (r : ℕ). ((‵ (flft (ν ∷ []) fullShare) ⊛ ‵ ftrue) ⊛ ‵ (usize .own r (w ∷ [])))
-        ⊛ raw (ensured 𝓤 H A flush-ticks.ended (flush-ticks.clauses 𝓤 H A mem run) (ν ∷ [], tt)
+        ⊛ raw (ensured 𝓤 H A put-tick.ended (put-tick.clauses 𝓤 H A mem run) (ν ∷ [], tt)
         (x δ ys, (n, (c, tt))) tt r)))) (id⊢ 𝓤 _) $ await ! tt $ pick ! (λ r.
-        -- what `flush_ticks` ensures, at some last list
+        -- what `put_tick` ensures, at some last list
         split ! $ move ! (1 ∷ []) $ use1 W
         (some (λ (zs : List ℕ × (Unit {0} × (Unit {0} × Unit {0}))). ‵
-        (lasts flush-ticks.ended (ν ∷ [], tt) (x δ ys, (n, (c, tt))) zs) ⊛ raw
+        (lasts put-tick.ended (ν ∷ [], tt) (x δ ys, (n, (c, tt))) zs) ⊛ raw
         (fact 𝓤 (Wrote ys n (ticks c) (zs .0) r)))) (id⊢ 𝓤 _) $ pick ! (λ zs.
         split ! $ move ! (1 ∷ []) $ heard ! (Wrote ys n (ticks c) (zs .0) r)
         (λ e. fsplit ! $ fsplit ! $ move ! (1 ∷ []) $ feqL ! (λ l.
@@ -279,7 +275,7 @@ module _ {M : Type 1} (𝓤 : URA M) (H : Heap 𝓤) (A : Atoms 𝓤) (W : Given
 module _ {M : Type 1} (𝓤 : URA M) (H : Heap 𝓤) (A : Atoms 𝓤) (W : Given 𝓤 H A)
     (mem : Memory → SProp 𝓤) (run : Routine → Fun 𝓤) where
   flush-walks : (C : Calls 𝓤 H) (Λ : Loops 𝓤 H) → FmC 𝓤 H (W .laws) C
-      → Triple 𝓤 (C #flush-ticks) (FlushTicks 𝓤 H A mem run)
+      → Triple 𝓤 (C #put-tick) (PutTick 𝓤 H A mem run)
       → Walks 𝓤 H A flush.ended stayed (WpFn 𝓤 H C Λ code.function) (flush.clauses 𝓤 H A mem run)
   flush-walks C Λ fm known =
       walked 𝓤 H A flush.ended stayed (flush.clauses 𝓤 H A mem run) (WpFn 𝓤 H C Λ code.function)
@@ -296,12 +292,18 @@ module _ {M : Type 1} (𝓤 : URA M) (H : Heap 𝓤) (A : Atoms 𝓤) (W : Given
       (a .0 .text .name) (a .0 .text .now) (a .0 .at) (a .0 .cycles) (fields .1 .0 .1)
       (fields .1 .1 .0 .1) C Λ fm known (are .0) (fields .0 .0 .1)))
 
+-- nothing is said of what is left of the parameter
+spent-goes : {M : Type 1} (𝓤 : URA M) (H : Heap 𝓤) (A : Atoms 𝓤) (W : Given 𝓤 H A)
+    → Goes 𝓤 H A W 1 WriterS no (stay-dropped WriterS no)
+spent-goes 𝓤 H A W κs x f vs fits =
+    qed W (‵ ftrue ∷ []) ∵ updating ! $ at-once ! $ nothing ! $ fjoin ! $ done !
+
 flush-meets : {M : Type 1} (𝓤 : URA M) (H : Heap 𝓤) (A : Atoms 𝓤) → Given 𝓤 H A
     → (mem : Memory → SProp 𝓤) (run : Routine → Fun 𝓤) (𝓣 : Tables 𝓤 H)
-    → Triple 𝓤 (𝓣 .C #flush-ticks) (FlushTicks 𝓤 H A mem run)
+    → Triple 𝓤 (𝓣 .C #put-tick) (PutTick 𝓤 H A mem run)
     → Meets 𝓤 H A flush.signature (WpFn 𝓤 H (𝓣 .C) (𝓣 .Λ) code.function) (flush.spec 𝓤 H A mem run)
 flush-meets 𝓤 H A W mem run 𝓣 known =
-    walk-meets 𝓤 H A flush.ended stayed W (writer-spent-goes 𝓤 H A W, tt)
+    walk-meets 𝓤 H A flush.ended stayed W (spent-goes 𝓤 H A W, tt)
     (flush.clauses 𝓤 H A mem run)
     (WpFn 𝓤 H (𝓣 .C) (𝓣 .Λ) code.function) (WpFn-mono 𝓤 H (W .laws) 𝓣 code.function)
     (flush-walks 𝓤 H A W mem run (𝓣 .C) (𝓣 .Λ) (fmOf 𝓤 H (W .laws) 𝓣) known)
@@ -314,5 +316,5 @@ flush-spec 𝓤 H 𝓜 𝓖 𝓡 =
     (code.unfolded 𝓤 H 𝓜 𝓡)
     (flush-meets 𝓤 H (𝓖 .A) (givenOf 𝓤 H 𝓜 𝓖) (𝓜 .mem) (𝓡 .run)
     (tablesOf 𝓤 H 𝓜 (tables 𝓤 H 𝓜 𝓡 code.env))
-    (cited 𝓤 H (FlushTicks 𝓤 H (𝓖 .A) (𝓜 .mem) (𝓡 .run)) 𝓜 𝓡 code.env #flush-ticks
-    flush-ticks-def.routine code.calls-emit-flow·flush-ticks (flush-ticks-thm.met 𝓤 H 𝓜 𝓖 𝓡)))
+    (cited 𝓤 H (PutTick 𝓤 H (𝓖 .A) (𝓜 .mem) (𝓡 .run)) 𝓜 𝓡 code.env #put-tick
+    put-tick-def.routine code.calls-emit-writer·ticks·put-tick (put-tick-thm.met 𝓤 H 𝓜 𝓖 𝓡)))

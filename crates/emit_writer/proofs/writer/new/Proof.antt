@@ -1,4 +1,4 @@
--- `block_writer::writer::new` meets its contract: a walk of its MIR, by hand. The borrow of the
+-- `emit_writer::writer::new` meets its contract: a walk of its MIR, by hand. The borrow of the
 -- text goes into the result as it is, beside the two numbers. The text is spent: the result names
 -- its lifetime, so nothing is had of it at exit, and `text .entry` is all that the contract can
 -- say. Assumes nothing.
