@@ -10,7 +10,8 @@ use Rattle.c_meaning.specs.Exec.{to, back, step}
 use Rattle.claim_ways.specs.Ways.{Event, reach, said}
 use Rattle.claim_functions.specs.Execution.{returned, LabelIn, told, leaveAll, atStart}
 use Rattle.claim_functions.specs.Execution.{Execution, x-on, x-to, x-back, x-when, x-else}
-use Rattle.claim_functions.specs.Execution.{x-open, x-close, x-call, x-case, x-default}
+use Rattle.claim_functions.specs.Execution.{parameter, x-open, x-close, x-call, x-case}
+use Rattle.claim_functions.specs.Execution.{x-default}
 use Rattle.claim_functions.proofs.Outcomes.{stateOf, goesOf, not-none, on-not-to}
 use Rattle.claim_functions.proofs.Outcomes.{on-not-back, to-not-back}
 
@@ -96,7 +97,7 @@ module _ (ts : List Top)
   same {y′ = y′} {v′ = v′} {xs′ = xs′} {es′ = es′} L (x-call {k = k} {i = i} {g = g} {z = z} m x)
       (x-call {g = g′} m′ x′) =
       same (groups k g m .0) x
-      (subst (λ h. Execution ts h (some i) h [] (atStart z) xs′ es′ (returned y′ v′))
+      (subst (λ h. Execution ts h (parameter i) h [] (atStart z) xs′ es′ (returned y′ v′))
       (groups k g m .1 g′ m′) x′)
   same L (x-case e p x) (x-on e′ x′) = absurd (not-none e′)
   same L (x-case e p x) (x-to e′ p′ x′) = absurd (not-none e′)

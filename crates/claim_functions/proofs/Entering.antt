@@ -18,7 +18,8 @@ use Rattle.claim_functions.specs.Counted.{counted}
 use Rattle.claim_functions.proofs.Log.{Silent, counted-told, told-counts}
 use Rattle.claim_functions.proofs.Outcomes.{stateOf, goesOf, not-none, on-not-to}
 use Rattle.claim_functions.proofs.Outcomes.{on-not-back}
-use Rattle.claim_functions.specs.Execution.{Result, underway, LabelIn, act, atStart}
+use Rattle.claim_functions.specs.Execution.{Result, underway, LabelIn, act, parameter}
+use Rattle.claim_functions.specs.Execution.{atStart}
 use Rattle.claim_functions.specs.Execution.{Execution, x-stop, x-in, x-on, x-to, x-back}
 use Rattle.claim_functions.specs.Execution.{x-call, x-case, x-default}
 
@@ -92,7 +93,7 @@ called-so : {ts : List Top} {f : Code} {n : Option ℕ} {k i : ℕ} {c : Code} {
     → Execution ts f n (call k i ⨾ c) [] z xs es r
     → Early r (counted es)
     ⊎ ((g : Code) × List·Memᴰ (function (group k) g) ts
-    × From ts g (some i) g (atStart z) r (counted es))
+    × From ts g (parameter i) g (atStart z) r (counted es))
 unfolding step
 called-so x-stop = inl (refl, refl)
 called-so x-in = inl (refl, refl)
@@ -105,21 +106,24 @@ pub past-forwarder : {ts : List Top} {f : Code} {n : Option ℕ} {k i : ℕ} {z 
     {ls : List Event}
     → From ts f n (forwarder k i) z r ls
     → Early r ls
-    ⊎ ((g : Code) × List·Memᴰ (function (group k) g) ts × From ts g (some i) g (atStart z) r ls)
+    ⊎ ((g : Code) × List·Memᴰ (function (group k) g) ts
+    × From ts g (parameter i) g (atStart z) r ls)
 past-forwarder {ts} {f} {n} {k = k} {i = i} {z = z} {r = r} {ls = ls} q = go (past-gap q)
   where
     sum : (ms : List Event) → ls ≡ ms
         → Early r ms
-        ⊎ ((g : Code) × List·Memᴰ (function (group k) g) ts × From ts g (some i) g (atStart z) r ms)
+        ⊎ ((g : Code) × List·Memᴰ (function (group k) g) ts
+        × From ts g (parameter i) g (atStart z) r ms)
         → Early r ls
         ⊎ ((g : Code) × List·Memᴰ (function (group k) g) ts
-        × From ts g (some i) g (atStart z) r ls)
+        × From ts g (parameter i) g (atStart z) r ls)
     sum ms e (inl h) = inl (h .0, e ∙ h .1)
     sum ms e (inr h) = inr (h .0, h .1, counted-as ls ms e (h .2))
 
     go : From ts f n (call k i ⨾ sp 1 ⨾ end) z r ls
         → Early r ls
-        ⊎ ((g : Code) × List·Memᴰ (function (group k) g) ts × From ts g (some i) g (atStart z) r ls)
+        ⊎ ((g : Code) × List·Memᴰ (function (group k) g) ts
+        × From ts g (parameter i) g (atStart z) r ls)
     go (inl h) = inl h
     go (inr h) = sum (counted (h .1)) (h .2) (called-so (h .3))
 

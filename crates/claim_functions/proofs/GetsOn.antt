@@ -30,6 +30,7 @@ use Rattle.claim_meaning.specs.Block.{refused, BlockMeans}
 use Rattle.claim_ways.specs.Ways.{Event, reach, said, nativeStart, interpreted}
 use Rattle.claim_ways.specs.Claim.{carried}
 use Rattle.claim_functions.specs.Execution.{underway, returned, LabelIn, act, told, atStart}
+use Rattle.claim_functions.specs.Execution.{parameter}
 use Rattle.claim_functions.specs.Execution.{Execution, x-stop, x-on, x-call, x-case}
 use Rattle.claim_functions.specs.Counted.{counted, recordEvent, sequenceEvents, blockEvents}
 use Rattle.claim_functions.proofs.Outcomes.{not-none}
@@ -114,13 +115,13 @@ gets-head n z r =
     (gets-over n nl (inFunction z) (inFunction z) refl r))))))
 
 gets-call : {ts : List Top} {f g : Code} {p : Option ℕ} (n : ℕ) {k i : ℕ} {c : Code} (z : State)
-    → List·Memᴰ (function (group k) g) ts → Gets ts g (some i) n g (atStart z)
+    → List·Memᴰ (function (group k) g) ts → Gets ts g (parameter i) n g (atStart z)
     → Gets ts f p n (call k i ⨾ c) (atStart z)
 gets-call n z m (inl r) = inl (r .0, r .1, r .2, r .3, x-call m (r .4))
 gets-call n z m (inr r) = inr (r .0, r .1, x-call m (r .2), r .3)
 
 pub gets-forwarder : {ts : List Top} {f g : Code} {p : Option ℕ} (n : ℕ) {k i : ℕ} (z : State)
-    → List·Memᴰ (function (group k) g) ts → Gets ts g (some i) n g (atStart z)
+    → List·Memᴰ (function (group k) g) ts → Gets ts g (parameter i) n g (atStart z)
     → Gets ts f p n (forwarder k i) (atStart z)
 gets-forwarder n z m r = gets-gap n (atStart z) (gets-call n z m r)
 

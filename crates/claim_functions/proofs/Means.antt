@@ -1,21 +1,24 @@
 -- What an execution of a block's function carries out.
-use Prim.Native.Nat.{ℕ, zero, suc, _+_, _*_, _≤_, _<_}
+use Prim.Native.Nat.{ℕ, zero, suc, _+_, _*_, _^_, _≤_, _<_}
 use mathlib.Core.Path.{_≡_, refl, sym, ap, _∙_, subst}
 use mathlib.Core.Logic.{_⊎_, inl, inr}
 use mathlib.Core.Bool.{Bool, true, false}
-use mathlib.Core.List.{List, [], _∷_, _++_, map, List·Memᴰ, List·Memᴰ·head, List·Memᴰ·tail}
+use mathlib.Core.List.{List, [], _∷_, _++_, map, flatten, List·Memᴰ, List·Memᴰ·head}
+use mathlib.Core.List.{List·Memᴰ·tail, List·Memᴰ·not-nil}
 use mathlib.Core.List.{Memᴰ·cast, Memᴰ·of-map}
 use mathlib.Core.Option.{none, some}
-use native.Mathlib.Nat.{le-of-suc-le-suc, not-suc-le-zero}
+use native.Mathlib.Nat.{le-of-suc-le-suc, not-suc-le-zero, mod-eq-of-lt}
 use native.Mathlib.Omega.{arith}
 use lib.Dec.{T}
-use lib.ListN.{length, getD, getElem?}
+use lib.ListN.{length, getD, getElem?, length-map, length-append}
 use Rattle.armv4t.specs.Instr.{sizeOf}
 use Rattle.file_instrs.specs.declared.decode.TimedInstr.{TimedInstr}
 use Rattle.file_blocks.specs.Parse.{Block, Parsed, parse, blockKey}
 use Rattle.file_blocks.specs.Address.{region, among as isAmong}
 use Rattle.file_blocks.proofs.Nowhere.{nowhere}
 use Rattle.plan_groups.specs.Plan.{groups}
+use Rattle.file_blocks.proofs.Accepted.{few-blocks, length-of}
+use Rattle.plan_groups.proofs.PlanLength.{groups-length}
 use Rattle.plan_groups.proofs.GroupLaws.{groups-once, group-inside, group-same}
 use Rattle.plan_groups.proofs.Listing.{map-at}
 use Rattle.c_tree.specs.Stmt.{Code, end, _⨾_, _⧺_, block, group, Top, function}
@@ -43,8 +46,8 @@ use Rattle.claim_ways.proofs.Faithful.{Faithful}
 use Rattle.claim_ways.proofs.Functions.{Own, head-foreign, end-foreign, InGroup, from-cut, Alone}
 use Rattle.claim_ways.proofs.Members.{File, bodies, key-of, member-of, same-place}
 use Rattle.claim_ways.proofs.Places.{found-at}
-use Rattle.claim_functions.specs.Execution.{Result, underway, returned, LabelIn, atStart}
-use Rattle.claim_functions.specs.Execution.{Executes}
+use Rattle.claim_functions.specs.Execution.{Result, underway, returned, LabelIn, parameter}
+use Rattle.claim_functions.specs.Execution.{atStart, Executes}
 use Rattle.claim_functions.specs.Labels.{LabelsPlain}
 use Rattle.claim_functions.proofs.Plain.{Distinct, plain-group, none-lone, none-forwarder}
 use Rattle.claim_functions.proofs.Plain.{once-group, group-distinct, keys-distinct}
@@ -124,6 +127,20 @@ faithful multiplier =
           λ b. body-count multiplier b;
     }
 
+-- a list is no longer than all lists that it stands among together
+length-within : (g : List ℕ) (gs : List (List ℕ)) → List·Memᴰ g gs → length g ≤ length (flatten gs)
+unfolding flatten
+length-within g [] m = absurd (List·Memᴰ·not-nil m)
+length-within g (h ∷ gs) (List·Memᴰ·head e) = rw (e, length-append) (omega arith)
+length-within g (h ∷ gs) (List·Memᴰ·tail m) =
+    rw length-append (omega (arith, length-within g gs m))
+
+-- where there is an element, the place is below the length
+below-length : (xs : List ℕ) (n k : ℕ) → getElem? xs n ≡ some k → n < length xs
+below-length [] n k e = absurd (let z : _≡_ {A = ℕ} 0 1 = cc in omega arith)
+below-length (x ∷ xs) zero k e = omega arith
+below-length (x ∷ xs) (suc n) k e = omega (arith, below-length xs n k e)
+
 module _ (multiplier limit max : ℕ) (f : List ℕ) (bs : List Block)
     (accepted : parse f ≡ Parsed.accepted bs) where
   -- the file as the ways have it
@@ -142,6 +159,19 @@ module _ (multiplier limit max : ℕ) (f : List ℕ) (bs : List Block)
   -- the bodies of a group
   abbrev ofGroup : List ℕ → List Body
   ofGroup g = bodiesOf (bodies F) g
+
+  -- the number of a member's key fits the parameter of the group's function
+  fits : (g : List ℕ) → List·Memᴰ g (groups limit bs) → (n k : ℕ)
+      → getElem? (map bodyKey (ofGroup g)) n ≡ some k → parameter n ≡ some n
+  unfolding bodiesOf
+  fits g among n k e =
+      let few : length bs ≤ 65536 = omega (arith, few-blocks f bs accepted, length-of f bs accepted)
+      in
+      let short : length g ≤ length bs =
+      omega (arith, length-within g (groups limit bs) among, groups-length bs limit) in
+      let long : length (map bodyKey (ofGroup g)) ≡ length g = simp length-map in
+      ap (λ (j : ℕ). some j)
+      (mod-eq-of-lt (omega (arith, below-length (map bodyKey (ofGroup g)) n k e)))
 
   -- a function of the units stands in a group of the plan
   in-group : (t : Top) → Own t → List·Memᴰ t (allUnits (bodyOf multiplier) limit max bs)
@@ -444,7 +474,7 @@ module _ (multiplier limit max : ℕ) (f : List ℕ) (bs : List Block)
           → List·Memᴰ a (ofGroup g) → (n : ℕ)
           → getElem? (map bodyKey (ofGroup g)) n ≡ some (blockKey b)
           → List·Memᴰ i g → (h : Code) → List·Memᴰ (function (group (bodyKey a)) h) (u .tree)
-          → From (u .tree) h (some n) h (atStart z) r (counted es) → Claimed r es
+          → From (u .tree) h (parameter n) h (atStart z) r (counted es) → Claimed r es
       forwarded g among a first n e mine h stands x =
           let q =
           in-group (function (group (bodyKey a)) h) tt
@@ -453,7 +483,9 @@ module _ (multiplier limit max : ℕ) (f : List ℕ) (bs : List Block)
           let same : q .0 ≡ g = one-group (q .0) g (q .1) among (p .0) a (p .1) first (p .2) in
           grouped g among mine (u .tree) n e (g, among, mine, (i, mine, found)) r es
           (subst (λ c. From (u .tree) c (some n) c (atStart z) r (counted es))
-          (p .3 ∙ ap (λ l. groupCode (ofGroup l)) same) x)
+          (p .3 ∙ ap (λ l. groupCode (ofGroup l)) same)
+          (subst (λ q. From (u .tree) h q h (atStart z) r (counted es))
+          (fits g among n (blockKey b) e) x))
 
       entered : (g : List ℕ) → List·Memᴰ g (groups limit bs) → (c : Code)
           → Alone (blockKey b) c (ofGroup g) ⊎ Forwards (blockKey b) c (ofGroup g)
@@ -478,7 +510,7 @@ module _ (multiplier limit max : ℕ) (f : List ℕ) (bs : List Block)
 
           go : Early r (counted es)
               ⊎ ((h : Code) × List·Memᴰ (function (group (bodyKey (a .0))) h) (u .tree)
-              × From (u .tree) h (some (a .3 .0)) h (atStart z) r (counted es)) → Claimed r es
+              × From (u .tree) h (parameter (a .3 .0)) h (atStart z) r (counted es)) → Claimed r es
           go (inl q) = early (g, among, mine, (i, mine, found)) r es q
           go (inr q) = forwarded g among (a .0) (a .1) (a .3 .0) (a .3 .2) mine (q .0) (q .1) (q .2)
 
@@ -536,6 +568,9 @@ execution-gets-on multiplier limit max f bs accepted i b e u made c stands cover
     (q .2)))
     (λ s h. q .3 s (subst (λ g. List·Memᴰ s (emitGroup g)) (r .2) h))
   where
+    code : List ℕ → Code
+    code g = groupCode (ofGroup multiplier limit max f bs accepted g)
+
     go : (g : List ℕ) → List·Memᴰ g (groups limit bs)
         → Alone (blockKey b) c (ofGroup multiplier limit max f bs accepted g)
         ⊎ Forwards (blockKey b) c (ofGroup multiplier limit max f bs accepted g)
@@ -561,8 +596,10 @@ execution-gets-on multiplier limit max f bs accepted i b e u made c stands cover
         agrees g among (k .0) (k .1) (k .2) in
         subst (λ d. Gets (u .tree) d none n d (atStart z)) (sym (a .3 .1))
         (gets-forwarder n z (there _ (a .2))
+        (subst (λ q. Gets (u .tree) (code g) q n (code g) (atStart z))
+        (sym (fits multiplier limit max f bs accepted g among (a .3 .0) (blockKey b) (a .3 .2)))
         (grouped-gets multiplier limit max f bs accepted i b e covered step z m interprets sound
-        agrees g among (o .0) (u .tree) (a .3 .0) (a .3 .2) n))
+        agrees g among (o .0) (u .tree) (a .3 .0) (a .3 .2) n)))
 
 maps : {A B : Type 0} (f : B → ℕ) (g : A → B) (xs : List A)
     → map f (map g xs) ≡ map (λ x. f (g x)) xs

@@ -1,6 +1,6 @@
 -- How the functions of a unit are executed by C99: a statement by c_meaning's `step` and `asks`;
 -- and what these leave out: a goto to its label, the switch of a group, the call of its function.
-use Prim.Native.Nat.{ℕ}
+use Prim.Native.Nat.{ℕ, _%_, _^_}
 use mathlib.Core.Path.{_≡_}
 use mathlib.Core.Bool.{Bool, true, false, cond, Bool·beq}
 use mathlib.Core.List.{List, [], _∷_, _++_, List·Memᴰ}
@@ -61,6 +61,10 @@ abbrev pub leaveAll : List Code → State → State
 leaveAll [] z = z
 leaveAll (d ∷ ds) z = leaveAll ds (leave z)
 
+-- what a parameter of the type uint32_t gets where a number is handed over
+abbrev pub parameter : ℕ → Option ℕ
+parameter i = some (i % 2 ^ 32)
+
 -- at the start of a function nothing is declared, and the caller's locals are out of reach
 abbrev pub atStart : State → State
 atStart z = setScopes (empty ∷ []) z
@@ -111,10 +115,10 @@ pub data Execution (ts : List Top) : Code → Option ℕ → Code → List Code 
   x-close : {f : Code} {n : Option ℕ} {d : Code} {ds : List Code} {z : State} {xs : List Bool}
       {es : List Event} {r : Result}
       → Execution ts f n d ds (leave z) xs es r → Execution ts f n end (d ∷ ds) z xs es r
-  -- return g(a, m, i): what the group function of the unit returns with the parameter i
+  -- return g(a, m, i): what the group function of the unit returns where i is handed over
   x-call : {f : Code} {n : Option ℕ} {k i : ℕ} {c g : Code} {ds : List Code} {z : State}
       {xs : List Bool} {es : List Event} {r : Result}
-      → List·Memᴰ (function (group k) g) ts → Execution ts g (some i) g [] (atStart z) xs es r
+      → List·Memᴰ (function (group k) g) ts → Execution ts g (parameter i) g [] (atStart z) xs es r
       → Execution ts f n (call k i ⨾ c) ds z xs es r
   -- switch: with the parameter i to the label of the i-th key, counted from 0; without one, return
   -- 0
