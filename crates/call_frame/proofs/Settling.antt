@@ -42,8 +42,8 @@ module _ {A : Type 0} {decision : Decision A} where
     refused-10 h = rw (made, lt-ltb _ _ h)
 
     -- the content is in the front of the result
-    pub handed-over : (result′ : List ℕ) → length content ≤ length result
+    pub handed-over : (v′ : A) (result′ : List ℕ) → v′ ≡ v → length content ≤ length result
         → result′ ≡ content ++ drop (length content) result
-        → record { answer = value v; work = work; results = result′ ∷ [] }
+        → record { answer = value v′; work = work; results = result′ ∷ [] }
         ≡ settle decision work (result ∷ [])
-    handed-over result′ h e = rw (made, le-ltb _ _ h, e)
+    handed-over v′ result′ same h e = rw (made, le-ltb _ _ h, e, same)

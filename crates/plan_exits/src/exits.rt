@@ -36,7 +36,7 @@ pub enum Exits {
 }
 
 // The exits of a block by its number, or that there is no such block.
-pub(crate) enum FoundExits {
+pub enum FoundExits {
     Exits(Exits),
     Nothing,
 }
@@ -176,7 +176,7 @@ pub fn exits_at(file: &[u8], block: BlockRecord, first: usize) -> Exits
 
 // The exits of block i, or Nothing. `first` sums the counts of the blocks before block k; in an
 // accepted file it does not wrap.
-pub(crate) fn block_exits(file: &[u8], i: usize) -> FoundExits
+pub fn block_exits(file: &[u8], i: usize) -> FoundExits
     ensures { λ r. ⌜
         (Accepted (now (file .entry))
         → foundKeys r ≡ getElem? (map exits (blocksOf (now (file .entry)))) i)

@@ -5,6 +5,8 @@ mod exits;
 pub use calls::Exiting;
 pub use calls::exits_of;
 pub use exits::Exits;
+pub use exits::FoundExits;
+pub use exits::block_exits;
 pub use exits::exits_at;
 pub use exits::fall_through;
 pub use exits::instr_addr;

@@ -25,7 +25,7 @@ mul-if1 c =
     )
 
 returns : tie.Need-returns
-unfolding IsOpened earlyOf
+unfolding IsOpened
 returns c =
     let known = c .before .before .before in
     let checked = known .before .before .before .check .ensures in
@@ -52,7 +52,7 @@ returns-2 c =
     (c .before .number .given .1))
 
 returns-3 : tie.Need-returns-3
-unfolding IsOpened earlyOf
+unfolding IsOpened
 returns-3 c =
     let known = c .before .before .before in
     opening-early _
@@ -60,20 +60,21 @@ returns-3 c =
     (known .before .blocks2 .given .1)) _ _ _ _ (ap earlyOf (c .before .early .given .1))
 
 returns-4 : tie.Need-returns-4
-unfolding IsOpened earlyOf
+unfolding IsOpened
 returns-4 c =
     let known = c .before .before .before in
     let checked = known .before .before .before .check .ensures in
     let given = known .before .blocks2 .given .1 in
-    let all = accepted-blocks _ _ checked _ _ given in
-    record {
-      accepted = accepted-file _ _ checked _ _ given;
-      blocks = all;
-      instructions = accepted-instrs _ _ checked _ _ given;
-      few = omega (arith, all, few-blocks _ _ (accepted-file _ _ checked _ _ given));
-      nothing = ap earlyOf (c .before .enum-told .given .1);
-      room = c .if1 .left;
-    }
+    let all = accepted-blocks _ _ checked _ _ given in (
+      record {
+        accepted = accepted-file _ _ checked _ _ given;
+        blocks = all;
+        few = omega (arith, all, few-blocks _ _ (accepted-file _ _ checked _ _ given));
+        nothing = ap earlyOf (c .before .enum-told .given .1);
+        room = c .if1 .left;
+      },
+      accepted-instrs _ _ checked _ _ given,
+    )
 
 pub open-file-spec : {M : Type 1} → statement M
 open-file-spec =

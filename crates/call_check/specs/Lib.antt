@@ -1,0 +1,2 @@
+-- The definitions that the crate's promise names.
+pub mod Calls

@@ -1,0 +1,3 @@
+-- The definitions that the crate's promises name.
+pub mod Calls
+mod Examples
