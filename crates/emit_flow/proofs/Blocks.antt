@@ -6,15 +6,15 @@ use mathlib.Core.List.{List, [], _∷_, _++_}
 use mathlib.Core.Option.{some}
 use Rattle.base_text.specs.Doc.{text, _▸_, flat}
 use Rattle.c_tree.specs.Expr.{Expr}
-use Rattle.c_tree.specs.Stmt.{Plain, guard, Owner, common, plain, retInterp, Code, end, _⨾_, when}
+use Rattle.c_tree.specs.Stmt.{Plain, guard, Owner, common, retInterp, Code, end, _⨾_, when}
 use Rattle.c_tree.specs.Stmt.{braces}
-use Rattle.c_tree.specs.Print.{exprText, plainText, codeText}
-use Rattle.lower_forms.specs.Forms.{Lines, Native, straight, straightIf, branchIf, pop, Form, shell}
+use Rattle.c_tree.specs.Print.{exprText, codeText}
+use Rattle.lower_forms.specs.Forms.{Lines, Native, straight, straightIf, branchIf, Form, shell}
 use Rattle.lower_forms.specs.Forms.{recordsIn, Body}
 use Rattle.lower_forms.specs.Block.{flushTicks, pcLine}
 use Rattle.file_records.specs.BlockRecord.{keyPlus}
 use Rattle.lower_units.specs.Block.{bodyKey, bodyLength, bodyEnd, nl, sp, line, lines, transfer}
-use Rattle.lower_units.specs.Block.{closing, conditional, leave, nativeText, shellCode, codeFrom}
+use Rattle.lower_units.specs.Block.{closing, conditional, nativeText, shellCode, codeFrom}
 use Rattle.lower_units.specs.Block.{defer, underGuard, exitCode, linesText, closingLines}
 use Rattle.emit_flow.specs.Pieces.{straightOpen, straightEnd, beforeCondition, afterCondition}
 use Rattle.emit_flow.specs.Pieces.{afterConditional, straightIfOpen, straightIfEnd}
@@ -53,21 +53,6 @@ unfolding nativeText
 branch-text ks a o t e l key c k =
     lines-after o common 4 t
     (conditional o e (sp 1 ⨾ line o l (nl ⨾ transfer ks a o 8 key (sp 6 ⨾ end))) c) k
-
--- a pop of PC
-pub pop-text : (ks : List ℕ) (a : ℕ) (o : Owner) (t : Lines) (p : Plain) (l : Lines) (q : Plain)
-    (e : Expr) (c : Code) (k : List ℕ)
-    → flat (codeText (nativeText ks a o (pop t p l q e) c)) k
-    ≡ flat (linesText 4 t ▸ text "    { " ▸ plainText p ▸ text ";\n"
-    ▸ codeText (lines common 6 l end) ▸ text "      " ▸ plainText q ▸ text "; return "
-    ▸ exprText e ▸ text "; }\n") k
-unfolding nativeText
-pop-text ks a o t p l q e c k =
-    lines-after o common 4 t
-    (sp 4 ⨾ braces (sp 1 ⨾ plain o p ⨾ nl ⨾ lines o 6 l (sp 6 ⨾ plain o q ⨾ leave o e))
-    (nl ⨾ end)) k
-    ∙ ap (flat (linesText 4 t ▸ text "    { " ▸ plainText p ▸ text ";\n"))
-    (lines-after o common 6 l (sp 6 ⨾ plain o q ⨾ leave o e) (flat (text "}\n") k))
 
 -- a shell, and the code after it
 pub shell-after : (b : Body) (i key : ℕ) (t : Lines) (c : Code) (k : List ℕ)

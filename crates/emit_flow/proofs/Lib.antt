@@ -1,5 +1,3 @@
 -- The laws that the functions' proofs share, and those by which the pieces are put together.
-pub mod Marks
 pub mod Pieces
 pub mod Blocks
-pub mod Units

@@ -1,7 +1,7 @@
 -- The text of the trees of `lower_units`, piece by piece: what a function writes, and what is
 -- written after it.
 use mathlib.Core.Path.{_≡_, refl, sym, ap, _∙_}
-use Prim.Native.Nat.{ℕ, zero, suc}
+use Prim.Native.Nat.{ℕ}
 use mathlib.Core.Bool.{Bool, true, false, cond}
 use mathlib.Core.List.{List, [], _∷_, _++_}
 use mathlib.Core.Option.{none}
@@ -9,22 +9,17 @@ use lib.Dec.{leb}
 use Rattle.armv4t.specs.Bit0.{clearBit0, setBit0}
 use Rattle.base_text.specs.Digits.{numeral}
 use Rattle.base_text.specs.Doc.{text, dec, hex8, hex16, _▸_, decimal, hexadecimal, flat}
-use Rattle.base_text.proofs.Laws.{each-append}
 use Rattle.c_tree.specs.Expr.{word, Expr, lit}
 use Rattle.c_tree.specs.Stmt.{Plain, gate, guard, Owner, common, plain, ret, retIf, Code, end, _⨾_}
-use Rattle.c_tree.specs.Stmt.{when, blank}
-use Rattle.c_tree.specs.Print.{exprText, codeText, topText, unitText}
-use Rattle.c_tree.specs.Opening.{openingText}
-use Rattle.c_tree.specs.Preamble.{preamble}
-use Rattle.c_tree.proofs.Preamble.{helpersText, preamble-text}
+use Rattle.c_tree.specs.Stmt.{when}
+use Rattle.c_tree.specs.Print.{exprText, codeText}
 use Rattle.lower_forms.specs.Forms.{Lines, jump, bx, Body}
 use Rattle.lower_forms.specs.InlineBody.{listIf, eachOnLine}
 use Rattle.lower_forms.specs.Block.{flushTicks, setWord, emitPair, branchRegs, pcLine}
-use Rattle.lower_units.specs.Block.{nl, sp, line, lines, gotoCode, transfer, conditional}
+use Rattle.lower_units.specs.Block.{nl, sp, line, lines, gotoCode, transfer}
 use Rattle.lower_units.specs.Block.{nativeText, defer, underGuard, linesText}
 use Rattle.file_blocks.specs.Address.{among}
-use Rattle.lower_units.specs.Units.{unitHead}
-use Rattle.emit_flow.specs.Pieces.{beforeCondition, afterCondition, afterConditional}
+use Rattle.emit_flow.specs.Pieces.{afterCondition, afterConditional}
 use Rattle.lower_units.proofs.LinesAfter.{lines-append}
 
 -- a line, and the code after it
@@ -130,13 +125,6 @@ jumped ks a o cycles link back target key c =
     (linked link back target o (transfer ks a o 4 key end) [])
     ∙ ticked o cycles (eachOnLine (branchRegs link back target)) (transfer ks a o 4 key end)
 
--- what is conditional, between what stands before and after it
-pub conditional-text : (o : Owner) (e : Expr) (b c : Code) (k : List ℕ)
-    → flat (codeText (conditional o e b c)) k
-    ≡ flat (beforeCondition ▸ exprText e ▸ afterCondition ▸ codeText b ▸ afterConditional
-    ▸ codeText c) k
-conditional-text o e b c k = refl
-
 -- a branch after its condition
 pub taken : (ks : List ℕ) (a : ℕ) (o : Owner) (l : List Plain) (key : ℕ)
     → flat ((afterCondition ▸ codeText (sp 1 ⨾ line common l (nl ⨾ end)))
@@ -201,7 +189,3 @@ pub alone : (ks : List ℕ) (b : Body) (a : ℕ) → b .addr ≡ a
     ≡ flat (codeText (underGuard ks b none)) []
 unfolding underGuard
 alone ks b a e = ap (flat (text "    ")) (deferred b a (flat (text "\n") []) e)
-
--- PREAMBLE and a line end
-pub head-text : flat (openingText ▸ helpersText ▸ text "\n") [] ≡ flat (unitText unitHead) []
-head-text = sym (preamble-text (flat (text "\n") [])) ∙ each-append topText preamble (blank ∷ []) []

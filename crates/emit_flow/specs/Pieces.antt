@@ -1,14 +1,12 @@
--- Parts of a tree's text that no tree prints alone: what stands before and after what another
+-- Steps: parts of a tree's text that no tree prints alone, which stand before and after what another
 -- function writes.
 use Prim.Native.Nat.{ℕ}
 use mathlib.Core.Bool.{Bool, true, cond}
-use mathlib.Core.List.{[]}
 use Rattle.base_text.specs.Doc.{Doc, text, _▸_}
-use Rattle.c_tree.specs.Stmt.{common, gap, end, _⨾_, block, group, blank}
-use Rattle.c_tree.specs.Print.{codeText, headText, topText}
+use Rattle.c_tree.specs.Stmt.{common, gap, end, _⨾_}
+use Rattle.c_tree.specs.Print.{codeText}
 use Rattle.lower_forms.specs.Operands.{flags}
 use Rattle.lower_units.specs.Block.{nl, sp, line}
-use Rattle.lower_units.specs.Units.{withLocals}
 
 -- the indent of a transfer: 8 where it is conditional
 abbrev pub indent : Bool → ℕ
@@ -42,28 +40,3 @@ straightIfOpen = afterCondition ▸ codeText (nl ⨾ end)
 -- the braces after such lines
 abbrev pub straightIfEnd : Doc
 straightIfEnd = codeText (sp 6 ⨾ end) ▸ afterConditional
-
--- the head of a block's function, with c and pc
-abbrev pub blockOpen : ℕ → Doc
-blockOpen key = headText (block key) ▸ text " {" ▸ codeText (withLocals end)
-
--- the end of a function of a block or a group
-abbrev pub functionEnd : Doc
-functionEnd = text "}\n" ▸ topText blank
-
--- the head of a group's function up to its first case
-abbrev pub groupOpen : ℕ → Doc
-groupOpen key = headText (group key) ▸ text " {" ▸ codeText (withLocals (sp 4 ⨾ end))
-    ▸ text "switch (entry) {\n"
-
--- the end of the switch
-abbrev pub switchEnd : Doc
-switchEnd = text "    default: return 0u;\n    }" ▸ codeText (nl ⨾ end)
-
--- the head of the table
-abbrev pub tableOpen : Doc
-tableOpen = text "RCG_EXPORT const RcgBlock rcg_blocks[] = {\n"
-
--- its end
-abbrev pub tableEnd : Doc
-tableEnd = text "};\n"

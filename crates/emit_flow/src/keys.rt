@@ -7,7 +7,7 @@ ghost use Rattle.c_tree.specs.Print.{keyText, codeText};
 ghost use Rattle.lower_units.specs.Block.{nl};
 
 // The address of a key, and its instruction set.
-pub fn put_key(out: &mut [u8], at: usize, key: u32) -> usize
+fn put_key(out: &mut [u8], at: usize, key: u32) -> usize
     ensures { λ r. ⌜ Wrote (now (out .entry)) at (keyText key) (now (out .exit)) r ⌝ }
 {
     let p = base_text::put_hex8(out, at, clear_bit0(key));

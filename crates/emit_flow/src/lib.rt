@@ -1,14 +1,11 @@
-// The text of control flow: transfers, shells, branches, guards, and what stands around the blocks
-// of a unit. Each function writes at index at of a lent buffer, and answers the index after it.
+// The text of control flow: transfers, labels, shells, branches, guards, and the braces around
+// statements. Each function writes at index at of a lent buffer, and answers the index after it.
 mod braces;
 mod exits;
 mod flow;
 mod guards;
-mod heads;
 mod keys;
-mod opening;
 mod shells;
-mod tables;
 
 pub use braces::close_straight;
 pub use braces::close_straight_if;
@@ -22,20 +19,7 @@ pub use exits::emit_pair;
 pub use flow::transfer;
 pub use guards::emit_defer;
 pub use guards::emit_guard;
-pub use heads::put_block_head;
-pub use heads::put_case;
-pub use heads::put_forwarder;
-pub use heads::put_function_end;
-pub use heads::put_group_head;
-pub use heads::put_member_end;
-pub use heads::put_switch_end;
-pub use keys::put_key;
 pub use keys::put_label;
-pub use opening::put_preamble;
+pub use keys::put_then_key;
 pub use shells::emit_last_shell;
 pub use shells::emit_shell;
-pub use tables::put_count;
-pub use tables::put_extern;
-pub use tables::put_row;
-pub use tables::put_table_end;
-pub use tables::put_table_head;

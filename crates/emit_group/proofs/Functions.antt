@@ -17,8 +17,8 @@ use Rattle.lower_forms.specs.Forms.{Body}
 use Rattle.lower_units.specs.Block.{bodyKey, blockCode}
 use Rattle.lower_units.specs.Measured.{hashedIf}
 use Rattle.lower_units.specs.Units.{labelled, forwarders, emitGroup, defaultBody, bodiesOf}
-use Rattle.emit_flow.specs.Pieces.{blockOpen, functionEnd, groupOpen, switchEnd}
-use Rattle.emit_flow.proofs.Units.{block-text, group-text, member-text}
+use Rattle.emit_tables.specs.Heads.{blockOpen, functionEnd, groupOpen, switchEnd}
+use Rattle.emit_tables.proofs.Units.{block-text, group-text, member-text}
 use Rattle.emit_tables.specs.Tables.{fileKeys, HaveKeys}
 use Rattle.emit_tables.proofs.Around.{member-keys}
 use Rattle.emit_group.specs.Groups.{fileBodies, memberText, labelledText, membersText}

@@ -1,14 +1,14 @@
 // The functions of a group, from the rows where its members stand.
 use emit_block::Member;
 use emit_block::emit_block;
-use emit_flow::put_block_head;
-use emit_flow::put_function_end;
-use emit_flow::put_group_head;
 use emit_flow::put_label;
-use emit_flow::put_member_end;
-use emit_flow::put_switch_end;
+use emit_tables::put_block_head;
 use emit_tables::put_cases;
 use emit_tables::put_forwarders;
+use emit_tables::put_function_end;
+use emit_tables::put_group_head;
+use emit_tables::put_member_end;
+use emit_tables::put_switch_end;
 use emit_tables::row_key;
 use plan_members::row_block;
 use plan_members::row_group;

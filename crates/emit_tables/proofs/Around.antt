@@ -20,8 +20,8 @@ use Rattle.lower_units.specs.Block.{bodyKey, sp}
 use Rattle.lower_units.specs.Units.{forwarders, lastUnitEnd, defaultBody, bodiesOf}
 use Rattle.lower_units.specs.Measured.{hashedIf}
 use Rattle.lower_units.proofs.Measured.{hashed-keys}
-use Rattle.emit_flow.specs.Pieces.{tableOpen, tableEnd}
-use Rattle.emit_flow.proofs.Units.{end-text, each-map}
+use Rattle.emit_tables.specs.Heads.{tableOpen, tableEnd}
+use Rattle.emit_tables.proofs.Units.{end-text, each-map}
 use Rattle.emit_tables.specs.Tables.{HaveKeys}
 
 -- the bodies of blocks have their keys

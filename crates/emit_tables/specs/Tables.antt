@@ -1,4 +1,4 @@
--- The keys that a unit has around the code of its blocks: those of a file's blocks, and those of a
+-- Steps: the keys that a unit has around the code of its blocks: those of a file's blocks, and those of a
 -- group's members in its rows.
 use Prim.Native.Nat.{ℕ, suc}
 use mathlib.Core.Path.{_≡_}

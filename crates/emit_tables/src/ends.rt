@@ -1,10 +1,10 @@
 // The end of the last unit: declarations, table and count of all blocks.
 use crate::keys::block_key;
-use emit_flow::put_count;
-use emit_flow::put_extern;
-use emit_flow::put_row;
-use emit_flow::put_table_end;
-use emit_flow::put_table_head;
+use crate::tables::put_count;
+use crate::tables::put_extern;
+use crate::tables::put_row;
+use crate::tables::put_table_end;
+use crate::tables::put_table_head;
 ghost use mathlib.Core.Path.{_≡_};
 ghost use mathlib.Core.List.{List};
 ghost use Prim.Native.Nat.{ℕ};

@@ -1,7 +1,7 @@
 // The entries of a group's function: the cases of its switch, and the functions of its members.
+use crate::heads::put_case;
+use crate::heads::put_forwarder;
 use crate::keys::row_key;
-use emit_flow::put_case;
-use emit_flow::put_forwarder;
 ghost use mathlib.Core.List.{List, _∷_, map};
 ghost use Prim.Native.Nat.{ℕ, _≤_, _<_};
 ghost use Rattle.base_text.specs.Wrote.{Wrote};

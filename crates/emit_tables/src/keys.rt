@@ -13,7 +13,7 @@ ghost use Rattle.plan_members.specs.Prepared.{HoldsPlan};
 ghost use Rattle.emit_tables.specs.Tables.{fileKeys};
 
 // The key of block i, or 0 where there is none.
-pub fn block_key(file: &[u8], i: usize) -> u32
+pub(crate) fn block_key(file: &[u8], i: usize) -> u32
     ensures { λ r. ⌜
         (Accepted (now (file .entry)) → r ≡ getD (fileKeys (now (file .entry))) i 0)
         ⌝ }

@@ -1,7 +1,7 @@
 // How long the parts of a unit are: they are written to no bytes at all, with 0 in the place of
 // each hash.
-use emit_flow::put_preamble;
 use emit_group::emit_group;
+use emit_tables::put_preamble;
 use emit_tables::put_tail;
 ghost use mathlib.Core.Path.{_≡_};
 ghost use Prim.Native.Nat.{ℕ, _≤_, _<_};

@@ -1,7 +1,7 @@
 // A unit, written to a lent buffer.
 use crate::extents::Extent;
-use emit_flow::put_preamble;
 use emit_group::emit_group;
+use emit_tables::put_preamble;
 use emit_tables::put_tail;
 use plan_members::group_end;
 ghost use mathlib.Core.Bool.{true};
