@@ -1,4 +1,5 @@
 // Data processing that takes the carry from its second operand.
+use crate::alu::Processing;
 use armv4t::AluOp;
 use armv4t::Operand2;
 use armv4t::Reg;
@@ -14,9 +15,10 @@ ghost use Rattle.c_tree.specs.Expr.{x-r};
 ghost use Rattle.c_tree.specs.Stmt.{f-nz, run};
 ghost use Rattle.c_tree.specs.Preamble.{v32};
 ghost use Rattle.c_tree.specs.Print.{exprText};
-ghost use Rattle.lower_forms.specs.InlineBody.{result, logicalC, logicalRest};
-ghost use Rattle.lower_forms.specs.Operands.{regOf, operandOf};
+ghost use Rattle.lower_forms.specs.InlineBody.{result, logicalC};
+ghost use Rattle.lower_forms.specs.Operands.{operandOf};
 ghost use Rattle.emit_alu.specs.Rows.{statementsText};
+ghost use Rattle.emit_alu.specs.Processing.{first, second, logicalRestText};
 
 // The last line of data processing.
 pub(crate) fn put_result(out: &mut [u8], at: usize, op: AluOp, rd: Reg) -> usize
@@ -62,71 +64,44 @@ fn put_flags(out: &mut [u8], at: usize, s: bool, op2: Operand2, pc: u32) -> usiz
 }
 
 // The lines after the first.
-fn put_logical_rest(
-    out: &mut [u8],
-    at: usize,
-    op: AluOp,
-    s: bool,
-    rd: Reg,
-    op2: Operand2,
-    pc: u32,
-) -> usize
-    ensures { λ r. ⌜
-        Wrote (now (out .entry)) at (statementsText (logicalRest op s rd (operandOf pc op2 .1)))
-        (now (out .exit)) r
-        ⌝ }
+fn put_logical_rest(out: &mut [u8], at: usize, a: Processing) -> usize
+    ensures { λ r. ⌜ Wrote (now (out .entry)) at (logicalRestText a) (now (out .exit)) r ⌝ }
 {
-    let p = put_flags(out, at, s, op2, pc);
-    put_result(out, p, op, rd)
+    let op = a.op;
+    let op2 = a.op2;
+    let p = put_flags(out, at, a.s, op2, a.pc);
+    put_result(out, p, op, a.rd)
 }
 
 // The lines of an operation with two operands: t stands between them.
-pub(crate) fn put_two(
-    out: &mut [u8],
-    at: usize,
-    op: AluOp,
-    s: bool,
-    rd: Reg,
-    rn: Reg,
-    op2: Operand2,
-    pc: u32,
-    t: &[u8],
-) -> usize
+pub(crate) fn put_two(out: &mut [u8], at: usize, a: Processing, t: &[u8]) -> usize
     ensures { λ r. ⌜
         Wrote (now (out .entry)) at
-        (text "        uint32_t r = (" ▸ exprText (regOf pc rn) ▸ raw (now (t .entry))
-        ▸ exprText (operandOf pc op2 .0) ▸ text ");\n"
-        ▸ statementsText (logicalRest op s rd (operandOf pc op2 .1))) (now (out .exit)) r
+        (text "        uint32_t r = (" ▸ exprText (first a) ▸ raw (now (t .entry))
+        ▸ exprText (second a) ▸ text ");\n" ▸ logicalRestText a)
+        (now (out .exit)) r
         ⌝ }
 {
+    let op2 = a.op2;
     let p = base_text::put(out, at, b"        uint32_t r = (");
-    let q = put_reg(out, p, rn, pc);
+    let q = put_reg(out, p, a.rn, a.pc);
     let v = base_text::put(out, q, t);
-    let w = put_op2_value(out, v, op2, pc);
+    let w = put_op2_value(out, v, op2, a.pc);
     let x = base_text::put(out, w, b");\n");
-    put_logical_rest(out, x, op, s, rd, op2, pc)
+    put_logical_rest(out, x, a)
 }
 
 // The lines of an operation with one operand: t stands before it, u after it.
-pub(crate) fn put_one(
-    out: &mut [u8],
-    at: usize,
-    op: AluOp,
-    s: bool,
-    rd: Reg,
-    op2: Operand2,
-    pc: u32,
-    t: &[u8],
-    u: &[u8],
-) -> usize
+pub(crate) fn put_one(out: &mut [u8], at: usize, a: Processing, t: &[u8], u: &[u8]) -> usize
     ensures { λ r. ⌜
         Wrote (now (out .entry)) at
-        (raw (now (t .entry)) ▸ exprText (operandOf pc op2 .0) ▸ raw (now (u .entry))
-        ▸ statementsText (logicalRest op s rd (operandOf pc op2 .1))) (now (out .exit)) r
+        (raw (now (t .entry)) ▸ exprText (second a) ▸ raw (now (u .entry)) ▸ logicalRestText a)
+        (now (out .exit)) r
         ⌝ }
 {
+    let op2 = a.op2;
     let p = base_text::put(out, at, t);
-    let q = put_op2_value(out, p, op2, pc);
+    let q = put_op2_value(out, p, op2, a.pc);
     let v = base_text::put(out, q, u);
-    put_logical_rest(out, v, op, s, rd, op2, pc)
+    put_logical_rest(out, v, a)
 }

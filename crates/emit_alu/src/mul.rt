@@ -78,25 +78,28 @@ fn put_nz(out: &mut [u8], at: usize, s: bool) -> usize
     at
 }
 
+// The fields of a multiplication.
+pub struct Multiply {
+    pub acc: bool,
+    pub s: bool,
+    pub rd: Reg,
+    pub rn: Reg,
+    pub rs: Reg,
+    pub rm: Reg,
+}
+
 // The lines of a multiplication.
-pub fn put_mul(
-    out: &mut [u8],
-    at: usize,
-    acc: bool,
-    s: bool,
-    rd: Reg,
-    rn: Reg,
-    rs: Reg,
-    rm: Reg,
-) -> usize
+pub fn put_mul(out: &mut [u8], at: usize, m: Multiply) -> usize
     ensures { λ r. ⌜
-        Wrote (now (out .entry)) at (statementsText (mulBody acc s rd rn rs rm)) (now (out .exit)) r
+        Wrote (now (out .entry)) at
+        (statementsText (mulBody (m .acc) (m .s) (m .rd) (m .rn) (m .rs) (m .rm)))
+        (now (out .exit)) r
         ⌝ }
 {
-    let p = put_product(out, at, rs, rm);
-    let q = put_more(out, p, acc, rn);
-    let v = put_low(out, q, rd);
-    put_nz(out, v, s)
+    let p = put_product(out, at, m.rs, m.rm);
+    let q = put_more(out, p, m.acc, m.rn);
+    let v = put_low(out, q, m.rd);
+    put_nz(out, v, m.s)
 }
 
 // A factor of a long multiplication.
@@ -176,25 +179,28 @@ fn put_nz64(out: &mut [u8], at: usize, s: bool) -> usize
     at
 }
 
+// The fields of a long multiplication; hi and lo name the registers of the halves.
+pub struct LongMultiply {
+    pub signed: bool,
+    pub acc: bool,
+    pub s: bool,
+    pub hi: Reg,
+    pub lo: Reg,
+    pub rs: Reg,
+    pub rm: Reg,
+}
+
 // The lines of a long multiplication.
-pub fn put_mul_long(
-    out: &mut [u8],
-    at: usize,
-    signed: bool,
-    acc: bool,
-    s: bool,
-    hi: Reg,
-    lo: Reg,
-    rs: Reg,
-    rm: Reg,
-) -> usize
+pub fn put_mul_long(out: &mut [u8], at: usize, m: LongMultiply) -> usize
     ensures { λ r. ⌜
-        Wrote (now (out .entry)) at (statementsText (mulLongBody signed acc s hi lo rs rm))
+        Wrote (now (out .entry)) at
+        (statementsText
+        (mulLongBody (m .signed) (m .acc) (m .s) (m .hi) (m .lo) (m .rs) (m .rm)))
         (now (out .exit)) r
         ⌝ }
 {
-    let p = put_long_product(out, at, signed, rs, rm);
-    let q = put_long_more(out, p, acc, hi, lo);
-    let v = put_halves(out, q, hi, lo);
-    put_nz64(out, v, s)
+    let p = put_long_product(out, at, m.signed, m.rs, m.rm);
+    let q = put_long_more(out, p, m.acc, m.hi, m.lo);
+    let v = put_halves(out, q, m.hi, m.lo);
+    put_nz64(out, v, m.s)
 }

@@ -1,20 +1,16 @@
 // Data processing that adds.
+use crate::alu::Processing;
 use crate::logical::put_result;
-use armv4t::AluOp;
-use armv4t::Operand2;
-use armv4t::Reg;
 use emit_operands::put_op2_value;
 use emit_operands::put_reg;
-ghost use mathlib.Core.Path.{_≡_};
-ghost use Prim.Native.Nat.{ℕ};
-ghost use mathlib.Core.List.{List, [], _∷_};
-ghost use Rattle.base_text.specs.Doc.{raw, text, _▸_, flat};
+ghost use mathlib.Core.List.{[], _∷_};
+ghost use Rattle.base_text.specs.Doc.{raw, _▸_};
 ghost use Rattle.base_text.specs.Wrote.{Wrote};
 ghost use Rattle.c_tree.specs.Expr.{compl, Expr, un};
 ghost use Rattle.c_tree.specs.Print.{exprText};
-ghost use Rattle.lower_forms.specs.InlineBody.{result, sum};
-ghost use Rattle.lower_forms.specs.Operands.{regOf, operandOf};
-ghost use Rattle.emit_alu.specs.Rows.{statementsText, before, between, after};
+ghost use Rattle.lower_forms.specs.InlineBody.{result};
+ghost use Rattle.emit_alu.specs.Rows.{statementsText, before, between, after, SameText};
+ghost use Rattle.emit_alu.specs.Processing.{first, second, sumText};
 
 // What stands before the terms of a sum: with s the call of op_adds, which sets the flags.
 fn put_before(out: &mut [u8], at: usize, s: bool) -> usize
@@ -50,72 +46,51 @@ fn put_after(out: &mut [u8], at: usize, s: bool) -> usize
 }
 
 // The third term, and the lines after the first.
-fn put_sum_rest(out: &mut [u8], at: usize, op: AluOp, s: bool, rd: Reg, carry: &[u8]) -> usize
+fn put_sum_rest(out: &mut [u8], at: usize, a: Processing, carry: &[u8]) -> usize
     ensures { λ r. ⌜
         Wrote (now (out .entry)) at
-        (between s ▸ raw (now (carry .entry)) ▸ after s ▸ statementsText (result op rd ∷ []))
+        (between (a .s) ▸ raw (now (carry .entry)) ▸ after (a .s)
+        ▸ statementsText (result (a .op) (a .rd) ∷ []))
         (now (out .exit)) r
         ⌝ }
 {
-    let p = put_between(out, at, s);
+    let op = a.op;
+    let p = put_between(out, at, a.s);
     let q = base_text::put(out, p, carry);
-    let v = put_after(out, q, s);
-    put_result(out, v, op, rd)
+    let v = put_after(out, q, a.s);
+    put_result(out, v, op, a.rd)
 }
 
 // The lines of a sum of rn, the second operand with t before it, and a carry.
-pub(crate) fn put_sum(
-    out: &mut [u8],
-    at: usize,
-    op: AluOp,
-    s: bool,
-    rd: Reg,
-    rn: Reg,
-    op2: Operand2,
-    pc: u32,
-    t: &[u8],
-    carry: &[u8],
-) -> usize
+pub(crate) fn put_sum(out: &mut [u8], at: usize, a: Processing, t: &[u8], carry: &[u8]) -> usize
     ensures { λ r. ⌜
-        ((y z : Expr)
-        → ((k : List ℕ)
-        → flat (raw (now (t .entry)) ▸ exprText (operandOf pc op2 .0)) k ≡ flat (exprText y) k)
-        → ((k : List ℕ) → flat (raw (now (carry .entry))) k ≡ flat (exprText z) k)
-        → Wrote (now (out .entry)) at (statementsText (sum op s rd (regOf pc rn) y z))
-        (now (out .exit)) r)
+        ((y z : Expr) → SameText (raw (now (t .entry)) ▸ exprText (second a)) (exprText y)
+        → SameText (raw (now (carry .entry))) (exprText z)
+        → Wrote (now (out .entry)) at (sumText a (first a) y z) (now (out .exit)) r)
         ⌝ }
 {
-    let p = put_before(out, at, s);
-    let q = put_reg(out, p, rn, pc);
-    let v = put_between(out, q, s);
+    let op2 = a.op2;
+    let p = put_before(out, at, a.s);
+    let q = put_reg(out, p, a.rn, a.pc);
+    let v = put_between(out, q, a.s);
     let w = base_text::put(out, v, t);
-    let x = put_op2_value(out, w, op2, pc);
-    put_sum_rest(out, x, op, s, rd, carry)
+    let x = put_op2_value(out, w, op2, a.pc);
+    put_sum_rest(out, x, a, carry)
 }
 
 // The lines of a sum of the second operand, the complement of rn, and a carry.
-pub(crate) fn put_reversed(
-    out: &mut [u8],
-    at: usize,
-    op: AluOp,
-    s: bool,
-    rd: Reg,
-    rn: Reg,
-    op2: Operand2,
-    pc: u32,
-    carry: &[u8],
-) -> usize
+pub(crate) fn put_reversed(out: &mut [u8], at: usize, a: Processing, carry: &[u8]) -> usize
     ensures { λ r. ⌜
-        ((z : Expr) → ((k : List ℕ) → flat (raw (now (carry .entry))) k ≡ flat (exprText z) k)
-        → Wrote (now (out .entry)) at
-        (statementsText (sum op s rd (operandOf pc op2 .0) (un compl (regOf pc rn)) z))
+        ((z : Expr) → SameText (raw (now (carry .entry))) (exprText z)
+        → Wrote (now (out .entry)) at (sumText a (second a) (un compl (first a)) z)
         (now (out .exit)) r)
         ⌝ }
 {
-    let p = put_before(out, at, s);
-    let q = put_op2_value(out, p, op2, pc);
-    let v = put_between(out, q, s);
+    let op2 = a.op2;
+    let p = put_before(out, at, a.s);
+    let q = put_op2_value(out, p, op2, a.pc);
+    let v = put_between(out, q, a.s);
     let w = base_text::put(out, v, b"~");
-    let x = put_reg(out, w, rn, pc);
-    put_sum_rest(out, x, op, s, rd, carry)
+    let x = put_reg(out, w, a.rn, a.pc);
+    put_sum_rest(out, x, a, carry)
 }

@@ -1,11 +1,16 @@
 // Whether an instruction is lowered to lines, and these lines.
 use armv4t::Instr;
 use armv4t::Op;
+use emit_alu::LongMultiply;
+use emit_alu::Multiply;
+use emit_alu::Processing;
 use emit_alu::alu_is_inlined;
 use emit_alu::mul_is_inlined;
 use emit_alu::put_alu;
 use emit_alu::put_mul;
 use emit_alu::put_mul_long;
+use emit_mem::BlockTransfer;
+use emit_mem::Transfer;
 use emit_mem::block_mem_is_inlined;
 use emit_mem::mem_is_inlined;
 use emit_mem::put_block_mem;
@@ -48,7 +53,18 @@ pub fn put_body(out: &mut [u8], at: usize, thumb: bool, i: Instr) -> usize
 {
     let op = i.op;
     match op {
-        Op::Alu { op, s, rd, rn, op2 } => put_alu(out, at, op, s, rd, rn, op2, i.pc_value()),
+        Op::Alu { op, s, rd, rn, op2 } => put_alu(
+            out,
+            at,
+            Processing {
+                op,
+                s,
+                rd,
+                rn,
+                op2,
+                pc: i.pc_value(),
+            },
+        ),
         Op::Mul {
             acc,
             s,
@@ -56,7 +72,18 @@ pub fn put_body(out: &mut [u8], at: usize, thumb: bool, i: Instr) -> usize
             rn,
             rs,
             rm,
-        } => put_mul(out, at, acc, s, rd, rn, rs, rm),
+        } => put_mul(
+            out,
+            at,
+            Multiply {
+                acc,
+                s,
+                rd,
+                rn,
+                rs,
+                rm,
+            },
+        ),
         Op::MulLong {
             signed,
             acc,
@@ -65,7 +92,19 @@ pub fn put_body(out: &mut [u8], at: usize, thumb: bool, i: Instr) -> usize
             rd_lo,
             rs,
             rm,
-        } => put_mul_long(out, at, signed, acc, s, rd_hi, rd_lo, rs, rm),
+        } => put_mul_long(
+            out,
+            at,
+            LongMultiply {
+                signed,
+                acc,
+                s,
+                hi: rd_hi,
+                lo: rd_lo,
+                rs,
+                rm,
+            },
+        ),
         Op::Mem {
             load,
             width,
@@ -81,15 +120,17 @@ pub fn put_body(out: &mut [u8], at: usize, thumb: bool, i: Instr) -> usize
             at,
             thumb,
             i,
-            load,
-            width,
-            signed,
-            rd,
-            rn,
-            offset,
-            pre,
-            up,
-            writeback,
+            Transfer {
+                load,
+                width,
+                signed,
+                rd,
+                rn,
+                offset,
+                pre,
+                up,
+                writeback,
+            },
         ),
         Op::BlockMem {
             load,
@@ -97,9 +138,22 @@ pub fn put_body(out: &mut [u8], at: usize, thumb: bool, i: Instr) -> usize
             rlist,
             pre,
             up,
+            s_bit,
             writeback,
-            ..
-        } => put_block_mem(out, at, i, load, rn, rlist, pre, up, writeback),
+        } => put_block_mem(
+            out,
+            at,
+            i,
+            BlockTransfer {
+                load,
+                rn,
+                rlist,
+                pre,
+                up,
+                s_bit,
+                writeback,
+            },
+        ),
         _ => at,
     }
 }

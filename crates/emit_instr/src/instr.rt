@@ -8,6 +8,7 @@ use crate::shells::emit_half;
 use crate::step::Step;
 use crate::straight::emit_straight;
 use armv4t::Op;
+use emit_mem::BlockTransfer;
 use emit_mem::is_pop;
 use file_blocks::TimedInstr;
 ghost use mathlib.Core.Path.{_≡_};
@@ -53,28 +54,23 @@ fn emit_block_mem(
     region: u32,
     cycles: u64,
     x: TimedInstr,
-    load: bool,
-    rn: u8,
-    rlist: u16,
-    pre: bool,
-    up: bool,
-    s_bit: bool,
-    writeback: bool,
+    m: BlockTransfer,
     last: bool,
 ) -> Step
     ensures { λ r. ⌜
         ((ks : List ℕ) (b : Body) (j : ℕ) (fs : List Form) → last ≡ isEmpty fs
         → cycles + x .cost < 2 ^ 64
         → FormWritten (now (out .entry)) at ks b j
-        (emitOp thumb region cycles x (BlockMem load rn rlist pre up «s_bit» writeback)) fs
-        (now (out .exit)) r)
+        (emitOp thumb region cycles x
+        (BlockMem (m .load) (m .rn) (m .rlist) (m .pre) (m .up) (m .«s_bit») (m .writeback)))
+        fs (now (out .exit)) r)
         ⌝ }
 {
     let i = x.instr;
     let condition = i.cond;
     let al = condition.is_al();
-    if is_pop(region, al, load, rn, rlist, pre, up, s_bit, writeback) {
-        leave_by_pop(out, at, thumb, with_cost(cycles, x.cost), rn, rlist)
+    if is_pop(region, al, m) {
+        leave_by_pop(out, at, thumb, with_cost(cycles, x.cost), m.rn, m.rlist)
     } else {
         emit_straight(out, at, thumb, true, cycles, x, last)
     }
@@ -133,13 +129,15 @@ pub fn emit_instr(
             region,
             cycles,
             x,
-            load,
-            rn,
-            rlist,
-            pre,
-            up,
-            s_bit,
-            writeback,
+            BlockTransfer {
+                load,
+                rn,
+                rlist,
+                pre,
+                up,
+                s_bit,
+                writeback,
+            },
             last,
         ),
         _ => emit_straight(out, at, thumb, false, cycles, x, last),

@@ -1,4 +1,5 @@
 // The access of a Mem, by its width and sign, and the write-back of its base.
+use crate::mem::Transfer;
 use armv4t::MemWidth;
 use armv4t::PC;
 use base_text::put;
@@ -11,8 +12,9 @@ ghost use Rattle.armv4t.specs.declared.MemWidth.the-variants.{Byte, Half};
 ghost use Rattle.c_tree.specs.Expr.{x-ob, reg, get};
 ghost use Rattle.c_tree.specs.Preamble.{v32};
 ghost use Rattle.c_tree.specs.Print.{exprText};
-ghost use Rattle.lower_forms.specs.InlineBody.{listIf, eachOnLine, setReg, loaded, stored, access};
+ghost use Rattle.lower_forms.specs.InlineBody.{listIf, eachOnLine, setReg, loaded, stored};
 ghost use Rattle.lower_units.specs.Block.{linesText};
+ghost use Rattle.emit_mem.specs.Mem.{accessOf};
 
 // A byte as it is loaded.
 fn put_byte(out: &mut [u8], at: usize, signed: bool) -> usize
@@ -151,62 +153,39 @@ fn put_store_ob(out: &mut [u8], at: usize, rn: u8, wb: bool) -> usize
 }
 
 // The lines of a load after its address: the write-back of the base, then the load.
-fn put_mem_load(
-    out: &mut [u8],
-    at: usize,
-    width: MemWidth,
-    signed: bool,
-    rd: u8,
-    rn: u8,
-    wb: bool,
-) -> usize
+fn put_mem_load(out: &mut [u8], at: usize, m: Transfer, wb: bool) -> usize
     ensures { λ n. ⌜
-        Wrote (now (out .entry)) at (linesText 8 (eachOnLine (access true width signed rd rn wb)))
+        Wrote (now (out .entry)) at (linesText 8 (eachOnLine (accessOf true m wb)))
         (now (out .exit)) n
         ⌝ }
 {
-    let p = put_load_ob(out, at, rd, rn, wb);
-    put_load_line(out, p, width, signed, rd)
+    let width = m.width;
+    let p = put_load_ob(out, at, m.rd, m.rn, wb);
+    put_load_line(out, p, width, m.signed, m.rd)
 }
 
 // The lines of a store after its address: the store, then the write-back of the base.
-fn put_mem_store(
-    out: &mut [u8],
-    at: usize,
-    width: MemWidth,
-    signed: bool,
-    rd: u8,
-    rn: u8,
-    wb: bool,
-) -> usize
+fn put_mem_store(out: &mut [u8], at: usize, m: Transfer, wb: bool) -> usize
     ensures { λ n. ⌜
-        Wrote (now (out .entry)) at (linesText 8 (eachOnLine (access false width signed rd rn wb)))
+        Wrote (now (out .entry)) at (linesText 8 (eachOnLine (accessOf false m wb)))
         (now (out .exit)) n
         ⌝ }
 {
-    let p = put_store_line(out, at, width, rd);
-    put_store_ob(out, p, rn, wb)
+    let width = m.width;
+    let p = put_store_line(out, at, width, m.rd);
+    put_store_ob(out, p, m.rn, wb)
 }
 
-// The lines of a Mem after its address.
-pub(crate) fn put_access(
-    out: &mut [u8],
-    at: usize,
-    load: bool,
-    width: MemWidth,
-    signed: bool,
-    rd: u8,
-    rn: u8,
-    wb: bool,
-) -> usize
+// The lines of a Mem after its address; wb: the base is written back.
+pub(crate) fn put_access(out: &mut [u8], at: usize, m: Transfer, wb: bool) -> usize
     ensures { λ n. ⌜
-        Wrote (now (out .entry)) at (linesText 8 (eachOnLine (access load width signed rd rn wb)))
+        Wrote (now (out .entry)) at (linesText 8 (eachOnLine (accessOf (m .load) m wb)))
         (now (out .exit)) n
         ⌝ }
 {
-    if load {
-        put_mem_load(out, at, width, signed, rd, rn, wb)
+    if m.load {
+        put_mem_load(out, at, m, wb)
     } else {
-        put_mem_store(out, at, width, signed, rd, rn, wb)
+        put_mem_store(out, at, m, wb)
     }
 }

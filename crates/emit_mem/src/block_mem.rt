@@ -1,6 +1,7 @@
 // BlockMem: LDM and STM.
 use crate::registers::bytes_listed;
 use crate::registers::lowest_listed;
+use crate::transfers::Stored;
 use crate::transfers::put_loads;
 use crate::transfers::put_moved;
 use crate::transfers::put_stores;
@@ -14,13 +15,22 @@ ghost use mathlib.Core.Bool.{true, false, not, _&&_, _||_};
 ghost use mathlib.Core.List.{[], _∷_};
 ghost use lib.Dec.{eqb};
 ghost use Rattle.base_text.specs.Wrote.{Wrote};
-ghost use Rattle.c_tree.specs.Expr.{x-base, x-addr, get, reg};
 ghost use Rattle.c_tree.specs.Print.{exprText};
-ghost use Rattle.lower_forms.specs.InlineBody.{listIf, eachOnLine, let32, setReg, listed};
-ghost use Rattle.lower_forms.specs.InlineBody.{movedBase};
-ghost use Rattle.lower_forms.specs.InlineBody.{start, loadsOrStores, blockMemBody};
+ghost use Rattle.lower_forms.specs.InlineBody.{eachOnLine, setReg, movedBase, start};
 ghost use Rattle.armv4t.specs.RegisterList.{isListed};
 ghost use Rattle.lower_units.specs.Block.{linesText};
+ghost use Rattle.emit_mem.specs.BlockMem.{baseBack, baseLines, moves, blockBody};
+
+// The fields of a BlockMem.
+pub struct BlockTransfer {
+    pub load: bool,
+    pub rn: u8,
+    pub rlist: u16,
+    pub pre: bool,
+    pub up: bool,
+    pub s_bit: bool,
+    pub writeback: bool,
+}
 
 // The lowest address, where the registers take total bytes downwards.
 fn put_down(out: &mut [u8], at: usize, pre: bool, total: u32) -> usize
@@ -66,154 +76,97 @@ fn put_write_back(out: &mut [u8], at: usize, rn: u8, up: bool, total: u32) -> us
 
 // The write-back of a load: the base is written back if writeback is set and the base is not
 // listed.
-fn put_load_back(
-    out: &mut [u8],
-    at: usize,
-    rn: u8,
-    writeback: bool,
-    in_list: bool,
-    up: bool,
-    total: u32,
-) -> usize
+fn put_load_back(out: &mut [u8], at: usize, m: BlockTransfer, in_list: bool, total: u32) -> usize
     ensures { λ n. ⌜
         Wrote (now (out .entry)) at
-        (linesText 8
-        (eachOnLine (listIf (writeback && not in_list) (setReg rn (movedBase up total)))))
+        (linesText 8 (baseBack (m .writeback && not «in_list») m total))
         (now (out .exit)) n
         ⌝ }
 {
-    if writeback {
+    if m.writeback {
         if in_list {
             return at;
         }
-        return put_write_back(out, at, rn, up, total);
+        return put_write_back(out, at, m.rn, m.up, total);
     }
     at
 }
 
 // The write-back of a store: the base is written back if writeback is set.
-fn put_store_back(out: &mut [u8], at: usize, rn: u8, writeback: bool, up: bool, total: u32) -> usize
+fn put_store_back(out: &mut [u8], at: usize, m: BlockTransfer, total: u32) -> usize
     ensures { λ n. ⌜
-        Wrote (now (out .entry)) at
-        (linesText 8 (eachOnLine (listIf writeback (setReg rn (movedBase up total)))))
+        Wrote (now (out .entry)) at (linesText 8 (baseBack (m .writeback) m total))
         (now (out .exit)) n
         ⌝ }
 {
-    if writeback {
-        return put_write_back(out, at, rn, up, total);
+    if m.writeback {
+        return put_write_back(out, at, m.rn, m.up, total);
     }
     at
 }
 
 // The lines of a load after its start.
-fn put_block_loads(
-    out: &mut [u8],
-    at: usize,
-    i: Instr,
-    rn: u8,
-    rlist: u16,
-    up: bool,
-    writeback: bool,
-    total: u32,
-) -> usize
+fn put_block_loads(out: &mut [u8], at: usize, i: Instr, m: BlockTransfer, total: u32) -> usize
     ensures { λ n. ⌜
-        Wrote (now (out .entry)) at
-        (linesText 8
-        (loadsOrStores true i rn writeback (isListed rlist rn) (movedBase up total)
-        (listed rlist 16))) (now (out .exit)) n
+        Wrote (now (out .entry)) at (linesText 8 (moves true i m total)) (now (out .exit)) n
         ⌝ }
 {
-    let in_list = is_listed(rlist, rn);
-    let p = put_load_back(out, at, rn, writeback, in_list, up, total);
-    put_loads(out, p, false, rlist, 16)
+    let in_list = is_listed(m.rlist, m.rn);
+    let p = put_load_back(out, at, m, in_list, total);
+    put_loads(out, p, false, m.rlist, 16)
 }
 
 // The lines of a store after its start.
-fn put_block_stores(
-    out: &mut [u8],
-    at: usize,
-    i: Instr,
-    rn: u8,
-    rlist: u16,
-    up: bool,
-    writeback: bool,
-    total: u32,
-) -> usize
+fn put_block_stores(out: &mut [u8], at: usize, i: Instr, m: BlockTransfer, total: u32) -> usize
     ensures { λ n. ⌜
-        Wrote (now (out .entry)) at
-        (linesText 8
-        (loadsOrStores false i rn writeback (isListed rlist rn) (movedBase up total)
-        (listed rlist 16))) (now (out .exit)) n
+        Wrote (now (out .entry)) at (linesText 8 (moves false i m total)) (now (out .exit)) n
         ⌝ }
 {
-    let lowest = lowest_listed(rlist);
-    let p = put_stores(out, at, i, rn, rlist, lowest, up, total);
-    put_store_back(out, p, rn, writeback, up, total)
+    let stored = Stored {
+        i,
+        rn: m.rn,
+        lowest: lowest_listed(m.rlist),
+        up: m.up,
+        total,
+    };
+    let p = put_stores(out, at, stored, m.rlist);
+    put_store_back(out, p, m, total)
 }
 
 // The base, and the lowest address.
-fn put_block_base(out: &mut [u8], at: usize, rn: u8, pre: bool, up: bool, total: u32) -> usize
+fn put_block_base(out: &mut [u8], at: usize, m: BlockTransfer, total: u32) -> usize
     ensures { λ n. ⌜
-        Wrote (now (out .entry)) at
-        (linesText 8
-        (eachOnLine (let32 x-base (get (reg rn)) ∷ let32 x-addr (start up pre total) ∷ [])))
-        (now (out .exit)) n
+        Wrote (now (out .entry)) at (linesText 8 (baseLines m total)) (now (out .exit)) n
         ⌝ }
 {
-    let p = put_then_dec(out, at, b"        uint32_t base = c[", rn as u64);
+    let p = put_then_dec(out, at, b"        uint32_t base = c[", m.rn as u64);
     let q = put(out, p, b"];\n        uint32_t addr = ");
-    let s = put_start(out, q, up, pre, total);
+    let s = put_start(out, q, m.up, m.pre, total);
     put(out, s, b";\n")
 }
 
 // The lines after the base, by the bytes that the registers take.
-fn put_transfers(
-    out: &mut [u8],
-    at: usize,
-    i: Instr,
-    load: bool,
-    rn: u8,
-    rlist: u16,
-    up: bool,
-    writeback: bool,
-    total: u32,
-) -> usize
+fn put_transfers(out: &mut [u8], at: usize, i: Instr, m: BlockTransfer, total: u32) -> usize
     ensures { λ n. ⌜
-        Wrote (now (out .entry)) at
-        (linesText 8
-        (loadsOrStores load i rn writeback (isListed rlist rn) (movedBase up total)
-        (listed rlist 16))) (now (out .exit)) n
+        Wrote (now (out .entry)) at (linesText 8 (moves (m .load) i m total)) (now (out .exit)) n
         ⌝ }
 {
-    if load {
-        put_block_loads(out, at, i, rn, rlist, up, writeback, total)
+    if m.load {
+        put_block_loads(out, at, i, m, total)
     } else {
-        put_block_stores(out, at, i, rn, rlist, up, writeback, total)
+        put_block_stores(out, at, i, m, total)
     }
 }
 
 // All lines of a BlockMem that is inlined.
-pub fn put_block_mem(
-    out: &mut [u8],
-    at: usize,
-    i: Instr,
-    load: bool,
-    rn: u8,
-    rlist: u16,
-    pre: bool,
-    up: bool,
-    writeback: bool,
-) -> usize
+pub fn put_block_mem(out: &mut [u8], at: usize, i: Instr, m: BlockTransfer) -> usize
     ensures { λ n. ⌜
-        Wrote (now (out .entry)) at
-        (linesText 8
-        (blockMemBody i load rn (isListed rlist rn) pre up writeback (listed rlist 16)))
-        (now (out .exit)) n
+        Wrote (now (out .entry)) at (linesText 8 (blockBody i m)) (now (out .exit)) n
         ⌝ }
 {
-    let total = bytes_listed(rlist, 16);
-    let p = put_block_base(out, at, rn, pre, up, total);
-    put_transfers(out, p, i, load, rn, rlist, up, writeback, total)
+    let total = bytes_listed(m.rlist, 16);
+    let p = put_block_base(out, at, m, total);
+    put_transfers(out, p, i, m, total)
 }
 
 // Whether a BlockMem is inlined: not if it touches the user's registers or SPSR, names none, is

@@ -18,15 +18,26 @@ ghost use mathlib.Core.Option.{some};
 ghost use Prim.Native.Nat.{_*_, _/_};
 ghost use Rattle.base_text.specs.Doc.{text, _▸_};
 ghost use Rattle.base_text.specs.Wrote.{Wrote};
-ghost use Rattle.armv4t.specs.Instr.{pcValue};
 ghost use Rattle.c_tree.specs.Expr.{word, uhex, x-base, x-ob, x-addr, operator, lit, par, bin};
 ghost use Rattle.c_tree.specs.Preamble.{v32};
 ghost use Rattle.c_tree.specs.Print.{exprText};
 ghost use Rattle.lower_forms.specs.Forms.{Lines};
-ghost use Rattle.lower_forms.specs.InlineBody.{eachOnLine, let32, baseExpr, offsetExpr, addOrSub};
-ghost use Rattle.lower_forms.specs.InlineBody.{access, memBody, memLines};
+ghost use Rattle.lower_forms.specs.InlineBody.{eachOnLine, let32, baseExpr, addOrSub};
 ghost use Rattle.lower_units.specs.Block.{linesText};
-ghost use Rattle.emit_mem.specs.Mem.{offsetOf};
+ghost use Rattle.emit_mem.specs.Mem.{offsetOf, transferLines, wholeAccess, transferBody};
+
+// The fields of a Mem.
+pub struct Transfer {
+    pub load: bool,
+    pub width: MemWidth,
+    pub signed: bool,
+    pub rd: u8,
+    pub rn: u8,
+    pub offset: MemOffset,
+    pub pre: bool,
+    pub up: bool,
+    pub writeback: bool,
+}
 
 // PC as a base in a Thumb block.
 fn put_aligned(out: &mut [u8], at: usize, pc: u32) -> usize
@@ -132,26 +143,16 @@ fn put_addr_line(out: &mut [u8], at: usize, pre: bool) -> usize
 }
 
 // The lines before the access.
-fn put_address(
-    out: &mut [u8],
-    at: usize,
-    thumb: bool,
-    i: Instr,
-    rn: u8,
-    offset: MemOffset,
-    pre: bool,
-    up: bool,
-) -> usize
+fn put_address(out: &mut [u8], at: usize, thumb: bool, i: Instr, m: Transfer) -> usize
     ensures { λ n. ⌜
-        Wrote (now (out .entry)) at
-        (linesText 8 (memLines (baseExpr thumb i rn) up pre [] (offsetOf (pcValue i) offset)))
-        (now (out .exit)) n
+        Wrote (now (out .entry)) at (linesText 8 (transferLines thumb i m [])) (now (out .exit)) n
         ⌝ }
 {
+    let offset = m.offset;
     let pc = i.pc_value();
-    let p = put_base_line(out, at, thumb, i, rn);
-    let q = put_moved_base_line(out, p, up, offset, pc);
-    put_addr_line(out, q, pre)
+    let p = put_base_line(out, at, thumb, i, m.rn);
+    let q = put_moved_base_line(out, p, m.up, offset, pc);
+    put_addr_line(out, q, m.pre)
 }
 
 // Whether the base is written back: always after an access that does not count the offset.
@@ -165,70 +166,23 @@ fn writes_back(pre: bool, writeback: bool) -> bool
 }
 
 // All lines of a Mem, its offset said with no case left out.
-fn put_mem_lines(
-    out: &mut [u8],
-    at: usize,
-    thumb: bool,
-    i: Instr,
-    load: bool,
-    width: MemWidth,
-    signed: bool,
-    rd: u8,
-    rn: u8,
-    offset: MemOffset,
-    pre: bool,
-    up: bool,
-    writeback: bool,
-) -> usize
+fn put_mem_lines(out: &mut [u8], at: usize, thumb: bool, i: Instr, m: Transfer) -> usize
     ensures { λ n. ⌜
-        Wrote (now (out .entry)) at
-        (linesText 8
-        (memLines (baseExpr thumb i rn) up pre
-        (access load width signed rd rn (not pre || writeback)) (offsetOf (pcValue i) offset)))
+        Wrote (now (out .entry)) at (linesText 8 (transferLines thumb i m (wholeAccess m)))
         (now (out .exit)) n
         ⌝ }
 {
-    let wb = writes_back(pre, writeback);
-    let p = put_address(out, at, thumb, i, rn, offset, pre, up);
-    put_access(out, p, load, width, signed, rd, rn, wb)
+    let wb = writes_back(m.pre, m.writeback);
+    let p = put_address(out, at, thumb, i, m);
+    put_access(out, p, m, wb)
 }
 
 // All lines of a Mem that is inlined.
-pub fn put_mem(
-    out: &mut [u8],
-    at: usize,
-    thumb: bool,
-    i: Instr,
-    load: bool,
-    width: MemWidth,
-    signed: bool,
-    rd: u8,
-    rn: u8,
-    offset: MemOffset,
-    pre: bool,
-    up: bool,
-    writeback: bool,
-) -> usize
+pub fn put_mem(out: &mut [u8], at: usize, thumb: bool, i: Instr, m: Transfer) -> usize
     ensures { λ n. ⌜
-        ((ls : Lines)
-        → memBody (baseExpr thumb i rn) up pre
-        (access load width signed rd rn (not pre || writeback)) (offsetExpr i offset) ≡ some ls
+        ((ls : Lines) → transferBody thumb i m ≡ some ls
         → Wrote (now (out .entry)) at (linesText 8 ls) (now (out .exit)) n)
         ⌝ }
 {
-    put_mem_lines(
-        out,
-        at,
-        thumb,
-        i,
-        load,
-        width,
-        signed,
-        rd,
-        rn,
-        offset,
-        pre,
-        up,
-        writeback,
-    )
+    put_mem_lines(out, at, thumb, i, m)
 }

@@ -1,8 +1,8 @@
 // The pop of PC: a load of registers upwards from a base that is written back, PC among them, which
 // ends the block.
+use crate::block_mem::BlockTransfer;
 use crate::registers::bytes_listed;
 use crate::transfers::put_loads;
-use armv4t::Cond;
 use armv4t::PC;
 use armv4t::is_listed;
 use base_text::put;
@@ -116,25 +116,16 @@ fn loads_pc(region: u32, rn: u8, rlist: u16) -> bool
 }
 
 // Whether a BlockMem is a pop of PC, in a block of a region; al: its condition is Al.
-pub fn is_pop(
-    region: u32,
-    al: bool,
-    load: bool,
-    rn: u8,
-    rlist: u16,
-    pre: bool,
-    up: bool,
-    s_bit: bool,
-    writeback: bool,
-) -> bool
+pub fn is_pop(region: u32, al: bool, m: BlockTransfer) -> bool
     ensures { λ b. ⌜
         ((i : Instr) → al ≡ isAl (i .cond)
-        → b ≡ isPop region i load rn rlist pre up «s_bit» writeback)
+        → b ≡ isPop region i (m .load) (m .rn) (m .rlist) (m .pre) (m .up) (m .«s_bit»)
+        (m .writeback))
         ⌝ }
 {
-    if is_upward_load(load, pre, up, s_bit, writeback) {
+    if is_upward_load(m.load, m.pre, m.up, m.s_bit, m.writeback) {
         if al {
-            return loads_pc(region, rn, rlist);
+            return loads_pc(region, m.rn, m.rlist);
         }
         return false;
     }

@@ -14,9 +14,10 @@ ghost use Prim.Native.Nat.{_+_, _%_, _^_};
 ghost use Rattle.armv4t.specs.Instr.{pcValue};
 ghost use Rattle.c_tree.specs.Expr.{word, lit};
 ghost use Rattle.c_tree.specs.Print.{exprText, spaces, codeText};
-ghost use Rattle.lower_forms.specs.InlineBody.{listIf, listed, loads, movedBase, storedReg, stores};
+ghost use Rattle.lower_forms.specs.InlineBody.{listIf, listed, loads, movedBase, stores};
 ghost use Rattle.armv4t.specs.RegisterList.{isListed};
 ghost use Rattle.lower_units.specs.Block.{lines, linesText};
+ghost use Rattle.emit_mem.specs.BlockMem.{storedOf};
 
 // The indent of a line, 6 in a pop, and the register that it sets.
 fn put_target(out: &mut [u8], at: usize, pop: bool, r: u8) -> usize
@@ -99,102 +100,69 @@ fn put_stored_pc(out: &mut [u8], at: usize, i: Instr) -> usize
     put_word(out, at, pc)
 }
 
+// What a store of registers stores depends on: the instruction, its base, the lowest register
+// listed, and the base after the store, up or down by total bytes.
+pub(crate) struct Stored {
+    pub i: Instr,
+    pub rn: u8,
+    pub lowest: u8,
+    pub up: bool,
+    pub total: u32,
+}
+
 // What is stored of a register.
-fn put_stored(
-    out: &mut [u8],
-    at: usize,
-    i: Instr,
-    rn: u8,
-    lowest: u8,
-    up: bool,
-    total: u32,
-    r: u8,
-) -> usize
-    ensures { λ n. ⌜
-        Wrote (now (out .entry)) at (exprText (storedReg i rn lowest (movedBase up total) r))
-        (now (out .exit)) n
-        ⌝ }
+fn put_stored(out: &mut [u8], at: usize, s: Stored, r: u8) -> usize
+    ensures { λ n. ⌜ Wrote (now (out .entry)) at (exprText (storedOf s r)) (now (out .exit)) n ⌝ }
 {
     if r == 15 {
+        let i = s.i;
         return put_stored_pc(out, at, i);
     }
-    if r == rn {
-        if r == lowest {
+    if r == s.rn {
+        if r == s.lowest {
             return put(out, at, b"base");
         }
-        return put_moved(out, at, up, total);
+        return put_moved(out, at, s.up, s.total);
     }
     put_place(out, at, r)
 }
 
 // The line that stores a register.
-fn put_store(
-    out: &mut [u8],
-    at: usize,
-    i: Instr,
-    rn: u8,
-    lowest: u8,
-    up: bool,
-    total: u32,
-    r: u8,
-) -> usize
+fn put_store(out: &mut [u8], at: usize, s: Stored, r: u8) -> usize
     ensures { λ n. ⌜
-        Wrote (now (out .entry)) at
-        (linesText 8 (stores (storedReg i rn lowest (movedBase up total)) (r ∷ [])))
-        (now (out .exit)) n
+        Wrote (now (out .entry)) at (linesText 8 (stores (storedOf s) (r ∷ []))) (now (out .exit)) n
         ⌝ }
 {
     let p = put(out, at, b"        a->write32(m, addr & ~3u, ");
-    let q = put_stored(out, p, i, rn, lowest, up, total, r);
+    let q = put_stored(out, p, s, r);
     put(out, q, b"); addr += 4u;\n")
 }
 
 // The line that stores a register, if it is listed.
-fn put_listed_store(
-    out: &mut [u8],
-    at: usize,
-    i: Instr,
-    rn: u8,
-    rlist: u16,
-    lowest: u8,
-    up: bool,
-    total: u32,
-    r: u8,
-) -> usize
+fn put_listed_store(out: &mut [u8], at: usize, s: Stored, rlist: u16, r: u8) -> usize
     ensures { λ n. ⌜
         Wrote (now (out .entry)) at
-        (linesText 8
-        (stores (storedReg i rn lowest (movedBase up total)) (listIf (isListed rlist r) r)))
+        (linesText 8 (stores (storedOf s) (listIf (isListed rlist r) r)))
         (now (out .exit)) n
         ⌝ }
 {
     if is_listed(rlist, r) {
-        return put_store(out, at, i, rn, lowest, up, total, r);
+        return put_store(out, at, s, r);
     }
     at
 }
 
-// The stores of the registers listed, given the lowest of them and the bytes that they take.
-pub(crate) fn put_stores(
-    out: &mut [u8],
-    at: usize,
-    i: Instr,
-    rn: u8,
-    rlist: u16,
-    lowest: u8,
-    up: bool,
-    total: u32,
-) -> usize
+// The stores of the registers listed.
+pub(crate) fn put_stores(out: &mut [u8], at: usize, s: Stored, rlist: u16) -> usize
     ensures { λ n. ⌜
-        Wrote (now (out .entry)) at
-        (linesText 8 (stores (storedReg i rn lowest (movedBase up total)) (listed rlist 16)))
+        Wrote (now (out .entry)) at (linesText 8 (stores (storedOf s) (listed rlist 16)))
         (now (out .exit)) n
         ⌝ }
 {
     let mut p = at;
     let mut r = 0;
     while r < 16 {
-        p = put_listed_store(out, p, i, rn, rlist, lowest, up, total, r);
+        p = put_listed_store(out, p, s, rlist, r);
         r += 1;
     }
     p

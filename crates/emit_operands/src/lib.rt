@@ -16,9 +16,9 @@ ghost use Rattle.base_text.specs.Doc.{raw, _▸_};
 ghost use Rattle.base_text.specs.Wrote.{Wrote};
 ghost use Rattle.c_tree.specs.Expr.{word, reg, Expr, lit, get};
 ghost use Rattle.c_tree.specs.Print.{exprText};
-ghost use Rattle.lower_forms.specs.Operands.{condExpr, carryIn, shiftExprs, op2Exprs, regOf};
+ghost use Rattle.lower_forms.specs.Operands.{condExpr, shiftExprs, op2Exprs, regOf};
 ghost use Rattle.lower_forms.specs.Operands.{operandOf};
-ghost use Rattle.emit_operands.specs.Operands.{carryText, isSome};
+ghost use Rattle.emit_operands.specs.Operands.{carryText, isSome, sourceExpr};
 
 // A condition, without parentheses around it.
 pub fn put_cond_expr(out: &mut [u8], at: usize, cond: Cond) -> usize
@@ -71,24 +71,23 @@ pub fn put_reg(out: &mut [u8], at: usize, n: Reg, pc: u32) -> usize
     }
 }
 
+// A register that is shifted: its number, and the PC value of the instruction that reads it.
+pub struct Source {
+    pub n: Reg,
+    pub pc: u32,
+}
+
 // s, the register and t.
-pub(crate) fn put_around(out: &mut [u8], at: usize, s: &[u8], n: Reg, pc: u32, t: &[u8]) -> usize
+pub(crate) fn put_around(out: &mut [u8], at: usize, s: &[u8], from: Source, t: &[u8]) -> usize
     ensures { λ r. ⌜
         Wrote (now (out .entry)) at
-        (raw (now (s .entry)) ▸ exprText (regOf pc n) ▸ raw (now (t .entry))) (now (out .exit))
-        r
+        (raw (now (s .entry)) ▸ exprText (sourceExpr from) ▸ raw (now (t .entry)))
+        (now (out .exit)) r
         ⌝ }
 {
     let p = base_text::put(out, at, s);
-    let q = put_reg(out, p, n, pc);
+    let q = put_reg(out, p, from.n, from.pc);
     base_text::put(out, q, t)
-}
-
-// The carry flag.
-pub fn put_carry_in(out: &mut [u8], at: usize) -> usize
-    ensures { λ r. ⌜ Wrote (now (out .entry)) at (exprText carryIn) (now (out .exit)) r ⌝ }
-{
-    base_text::put(out, at, b"((c[16] >> 29) & 1u)")
 }
 
 // A register operand. The interpreter is to carry out a shift by a register, so no one asks for its
@@ -100,7 +99,7 @@ fn put_shifted(out: &mut [u8], at: usize, rm: Reg, shift: Shift, pc: u32) -> usi
         ⌝ }
 {
     match shift {
-        Shift::Imm { kind, amount } => put_shift_value(out, at, rm, pc, kind, amount),
+        Shift::Imm { kind, amount } => put_shift_value(out, at, Source { n: rm, pc }, kind, amount),
         Shift::Reg { kind, rs } => put_reg(out, at, rm, pc),
     }
 }
@@ -139,7 +138,7 @@ fn put_shifted_carry(out: &mut [u8], at: usize, rm: Reg, shift: Shift, pc: u32) 
         ⌝ }
 {
     match shift {
-        Shift::Imm { kind, amount } => put_shift_carry(out, at, rm, pc, kind, amount),
+        Shift::Imm { kind, amount } => put_shift_carry(out, at, Source { n: rm, pc }, kind, amount),
         Shift::Reg { kind, rs } => at,
     }
 }

@@ -17,7 +17,7 @@ returns : tie.Need-returns
 returns c =
     let c2 = c .before .before in
     let c1 = c2 .before .before .before .before in
-    let a = c1 .before .before .before .args in
+    let a = c1 .before .before .before .args .a in
     wrote-as (seq (c1 .put-flags .ensures) (c2 .put-result .ensures))
     (rows-append (cond (a .s) (run f-nz (v32 x-r) ∷ logicalC (operandOf (a .pc) (a .op2) .1)) [])
     (result (a .op) (a .rd) ∷ []) [])

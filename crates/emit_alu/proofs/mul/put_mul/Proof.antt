@@ -13,10 +13,10 @@ returns c =
     let c3 = c4 .before .before .before .before in
     let c2 = c3 .before .before .before .before in
     let c1 = c2 .before .before .before .before in
-    let a = c1 .before .before .before .args in
+    let m = c1 .before .before .before .args .m in
     wrote-as (seq (c1 .put-product .ensures)
     (seq (c2 .put-more .ensures) (seq (c3 .put-low .ensures) (c4 .put-nz .ensures))))
-    (mul-text (a .acc) (a .s) (a .rd) (a .rn) (a .rs) (a .rm) [])
+    (mul-text (m .acc) (m .s) (m .rd) (m .rn) (m .rs) (m .rm) [])
 
 pub put-mul-spec : {M : Type 1} → statement M
 put-mul-spec =

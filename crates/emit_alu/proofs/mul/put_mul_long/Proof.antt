@@ -13,10 +13,10 @@ returns c =
     let c3 = c4 .before .before .before .before in
     let c2 = c3 .before .before .before .before in
     let c1 = c2 .before .before .before .before in
-    let a = c1 .before .before .before .args in
+    let m = c1 .before .before .before .args .m in
     wrote-as (seq (c1 .put-long-product .ensures)
     (seq (c2 .put-long-more .ensures) (seq (c3 .put-halves .ensures) (c4 .put-nz64 .ensures))))
-    (mul-long-text (a .signed) (a .acc) (a .s) (a .hi) (a .lo) (a .rs) (a .rm) [])
+    (mul-long-text (m .signed) (m .acc) (m .s) (m .hi) (m .lo) (m .rs) (m .rm) [])
 
 pub put-mul-long-spec : {M : Type 1} → statement M
 put-mul-long-spec =

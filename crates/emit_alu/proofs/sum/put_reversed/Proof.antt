@@ -21,13 +21,14 @@ returns c =
     let c2 = c3 .before .before .before .before in
     let c1 = c2 .before .before .before .before in
     let a = c1 .before .before .before .before .args in
-    let e = regOf (a .pc) (a .rn) in
+    let d = a .a in
+    let e = regOf (d .pc) (d .rn) in
     λ z q. wrote-as
     (seq (c1 .put-before .ensures)
     (seq (c2 .put-op2-value .ensures)
     (seq (c3 .put-between .ensures)
     (seq (c4 .put .ensures) (seq (c5 .put-reg .ensures) (c6 .put-sum-rest .ensures))))))
-    (sum-of (a .op) (a .s) (a .rd) (operandOf (a .pc) (a .op2) .0) (un compl e) z
+    (sum-of (d .op) (d .s) (d .rd) (operandOf (d .pc) (d .op2) .0) (un compl e) z
     (text "~" ▸ exprText e) (raw (a .carry .now)) (λ k. refl) q [])
 
 same-length : tie.Need-same-length

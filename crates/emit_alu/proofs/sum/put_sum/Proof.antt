@@ -19,13 +19,14 @@ returns c =
     let c2 = c3 .before .before .before .before in
     let c1 = c2 .before .before .before .before in
     let a = c1 .before .before .before .before .before .args in
+    let d = a .a in
     λ y z p q. wrote-as
     (seq (c1 .put-before .ensures)
     (seq (c2 .put-reg .ensures)
     (seq (c3 .put-between .ensures)
     (seq (c4 .put .ensures) (seq (c5 .put-op2-value .ensures) (c6 .put-sum-rest .ensures))))))
-    (sum-of (a .op) (a .s) (a .rd) (regOf (a .pc) (a .rn)) y z
-    (raw (a .t .now) ▸ exprText (operandOf (a .pc) (a .op2) .0)) (raw (a .carry .now)) p q [])
+    (sum-of (d .op) (d .s) (d .rd) (regOf (d .pc) (d .rn)) y z
+    (raw (a .t .now) ▸ exprText (operandOf (d .pc) (d .op2) .0)) (raw (a .carry .now)) p q [])
 
 same-length : tie.Need-same-length
 same-length c =

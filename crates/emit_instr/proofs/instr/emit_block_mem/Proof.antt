@@ -16,13 +16,14 @@ returns c =
     let c2 = c .before .before in
     let c1 = c2 .before .before .before in
     let a = c1 .before .before .before .before .before .args in
+    let m = a .m in
     λ ks b j fs h g.
     same-form _ _
-    (ap (λ (n : ℕ). (Form.native (emitPop (a .thumb) n (a .rn) (listed (a .rlist) 15)), 0))
+    (ap (λ (n : ℕ). (Form.native (emitPop (a .thumb) n (m .rn) (listed (m .rlist) 15)), 0))
     (c2 .before .with-cost .ensures g)
     ∙ chosen
-    (isPop (a .region) (a .x .instr) (a .load) (a .rn) (a .rlist) (a .pre) (a .up) (a .s-bit)
-    (a .writeback)) _ (emitStraight (a .thumb) true (a .cycles) (a .x))
+    (isPop (a .region) (a .x .instr) (m .load) (m .rn) (m .rlist) (m .pre) (m .up) (m .«s_bit»)
+    (m .writeback)) _ (emitStraight (a .thumb) true (a .cycles) (a .x))
     (sym (c1 .before .is-pop .ensures (a .x .instr) (c1 .before .before .is-al .ensures))
     ∙ c1 .if1 .taken))
     (c2 .leave-by-pop .ensures ks b j fs)
@@ -32,11 +33,12 @@ returns-2 c =
     let c2 = c .before .before in
     let c1 = c2 .before .before in
     let a = c1 .before .before .before .before .before .args in
+    let m = a .m in
     λ ks b j fs h g.
     same-form _ _
     (refused
-    (isPop (a .region) (a .x .instr) (a .load) (a .rn) (a .rlist) (a .pre) (a .up) (a .s-bit)
-    (a .writeback)) _ (emitStraight (a .thumb) true (a .cycles) (a .x))
+    (isPop (a .region) (a .x .instr) (m .load) (m .rn) (m .rlist) (m .pre) (m .up) (m .«s_bit»)
+    (m .writeback)) _ (emitStraight (a .thumb) true (a .cycles) (a .x))
     (sym (c1 .before .is-pop .ensures (a .x .instr) (c1 .before .before .is-al .ensures))
     ∙ c1 .if1 .left))
     (c2 .emit-straight .ensures ks b j fs h g)

@@ -18,10 +18,11 @@ returns c =
     let c2 = c .before .before in
     let c1 = c2 .before .before .before .before in
     let a = c1 .before .before .before .args in
+    let m = a .m in
     let back : List Plain =
-    listIf (a .wb && not (eqb (a .rn) (a .rd)) && not (eqb (a .rn) 15))
-    (setReg (a .rn) (v32 x-ob)) in
-    let load : List Plain = setReg (a .rd) (loaded (a .width) (a .signed)) ∷ [] in
+    listIf (a .wb && not (eqb (m .rn) (m .rd)) && not (eqb (m .rn) 15))
+    (setReg (m .rn) (v32 x-ob)) in
+    let load : List Plain = setReg (m .rd) (loaded (m .width) (m .signed)) ∷ [] in
     wrote-as (seq (c1 .put-load-ob .ensures) (c2 .put-load-line .ensures)) (apart-both 8 back load)
 
 pub put-mem-load-spec : {M : Type 1} → statement M

@@ -18,8 +18,9 @@ returns c =
     let c2 = c .before .before in
     let c1 = c2 .before .before .before .before in
     let a = c1 .before .before .before .args in
-    let store : List Plain = stored (a .width) (get (reg (a .rd))) ∷ [] in
-    let back : List Plain = listIf (a .wb && not (eqb (a .rn) 15)) (setReg (a .rn) (v32 x-ob)) in
+    let m = a .m in
+    let store : List Plain = stored (m .width) (get (reg (m .rd))) ∷ [] in
+    let back : List Plain = listIf (a .wb && not (eqb (m .rn) 15)) (setReg (m .rn) (v32 x-ob)) in
     wrote-as (seq (c1 .put-store-line .ensures) (c2 .put-store-ob .ensures))
     (apart-both 8 store back)
 

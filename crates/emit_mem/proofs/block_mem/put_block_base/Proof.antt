@@ -22,5 +22,6 @@ pub put-block-base-spec : {M : Type 1} → statement M
 put-block-base-spec =
     tie.close
     (tie.spec (search needs) (search needs) (search needs) (search needs) (search needs)
+    (search needs)
     (search needs) (search needs)
     (λ c. kept (returns c)) returns)

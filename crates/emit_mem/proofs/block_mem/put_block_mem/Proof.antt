@@ -1,15 +1,13 @@
 -- `block_mem::put_block_mem` meets its contract: what its calls write, one after another.
 -- Assumes nothing.
+use Rattle.emit_mem.specs.BlockMem.{baseLines, moves}
 use Prim.Native.Nat.{ℕ}
 use mathlib.Core.Path.{sym}
-use mathlib.Core.List.{[], _∷_}
+use mathlib.Core.List.{[]}
 use borrow.Author.Needs.{needs}
-use Rattle.c_tree.specs.Expr.{x-base, x-addr, reg, get}
 use Rattle.c_tree.specs.Stmt.{end}
 use Rattle.emit_mem.proofs.Lines.{lines-both}
 use Rattle.lower_forms.specs.Forms.{Lines}
-use Rattle.lower_forms.specs.InlineBody.{eachOnLine, let32, listed, movedBase, start, loadsOrStores}
-use Rattle.armv4t.specs.RegisterList.{isListed}
 use Rattle.base_text.proofs.Laws.{seq, wrote-as, kept}
 use Rattle.emit_mem.proofs.block_mem.put_block_mem.Statement.{statement}
 use Rattle.emit_mem.proofs.block_mem.put_block_mem.Tie as tie
@@ -21,12 +19,8 @@ returns c =
     let c1 = c2 .before .before in
     let a = c1 .before .before .args in
     let total : ℕ = c1 .bytes-listed .result in
-    let first : Lines =
-    eachOnLine (let32 x-base (get (reg (a .rn))) ∷ let32 x-addr (start (a .up) (a .pre) total)
-    ∷ []) in
-    let rest : Lines =
-    loadsOrStores (a .load) (a .i) (a .rn) (a .writeback) (isListed (a .rlist) (a .rn))
-    (movedBase (a .up) total) (listed (a .rlist) 16) in
+    let first : Lines = baseLines (a .m) total in
+    let rest : Lines = moves (a .m .load) (a .i) (a .m) total in
     rw (sym (c1 .bytes-listed .ensures .0))
     (wrote-as (seq (c2 .put-block-base .ensures) (c3 .put-transfers .ensures))
     (lines-both 8 first rest end []))

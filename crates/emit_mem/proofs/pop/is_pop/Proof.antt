@@ -20,8 +20,8 @@ returns-2 c = λ i e.
     let up = c .before in
     rw (sym (up .before .is-upward-load .ensures) ∙ up .if1 .taken, sym e ∙ c .if2 .left)
     (sym (and-false
-    (isListed (up .before .before .args .rlist) 15
-    && not (eqb (up .before .before .args .rn) 15))))
+    (isListed (up .before .before .args .m .rlist) 15
+    && not (eqb (up .before .before .args .m .rn) 15))))
 
 returns-3 : tie.Need-returns-3
 returns-3 c = λ i e. rw (sym (c .before .is-upward-load .ensures) ∙ c .if1 .left) refl

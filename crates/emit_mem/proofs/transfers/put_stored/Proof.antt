@@ -10,15 +10,15 @@ use Rattle.emit_mem.proofs.transfers.put_stored.Tie as tie
 returns : tie.Need-returns
 returns c =
     let c2 = c .before .before in
-    let c1 = c2 .before .before in
+    let c1 = c2 .before .before .before in
     rw (eq-eqb _ _ (c1 .if1 .taken)) (wrote-as (c2 .put-stored-pc .ensures) refl)
 
 returns-2 : tie.Need-returns-2
 returns-2 c =
     let c4 = c .before .before in
     let c3 = c4 .before .before .before in
-    let c2 = c3 .before in
-    let c1 = c2 .before in
+    let c2 = c3 .before .before in
+    let c1 = c2 .before .before in
     rw (ne-eqb _ _ (c1 .if1 .left), eq-eqb _ _ (c2 .if2 .taken), eq-eqb _ _ (c3 .if3 .taken))
     (wrote-as (c4 .put .ensures) refl)
 
@@ -26,8 +26,8 @@ returns-3 : tie.Need-returns-3
 returns-3 c =
     let c4 = c .before .before in
     let c3 = c4 .before .before in
-    let c2 = c3 .before in
-    let c1 = c2 .before in
+    let c2 = c3 .before .before in
+    let c1 = c2 .before .before in
     rw (ne-eqb _ _ (c1 .if1 .left), eq-eqb _ _ (c2 .if2 .taken), ne-eqb _ _ (c3 .if3 .left))
     (wrote-as (c4 .put-moved .ensures) refl)
 
@@ -35,7 +35,7 @@ returns-4 : tie.Need-returns-4
 returns-4 c =
     let c3 = c .before .before in
     let c2 = c3 .before .before in
-    let c1 = c2 .before in
+    let c1 = c2 .before .before in
     rw (ne-eqb _ _ (c1 .if1 .left), ne-eqb _ _ (c2 .if2 .left))
     (wrote-as (c3 .put-place .ensures) refl)
 

@@ -1,5 +1,6 @@
 -- `put_stores` writes the stores of the registers listed. The loop's invariant: those below r are
 -- written. Assumes nothing.
+use Rattle.emit_mem.specs.BlockMem.{storedOf}
 use Prim.Native.Nat.{_-_, _≤_}
 use native.Mathlib.Omega.{arith}
 use borrow.Author.Needs.{needs}
@@ -7,18 +8,17 @@ use mathlib.Core.Path.{_≡_, sym}
 use Rattle.emit_mem.proofs.Lines.{stores-more}
 use Rattle.emit_mem.proofs.transfers.put_stores.Statement.{statement}
 use Rattle.emit_mem.proofs.transfers.put_stores.Tie as tie
-use Rattle.lower_forms.specs.InlineBody.{listed, movedBase, storedReg, stores}
+use Rattle.lower_forms.specs.InlineBody.{listed, stores}
 use Rattle.lower_units.specs.Block.{linesText}
 use Rattle.base_text.proofs.Laws.{none, seq, wrote-as, kept}
 use Rattle.base_text.specs.Wrote.{Wrote}
 
 abbrev Inv-loop : tie.InvT-loop
-Inv-loop out₀ at i rn rlist lowest up total p₀ r₀ out p r = (r ≤ 16)
-    × Wrote out₀ at
-    (linesText 8 (stores (storedReg i rn lowest (movedBase up total)) (listed rlist r))) out p
+Inv-loop out₀ at s rlist p₀ r₀ out p r = (r ≤ 16)
+    × Wrote out₀ at (linesText 8 (stores (storedOf s) (listed rlist r))) out p
 
 abbrev μ-loop : tie.MeasureT-loop
-μ-loop out₀ at i rn rlist lowest up total p₀ r₀ out p r = 16 - r
+μ-loop out₀ at s rlist p₀ r₀ out p r = 16 - r
 
 loop-holds : tie.Need-loop-holds Inv-loop μ-loop
 unfolding listed

@@ -1,7 +1,7 @@
 -- `emit_operands::shifts::put_bit` meets its contract: what its calls write, one after another.
 -- Assumes nothing.
 use mathlib.Core.List.{[]}
-use Rattle.lower_forms.specs.Operands.{regOf}
+use Rattle.emit_operands.specs.Operands.{sourceExpr}
 use borrow.Author.Needs.{needs}
 use Rattle.emit_operands.proofs.Operands.{bit-text}
 use Rattle.base_text.proofs.Laws.{wrote-as, kept}
@@ -12,7 +12,7 @@ returns : tie.Need-returns
 returns c =
     let c1 = c .before .before in
     let a = c1 .before .before .before .before .before .before .args in
-    wrote-as (c1 .put-amount .ensures) (bit-text (regOf (a .pc) (a .rm)) (a .n) [])
+    wrote-as (c1 .put-amount .ensures) (bit-text (sourceExpr (a .from)) (a .n) [])
 
 pub put-bit-spec : {M : Type 1} → statement M
 put-bit-spec =

@@ -1,7 +1,7 @@
 -- `emit_operands::shifts::put_ror_carry` meets its contract: what its calls write, one after
 -- another. Assumes nothing.
 use mathlib.Core.List.{[]}
-use Rattle.lower_forms.specs.Operands.{regOf}
+use Rattle.emit_operands.specs.Operands.{sourceExpr}
 use borrow.Author.Needs.{needs}
 use Rattle.emit_operands.proofs.Operands.{ror-carry, rrx-carry}
 use Rattle.base_text.proofs.Laws.{wrote-as, kept}
@@ -13,7 +13,7 @@ returns c =
     let c2 = c .before .before in
     let c1 = c2 .before .before .before .before in
     let a = c1 .before .before .args in
-    rw (c1 .if1 .taken) (wrote-as (c2 .put-around .ensures) (rrx-carry (regOf (a .pc) (a .rm)) []))
+    rw (c1 .if1 .taken) (wrote-as (c2 .put-around .ensures) (rrx-carry (sourceExpr (a .from)) []))
 
 returns-2 : tie.Need-returns-2
 returns-2 c =

@@ -2,7 +2,7 @@
 -- another. Assumes nothing.
 use mathlib.Core.Path.{refl, ap}
 use Rattle.emit_operands.specs.Operands.{carryText}
-use Rattle.lower_forms.specs.Operands.{regOf}
+use Rattle.emit_operands.specs.Operands.{sourceExpr}
 use Rattle.base_text.specs.Doc.{flat}
 use Rattle.c_tree.specs.Expr.{Expr}
 use mathlib.Core.Option.{Option}
@@ -33,7 +33,7 @@ returns-3 c =
     rw (c1 .enum-told3 .given .1)
     (wrote-as (c2 .put-right-carry2 .ensures)
     (ap (λ (o : Option Expr). flat (carryText o) [])
-    (asr-carry (regOf (a .pc) (a .rm)) (a .amount))))
+    (asr-carry (sourceExpr (a .from)) (a .amount))))
 
 returns-4 : tie.Need-returns-4
 returns-4 c =
