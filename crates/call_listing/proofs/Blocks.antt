@@ -13,9 +13,10 @@ use Rattle.file_records.specs.BlockRecord.{keyPlus}
 use Rattle.file_blocks.specs.Parse.{Block, blockAt}
 use Rattle.file_blocks.specs.Read.{recordAt, IsBlock}
 use Rattle.base_text.specs.Doc.{Doc, flat, _▸_}
-use Rattle.plan_exits.specs.Exits.{keyOf, exits}
+use Rattle.plan_exits.specs.Exits.{exits}
+use Rattle.file_blocks.specs.Address.{keyOf}
 use Rattle.file_blocks.proofs.IsBlock.{block-record}
-use Rattle.plan_exits.proofs.OwnKey.{key-plus}
+use Rattle.file_blocks.proofs.OwnKey.{key-plus}
 use Rattle.plan_members.specs.Numbers.{groupOf}
 use Rattle.call_listing.specs.Listing.{line, blockLine, linesFrom}
 

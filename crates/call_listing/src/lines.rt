@@ -2,9 +2,9 @@
 use file_blocks::BlockRecord;
 use file_blocks::FoundBlock;
 use file_blocks::block_at;
+use file_blocks::key_of;
 use plan_exits::Exits;
 use plan_exits::exits_at;
-use plan_exits::key_of;
 ghost use mathlib.Core.Path.{_≡_};
 ghost use Prim.Native.Nat.{ℕ, _+_, _<_};
 ghost use lib.ListN.{getD};

@@ -16,8 +16,7 @@ use Rattle.armv4t.specs.declared.Fused.the-variants.{Pair, Nothing}
 use Rattle.armv4t.specs.Fused.{fuse}
 use Rattle.file_instrs.specs.declared.decode.TimedInstr.{TimedInstr}
 use Rattle.file_blocks.specs.Parse.{Block}
-use Rattle.file_blocks.specs.Address.{region}
-use Rattle.plan_exits.specs.Exits.{keyOf, fallThrough}
+use Rattle.file_blocks.specs.Address.{region, keyOf, fallThrough}
 use Rattle.c_tree.specs.Expr.{u32, x-pc}
 use Rattle.c_tree.specs.Stmt.{Owner, Code, end, _⨾_}
 use Rattle.c_meaning.specs.State.{Scope, Interpreter, State, setC, setScopes, interpAnswer}

@@ -14,7 +14,7 @@ use Rattle.armv4t.specs.Fused.{fuse}
 use Rattle.armv4t.specs.Instr.{sizeOf}
 use Rattle.file_instrs.specs.declared.decode.TimedInstr.{TimedInstr}
 use Rattle.file_blocks.specs.Parse.{instrsFrom}
-use Rattle.plan_exits.proofs.Closing.{instrAt, later, at-first}
+use Rattle.file_blocks.proofs.ReadInstrs.{instrAt, later, at-first}
 use Rattle.lower_forms.specs.Forms.{Form}
 use Rattle.lower_forms.specs.Block.{emitPair, emitInstr, fusedOr, consForm, emitInstrs}
 use Rattle.emit_block.specs.declared.instrs.Next.{Next}

@@ -10,8 +10,8 @@ use Rattle.armv4t.specs.declared.Instr.{Instr}
 use Rattle.file_instrs.specs.declared.decode.TimedInstr.{TimedInstr}
 use Rattle.file_blocks.specs.declared.read.BlockRecord.{BlockRecord}
 use Rattle.file_blocks.specs.declared.read.FoundInstr.{FoundInstr}
-use Rattle.file_blocks.specs.Read.{IsBlock}
-use Rattle.plan_exits.proofs.Closing.{instrAt, readInstr, read-as}
+use Rattle.file_blocks.specs.Read.{IsBlock, readInstr}
+use Rattle.file_blocks.proofs.ReadInstrs.{instrAt, read-as}
 use Rattle.emit_block.specs.declared.instrs.Next.{Next}
 use Rattle.emit_block.specs.Walk.{instrsOf, nextOf}
 use Rattle.emit_block.proofs.FormsFrom.{drop-instr, drop-all}

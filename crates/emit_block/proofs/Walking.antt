@@ -11,8 +11,8 @@ use Rattle.armv4t.specs.Instr.{sizeOf}
 use Rattle.file_records.specs.BlockRecord.{lengthOf, keyPlus}
 use Rattle.file_blocks.specs.declared.read.BlockRecord.{BlockRecord}
 use Rattle.file_blocks.specs.Read.{IsBlock}
-use Rattle.plan_exits.specs.Exits.{keyOf}
-use Rattle.plan_exits.proofs.OwnKey.{key-plus}
+use Rattle.file_blocks.specs.Address.{keyOf}
+use Rattle.file_blocks.proofs.OwnKey.{key-plus}
 use Rattle.base_text.specs.Wrote.{Wrote, maxUsize}
 use Rattle.c_tree.specs.Stmt.{end}
 use Rattle.c_tree.specs.Print.{codeText}

@@ -9,7 +9,7 @@ use Rattle.base_text.specs.Wrote.{Wrote}
 use Rattle.c_tree.specs.Expr.{Expr}
 use Rattle.c_tree.specs.Stmt.{Plain, Owner, common, retInterp, end, _⨾_}
 use Rattle.c_tree.specs.Print.{exprText, codeText}
-use Rattle.plan_exits.specs.Exits.{keyOf}
+use Rattle.file_blocks.specs.Address.{keyOf}
 use Rattle.armv4t.specs.Cond.{isAl}
 use Rattle.lower_forms.specs.Forms.{Lines, Native, straight, straightIf, branchIf, jump, Form}
 use Rattle.lower_forms.specs.Forms.{shell, recordsIn, Body}

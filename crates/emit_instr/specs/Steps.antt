@@ -12,7 +12,7 @@ use Rattle.base_text.specs.Doc.{Doc, _▸_}
 use Rattle.c_tree.specs.Expr.{Expr}
 use Rattle.c_tree.specs.Stmt.{end}
 use Rattle.c_tree.specs.Print.{exprText}
-use Rattle.plan_exits.specs.Exits.{keyOf}
+use Rattle.file_blocks.specs.Address.{keyOf}
 use Rattle.lower_forms.specs.Forms.{Lines, Form, Body}
 use Rattle.lower_units.specs.Block.{codeFrom, linesText}
 use Rattle.file_blocks.specs.Address.{among}

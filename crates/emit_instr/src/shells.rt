@@ -3,7 +3,7 @@ use crate::step::Step;
 use armv4t::Instr;
 use emit_flow::emit_last_shell;
 use emit_flow::emit_shell;
-use plan_exits::fall_through;
+use file_blocks::fall_through;
 ghost use mathlib.Core.Path.{_≡_};
 ghost use mathlib.Core.Bool.{Bool, true, false, not, cond, _&&_};
 ghost use mathlib.Core.List.{List, _∷_};

@@ -11,10 +11,10 @@ use Rattle.file_blocks.specs.Parse.{Block, blockAt, blocksOf, Accepted, blockKe
 use Rattle.file_blocks.specs.Read.{recordAt, foundBlock, IsBlock}
 use Rattle.file_records.specs.Trailer.{blockCount}
 use Rattle.file_blocks.proofs.Accepted.{length-of}
-use Rattle.plan_exits.specs.Exits.{keyOf}
+use Rattle.file_blocks.specs.Address.{keyOf}
 use Rattle.plan_groups.specs.Plan.{groups}
 use Rattle.file_blocks.proofs.IsBlock.{missing, block-inside, block-record}
-use Rattle.plan_exits.proofs.OwnKey.{key-plus}
+use Rattle.file_blocks.proofs.OwnKey.{key-plus}
 use Rattle.file_blocks.proofs.Keys.{block-key}
 use Rattle.plan_groups.proofs.Listing.{map-at}
 use Rattle.plan_members.specs.Members.{membersOf, groupKeys}

@@ -1,7 +1,7 @@
 // The keys of blocks, by their numbers and by the rows of a plan.
 use file_blocks::FoundBlock;
 use file_blocks::block_at;
-use plan_exits::key_of;
+use file_blocks::key_of;
 use plan_members::row_block;
 ghost use mathlib.Core.Path.{_≡_};
 ghost use Prim.Native.Nat.{ℕ, _+_, _<_};

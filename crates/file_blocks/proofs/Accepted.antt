@@ -34,10 +34,12 @@ use Rattle.file_blocks.proofs.Reading as reading
 use Rattle.file_blocks.proofs.Whole.{length-instrs, length-blocks, total-blocks, each-kept}
 use Rattle.file_blocks.proofs.Whole.{block-rows, instr-rows}
 
-shift : (i j : ℕ) → suc i + j ≡ i + suc j
+-- one counted from the next
+pub shift : (i j : ℕ) → suc i + j ≡ i + suc j
 shift i j = omega arith
 
-next-addr : (addr size j : ℕ) → addr + size + size * j ≡ addr + size * suc j
+-- an address after the first instruction
+pub next-addr : (addr size j : ℕ) → addr + size + size * j ≡ addr + size * suc j
 next-addr addr size j = rw mul-suc (omega arith)
 
 -- instruction j of some consecutive ones

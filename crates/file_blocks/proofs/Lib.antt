@@ -5,6 +5,8 @@ pub mod Exactly
 pub mod IsBlock
 pub mod Keys
 pub mod Nowhere
+pub mod OwnKey
 mod Passes
+pub mod ReadInstrs
 mod Reading
 mod Whole

@@ -1,8 +1,11 @@
 -- What an address and a key say by themselves: page and region, and whether a key is among some.
 use Prim.Native.Nat.{ℕ, _/_, _%_, _^_}
-use mathlib.Core.Bool.{Bool, false, not, _||_}
+use mathlib.Core.Bool.{Bool, true, false, not, _||_}
 use mathlib.Core.List.{List, [], _∷_}
 use lib.Dec.{eqb}
+use Rattle.armv4t.specs.declared.Instr.{Instr}
+use Rattle.armv4t.specs.Bit0.{setBit0}
+use Rattle.armv4t.specs.Instr.{nextAddr}
 
 -- the page of an address (document 01)
 abbrev pub page : ℕ → ℕ
@@ -16,6 +19,15 @@ region addr = page addr % 16
 -- after a guard
 unfoldable pub outsideRomBios : ℕ → Bool
 outsideRomBios addr = not (eqb (region addr) 8 || eqb (region addr) 0)
+
+-- an address with the block's Thumb bit
+abbrev pub keyOf : ℕ → Bool → ℕ
+keyOf addr true = setBit0 addr
+keyOf addr false = addr
+
+-- the fall-through (document 01): the address after an instruction, with the block's Thumb bit
+abbrev pub fallThrough : Bool → Instr → ℕ
+fallThrough thumb i = keyOf (nextAddr i) thumb
 
 -- whether a key is among some
 abbrev pub among : ℕ → List ℕ → Bool

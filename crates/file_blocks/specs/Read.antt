@@ -1,12 +1,13 @@
 -- Single records by number, and code bytes by offset and length, whether or not the file is
 -- accepted. A record that the trailer does not count, or that does not lie inside the file, is
 -- Nothing; code bytes that are absent, or do not lie inside it, are the empty list.
-use Prim.Native.Nat.{ℕ, _+_}
+use Prim.Native.Nat.{ℕ, _+_, _*_, _%_, _^_}
 use mathlib.Core.Path.{_≡_}
 use mathlib.Core.Bool.{Bool, cond, _&&_}
 use mathlib.Core.List.{List, []}
 use lib.ListN.{length}
 use lib.Dec.{leb, ltb}
+use Rattle.armv4t.specs.Instr.{sizeOf}
 use Rattle.file_blocks.specs.declared.read.BlockRecord.{BlockRecord}
 use Rattle.file_blocks.specs.declared.read.FoundBlock.{FoundBlock}
 use Rattle.file_blocks.specs.declared.read.FoundInstr.{FoundInstr}
@@ -41,6 +42,11 @@ foundInstr f i addr thumb =
     cond (ltb i (instrCount f) && leb (instrStart f i + 16) (length f))
     (FoundInstr.At (timedAt f (instrStart f i) addr thumb))
     FoundInstr.Nothing
+
+-- what the reader of instructions answers for instruction j of a block
+abbrev pub readInstr : List ℕ → BlockRecord → ℕ → ℕ → FoundInstr
+readInstr f b first j =
+    foundInstr f ((first + j) % 2 ^ 64) ((b .addr + sizeOf (b .thumb) * j) % 2 ^ 32) (b .thumb)
 
 -- the bytes at a block record's offset, of the block's length; none where they are absent or run
 -- past the file's end

@@ -1,8 +1,13 @@
-// Block files: refusals 1 to 7, and readers of records and code bytes.
+// Block files: refusals 1 to 7, and readers of records, of a block's instructions and code bytes.
+mod instrs;
 mod read;
 mod refusal;
 
 pub use file_instrs::decode::TimedInstr;
+pub use instrs::fall_through;
+pub use instrs::instr_addr;
+pub use instrs::instr_of;
+pub use instrs::key_of;
 pub use read::BlockRecord;
 pub use read::FoundBlock;
 pub use read::FoundInstr;

@@ -16,8 +16,7 @@ use Rattle.armv4t.specs.Bit0.{clearBit0, setBit0}
 use Rattle.armv4t.specs.Fused.{fuse}
 use Rattle.file_instrs.specs.declared.decode.TimedInstr.{TimedInstr}
 use Rattle.file_blocks.specs.Parse.{Block}
-use Rattle.file_blocks.specs.Address.{region}
-use Rattle.plan_exits.specs.Exits.{keyOf, fallThrough}
+use Rattle.file_blocks.specs.Address.{region, keyOf, fallThrough}
 use Rattle.armv4t.specs.Cond.{isAl}
 use Rattle.c_tree.specs.Expr.{word, udec, x-addr, reg, compl, add, band, bor, w32, lit, get, un}
 use Rattle.c_tree.specs.Expr.{bin, read}

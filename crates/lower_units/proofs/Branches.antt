@@ -13,7 +13,7 @@ use Rattle.armv4t.specs.declared.Instr.{Instr}
 use Rattle.armv4t.specs.Bit0.{clearBit0}
 use Rattle.armv4t.specs.Instr.{sizeOf}
 use Rattle.armv4t.specs.Cond.{isAl}
-use Rattle.plan_exits.specs.Exits.{keyOf}
+use Rattle.file_blocks.specs.Address.{keyOf}
 use Rattle.c_tree.specs.Stmt.{Owner}
 use Rattle.c_meaning.specs.State.{State}
 use Rattle.lower_forms.specs.Forms.{Native, jump}

@@ -19,7 +19,8 @@ use Rattle.armv4t.specs.Fused.{fuse}
 use Rattle.file_instrs.specs.declared.decode.TimedInstr.{TimedInstr}
 use Rattle.file_blocks.specs.Parse.{Block}
 use Rattle.armv4t.specs.RegisterList.{isListed}
-use Rattle.plan_exits.specs.Exits.{keyOf, branchExits, opExits, closingExits, instrExits}
+use Rattle.plan_exits.specs.Exits.{branchExits, opExits, closingExits, instrExits}
+use Rattle.file_blocks.specs.Address.{keyOf}
 use Rattle.plan_exits.specs.Exits.{exits}
 
 branch-few : (c : Cond) (target fall : ℕ) → length (branchExits c target fall) ≤ 2

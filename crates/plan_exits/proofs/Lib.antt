@@ -1,4 +1,3 @@
 -- The laws that the functions' proofs, and those of the crates above, share.
 pub mod Closing
 pub mod Few
-pub mod OwnKey

@@ -1,7 +1,7 @@
 -- The exit list of a block (document 01), by its last instruction, or by its last two where they
 -- fuse.
 use Prim.Native.Nat.{ℕ}
-use mathlib.Core.Bool.{Bool, true, false, cond, _&&_}
+use mathlib.Core.Bool.{Bool, cond, _&&_}
 use mathlib.Core.List.{List, [], _∷_}
 use lib.Dec.{eqb}
 use Rattle.armv4t.specs.declared.Cond.{Cond}
@@ -13,22 +13,13 @@ use Rattle.armv4t.specs.declared.Instr.{Instr}
 use Rattle.armv4t.specs.declared.Fused.{Fused}
 use Rattle.armv4t.specs.declared.Fused.the-variants.{Pair, Nothing}
 use Rattle.armv4t.specs.Bit0.{setBit0}
-use Rattle.armv4t.specs.Instr.{nextAddr}
 use Rattle.armv4t.specs.Cond.{isAl}
 use Rattle.armv4t.specs.RegisterList.{isListed}
 use Rattle.armv4t.specs.Fused.{fuse}
 use Rattle.file_instrs.specs.declared.decode.TimedInstr.{TimedInstr}
 use Rattle.file_blocks.specs.Parse.{Block}
+use Rattle.file_blocks.specs.Address.{keyOf, fallThrough}
 use Rattle.plan_exits.specs.declared.exits.Exits.{Exits}
-
--- an address with the block's Thumb bit
-abbrev pub keyOf : ℕ → Bool → ℕ
-keyOf addr true = setBit0 addr
-keyOf addr false = addr
-
--- the fall-through (document 01): the address after an instruction, with the block's Thumb bit
-abbrev pub fallThrough : Bool → Instr → ℕ
-fallThrough thumb i = keyOf (nextAddr i) thumb
 
 -- the exits of a branch to a key: a condition other than Al adds the fall-through
 abbrev pub branchExits : Cond → ℕ → ℕ → List ℕ

@@ -11,20 +11,21 @@ use file_blocks::BlockRecord;
 use file_blocks::FoundBlock;
 use file_blocks::FoundInstr;
 use file_blocks::block_at;
-use file_blocks::instr_at;
+use file_blocks::fall_through;
+use file_blocks::instr_of;
+use file_blocks::key_of;
 ghost use mathlib.Core.Path.{_≡_};
 ghost use mathlib.Core.Bool.{false, cond};
 ghost use mathlib.Core.List.{[], _∷_, map};
-ghost use Prim.Native.Nat.{ℕ, _+_, _*_, _%_, _^_};
+ghost use Prim.Native.Nat.{ℕ, _+_};
 ghost use lib.ListN.{getElem?};
 ghost use Rattle.armv4t.specs.declared.Fused.{Fused};
 ghost use Rattle.armv4t.specs.declared.Instr.{Instr};
 ghost use Rattle.armv4t.specs.Fused.{fuse};
-ghost use Rattle.armv4t.specs.Instr.{sizeOf};
 ghost use Rattle.file_records.specs.Trailer.{blockStart};
 ghost use Rattle.file_blocks.specs.Parse.{blockAt, blocksOf, Accepted};
-ghost use Rattle.file_blocks.specs.Read.{foundInstr, IsBlock};
-ghost use Rattle.plan_exits.specs.Exits.{keyOf, fallThrough, branchExits, lastExits};
+ghost use Rattle.file_blocks.specs.Read.{IsBlock};
+ghost use Rattle.plan_exits.specs.Exits.{branchExits, lastExits};
 ghost use Rattle.plan_exits.specs.Exits.{closingExits, exits, keysOf};
 ghost use Rattle.plan_exits.specs.Found.{foundKeys};
 
@@ -39,20 +40,6 @@ pub enum Exits {
 pub enum FoundExits {
     Exits(Exits),
     Nothing,
-}
-
-// An address with the block's Thumb bit.
-pub fn key_of(addr: u32, thumb: bool) -> u32
-    ensures { λ r. ⌜ r ≡ keyOf addr thumb ⌝ }
-{
-    if thumb { set_bit0(addr) } else { addr }
-}
-
-// The key after an instruction.
-pub fn fall_through(thumb: bool, instr: Instr) -> u32
-    ensures { λ r. ⌜ r ≡ fallThrough thumb instr ⌝ }
-{
-    key_of(std::num::wrapping_add_u32(instr.addr, instr.size()), thumb)
 }
 
 // The fall-through, or no exit where the last operation is one that leaves the block by a value it
@@ -115,36 +102,6 @@ fn ends_bl(instr: Instr) -> bool
         Op::ThumbBlLow { .. } => true,
         _ => false,
     }
-}
-
-// The address of instruction j of a block at an address.
-pub fn instr_addr(addr: u32, thumb: bool, j: u32) -> u32
-    ensures { λ r. ⌜ r ≡ (addr + sizeOf thumb * j) % 2 ^ 32 ⌝ }
-{
-    let start = addr as u64;
-    let n = j as u64;
-    if thumb {
-        ((start + 2 * n) % 4294967296) as u32
-    } else {
-        ((start + 4 * n) % 4294967296) as u32
-    }
-}
-
-// Instruction j of a block whose instructions are those from record `first` on. In an accepted file
-// nothing wraps.
-pub fn instr_of(file: &[u8], block: BlockRecord, first: usize, j: u32) -> FoundInstr
-    ensures { λ r. ⌜
-        r ≡ foundInstr (now (file .entry)) ((first + j) % 2 ^ 64)
-        ((block .addr + sizeOf (block .thumb) * j) % 2 ^ 32) (block .thumb)
-        ⌝ }
-{
-    let at = std::num::wrapping_add_usize(first, j as usize);
-    instr_at(
-        file,
-        at,
-        instr_addr(block.addr, block.thumb, j),
-        block.thumb,
-    )
 }
 
 // The exits of the block with a record, whose instructions are those from record `first` on.

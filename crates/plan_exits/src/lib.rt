@@ -8,7 +8,3 @@ pub use exits::Exits;
 pub use exits::FoundExits;
 pub use exits::block_exits;
 pub use exits::exits_at;
-pub use exits::fall_through;
-pub use exits::instr_addr;
-pub use exits::instr_of;
-pub use exits::key_of;

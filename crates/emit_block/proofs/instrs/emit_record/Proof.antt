@@ -9,7 +9,7 @@ use Rattle.c_tree.specs.Stmt.{end}
 use Rattle.lower_forms.specs.Forms.{Form}
 use Rattle.lower_forms.specs.Block.{emitPair}
 use Rattle.lower_units.specs.Block.{codeFrom}
-use Rattle.plan_exits.proofs.Closing.{not-missing}
+use Rattle.file_blocks.proofs.ReadInstrs.{not-missing}
 use Rattle.emit_instr.specs.Onward.{Onward}
 use Rattle.emit_block.proofs.Reading.{here-read}
 use Rattle.emit_block.proofs.Recording.{pair-sum, pair-recorded}

@@ -7,7 +7,7 @@ use Rattle.emit_block.specs.Walk.{instrsOf}
 use mathlib.Core.Path.{sym, _∙_}
 use native.Mathlib.Omega.{arith}
 use borrow.Author.Tests.{not-true}
-use Rattle.plan_exits.proofs.Closing.{not-missing}
+use Rattle.file_blocks.proofs.ReadInstrs.{not-missing}
 use Rattle.emit_block.proofs.Reading.{next-last, next-read}
 use borrow.Author.Needs.{needs}
 use Rattle.emit_block.proofs.instrs.next_of.Statement.{statement}

@@ -7,7 +7,7 @@ use Rattle.base_text.specs.Doc.{flat}
 use Rattle.base_text.proofs.Laws.{wrote-as}
 use Rattle.c_tree.specs.Stmt.{common, end}
 use Rattle.c_tree.specs.Print.{codeText}
-use Rattle.plan_exits.specs.Exits.{fallThrough}
+use Rattle.file_blocks.specs.Address.{fallThrough}
 use Rattle.lower_forms.specs.Forms.{Lines}
 use Rattle.lower_forms.specs.Block.{flushTicks, pcLine}
 use Rattle.lower_units.specs.Block.{bodyKey, lines, shellCode}

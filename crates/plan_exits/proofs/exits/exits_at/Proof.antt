@@ -4,8 +4,9 @@ use mathlib.Core.Path.{_∙_}
 use native.Mathlib.Omega.{arith}
 use borrow.Author.Needs.{needs}
 use borrow.Author.Tests.{not-true}
+use Rattle.file_blocks.proofs.ReadInstrs.{not-missing}
 use Rattle.file_blocks.proofs.IsBlock.{some-instr}
-use Rattle.plan_exits.proofs.Closing.{not-missing, exits-alone, exits-paired, exits-unpaired}
+use Rattle.plan_exits.proofs.Closing.{exits-alone, exits-paired, exits-unpaired}
 use Rattle.plan_exits.proofs.exits.exits_at.Statement.{statement}
 use Rattle.plan_exits.proofs.exits.exits_at.Tie as tie
 

@@ -1,8 +1,8 @@
--- `block_exits::exits::instr_addr` meets its contract: each arm is told the Thumb bit.
+-- `file_blocks::instrs::instr_addr` meets its contract: each arm is told the Thumb bit.
 -- Assumes nothing.
 use borrow.Author.Needs.{needs}
-use Rattle.plan_exits.proofs.exits.instr_addr.Statement.{statement}
-use Rattle.plan_exits.proofs.exits.instr_addr.Tie as tie
+use Rattle.file_blocks.proofs.instrs.instr_addr.Statement.{statement}
+use Rattle.file_blocks.proofs.instrs.instr_addr.Tie as tie
 
 returns : tie.Need-returns
 returns c = rw (c .if1 .taken)

@@ -1,8 +1,8 @@
--- `block_exits::exits::fall_through` meets its contract: its calls one after the other are the
+-- `file_blocks::instrs::fall_through` meets its contract: its calls one after the other are the
 -- definition's. Assumes nothing.
 use borrow.Author.Needs.{needs}
-use Rattle.plan_exits.proofs.exits.fall_through.Statement.{statement}
-use Rattle.plan_exits.proofs.exits.fall_through.Tie as tie
+use Rattle.file_blocks.proofs.instrs.fall_through.Statement.{statement}
+use Rattle.file_blocks.proofs.instrs.fall_through.Tie as tie
 
 returns : tie.Need-returns
 returns c =

@@ -1,8 +1,8 @@
--- `block_exits::exits::instr_of` meets its contract: its calls one after the other are the
+-- `file_blocks::instrs::instr_of` meets its contract: its calls one after the other are the
 -- definition's. Assumes nothing.
 use borrow.Author.Needs.{needs}
-use Rattle.plan_exits.proofs.exits.instr_of.Statement.{statement}
-use Rattle.plan_exits.proofs.exits.instr_of.Tie as tie
+use Rattle.file_blocks.proofs.instrs.instr_of.Statement.{statement}
+use Rattle.file_blocks.proofs.instrs.instr_of.Tie as tie
 
 returns : tie.Need-returns
 returns c =

@@ -1,8 +1,8 @@
--- `block_exits::exits::key_of` meets its contract: each arm is told the Thumb bit.
+-- `file_blocks::instrs::key_of` meets its contract: each arm is told the Thumb bit.
 -- Assumes nothing.
 use borrow.Author.Needs.{needs}
-use Rattle.plan_exits.proofs.exits.key_of.Statement.{statement}
-use Rattle.plan_exits.proofs.exits.key_of.Tie as tie
+use Rattle.file_blocks.proofs.instrs.key_of.Statement.{statement}
+use Rattle.file_blocks.proofs.instrs.key_of.Tie as tie
 
 returns : tie.Need-returns
 returns c = rw (c .before .if1 .taken) (c .set-bit0 .ensures)

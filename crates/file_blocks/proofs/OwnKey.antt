@@ -7,14 +7,14 @@ use mathlib.Core.List.{List}
 use native.Mathlib.Nat.{add-zero}
 use native.Mathlib.Omega.{arith}
 use Rattle.armv4t.specs.Instr.{sizeOf}
 use Rattle.file_blocks.specs.declared.read.BlockRecord.{BlockRecord}
 use Rattle.file_records.specs.Trailer.{blockStart}
 use Rattle.file_records.specs.BlockRecord.{addrAt, thumbAt, keyPlus}
 use Rattle.file_blocks.specs.Parse.{blocksOf}
 use Rattle.file_blocks.specs.Read.{recordAt, IsBlock}
 use Rattle.file_blocks.proofs.Accepted.{address-aligned}
 use Rattle.file_blocks.proofs.IsBlock.{block-inside, block-record}
-use Rattle.plan_exits.specs.Exits.{keyOf}
+use Rattle.file_blocks.specs.Address.{keyOf}
 
 -- a Thumb address of an accepted file is even
 even : (thumb : Bool) (addr : ℕ) → addr % sizeOf thumb ≡ 0 → keyOf addr thumb ≡ keyPlus addr thumb
