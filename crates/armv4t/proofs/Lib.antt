@@ -1,4 +1,3 @@
 -- What the crate's proofs, and those of the crates above it, share.
 pub mod Arms
-pub mod Bools
 pub mod RegisterList

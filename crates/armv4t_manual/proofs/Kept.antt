@@ -46,7 +46,7 @@ use Rattle.armv4t_manual.specs.Multiple.{listed, start, loadAll, storeAl
 use Rattle.armv4t_manual.specs.Multiple.{loadMultipleWithPc, loadedPc, storeMultiple}
 use Rattle.armv4t_manual.specs.Unsaid.{noInstruction, unpredictable}
 use Rattle.armv4t_manual.specs.Execute.{key, following, onward, pcRead, operation, execute}
-use Rattle.armv4t.proofs.Bools.{either}
+use Rattle.base_lists.proofs.Bools.{either}
 
 either-lt : {n x y : ℕ} (b : Bool) → x < n → y < n → cond b x y < n
 either-lt {n} b p q = either (λ (x : ℕ). x < n) b p q

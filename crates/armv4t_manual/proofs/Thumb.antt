@@ -49,7 +49,7 @@ use Rattle.armv4t_manual.specs.Thumb.{format-6, format-7, format-8, form
 use Rattle.armv4t_manual.specs.Thumb.{format-11, format-12, format-13, format-14, format-15}
 use Rattle.armv4t_manual.specs.Thumb.{format-16, format-17, format-18, format-19-high}
 use Rattle.armv4t_manual.specs.Thumb.{format-19-low}
-use Rattle.armv4t_manual.proofs.All.{All, all-append, all-map}
+use Rattle.base_lists.proofs.Each.{Each, each-append, each-map}
 
 -- a register of Thumb's is not R15
 pub low : (r : ℕ) → r < 8 → eqb r 15 ≡ false
@@ -304,15 +304,15 @@ popped-16 list false h = listed-16 (list + 0) list 0 (omega arith) (omega arith)
 popped-16 list true h =
     listed-16 (list + 32768) list 128 (omega arith) (omega arith) ∙ simp append-nil
 
-listed-below : (x n : ℕ) → All (λ i. i < n) (listed x n)
+listed-below : (x n : ℕ) → Each (λ i. i < n) (listed x n)
 unfolding listed
 listed-below x zero = tt
 listed-below x (suc n) =
-    all-append (λ i. i < suc n) (listed x n) _
-    (all-map (λ i. i < n) (λ i. i < suc n) (λ i h. omega (arith, h)) (listed x n)
+    each-append (λ i. i < suc n) (listed x n) _
+    (each-map (λ i. i < n) (λ i. i < suc n) (λ i h. omega (arith, h)) (listed x n)
     (listed-below x n)) (go (bit x n))
   where
-    go : (b : Bool) → All (λ i. i < suc n) (cond b (n ∷ []) [])
+    go : (b : Bool) → Each (λ i. i < suc n) (cond b (n ∷ []) [])
     go true = (omega arith, tt)
     go false = tt
 
@@ -331,8 +331,8 @@ plain i h = (
     no : (i : ℕ) → i < 8 → i ≡ 13 → ⊥
     no i h e = omega arith
 
-listed-plain : (list : ℕ) → All Plain (listed list 8)
-listed-plain list = all-map (λ i. i < 8) Plain plain (listed list 8) (listed-below list 8)
+listed-plain : (list : ℕ) → Each Plain (listed list 8)
+listed-plain list = each-map (λ i. i < 8) Plain plain (listed list 8) (listed-below list 8)
 
 length-listed : (x n : ℕ) → length (listed x n) ≤ n
 unfolding listed
@@ -350,7 +350,7 @@ length-with is false i = omega (arith, length-append is [])
 length-with is true i = omega (arith, length-append is (i ∷ []))
 
 -- stores depend on the values of the listed registers
-same-stores : (r q : ℕ → ℕ) (is : List ℕ) (a : ℕ) (f : ℕ → ℕ) → All (λ i. r i ≡ q i) is
+same-stores : (r q : ℕ → ℕ) (is : List ℕ) (a : ℕ) (f : ℕ → ℕ) → Each (λ i. r i ≡ q i) is
     → storeAll r is a f ≡ storeAll q is a f
 same-stores r q [] a f h = refl
 same-stores r q (i ∷ is) a f h =
@@ -358,7 +358,7 @@ same-stores r q (i ∷ is) a f h =
     ∙ ap (λ (x : ℕ). storeAll q is ((a + 4) % two32) (setMemory4 a x f)) (h .0)
 
 -- loads leave SP, and a value written to it before them is there after them
-load-keeps : (is : List ℕ) (a : ℕ) (f r : ℕ → ℕ) → All Plain is → loadAll is a f r 13 ≡ r 13
+load-keeps : (is : List ℕ) (a : ℕ) (f r : ℕ → ℕ) → Each Plain is → loadAll is a f r 13 ≡ r 13
 load-keeps [] a f r h = refl
 load-keeps (i ∷ is) a f r h =
     load-keeps is ((a + 4) % two32) f (update i (Memory4 f a) r) (h .1)
@@ -373,7 +373,7 @@ swap i x y r h = fun-ext (λ j. go j (eqb j 13) refl)
         rw (e, subst (λ (k : ℕ). eqb k i ≡ false) (sym (eqb→eq j 13 (subst T (sym e) tt))) (h .1))
     go j false e = rw e
 
-load-swap : (is : List ℕ) (a : ℕ) (f r : ℕ → ℕ) (y : ℕ) → All Plain is
+load-swap : (is : List ℕ) (a : ℕ) (f r : ℕ → ℕ) (y : ℕ) → Each Plain is
     → loadAll is a f (update 13 y r) ≡ update 13 y (loadAll is a f r)
 load-swap [] a f r y h = refl
 load-swap (i ∷ is) a f r y h =
@@ -418,18 +418,18 @@ does-push a r list h m =
     stored : List ℕ → ℕ → Option (Machine × ℕ)
     stored is start = onto a (setReg 13 start (setMem (storeAll (m .r) is start (m .mem)) m))
 
-    one : (r : Bool) → All Plain (cond r (14 ∷ []) [])
+    one : (r : Bool) → Each Plain (cond r (14 ∷ []) [])
     one true = ((refl, refl, refl), tt)
     one false = tt
 
     value-same : (i : ℕ) → Plain i → values i ≡ m .r i
     value-same i h = rw (h .0, h .2)
 
-    values-same : All (λ i. values i ≡ m .r i) (listed x 16)
+    values-same : Each (λ i. values i ≡ m .r i) (listed x 16)
     values-same =
-        all-map Plain (λ i. values i ≡ m .r i) value-same (listed x 16)
-        (subst (All Plain) (sym (pushed list r h))
-        (all-append Plain (listed list 8) (cond r (14 ∷ []) []) (listed-plain list) (one r)))
+        each-map Plain (λ i. values i ≡ m .r i) value-same (listed x 16)
+        (subst (Each Plain) (sym (pushed list r h))
+        (each-append Plain (listed list 8) (cond r (14 ∷ []) []) (listed-plain list) (one r)))
 
 -- R of POP is bit 15 of its list
 bit-15 : (list : ℕ) (r : Bool) → list < 256 → bit (list + oneIf r * 2 ^ 15) 15 ≡ r
@@ -509,10 +509,10 @@ does-15 a stmia rn list h m =
     value-same : (i : ℕ) → Plain i → values i ≡ value (new (listed list 16)) i
     value-same i h = rw (h .2)
 
-    values-same : All (λ i. values i ≡ value (new (listed list 16)) i) (listed list 16)
+    values-same : Each (λ i. values i ≡ value (new (listed list 16)) i) (listed list 16)
     values-same =
-        all-map Plain (λ i. values i ≡ value (new (listed list 16)) i) value-same (listed list 16)
-        (subst (All Plain) (sym (plain-16 list h)) (listed-plain list))
+        each-map Plain (λ i. values i ≡ value (new (listed list 16)) i) value-same (listed list 16)
+        (subst (Each Plain) (sym (plain-16 list h)) (listed-plain list))
 does-15 a ldmia rn list h m =
     rw (ap (λ (x : ℕ). eqb x 1) (clear list h))
     (ap₂ (λ (is js : List ℕ). onto a

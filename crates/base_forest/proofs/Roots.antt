@@ -1,13 +1,15 @@
 -- Laws of roots: at first, after a search, and after an edge.
 -- Assumes nothing.
-use Prim.Native.Nat.{ℕ, zero, suc, _+_, _*_, _≤_, _<_}
-use mathlib.Core.Path.{_≡_, refl, sym, ap, _∙_}
+use Prim.Native.Nat.{ℕ, _+_, _*_, _≤_, _<_}
+use mathlib.Core.Path.{_≡_, refl, sym, _∙_}
 use mathlib.Core.List.{List}
-use native.Mathlib.Nat.{zero-add}
 use native.Mathlib.Numerals.{add-one}
 use native.Mathlib.Omega.{arith}
 use lib.ListN.{length, length-set}
-use Rattle.base_forest.specs.Forest.{range, parent, follow, root, hang, Forest, Flatter}
+use Rattle.base_forest.specs.Forest.{Forest, Flatter}
+use Rattle.base_forest.specs.Roots.{parent, follow, root, hang}
+use Rattle.base_lists.specs.Lists.{range}
+use Rattle.base_lists.proofs.Range.{length-range, range-own}
 use Rattle.base_forest.specs.Forest.{RootFound, SameRoots}
 use Rattle.base_forest.proofs.Ways.{Leads, longer, end-inside, end-own, follow-own}
 use Rattle.base_forest.proofs.Ways.{follow-of, way, forest, moved, hung}
@@ -32,23 +34,12 @@ module _ {p : List ℕ} (full : Forest (2 * length p) p) {i : ℕ} (inside : i <
 
 -- at first each number is its own root
 
-pub length-range : (n i : ℕ) → length (range n i) ≡ n
-length-range zero i = refl
-length-range (suc n) i = ap suc (length-range n (suc i))
-
-pub parent-range : (n i k : ℕ) → k < n → parent (range n i) k ≡ i + k
-parent-range (suc n) i zero h = omega arith
-parent-range (suc n) i (suc k) h = parent-range n (suc i) k (omega arith) ∙ omega arith
-
 module _ (n : ℕ) where
-  pub range-own : (i : ℕ) → i < n → parent (range n 0) i ≡ i
-  range-own i h = parent-range n 0 i h ∙ zero-add i
-
   pub forest-range : Forest 0 (range n 0)
-  forest-range = forest (λ i h. (i, Leads.own h (range-own i (rw length-range at h))))
+  forest-range = forest (λ i h. (i, Leads.own h (range-own n i (rw length-range at h))))
 
   pub root-range : (i : ℕ) → i < n → root (range n 0) i ≡ i
-  root-range i h = follow-own (2 * length (range n 0)) (range n 0) i (range-own i h)
+  root-range i h = follow-own (2 * length (range n 0)) (range n 0) i (range-own n i h)
 
 -- an edge hangs the root of i under that of j, and moves the numbers whose root that was
 

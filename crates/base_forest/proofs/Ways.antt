@@ -9,7 +9,8 @@ use lib.ListN.{length, set, length-set}
 use lib.Seq.{getD-set-same, getD-set-other}
 use lib.Dec.{eqb}
 use borrow.Author.Tests.{eq-eqb, ne-eqb}
-use Rattle.base_forest.specs.Forest.{parent, follow, Forest}
+use Rattle.base_forest.specs.Forest.{Forest}
+use Rattle.base_forest.specs.Roots.{parent, follow}
 
 -- i's parents lead to r, which is its own, within d steps
 pub data Leads (p : List ℕ) : ℕ → ℕ → ℕ → Type 0 where

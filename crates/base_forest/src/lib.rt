@@ -3,7 +3,8 @@
 ghost use Prim.Native.Nat.{_*_, _≤_, _<_, _^_};
 ghost use mathlib.Core.Path.{_≡_};
 ghost use lib.ListN.{length, set};
-ghost use Rattle.base_forest.specs.Forest.{Forest, RootFound, Hung, range};
+ghost use Rattle.base_forest.specs.Forest.{Forest, RootFound, Hung};
+ghost use Rattle.base_lists.specs.Lists.{range};
 
 // Makes every number its own root.
 pub fn own_roots(p: &mut [u32])

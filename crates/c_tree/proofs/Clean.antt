@@ -26,7 +26,7 @@ use Rattle.c_tree.specs.Print.{tyName, upper, constantText, name, typed,
 use Rattle.c_tree.specs.Print.{bits, exprText, setText, procName, declarator, plainText}
 use Rattle.c_tree.specs.Print.{testText}
 use Rattle.c_tree.specs.Binds.{level, binds, declaratorsBind, plainBinds, testBinds}
-use Rattle.armv4t.proofs.Bools.{left-true as left, right-true as right, both-true as both}
+use Rattle.base_lists.proofs.Bools.{left-true as left, right-true as right, both-true as both}
 
 -- `;`, `{` or `}`
 abbrev pub stop : ℕ → Bool

@@ -14,7 +14,7 @@ use Rattle.c_tree.specs.Print.{keyText, spaces, casesText, simpleText, c
 use Rattle.c_tree.specs.Binds.{binds, testBinds, simpleBinds, codeBinds}
 use Rattle.c_tree.proofs.Clean.{stop, cleanByte, clean, Clean, ok, _&_, dec-clean}
 use Rattle.c_tree.proofs.Clean.{hex8-clean, expr-clean, test-clean, plain-clean}
-use Rattle.armv4t.proofs.Bools.{left-true as left, right-true as right}
+use Rattle.base_lists.proofs.Bools.{left-true as left, right-true as right}
 
 -- the bytes `;`, `{` and `}` of a text
 abbrev pub stops : List ℕ → List ℕ

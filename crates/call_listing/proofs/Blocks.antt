@@ -17,7 +17,7 @@ use Rattle.plan_exits.specs.Exits.{exits}
 use Rattle.file_blocks.specs.Address.{keyOf}
 use Rattle.file_blocks.proofs.IsBlock.{block-record}
 use Rattle.file_blocks.proofs.OwnKey.{key-plus}
-use Rattle.plan_members.specs.Numbers.{groupOf}
+use Rattle.plan_groups.specs.Plan.{groupOf}
 use Rattle.call_listing.specs.Listing.{line, blockLine, linesFrom}
 
 -- a line by the record is the block's

@@ -9,9 +9,8 @@ use Rattle.base_text.specs.Doc.{print}
 use Rattle.base_text.specs.Wrote.{maxUsize}
 use Rattle.base_text.proofs.Lengths.{most, length-most}
 use Rattle.plan_exits.specs.Exits.{exits}
-use Rattle.plan_groups.specs.Plan.{plan}
+use Rattle.plan_groups.specs.Plan.{plan, groupOf}
 use Rattle.plan_exits.proofs.Few.{exits-few}
-use Rattle.plan_members.specs.Numbers.{groupOf}
 use Rattle.call_listing.specs.Listing.{line, blockLine, linesFrom, listing}
 
 -- a line: 8 digits, a space, at most 20 digits, two exits with 9 bytes each, and the line's end

@@ -9,13 +9,13 @@ use Rattle.base_text.specs.Digits.{numeral, lastDigits}
 use Rattle.base_text.specs.Doc.{text, decimal, hexadecimal8, print}
 use Rattle.plan_exits.specs.Examples.{armBlock, threeBlocks}
 use Rattle.plan_exits.specs.Exits.{exits, instrExits}
-use Rattle.base_forest.specs.Forest.{follow}
+use Rattle.base_forest.specs.Roots.{follow}
 use Rattle.plan_search.specs.Target.{target}
 use Rattle.plan_groups.specs.Plan.{joinExits, joinBlocks, parents, withRoot, insert, sortByKey}
 use Rattle.plan_groups.specs.Plan.{parts, groupsFrom, groups, rowsFrom, plan}
 use Rattle.call_listing.specs.Calls.{listingCall}
 use Rattle.call_listing.specs.Listing.{blockLine, linesFrom, listing}
-use Rattle.plan_members.specs.Numbers.{groupOf}
+use Rattle.plan_groups.specs.Plan.{groupOf}
 
 three-blocks : print (listing partLimit threeBlocks)
     ≡ print (text "key group exits\n08000000 1 08000008\n08000004 0 -\n08000008 1 -\n")

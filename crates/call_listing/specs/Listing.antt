@@ -4,8 +4,7 @@ use mathlib.Core.List.{List, [], _∷_}
 use Rattle.file_blocks.specs.Parse.{Block, blockKey}
 use Rattle.base_text.specs.Doc.{Doc, nothing, text, dec, hex8, _▸_, each}
 use Rattle.plan_exits.specs.Exits.{exits}
-use Rattle.plan_groups.specs.Plan.{plan}
-use Rattle.plan_members.specs.Numbers.{groupOf}
+use Rattle.plan_groups.specs.Plan.{plan, groupOf}
 
 -- the exits of a line: each key with a space before it, or a space and `-` if there is none
 abbrev pub exitsText : List ℕ → Doc

@@ -13,9 +13,8 @@ ghost use Rattle.file_records.specs.Trailer.{blockCount};
 ghost use Rattle.file_blocks.specs.Parse.{Parsed, parse, blocksOf, Accepted};
 ghost use Rattle.base_text.specs.Doc.{print};
 ghost use Rattle.plan_groups.specs.Calls.{partLimit};
-ghost use Rattle.plan_groups.specs.Plan.{plan};
+ghost use Rattle.plan_groups.specs.Plan.{plan, groupOf};
 ghost use Rattle.call_listing.specs.Listing.{listing};
-ghost use Rattle.plan_members.specs.Numbers.{groupOf};
 ghost use Rattle.call_listing.specs.Calls.{listedOf, listingCall};
 ghost use Rattle.plan_groups.specs.Groups.{HasRoom};
 

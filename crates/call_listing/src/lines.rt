@@ -13,10 +13,9 @@ ghost use Rattle.file_blocks.specs.Parse.{blockAt, blocksOf, Accepted};
 ghost use Rattle.base_text.specs.Wrote.{Wrote};
 ghost use Rattle.file_blocks.specs.Read.{IsBlock};
 ghost use Rattle.plan_groups.specs.Calls.{partLimit};
-ghost use Rattle.plan_groups.specs.Plan.{plan};
+ghost use Rattle.plan_groups.specs.Plan.{plan, groupOf};
 ghost use Rattle.plan_exits.specs.Exits.{keysOf};
 ghost use Rattle.call_listing.specs.Listing.{exitsText, line, blockLine, listing};
-ghost use Rattle.plan_members.specs.Numbers.{groupOf};
 ghost use Rattle.plan_groups.specs.Groups.{HasRoom};
 
 // The exits of a line.

@@ -7,7 +7,7 @@ use native.Mathlib.Omega.{arith}
 use native.Mathlib.Numerals.{add-one}
 use lib.ListN.{length, getD, set, take, drop, length-drop, length-append}
 use lib.Seq.{take-suc, length-take-le, set-at, getD-drop, drop-drop}
-use Rattle.plan_groups.specs.Groups.{interleave}
+use Rattle.base_lists.specs.Interleave.{interleave}
 
 length-interleave : (xs ys : List ℕ) → length xs ≡ length ys
     → length (interleave xs ys) ≡ 2 * length xs

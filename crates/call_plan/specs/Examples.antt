@@ -6,7 +6,7 @@ use Rattle.file_blocks.specs.Answer.{refusal, value}
 use Rattle.file_blocks.specs.Parse.{Parsed}
 use Rattle.plan_exits.specs.Examples.{armBlock, threeBlocks}
 use Rattle.plan_exits.specs.Exits.{exits, instrExits}
-use Rattle.base_forest.specs.Forest.{follow}
+use Rattle.base_forest.specs.Roots.{follow}
 use Rattle.call_frame.specs.Frame.{callOnBlocks, callFrame}
 use Rattle.plan_groups.specs.Calls.{partLimit}
 use Rattle.plan_search.specs.Target.{target}

@@ -12,7 +12,8 @@ use Rattle.claim_ways.proofs.Functions.{forwarder}
 use Rattle.claim_functions.proofs.Entering.{inFunction}
 use Rattle.file_instrs.specs.declared.decode.TimedInstr.{TimedInstr}
 use Rattle.file_blocks.specs.Parse.{Block, blockKey}
-use Rattle.file_blocks.specs.Address.{region, among}
+use Rattle.file_blocks.specs.Address.{region}
+use Rattle.base_lists.specs.Lists.{among}
 use Rattle.c_tree.specs.Expr.{u32, x-pc}
 use Rattle.c_tree.specs.Stmt.{registers, local, discard, common, Simple, gap, plain, call, switch}
 use Rattle.c_tree.specs.Stmt.{Code, end, _⨾_, _⧺_, group, Top, function}

@@ -9,7 +9,8 @@ use native.Mathlib.Omega.{arith}
 use borrow.Author.Tests.{eq-eqb}
 use lib.Dec.{T, leb, eqb, eqb→eq}
 use Rattle.armv4t.specs.Bit0.{clearBit0}
-use Rattle.file_blocks.specs.Address.{outsideRomBios, among}
+use Rattle.file_blocks.specs.Address.{outsideRomBios}
+use Rattle.base_lists.specs.Lists.{among}
 use Rattle.c_tree.specs.Expr.{u32, word, udec, x-t, x-pc, var, band, Expr, lit, bin}
 use Rattle.c_tree.specs.Preamble.{v32}
 use Rattle.c_tree.specs.Stmt.{Plain, declare, other, Owner, common, Simple, gap, recordMark, plain}

@@ -15,8 +15,7 @@ use Rattle.armv4t.specs.declared.Fused.the-variants.{Pair}
 use Rattle.armv4t.specs.Fused.{fuse}
 use Rattle.file_instrs.specs.declared.decode.TimedInstr.{TimedInstr}
 use Rattle.file_blocks.specs.Parse.{Block}
-use Rattle.file_blocks.specs.Address.{region}
-use Rattle.plan_exits.specs.Exits.{keyOf, fallThrough}
+use Rattle.file_blocks.specs.Address.{region, keyOf, fallThrough}
 use Rattle.c_tree.specs.Expr.{u32, word, x-pc, ne, lit, bin}
 use Rattle.c_tree.specs.Preamble.{v32}
 use Rattle.c_tree.specs.Stmt.{other, Owner, common, retIf, interp, Code, end, _⨾_}

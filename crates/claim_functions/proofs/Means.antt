@@ -14,13 +14,14 @@ use lib.ListN.{length, getD, getElem?, length-map, length-append}
 use Rattle.armv4t.specs.Instr.{sizeOf}
 use Rattle.file_instrs.specs.declared.decode.TimedInstr.{TimedInstr}
 use Rattle.file_blocks.specs.Parse.{Block, Parsed, parse, blockKey}
-use Rattle.file_blocks.specs.Address.{region, among as isAmong}
+use Rattle.file_blocks.specs.Address.{region}
+use Rattle.base_lists.specs.Lists.{among as isAmong}
 use Rattle.file_blocks.proofs.Nowhere.{nowhere}
 use Rattle.plan_groups.specs.Plan.{groups}
 use Rattle.file_blocks.proofs.Accepted.{few-blocks, length-of}
 use Rattle.plan_groups.proofs.PlanLength.{groups-length}
 use Rattle.plan_groups.proofs.GroupLaws.{groups-once, group-inside, group-same}
-use Rattle.plan_groups.proofs.Listing.{map-at}
+use Rattle.base_lists.proofs.Places.{map-at, found-at}
 use Rattle.c_tree.specs.Stmt.{Code, end, _⨾_, _⧺_, block, group, Top, function}
 use Rattle.c_meaning.specs.State.{State}
 use Rattle.armv4t_manual.specs.Machine.{Machine, Sound}
@@ -45,9 +46,8 @@ use Rattle.claim_ways.specs.Claim.{allUnits}
 use Rattle.claim_ways.proofs.Faithful.{Faithful}
 use Rattle.claim_ways.proofs.Functions.{Own, head-foreign, end-foreign, InGroup, from-cut, Alone}
 use Rattle.claim_ways.proofs.Members.{File, bodies, key-of, member-of, same-place}
-use Rattle.claim_ways.proofs.Places.{found-at}
-use Rattle.claim_functions.specs.Execution.{Result, underway, returned, LabelIn, parameter}
-use Rattle.claim_functions.specs.Execution.{atStart, Executes}
+use Rattle.claim_functions.specs.Execution.{Result, underway, returned, LabelIn, atStart}
+use Rattle.claim_functions.specs.Execution.{Executes}
 use Rattle.claim_functions.specs.Labels.{LabelsPlain}
 use Rattle.claim_functions.proofs.Plain.{Distinct, plain-group, none-lone, none-forwarder}
 use Rattle.claim_functions.proofs.Plain.{once-group, group-distinct, keys-distinct}

@@ -11,7 +11,8 @@ use lib.ListN.{length, getD}
 use Rattle.file_blocks.specs.Parse.{Block, blockKey}
 use Rattle.plan_groups.specs.Plan.{groups}
 use Rattle.plan_groups.proofs.GroupLaws.{groups-once, group-inside, group-of}
-use Rattle.plan_groups.proofs.Listing.{count, count-append, count-here, count-other, map-at}
+use Rattle.base_lists.proofs.Places.{map-at, found-at}
+use Rattle.base_lists.proofs.Counts.{count, count-append, count-here, count-other}
 use Rattle.c_tree.specs.Stmt.{block, function}
 use Rattle.lower_forms.specs.Forms.{Body}
 use Rattle.lower_forms.proofs.RecordCount.{recordCounts}
@@ -21,7 +22,6 @@ use Rattle.lower_units.specs.Units.{emitCChunked, unitsBy}
 use Rattle.claim_ways.proofs.Faithful.{Faithful}
 use Rattle.claim_ways.specs.Claim.{timesCarried, allUnits}
 use Rattle.claim_ways.specs.Complete.{functionCount, BlockHasWay, Complete}
-use Rattle.claim_ways.proofs.Places.{found-at}
 use Rattle.claim_ways.proofs.Members.{File, bodies, key-of, is-member, same-place}
 use Rattle.claim_ways.proofs.Entered.{entered}
 use Rattle.claim_ways.proofs.Pieces.{Part, group-part, in-part, inGroups, no-end}

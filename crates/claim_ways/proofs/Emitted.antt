@@ -18,7 +18,8 @@ use Rattle.lower_forms.specs.Operands.{flags}
 use Rattle.lower_units.specs.Block.{bodyKey, bodyLength, nl, sp, line, lines, gotoCode, transfer}
 use Rattle.lower_units.specs.Block.{closing, leave, toThumb, toArm, conditional, nativeText}
 use Rattle.lower_units.specs.Block.{codeFrom, defer, underGuard, blockCode, closingLines}
-use Rattle.file_blocks.specs.Address.{among, outsideRomBios}
+use Rattle.file_blocks.specs.Address.{outsideRomBios}
+use Rattle.base_lists.specs.Lists.{among}
 use Rattle.claim_ways.specs.Ways.{Event, reach, said, nativeStart, interpreted}
 use Rattle.claim_ways.proofs.Logic.{Logic, Pick, Ok}
 

@@ -29,7 +29,7 @@ use Rattle.claim_ways.proofs.Bounded.{total, Spent, at-most-total, spen
 use Rattle.claim_ways.proofs.Once.{lone-rises, once-of}
 use Rattle.claim_ways.proofs.Guarded.{Allowed, Apart, History, history-rules, lone-seen}
 use Rattle.claim_ways.proofs.Guarded.{guarded-of}
-use Rattle.claim_ways.proofs.Places.{found-at}
+use Rattle.base_lists.proofs.Places.{found-at}
 use Rattle.claim_ways.proofs.Functions.{Own, head-foreign, end-foreign, InGroup, from-cut}
 use Rattle.claim_ways.proofs.Functions.{Many, forwarder, Alone, Among, block-stands}
 use Rattle.claim_ways.proofs.Functions.{group-stands}

@@ -7,7 +7,6 @@ pub mod Followed
 pub mod Bounded
 pub mod Once
 pub mod Guarded
-pub mod Places
 pub mod File
 pub mod Functions
 pub mod Members

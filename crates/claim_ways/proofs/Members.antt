@@ -11,14 +11,13 @@ use Rattle.plan_groups.specs.Plan.{groups}
 use Rattle.plan_groups.proofs.Components.{countsOf}
 use Rattle.plan_groups.proofs.Cutting.{instructions}
 use Rattle.plan_groups.proofs.GroupLaws.{group-limit, group-inside}
-use Rattle.plan_groups.proofs.Listing.{map-at}
+use Rattle.base_lists.proofs.Places.{map-at, member-at, place-of}
 use Rattle.lower_forms.specs.Forms.{Body}
 use Rattle.lower_units.specs.Block.{bodyKey}
 use Rattle.lower_units.specs.Units.{defaultBody, bodiesOf}
 use Rattle.claim_ways.proofs.Faithful.{Faithful}
 use Rattle.claim_ways.proofs.Bounded.{Member, total}
 use Rattle.claim_ways.proofs.Guarded.{Apart}
-use Rattle.claim_ways.proofs.Places.{at-member, place-of}
 use Rattle.claim_ways.proofs.File.{block-even, block-filled, one-key}
 use Rattle.claim_ways.proofs.Functions.{Many}
 use Rattle.file_blocks.proofs.Nowhere.{nowhere}
@@ -75,7 +74,7 @@ module _ (F : File) where
       }
 
   in-bodies : (i : ℕ) → i < length bs → List·Memᴰ (bodyOf (getD bs i nowhere)) bodies
-  in-bodies i h = Memᴰ·map bodyOf (at-member bs i nowhere h)
+  in-bodies i h = Memᴰ·map bodyOf (member-at bs i nowhere h)
 
   -- the counts of the plan are those of the bodies
   count-at : (cs : List Block) (i : ℕ)

@@ -16,7 +16,7 @@ use Rattle.file_blocks.specs.Read.{recordAt, foundBlock, codeBytes, IsBlock}
 use Rattle.file_blocks.proofs.Accepted.{Reads, length-of, record-reads}
 use Rattle.base_hash.specs.Fnv.{fnv64, hashMultiplier}
 use Rattle.file_blocks.proofs.IsBlock.{nth-block, block-inside, block-record}
-use Rattle.plan_groups.proofs.Listing.{map-at}
+use Rattle.base_lists.proofs.Places.{map-at}
 use Rattle.base_text.specs.Wrote.{Wrote}
 use Rattle.base_text.proofs.Laws.{seq, wrote-as}
 use Rattle.c_tree.specs.Stmt.{guard, common, Code, end, _⨾_, when}

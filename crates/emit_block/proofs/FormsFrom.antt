@@ -18,7 +18,7 @@ use Rattle.file_blocks.proofs.ReadInstrs.{instrAt, later, at-first}
 use Rattle.lower_forms.specs.Forms.{Form}
 use Rattle.lower_forms.specs.Block.{emitPair, emitInstr, fusedOr, consForm, emitInstrs}
 use Rattle.emit_block.specs.declared.instrs.Next.{Next}
-use Rattle.plan_groups.specs.Plan.{isEmpty}
+use Rattle.base_lists.specs.Lists.{isEmpty}
 use Rattle.emit_block.specs.Walk.{fusedNext, nextOf}
 
 -- instruction j of a block, and those after it

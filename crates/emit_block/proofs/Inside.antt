@@ -7,7 +7,7 @@ use mathlib.Core.List.{List}
 use lib.ListN.{length}
 use Rattle.file_blocks.specs.Parse.{blocksOf}
 use Rattle.plan_members.specs.Members.{membersOf, memberKeys}
-use Rattle.file_blocks.specs.Address.{among}
+use Rattle.base_lists.specs.Lists.{among}
 use Rattle.plan_members.specs.Prepared.{HoldsPlan}
 use Rattle.emit_block.specs.declared.member.Member.{Member}
 use Rattle.emit_block.specs.Walk.{IsMember}

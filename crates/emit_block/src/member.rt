@@ -3,7 +3,7 @@ use plan_members::in_group;
 ghost use mathlib.Core.Path.{_≡_};
 ghost use mathlib.Core.List.{List};
 ghost use Prim.Native.Nat.{ℕ, _<_};
-ghost use Rattle.file_blocks.specs.Address.{among};
+ghost use Rattle.base_lists.specs.Lists.{among};
 ghost use Rattle.emit_block.specs.Walk.{IsMember};
 ghost use Rattle.plan_groups.specs.Groups.{HasRoom};
 

@@ -18,7 +18,7 @@ use Rattle.lower_forms.specs.InlineBody.{listIf, eachOnLine}
 use Rattle.lower_forms.specs.Block.{flushTicks, setWord, emitPair, branchRegs, pcLine}
 use Rattle.lower_units.specs.Block.{nl, sp, line, lines, gotoCode, transfer}
 use Rattle.lower_units.specs.Block.{nativeText, defer, underGuard, linesText}
-use Rattle.file_blocks.specs.Address.{among}
+use Rattle.base_lists.specs.Lists.{among}
 use Rattle.emit_flow.specs.Pieces.{afterCondition, afterConditional}
 use Rattle.lower_units.proofs.LinesAfter.{lines-append}
 

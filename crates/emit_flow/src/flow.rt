@@ -12,7 +12,7 @@ ghost use Rattle.c_tree.specs.Print.{codeText};
 ghost use Rattle.lower_forms.specs.InlineBody.{eachOnLine};
 ghost use Rattle.lower_forms.specs.Block.{setWord, pcLine};
 ghost use Rattle.lower_units.specs.Block.{nl, sp, gotoCode, transfer, linesText};
-ghost use Rattle.file_blocks.specs.Address.{among};
+ghost use Rattle.base_lists.specs.Lists.{among};
 ghost use Rattle.emit_flow.specs.Pieces.{indent};
 
 // r14 set to n.

@@ -11,7 +11,7 @@ use Rattle.base_text.proofs.Laws.{seq, wrote-as}
 use Rattle.base_hash.specs.Fnv.{hashMultiplier}
 use Rattle.file_blocks.specs.Parse.{blocksOf}
 use Rattle.plan_groups.specs.Plan.{groups}
-use Rattle.plan_groups.proofs.Listing.{map-at}
+use Rattle.base_lists.proofs.Places.{map-at}
 use Rattle.c_tree.specs.Print.{casesText, codeText, unitText}
 use Rattle.lower_forms.specs.Forms.{Body}
 use Rattle.lower_units.specs.Block.{bodyKey, blockCode}

@@ -24,7 +24,7 @@ use Rattle.emit_flow.proofs.Blocks.{straight-text, straight-if-text, branch-tex
 use Rattle.emit_flow.proofs.Blocks.{code-shell, code-last, closing-text}
 use Rattle.emit_instr.specs.Onward.{Onward}
 use Rattle.emit_instr.specs.Steps.{lowered}
-use Rattle.plan_groups.specs.Plan.{isEmpty}
+use Rattle.base_lists.specs.Lists.{isEmpty}
 use Rattle.emit_instr.proofs.Onward.{by}
 
 module _ {o o′ : List ℕ} {at r : ℕ} (ks : List ℕ) (b : Body) (j : ℕ) where

@@ -15,7 +15,7 @@ use Rattle.c_tree.specs.Print.{exprText}
 use Rattle.file_blocks.specs.Address.{keyOf}
 use Rattle.lower_forms.specs.Forms.{Lines, Form, Body}
 use Rattle.lower_units.specs.Block.{codeFrom, linesText}
-use Rattle.file_blocks.specs.Address.{among}
+use Rattle.base_lists.specs.Lists.{among}
 use Rattle.emit_flow.specs.Pieces.{straightOpen, straightEnd, beforeCondition, straightIfOpen}
 use Rattle.emit_flow.specs.Pieces.{straightIfEnd}
 use Rattle.emit_instr.specs.declared.step.Step.{Step}

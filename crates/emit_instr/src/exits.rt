@@ -22,7 +22,7 @@ ghost use Rattle.lower_forms.specs.Operands.{condExpr, regOf, regExpr};
 ghost use Rattle.lower_forms.specs.InlineBody.{listed};
 ghost use Rattle.lower_forms.specs.Block.{flushTicks, emitBranch, nativeExit, emitPop};
 ghost use Rattle.lower_units.specs.Block.{nativeText, linesText};
-ghost use Rattle.file_blocks.specs.Address.{among};
+ghost use Rattle.base_lists.specs.Lists.{among};
 ghost use Rattle.emit_flow.specs.Pieces.{beforeCondition};
 ghost use Rattle.emit_instr.specs.Steps.{FormWritten};
 

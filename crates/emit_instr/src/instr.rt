@@ -18,7 +18,7 @@ ghost use Rattle.armv4t.specs.declared.Op.the-variants.{Bx, BlockMem};
 ghost use Rattle.lower_forms.specs.Forms.{Form, Body};
 ghost use Rattle.lower_forms.specs.Block.{emitOp, emitInstr};
 ghost use Rattle.emit_instr.specs.Steps.{FormWritten, BranchInside};
-ghost use Rattle.plan_groups.specs.Plan.{isEmpty};
+ghost use Rattle.base_lists.specs.Lists.{isEmpty};
 
 // A Bx: an exit, or left to the interpreter.
 fn emit_any_bx(

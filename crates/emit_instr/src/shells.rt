@@ -14,7 +14,7 @@ ghost use Rattle.lower_forms.specs.Block.{emitShell};
 ghost use Rattle.lower_units.specs.Block.{codeFrom};
 ghost use Rattle.emit_instr.specs.Onward.{Onward};
 ghost use Rattle.emit_instr.specs.Steps.{FormWritten};
-ghost use Rattle.plan_groups.specs.Plan.{isEmpty};
+ghost use Rattle.base_lists.specs.Lists.{isEmpty};
 
 // A shell, also for an unfused ThumbBlHigh (high), after which the closing transfer stands where it
 // is the last of its block.

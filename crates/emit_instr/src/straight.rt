@@ -26,7 +26,7 @@ ghost use Rattle.lower_forms.specs.InlineBody.{inlineBody};
 ghost use Rattle.lower_forms.specs.Block.{flushTicks, emitLines, emitStraight};
 ghost use Rattle.lower_units.specs.Block.{linesText};
 ghost use Rattle.emit_instr.specs.Steps.{FormWritten, lowered};
-ghost use Rattle.plan_groups.specs.Plan.{isEmpty};
+ghost use Rattle.base_lists.specs.Lists.{isEmpty};
 
 // The cycles pending before an instruction that touches memory; they stay pending before another.
 fn put_ticks(out: &mut [u8], at: usize, touches_bus: bool, cycles: u64) -> usize

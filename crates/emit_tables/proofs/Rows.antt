@@ -16,7 +16,7 @@ use Rattle.plan_groups.specs.Plan.{groups}
 use Rattle.file_blocks.proofs.IsBlock.{missing, block-inside, block-record}
 use Rattle.file_blocks.proofs.OwnKey.{key-plus}
 use Rattle.file_blocks.proofs.Keys.{block-key}
-use Rattle.plan_groups.proofs.Listing.{map-at}
+use Rattle.base_lists.proofs.Places.{map-at}
 use Rattle.plan_members.specs.Members.{membersOf, groupKeys}
 use Rattle.plan_members.proofs.Places.{start-next}
 use Rattle.emit_tables.specs.Tables.{fileKeys, IsGroup}

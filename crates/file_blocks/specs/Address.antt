@@ -1,7 +1,6 @@
 -- What an address and a key say by themselves: page and region, and whether a key is among some.
 use Prim.Native.Nat.{ℕ, _/_, _%_, _^_}
 use mathlib.Core.Bool.{Bool, true, false, not, _||_}
-use mathlib.Core.List.{List, [], _∷_}
 use lib.Dec.{eqb}
 use Rattle.armv4t.specs.declared.Instr.{Instr}
 use Rattle.armv4t.specs.Bit0.{setBit0}
@@ -28,8 +27,3 @@ keyOf addr false = addr
 -- the fall-through (document 01): the address after an instruction, with the block's Thumb bit
 abbrev pub fallThrough : Bool → Instr → ℕ
 fallThrough thumb i = keyOf (nextAddr i) thumb
-
--- whether a key is among some
-abbrev pub among : ℕ → List ℕ → Bool
-among k [] = false
-among k (j ∷ js) = eqb k j || among k js

@@ -12,7 +12,7 @@ use Rattle.file_records.specs.Trailer.{instrCount, codeBack, codeCount, 
 use Rattle.file_records.specs.Trailer.{withinLimits, trailerRight}
 use Rattle.file_records.specs.BlockRecord.{addrAt, flagsAt, countAt, lengthAt, aligned}
 use Rattle.file_records.specs.BlockRecord.{codeRight, blockRight}
-use Rattle.armv4t.proofs.Bools.{right-true}
+use Rattle.base_lists.proofs.Bools.{right-true}
 
 module _ (f : List ℕ) where
   pub many-blocks : 65536 < blockCount f → false ≡ withinLimits f

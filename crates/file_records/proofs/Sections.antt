@@ -10,7 +10,7 @@ use borrow.Author.Tests.{eqb-true}
 use Rattle.file_records.specs.Trailer.{edition, blocksBack, blockCount, instrsBack}
 use Rattle.file_records.specs.Trailer.{instrCount, codeBack, codeCount, fileLength}
 use Rattle.file_records.specs.Trailer.{trailerRight}
-use Rattle.armv4t.proofs.Bools.{left-true, right-true}
+use Rattle.base_lists.proofs.Bools.{left-true, right-true}
 
 -- the sections of a file with a right trailer
 pub record Sections (f : List ℕ) : Type 0 where

@@ -34,7 +34,8 @@ use Rattle.c_tree.specs.Expr.{Name, x-r, x-base, x-ob, x-addr, Place, reg, udec
 use Rattle.c_tree.specs.Expr.{band, bxor, bor, Expr, lit, get, bin, un, compl}
 use Rattle.c_tree.specs.Stmt.{Plain}
 use Rattle.c_tree.specs.Preamble.{v32}
-use Rattle.armv4t.proofs.Bools.{left-true as left, right-true as right, both-true as both, either}
+use Rattle.base_lists.proofs.Bools.{left-true as left, right-true as right, both-true as both}
+use Rattle.base_lists.proofs.Bools.{either}
 use Rattle.c_tree.specs.Binds.{level, binds, declaratorsBind, plainBinds}
 use Rattle.lower_forms.specs.Forms.{Lines, Native, straight, straightIf, branchIf, jump, pair}
 use Rattle.lower_forms.specs.Forms.{bx, pop, Form, native, shell}
@@ -48,7 +49,8 @@ use Rattle.lower_forms.specs.InlineBody.{blockMemBody, opBody, inlineBod
 use Rattle.armv4t.specs.RegisterList.{isListed}
 use Rattle.lower_forms.specs.Block.{flushTicks, setWord, emitShell, emitPair, emitPop}
 use Rattle.lower_forms.specs.Block.{emitBranch, emitLines, emitStraight, bodyOf, pcLine}
-use Rattle.lower_forms.proofs.Every.{Each, every-form}
+use Rattle.lower_forms.proofs.Every.{every-form}
+use Rattle.base_lists.proofs.Each.{Each}
 
 -- statements of one line
 abbrev pub plainsBind : List Plain → Bool

@@ -31,7 +31,7 @@ use Rattle.lower_forms.proofs.Body.{some-same, not-none, or-l, or-r}
 use Rattle.lower_forms.proofs.Listed.{listed-same, listed-15, Named, listed-named, member}
 use Rattle.lower_forms.proofs.Listed.{named-member}
 use Rattle.lower_forms.proofs.Multiple.{load-multiple-ok, store-multiple-ok}
-use Rattle.armv4t_manual.proofs.All.{All, all-map}
+use Rattle.base_lists.proofs.Each.{Each, each-map}
 
 -- a list of registers below n has at most n
 pub append-length : (is js : List ℕ) → length (is ++ js) ≡ length is + length js
@@ -77,10 +77,10 @@ module _ (i : Instr) {z : State} {m : Machine} (s : Sound m) (a : Agrees z m) (r
           let m1 : Machine = cond wb (M.setReg rn (moved up (m .r rn) (k * 4)) m) m in
           M.setRegs (loadAll is (start up pre (m .r rn) k) (m .mem) (m1 .r)) m
 
-      below : All (λ j. j < 15) (listed rlist 16)
+      below : Each (λ j. j < 15) (listed rlist 16)
       below =
-          subst (All (λ j. j < 15)) (sym (listed-15 rlist q))
-          (all-map (Named rlist 15) (λ j. j < 15) (λ j h. h .0) (listed rlist 15)
+          subst (Each (λ j. j < 15)) (sym (listed-15 rlist q))
+          (each-map (Named rlist 15) (λ j. j < 15) (λ j h. h .0) (listed rlist 15)
           (listed-named rlist 15))
 
       named : isListed rlist rn ≡ true → member rn (listed rlist 16) ≡ true
@@ -93,7 +93,7 @@ module _ (i : Instr) {z : State} {m : Machine} (s : Sound m) (a : Agrees z m) (r
   store-lines low =
       store-multiple-ok s a i rn hn (listed rlist 16) (four _ (listed-length rlist 16)) up pre wb
       (isListed rlist rn)
-      (all-map (Named rlist 16) _ each (listed rlist 16) (listed-named rlist 16))
+      (each-map (Named rlist 16) _ each (listed rlist 16) (listed-named rlist 16))
     where
       at-most : (j : ℕ) → j < 16 → j ≤ 15
       at-most j h = omega arith

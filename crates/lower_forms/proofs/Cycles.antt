@@ -28,7 +28,7 @@ use Rattle.lower_forms.specs.Block.{isPop, emitLines, emitStraight, emit
 use Rattle.lower_forms.specs.Block.{emitInstrs, bodyOf, pcLine}
 use Rattle.file_blocks.specs.Address.{region}
 use Rattle.lower_forms.proofs.Every.{fused-or}
-use Rattle.armv4t.proofs.Bools.{either}
+use Rattle.base_lists.proofs.Bools.{either}
 
 -- the cycles of a tick
 abbrev pub plainTicks : Plain → ℕ

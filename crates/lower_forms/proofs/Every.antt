@@ -19,18 +19,14 @@ use Rattle.lower_forms.specs.Block.{flushTicks, emitShell, emitPair, emi
 use Rattle.lower_forms.specs.Block.{isPop, emitPop, emitStraight, emitOp, emitInstr, fusedOr}
 use Rattle.lower_forms.specs.Block.{emitInstrs, bodyOf}
 use Rattle.file_blocks.specs.Address.{region}
-use Rattle.armv4t.proofs.Bools.{either}
+use Rattle.base_lists.proofs.Each.{Each}
+use Rattle.base_lists.proofs.Bools.{either}
 
 -- what holds of both is held by a fused pair or not
 pub fused-or : {A : Type 0} (P : A → Type 0) (f : Fused) {x : A} {g : ℕ → ℕ → A} → P x
     → ((t r : ℕ) → P (g t r)) → P (fusedOr f x g)
 fused-or P Nothing p q = p
 fused-or P (Pair t r) p q = q t r
-
--- P of each form
-abbrev pub Each : {A : Type 0} → (A → Type 0) → List A → Type 0
-Each P [] = Unit {0}
-Each P (r ∷ rs) = P r × Each P rs
 
 -- P of a form that comes with the cycles pending, and of forms
 record One (P : Form → Type 0) (s : Form × ℕ) : Type 0 where

@@ -49,8 +49,9 @@ use Rattle.lower_forms.specs.InlineBody.{inlineBody}
 use Rattle.armv4t.specs.RegisterList.{isListed}
 use Rattle.lower_forms.specs.Block.{flushTicks, setWord, emitShell, emitPair, emitPop}
 use Rattle.lower_forms.specs.Block.{emitBranch, emitLines, emitStraight, bodyOf, pcLine}
-use Rattle.lower_forms.proofs.Every.{Each, every-form}
-use Rattle.armv4t.proofs.Bools.{either}
+use Rattle.lower_forms.proofs.Every.{every-form}
+use Rattle.base_lists.proofs.Each.{Each}
+use Rattle.base_lists.proofs.Bools.{either}
 
 -- the statements of a line, with a `;` and a space each
 abbrev pub plainsMost : List Plain → ℕ

@@ -14,7 +14,7 @@ use Rattle.armv4t_manual.specs.Machine.{update}
 use Rattle.armv4t_manual.specs.Transfer.{Memory4}
 use Rattle.armv4t_manual.specs.Multiple.{listed, loadAll}
 use Rattle.lower_forms.proofs.Operands.{same-of, ne-of}
-use Rattle.armv4t_manual.proofs.All.{All, all-append, all-map}
+use Rattle.base_lists.proofs.Each.{Each, each-append, each-map}
 
 -- the emitter's list is the manual's
 only-same : (b : Bool) (n : ℕ) → listIf b n ≡ cond b (n ∷ []) []
@@ -41,15 +41,15 @@ listed-15 rlist q =
 abbrev pub Named : ℕ → ℕ → ℕ → Type 0
 Named rlist n i = (i < n) × (bit rlist i ≡ true)
 
-pub listed-named : (rlist n : ℕ) → All (Named rlist n) (listed rlist n)
+pub listed-named : (rlist n : ℕ) → Each (Named rlist n) (listed rlist n)
 unfolding listed
 listed-named rlist zero = tt
 listed-named rlist (suc n) =
-    all-append (Named rlist (suc n)) (listed rlist n) _
-    (all-map (Named rlist n) (Named rlist (suc n)) (λ i h. (omega (arith, h .0), h .1))
+    each-append (Named rlist (suc n)) (listed rlist n) _
+    (each-map (Named rlist n) (Named rlist (suc n)) (λ i h. (omega (arith, h .0), h .1))
     (listed rlist n) (listed-named rlist n)) (go (bit rlist n) refl)
   where
-    go : (b : Bool) → bit rlist n ≡ b → All (Named rlist (suc n)) (cond b (n ∷ []) [])
+    go : (b : Bool) → bit rlist n ≡ b → Each (Named rlist (suc n)) (cond b (n ∷ []) [])
     go true q = ((omega arith, q), tt)
     go false q = tt
 

@@ -33,7 +33,7 @@ use Rattle.lower_forms.proofs.Transfer.{direction-reads, do-write}
 use Rattle.lower_forms.proofs.Listed.{member, load-over}
 use Rattle.lower_forms.proofs.Steps.{step, stop, opened, given, within, do-declare, do-plus}
 use Rattle.lower_forms.proofs.Steps.{do-reg, with-scopes, with-reg}
-use Rattle.armv4t_manual.proofs.All.{All, all-map}
+use Rattle.base_lists.proofs.Each.{Each, each-map}
 
 -- a local of the innermost scope
 pub in-scope : (x : Name) (f : Scope) (fs : List Scope) (z : State) {k : ℕ}
@@ -42,7 +42,7 @@ in-scope x f fs z q = rw q
 
 -- c[r] = a->read32(m, addr & ~3u); addr += 4u; for each
 loads-ok : (is : List ℕ) (f : Scope) (fs : List Scope) (u : State) (m : Machine) (k : ℕ)
-    → All (λ i. i < 15) is → ((a : ℕ) → m .mem a < 256) → Agrees u m
+    → Each (λ i. i < 15) is → ((a : ℕ) → m .mem a < 256) → Agrees u m
     → f (index x-addr) ≡ some (u32, some k) → k < 4294967296
     → Makes (statements (loads is)) (within f fs u) (setRegs (loadAll is k (m .mem) (m .r)) m)
 loads-ok [] f fs u m k h b a q l =
@@ -106,7 +106,7 @@ module _ {z : State} {m : Machine} (s : Sound m) (a : Agrees z m) (i : Instr) (r
       .small
 
   -- the loads, where the base is written before them unless it is listed
-  pub load-multiple-ok : All (λ j. j < 15) regs → (up pre wb inList : Bool)
+  pub load-multiple-ok : Each (λ j. j < 15) regs → (up pre wb inList : Bool)
       → (inList ≡ true → member rn regs ≡ true)
       → Makes (statements (blockMemBody i true rn inList pre up wb regs)) (enter z)
       (let m1 : Machine = cond wb (M.setReg rn (moved up (m .r rn) (length regs * 4)) m) m in
@@ -206,7 +206,7 @@ module _ {z : State} {m : Machine} (s : Sound m) (a : Agrees z m) (i : Instr) (r
   -- after
   stores-ok : (e : ℕ → Expr) (v : ℕ → ℕ) (tail : Lines) {m1 : Machine} (js : List ℕ) (f : Scope)
       (fs : List Scope) (u : State) (g : ℕ → ℕ) (k : ℕ)
-      → All (λ j. (y : State) → Regs y m → value (var (u32, x-base)) y ≡ some (m .r rn)
+      → Each (λ j. (y : State) → Regs y m → value (var (u32, x-base)) y ≡ some (m .r rn)
       → Reads (e j) y (v j)) js
       → Agrees u (M.setMem g m) → f (index x-base) ≡ some (u32, some (m .r rn))
       → f (index x-addr) ≡ some (u32, some k) → k < 4294967296
@@ -231,7 +231,7 @@ module _ {z : State} {m : Machine} (s : Sound m) (a : Agrees z m) (i : Instr) (r
       }) q refl (mod-lt (k + 4) (lit< tt)) next))
 
   -- STM, where a base that is listed and not written is the lowest
-  pub store-multiple-ok : (up pre wb inList : Bool) → All (Stored wb) regs
+  pub store-multiple-ok : (up pre wb inList : Bool) → Each (Stored wb) regs
       → Makes (statements (blockMemBody i false rn inList pre up wb regs)) (enter z)
       (let m1 : Machine =
       M.setMem
@@ -244,7 +244,7 @@ module _ {z : State} {m : Machine} (s : Sound m) (a : Agrees z m) (i : Instr) (r
       (eachOnLine (listIf wb (setReg rn (movedBase up (length regs * 4))))) regs
       (placedScope up pre)
       (z .scopes) z (m .mem)
-      (MM.start up pre (m .r rn) (length regs)) (all-map (Stored wb) _ (stored-reads up wb) regs h)
+      (MM.start up pre (m .r rn) (length regs)) (each-map (Stored wb) _ (stored-reads up wb) regs h)
       (record { regs = a .regs; flags = a .flags; memory = a .memory }) refl refl (start-lt up pre)
       (go wb))
     where

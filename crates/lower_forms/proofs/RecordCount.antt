@@ -15,7 +15,7 @@ use Rattle.lower_forms.specs.InlineBody.{inlineBody}
 use Rattle.lower_forms.specs.Block.{emitLines, emitInstr, emitInstrs, bodyOf}
 use Rattle.file_blocks.specs.Address.{region}
 use Rattle.lower_forms.proofs.Every.{fused-or, every-instr}
-use Rattle.armv4t.proofs.Bools.{either}
+use Rattle.base_lists.proofs.Bools.{either}
 
 -- how many records a form stands for
 abbrev pub recordCount : Form → ℕ

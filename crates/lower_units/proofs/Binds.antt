@@ -21,15 +21,16 @@ use Rattle.lower_forms.specs.Forms.{pop, Form, shell, recordsIn, Body}
 use Rattle.lower_forms.specs.Block.{bodyOf}
 use Rattle.lower_forms.proofs.Binds.{plainsBind, linesBind, nativeBinds, formBinds, forms-bind}
 use Rattle.lower_forms.proofs.Binds.{closing-lines-bind}
-use Rattle.lower_forms.proofs.Every.{Each}
+use Rattle.base_lists.proofs.Each.{Each}
 use Rattle.lower_units.specs.Block.{bodyKey, nl, sp, leave, line, lines, gotoCode, transfer}
 use Rattle.lower_units.specs.Block.{closing, conditional, nativeText, codeFrom, underGuard}
 use Rattle.lower_units.specs.Block.{blockCode, bodyEnd, closingLines}
-use Rattle.file_blocks.specs.Address.{among, outsideRomBios}
+use Rattle.file_blocks.specs.Address.{outsideRomBios}
+use Rattle.base_lists.specs.Lists.{among}
 use Rattle.lower_units.specs.Units.{withLocals, emitBlock, labelled, groupCode, forwarders}
 use Rattle.lower_units.specs.Units.{emitGroup, unitHead, lastUnitEnd, TranslationUnit, textOf}
 use Rattle.lower_units.specs.Units.{cut, defaultBody, bodiesOf, emitCChunked}
-use Rattle.armv4t.proofs.Bools.{left-true as left, right-true, both-true as both}
+use Rattle.base_lists.proofs.Bools.{left-true as left, right-true, both-true as both}
 
 -- either of two
 pick : (b : Bool) (c d : Code) → codeBinds false c ≡ true → codeBinds false d ≡ true

@@ -17,7 +17,7 @@ use Rattle.lower_forms.specs.Forms.{Lines, jump, branchIf}
 use Rattle.lower_forms.specs.Operands.{condExpr, flags}
 use Rattle.lower_forms.specs.InlineBody.{listIf, eachOnLine}
 use Rattle.lower_forms.specs.Block.{flushTicks, setWord}
-use Rattle.file_blocks.specs.Address.{among}
+use Rattle.base_lists.specs.Lists.{among}
 use Rattle.lower_units.specs.Block.{nl, sp, line, conditional, gotoCode, transfer, nativeText}
 use Rattle.armv4t_manual.specs.Machine.{Machine, setReg, Sound}
 use Rattle.armv4t_manual.specs.Conditions.{passed}

@@ -12,12 +12,13 @@ use lib.ListN.{length, getD, length-map}
 use Rattle.armv4t.specs.Bit0.{clearBit0}
 use Rattle.file_blocks.specs.Parse.{Block, Parsed, parse, instrTotal}
 use Rattle.file_blocks.proofs.Accepted.{length-of, few-blocks, few-instrs, instrs-of}
-use Rattle.base_forest.specs.Forest.{range}
+use Rattle.base_lists.specs.Lists.{range, among}
 use Rattle.plan_groups.specs.Plan.{groups}
 use Rattle.plan_groups.proofs.Cutting.{instructions, instructions-append, instructions-within}
 use Rattle.plan_groups.proofs.GroupLaws.{groups-once, groups-only, group-inside}
-use Rattle.plan_groups.proofs.Listing.{count, counted, member-at, map-at}
-use Rattle.base_forest.proofs.Roots.{length-range, range-own}
+use Rattle.base_lists.proofs.Places.{member-at, map-at}
+use Rattle.base_lists.proofs.Counts.{count, counted}
+use Rattle.base_lists.proofs.Range.{length-range, range-own}
 use Rattle.base_text.specs.Wrote.{maxUsize}
 use Rattle.base_text.specs.Digits.{lastDigits}
 use Rattle.base_text.specs.Doc.{hex8, text, _▸_, hexadecimal8, print, each}
@@ -33,18 +34,18 @@ use Rattle.lower_forms.specs.Forms.{Lines, Native, straight, straightIf, branch
 use Rattle.lower_forms.specs.Forms.{pop, Form, shell, recordsIn, Body}
 use Rattle.lower_forms.proofs.RecordCount.{recordCounts, body-count}
 use Rattle.lower_forms.specs.Block.{bodyOf}
-use Rattle.lower_forms.proofs.Every.{Each}
+use Rattle.base_lists.proofs.Each.{Each}
 use Rattle.lower_forms.proofs.Lengths.{plainsMost, linesMost, nativeMost, formMost, forms-within}
 use Rattle.lower_forms.proofs.Lengths.{closing-within}
 use Rattle.lower_units.specs.Block.{bodyKey, bodyEnd, nl, sp, line, lines, gotoCode, transfer}
 use Rattle.lower_units.specs.Block.{closing, conditional, leave, toThumb, toArm, nativeText}
 use Rattle.lower_units.specs.Block.{shellCode, codeFrom, underGuard, blockCode, closingLines}
 use Rattle.file_records.specs.BlockRecord.{keyPlus}
-use Rattle.file_blocks.specs.Address.{among, outsideRomBios}
+use Rattle.file_blocks.specs.Address.{outsideRomBios}
 use Rattle.lower_units.specs.Units.{withLocals, emitBlock, labelled, groupCode, forwarders}
 use Rattle.lower_units.specs.Units.{emitGroup, unitHead, lastUnitEnd, TranslationUnit, textOf}
 use Rattle.lower_units.specs.Units.{cut, defaultBody, bodiesOf, emitCChunked}
-use Rattle.armv4t.proofs.Bools.{either}
+use Rattle.base_lists.proofs.Bools.{either}
 
 -- the most bytes of the text of code
 abbrev codeMost : Code → ℕ
@@ -448,7 +449,7 @@ module _ (limit : ℕ) (bs : List Block) where
       listed : i < length bs → List·Memᴰ i (range (length bs) 0)
       listed h =
           subst (λ (k : ℕ). List·Memᴰ k (range (length bs) 0)) (range-own (length bs) i h)
-          (member-at (range (length bs) 0) i (omega (arith, length-range (length bs) 0)))
+          (member-at (range (length bs) 0) i 0 (omega (arith, length-range (length bs) 0)))
 
   -- so the members of all groups take no more than the blocks of the file
   all-members : (multiplier : ℕ)

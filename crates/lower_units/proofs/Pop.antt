@@ -44,7 +44,7 @@ use Rattle.lower_units.proofs.Exits.{with-pc, closed-out}
 use Rattle.lower_units.proofs.Exchange.{leave-back}
 use Rattle.lower_forms.proofs.Steps.{exec1, opened, given, within, do-declare, do-plus, do-reg}
 use Rattle.lower_forms.proofs.Steps.{with-scopes, with-reg}
-use Rattle.armv4t_manual.proofs.All.{All, all-map}
+use Rattle.base_lists.proofs.Each.{Each, each-map}
 use Rattle.lower_units.proofs.Aligned.{plus-zero, twos, zeros}
 use Rattle.lower_forms.proofs.Body.{aligned-lt}
 
@@ -65,7 +65,7 @@ arrive {z} h = record { end = z; ends = refl; holds = h }
 
 -- the loads, and then what stands after them
 loads-reach : (is : List ℕ) (f : Scope) (fs : List Scope) (u : State) (m : Machine) (k : ℕ)
-    (tail : Lines) {P : State → Type 0} → All (λ i. i < 15) is
+    (tail : Lines) {P : State → Type 0} → Each (λ i. i < 15) is
     → ((a : ℕ) → m .mem a < 256) → Agrees u m → f (index x-addr) ≡ some (u32, some k)
     → k < 4294967296
     → ((h : Scope) (y : State) → Agrees y (setRegs (loadAll is k (m .mem) (m .r)) m)
@@ -98,7 +98,7 @@ loaded-lt rn (i ∷ is) k f r b h =
     go false = h
 
 module _ {z : State} {m : Machine} (s : Sound m) (a : Agrees z m) (rn : ℕ) (hn : rn < 15)
-    (is : List ℕ) (hl : length is ≤ 15) (hi : All (λ i. i < 15) is) where
+    (is : List ℕ) (hl : length is ≤ 15) (hi : Each (λ i. i < 15) is) where
   -- the registers loaded, the base moved from there, the word loaded for PC, and the machine
   abbrev regs : ℕ → ℕ
   regs = loadAll is (m .r rn) (m .mem) (m .r)
@@ -246,8 +246,8 @@ pop-leaves i rn rlist hn h15 n ks a o {z} {m} s g =
     lt : x < 4294967296
     lt = load-small (m .mem) (s .bytes) (addressAfter is (m .r rn) / 4 * 4)
 
-    hi : All (λ j. j < 15) is
-    hi = all-map (Named rlist 15) (λ j. j < 15) (λ j h. h .0) is (listed-named rlist 15)
+    hi : Each (λ j. j < 15) is
+    hi = each-map (Named rlist 15) (λ j. j < 15) (λ j h. h .0) is (listed-named rlist 15)
 
     go : (t : Bool)
         → Leaves (nativeText ks a o (emitPop t n rn is)) z

@@ -16,7 +16,7 @@ use Rattle.file_instrs.specs.declared.decode.TimedInstr.{TimedInstr}
 use Rattle.file_blocks.specs.Parse.{Block}
 use Rattle.plan_groups.specs.Calls.{partLimit}
 use Rattle.plan_exits.specs.Exits.{instrExits, exits}
-use Rattle.base_forest.specs.Forest.{follow}
+use Rattle.base_forest.specs.Roots.{follow}
 use Rattle.base_text.specs.Digits.{numeral, lastDigits}
 use Rattle.base_text.specs.Doc.{text, decimal, hexadecimal, hexadecimal8, hexadecimal16, print}
 use Rattle.c_tree.specs.Print.{codeText}

@@ -5,7 +5,7 @@ use mathlib.Core.Bool.{Bool, true, false, cond}
 use mathlib.Core.List.{List, [], _∷_}
 use lib.Dec.{leb}
 use Rattle.armv4t.specs.Bit0.{clearBit0}
-use Rattle.file_blocks.specs.Address.{among}
+use Rattle.base_lists.specs.Lists.{among}
 use Rattle.c_tree.specs.Expr.{u32, word, udec, x-t, band, Expr, lit, bin}
 use Rattle.c_tree.specs.Preamble.{v32}
 use Rattle.c_tree.specs.Stmt.{Plain, declare, Test, other, Owner, common, Simple, gap, plain, goto}

@@ -21,7 +21,7 @@ use Rattle.base_text.specs.Digits.{numeral, lastDigits}
 use Rattle.base_text.specs.Doc.{text, decimal, hexadecimal, hexadecimal8, hexadecimal16, print}
 use Rattle.plan_groups.specs.Calls.{partLimit}
 use Rattle.plan_exits.specs.Exits.{exits, instrExits}
-use Rattle.base_forest.specs.Forest.{follow}
+use Rattle.base_forest.specs.Roots.{follow}
 use Rattle.plan_search.specs.Target.{target}
 use Rattle.plan_groups.specs.Plan.{joinExits, joinBlocks, parents, withRoot, insert, sortByKey}
 use Rattle.plan_groups.specs.Plan.{parts, groupsFrom, groups}

@@ -15,7 +15,8 @@ use Rattle.c_tree.specs.Preamble.{v32}
 use Rattle.c_tree.specs.Print.{codeText}
 use Rattle.base_text.specs.Doc.{Doc}
 use Rattle.file_records.specs.BlockRecord.{lengthOf, keyPlus}
-use Rattle.file_blocks.specs.Address.{outsideRomBios, among}
+use Rattle.file_blocks.specs.Address.{outsideRomBios}
+use Rattle.base_lists.specs.Lists.{among}
 use Rattle.lower_forms.specs.Operands.{flags}
 use Rattle.lower_forms.specs.Block.{flushTicks, pcLine}
 use Rattle.lower_forms.specs.Forms.{Lines, Native, straight, straightIf, branchIf, jump, pair, bx}

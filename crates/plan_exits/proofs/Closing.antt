@@ -1,14 +1,13 @@
 -- The exits of a block by its last two instructions, and exits by a block's number.
 -- Assumes nothing.
-use Prim.Native.Nat.{ℕ, zero, suc, _+_, _-_, _≤_, _<_}
+use Prim.Native.Nat.{ℕ, zero, suc, _+_, _-_, _≤_}
 use mathlib.Core.Path.{_≡_, refl, sym, ap, ap₂, _∙_}
 use mathlib.Core.Bool.{Bool}
-use mathlib.Core.List.{List, [], _∷_, map}
+use mathlib.Core.List.{List, map}
 use mathlib.Core.Option.{none, some}
-use lib.ListN.{length, getD, getElem?}
-use native.Mathlib.Nat.{le-of-suc-le-suc}
-use native.Mathlib.Nat.{not-suc-le-zero}
+use lib.ListN.{getElem?}
 use native.Mathlib.Omega.{arith}
+use Rattle.base_lists.proofs.Places.{map-found, map-past}
 use Rattle.armv4t.specs.Instr.{sizeOf}
 use Rattle.armv4t.specs.declared.Fused.{Fused}
 use Rattle.armv4t.specs.declared.Instr.{Instr}
@@ -17,7 +16,7 @@ use Rattle.file_instrs.specs.declared.decode.TimedInstr.{TimedInstr}
 use Rattle.file_blocks.specs.declared.read.BlockRecord.{BlockRecord}
 use Rattle.file_blocks.specs.declared.read.FoundInstr.{FoundInstr}
 use Rattle.file_records.specs.Trailer.{blockCount, blockStart}
-use Rattle.file_blocks.specs.Parse.{Block, instrsFrom, blockAt, blocksOf, Accepted}
+use Rattle.file_blocks.specs.Parse.{instrsFrom, blockAt, blocksOf, Accepted}
 use Rattle.file_blocks.specs.Read.{recordAt, readInstr, IsBlock}
 use Rattle.file_blocks.proofs.ReadInstrs.{instrAt, later, at-first, instr-there, read-as}
 use Rattle.file_blocks.proofs.Accepted.{length-of}
@@ -103,25 +102,14 @@ module _ {f : List ℕ} {i : ℕ} {b : BlockRecord} {first : ℕ} (is : IsBlock 
       (instr-there is (b .count - 2) (omega (arith, some-instr is))) e g
 
 -- past the last block there is nothing
-past : (bs : List Block) (i : ℕ) → length bs ≤ i → none ≡ getElem? (map exits bs) i
-past [] i h = refl
-past (b ∷ bs) zero h = absurd (not-suc-le-zero h)
-past (b ∷ bs) (suc i) h = past bs i (le-of-suc-le-suc h)
-
--- the exits of a block by its number
-within : (bs : List Block) (i : ℕ) (d : Block) → i < length bs
-    → some (exits (getD bs i d)) ≡ getElem? (map exits bs) i
-within [] i d h = absurd (not-suc-le-zero h)
-within (b ∷ bs) zero d h = refl
-within (b ∷ bs) (suc i) d h = within bs i d (le-of-suc-le-suc h)
-
 pub no-exits : (f : List ℕ) → Accepted f → (i : ℕ) → blockCount f ≤ i
     → none ≡ getElem? (map exits (blocksOf f)) i
-no-exits f ok i h = past (blocksOf f) i (omega (arith, length-of f (blocksOf f) ok))
+no-exits f ok i h = map-past exits (blocksOf f) i (omega (arith, length-of f (blocksOf f) ok))
 
+-- the exits of a block by its number
 pub exits-here : {f : List ℕ} {i : ℕ} {b : BlockRecord} {first : ℕ} → IsBlock f i b first
     → some (exits (blockAt f (blockStart f i) first)) ≡ getElem? (map exits (blocksOf f)) i
 exits-here {f} {i} is =
     rw (is .starts, ← nth-block f i (blockAt f 0 0) (block-inside is))
-    (within (blocksOf f) i (blockAt f 0 0)
+    (map-found exits (blocksOf f) i (blockAt f 0 0)
     (omega (arith, block-inside is, length-of f (blocksOf f) (is .accepted))))

@@ -12,9 +12,11 @@ use native.Mathlib.Omega.{arith}
 use borrow.Author.Tests.{leb-true, leb-false, le-leb, ltb-false}
 use lib.ListN.{length, getD}
 use lib.Dec.{leb, ltb}
-use Rattle.plan_groups.specs.Plan.{insert, sortByKey, asParts, isEmpty, parts}
-use Rattle.plan_groups.proofs.Listing.{count, count-here, count-cancel, counted, stands}
-use Rattle.plan_groups.proofs.Listing.{InOrder, Piece, flatten-piece}
+use Rattle.plan_groups.specs.Plan.{insert, sortByKey, asParts, parts}
+use Rattle.base_lists.specs.Lists.{isEmpty}
+use Rattle.base_lists.proofs.Counts.{count, count-here, count-cancel, counted, stands}
+use Rattle.base_lists.proofs.Pieces.{Piece, flatten-piece}
+use Rattle.base_lists.proofs.Order.{InOrder}
 
 -- the key of one block is at most that of another
 abbrev pub NoFall : List ℕ → ℕ → ℕ → Type 0

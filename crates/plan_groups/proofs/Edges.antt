@@ -14,10 +14,13 @@ use lib.Dec.{eqb}
 use Rattle.file_blocks.specs.Parse.{Block, blockKey}
 use Rattle.plan_exits.specs.Exits.{exits}
 use Rattle.plan_exits.proofs.Few.{exits-few}
-use Rattle.base_forest.specs.Forest.{Forest, range, root, hang}
+use Rattle.base_forest.specs.Forest.{Forest}
+use Rattle.base_forest.specs.Roots.{root, hang}
+use Rattle.base_lists.specs.Lists.{range}
 use Rattle.plan_search.specs.Target.{joinable, target}
 use Rattle.plan_groups.specs.Plan.{joinTo, joinExits, joinBlocks, parents}
-use Rattle.base_forest.proofs.Roots.{deeper, root-inside, length-range, forest-range, root-range}
+use Rattle.base_forest.proofs.Roots.{deeper, root-inside, forest-range, root-range}
+use Rattle.base_lists.proofs.Range.{length-range}
 use Rattle.base_forest.proofs.Roots.{forest-hang, root-hang}
 use Rattle.base_forest.proofs.Ways.{moved}
 

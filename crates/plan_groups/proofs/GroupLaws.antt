@@ -9,7 +9,8 @@ use native.Mathlib.Omega.{arith}
 use borrow.Author.Tests.{eqb-true}
 use lib.ListN.{length, getD}
 use Rattle.file_blocks.specs.Parse.{Block, blockKey}
-use Rattle.base_forest.specs.Forest.{range, root}
+use Rattle.base_forest.specs.Roots.{root}
+use Rattle.base_lists.specs.Lists.{range}
 use Rattle.plan_search.specs.Target.{joinable}
 use Rattle.file_blocks.specs.Address.{page}
 use Rattle.plan_groups.specs.Plan.{parents, groupsFrom, groups}
@@ -19,10 +20,11 @@ use Rattle.plan_groups.proofs.Components.{groups-part}
 use Rattle.plan_groups.proofs.Cutting.{NoFall, sort-order, instructions, instructions-within}
 use Rattle.plan_groups.proofs.Cutting.{part-fits, part-piece}
 use Rattle.plan_groups.proofs.Edges.{joinsAt, root-self, root-alone}
-use Rattle.plan_groups.proofs.Listing.{count, counted, stands, count-in, one-list, one-place}
-use Rattle.plan_groups.proofs.Listing.{some-list, map-at, member-at, InOrder, order-at}
-use Rattle.plan_groups.proofs.Listing.{order-once, order-steps, once-apart, Piece}
-use Rattle.plan_groups.proofs.Listing.{piece-member, piece-order}
+use Rattle.base_lists.proofs.Counts.{count, counted, stands, count-in, one-list, one-place}
+use Rattle.base_lists.proofs.Counts.{some-list}
+use Rattle.base_lists.proofs.Places.{map-at, member-at}
+use Rattle.base_lists.proofs.Order.{InOrder, order-at, order-once, order-steps, once-apart}
+use Rattle.base_lists.proofs.Pieces.{Piece, piece-member, piece-order}
 
 -- the address of one block is below that of another
 abbrev pub Below : List Block → ℕ → ℕ → Type 0
@@ -104,7 +106,7 @@ module _ (limit : ℕ) (bs : List Block) where
         λ k l. root-alone bs i k (group-inside k l) e
         (group-root k i l h ∙ root-self bs i (group-inside i h) e) in
         absurd (group-apart 0 1 (omega arith) several
-        (only _ (member-at g 0 (omega arith)) ∙ sym (only _ (member-at g 1 several))))
+        (only _ (member-at g 0 0 (omega arith)) ∙ sym (only _ (member-at g 1 0 several))))
 
     -- the blocks of a group of several are joinable
     pub group-joinable : 2 ≤ length g → (i : ℕ) → List·Memᴰ i g → (d : Block)
@@ -158,7 +160,7 @@ module _ (limit : ℕ) (bs : List Block) where
       pub group-keys-rise : (a b : ℕ) → a < b → b < length g
           → getD (map blockKey bs) (getD g a 0) 0 < getD (map blockKey bs) (getD g b 0) 0
       group-keys-rise a b l h =
-          rising _ _ (group-numbers-rise a b l h) (group-inside _ (member-at g b h))
+          rising _ _ (group-numbers-rise a b l h) (group-inside _ (member-at g b 0 h))
 
   -- no other number stands in the groups
   pub groups-only : (i : ℕ) → length bs ≤ i → count i (flatten (groups limit bs)) ≡ 0

@@ -15,9 +15,12 @@ use Rattle.file_records.specs.BlockRecord.{countAt, countSum, keyAt}
 use Rattle.file_blocks.specs.Parse.{Block, blocksOf, Accepted, blockKey}
 use Rattle.file_blocks.proofs.Accepted.{few-instrs, instrs-inside, length-of, record-reads}
 use Rattle.file_blocks.specs.Read.{recordAt}
-use Rattle.base_forest.specs.Forest.{Forest, SameRoots, range, root}
+use Rattle.base_forest.specs.Forest.{Forest, SameRoots}
+use Rattle.base_forest.specs.Roots.{root}
+use Rattle.base_lists.specs.Lists.{range}
 use Rattle.plan_groups.specs.Plan.{joinBlocks, parents, plan}
-use Rattle.plan_groups.specs.Groups.{interleave, quarter1, Joined, HasFirsts, Firsts}
+use Rattle.plan_groups.specs.Groups.{quarter1, Joined, HasFirsts, Firsts}
+use Rattle.base_lists.specs.Interleave.{interleave}
 use Rattle.plan_groups.specs.Groups.{joinRecord, AllJoined, AllRooted, Grouped}
 use Rattle.plan_groups.specs.Links.{HasRoots, Linked, Outside}
 use Rattle.plan_groups.specs.Order.{HasCounts, Placed}
@@ -27,7 +30,8 @@ use Rattle.file_blocks.proofs.IsBlock.{nth-block}
 use Rattle.file_blocks.proofs.Keys.{block-key, keys-rise}
 use Rattle.plan_groups.proofs.Lending.{quarter-length, back-length, back-quarter, back-after}
 use Rattle.plan_groups.proofs.Lending.{back-before}
-use Rattle.base_forest.proofs.Roots.{forest-range, same-self, length-range}
+use Rattle.base_forest.proofs.Roots.{forest-range, same-self}
+use Rattle.base_lists.proofs.Range.{length-range}
 use Rattle.file_blocks.proofs.Nowhere.{nowhere}
 
 -- what the pass over the counts keeps

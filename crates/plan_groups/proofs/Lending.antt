@@ -10,7 +10,8 @@ use borrow.Rule.Slice.PartMut.{putMid, postOf, same-len-mid, mid-len, take-put, 
 use lib.ListN.{length, getD, set, take, drop, length-set}
 use lib.Seq.{take-at, drop-at, length-take-le, getD-take, getD-drop, getD-set-same, getD-set-other}
 use lib.Seq.{take-set-le, drop-set-add}
-use Rattle.base_forest.specs.Forest.{Forest, Flatter, RootFound, root}
+use Rattle.base_forest.specs.Forest.{Forest, Flatter, RootFound}
+use Rattle.base_forest.specs.Roots.{root}
 use Rattle.plan_groups.specs.Groups.{quarter1, Rooted, AllRooted}
 use Rattle.base_forest.proofs.Roots.{flatter-trans}
 

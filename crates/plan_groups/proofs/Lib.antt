@@ -8,7 +8,6 @@ pub mod HandOver
 mod Joining
 mod Lending
 mod Linking
-pub mod Listing
 mod Numbering
 mod Ordering
 pub mod PlanLength

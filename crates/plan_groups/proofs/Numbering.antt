@@ -14,12 +14,13 @@ use native.Mathlib.Decide.{ℕ-discrete}
 use lib.ListN.{length, getD, length-append}
 use lib.Dec.{eqb}
 use Rattle.file_blocks.specs.Parse.{Block, blockKey}
-use Rattle.base_forest.specs.Forest.{root}
+use Rattle.base_forest.specs.Roots.{root}
 use Rattle.plan_groups.specs.Order.{withRootIn, orderFrom, numbersOf, nextGroup, numbersFrom}
-use Rattle.plan_groups.specs.Plan.{withRoot, members, closes, insert, sortByKey, isEmpty}
+use Rattle.plan_groups.specs.Plan.{withRoot, members, closes, insert, sortByKey}
+use Rattle.base_lists.specs.Lists.{isEmpty}
 use Rattle.plan_groups.specs.Plan.{parts, groupsFrom, groups, groupRows, rowsFrom, plan}
 use Rattle.plan_groups.specs.Plan.{parents}
-use Rattle.plan_groups.specs.Groups.{interleave}
+use Rattle.base_lists.specs.Interleave.{interleave}
 
 -- the members of a component, by a list of roots
 pub members-rooted : (p roots : List ℕ) (r left k : ℕ)

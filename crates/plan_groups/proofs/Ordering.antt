@@ -18,7 +18,7 @@ use Rattle.plan_groups.specs.Links.{seek, Linked}
 use Rattle.plan_groups.specs.Plan.{withRoot, closes}
 use Rattle.plan_groups.specs.Order.{withRootIn, membersFrom, orderFrom, numbersOf, nextGroup}
 use Rattle.plan_groups.specs.Order.{numbersFrom, HasCounts, Placed}
-use Rattle.armv4t.proofs.Bools.{right-true}
+use Rattle.base_lists.proofs.Bools.{right-true}
 
 -- a search stays within its range
 pub seek-low : (roots : List ℕ) (r left k : ℕ) → k ≤ seek roots r left k

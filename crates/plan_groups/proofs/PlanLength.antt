@@ -9,15 +9,16 @@ use native.Mathlib.Omega.{arith}
 use lib.Dec.{leb}
 use lib.ListN.{length, getD, length-append}
 use Rattle.file_blocks.specs.Parse.{Block, blockKey}
-use Rattle.base_forest.specs.Forest.{range, root}
+use Rattle.base_forest.specs.Roots.{root}
+use Rattle.base_lists.specs.Lists.{range}
 use Rattle.plan_groups.specs.Order.{withRootIn, orderFrom}
 use Rattle.plan_groups.specs.Plan.{parents, members, insert, sortByKey, groups, groupRows}
 use Rattle.plan_groups.specs.Plan.{rowsFrom, plan}
 use Rattle.plan_groups.proofs.Components.{component, groups-flat}
 use Rattle.plan_groups.proofs.Edges.{root-block}
-use Rattle.plan_groups.proofs.Listing.{map-at}
+use Rattle.base_lists.proofs.Places.{map-at}
 use Rattle.plan_groups.proofs.Numbering.{members-rooted, order-all}
-use Rattle.base_forest.proofs.Roots.{length-range, range-own}
+use Rattle.base_lists.proofs.Range.{length-range, range-own}
 
 group-rows-length : (g : ℕ) (is : List ℕ) → length (groupRows g is) ≡ 2 * length is
 group-rows-length g [] = refl

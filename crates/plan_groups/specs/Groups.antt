@@ -1,23 +1,19 @@
 -- What the steps of grouping make of the work numbers.
 use Prim.Native.Nat.{ℕ, _+_, _*_, _≤_, _<_}
 use mathlib.Core.Path.{_≡_}
-use mathlib.Core.List.{List, [], _∷_}
+use mathlib.Core.List.{List}
 use lib.ListN.{length, getD, take, drop}
 use Rattle.file_records.specs.Trailer.{blockCount, blockStart}
 use Rattle.file_records.specs.BlockRecord.{countSum}
 use Rattle.file_blocks.specs.Parse.{blockAt, blocksOf, Accepted}
 use Rattle.plan_groups.specs.Plan.{joinBlock, parents, plan}
-use Rattle.base_forest.specs.Forest.{Flatter, Forest, SameRoots, root}
+use Rattle.base_lists.specs.Interleave.{interleave}
+use Rattle.base_forest.specs.Forest.{Flatter, Forest, SameRoots}
+use Rattle.base_forest.specs.Roots.{root}
 
 -- work numbers enough for the n blocks of a file, of which there are at most 65,536
 abbrev pub HasRoom : List ℕ → List ℕ → ℕ → Type 0
 HasRoom f work n = (4 * n ≤ length work) × (n ≤ 65536) × (n ≡ blockCount f)
-
--- two lists as one, number by number in turn, up to the end of the shorter
-unfoldable pub interleave : List ℕ → List ℕ → List ℕ
-interleave [] ys = []
-interleave (x ∷ xs) [] = []
-interleave (x ∷ xs) (y ∷ ys) = x ∷ y ∷ interleave xs ys
 
 -- the rows of n blocks in the work numbers: group numbers in quarter 2, blocks in quarter 0
 abbrev pub rowsIn : ℕ → List ℕ → List ℕ

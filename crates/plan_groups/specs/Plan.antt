@@ -1,13 +1,14 @@
 -- The plan: which blocks share a group, and the order in which groups and blocks are emitted.
 use Prim.Native.Nat.{ℕ, zero, suc, _+_}
-use mathlib.Core.Bool.{Bool, true, false, not, cond, _&&_}
+use mathlib.Core.Bool.{Bool, not, cond, _&&_}
 use mathlib.Core.List.{List, [], _∷_, _++_, map}
 use mathlib.Core.Option.{Option, none, some}
 use lib.ListN.{length, getD}
 use lib.Dec.{leb, ltb, eqb}
 use Rattle.file_blocks.specs.Parse.{Block, blockKey}
 use Rattle.plan_exits.specs.Exits.{exits}
-use Rattle.base_forest.specs.Forest.{range, root, hang}
+use Rattle.base_forest.specs.Roots.{root, hang}
+use Rattle.base_lists.specs.Lists.{isEmpty, range}
 use Rattle.plan_search.specs.Target.{joinable, target}
 
 -- the edge (document 01) from block i to the block that was found for a key, if there is one
@@ -59,11 +60,6 @@ abbrev pub asParts : List ℕ → List (List ℕ)
 asParts [] = []
 asParts (i ∷ is) = (i ∷ is) ∷ []
 
--- whether a list is empty
-abbrev pub isEmpty : {A : Type 0} → List A → Bool
-isEmpty [] = true
-isEmpty (i ∷ is) = false
-
 -- whether a part closes before a block with so many instructions: it is open, so not empty, and the
 -- block would push its total over the limit
 abbrev pub closes : ℕ → ℕ → Bool → ℕ → Bool
@@ -104,3 +100,9 @@ rowsFrom g (is ∷ gs) = groupRows g is ++ rowsFrom (suc g) gs
 -- index
 unfoldable pub plan : ℕ → List Block → List ℕ
 plan limit bs = rowsFrom 0 (groups limit bs)
+
+-- the group of block i in the rows of a plan; 0 where no row has the block
+unfoldable pub groupOf : ℕ → List ℕ → ℕ
+groupOf i [] = 0
+groupOf i (g ∷ []) = 0
+groupOf i (g ∷ j ∷ rows) = cond (eqb j i) g (groupOf i rows)

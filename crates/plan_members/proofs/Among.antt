@@ -18,9 +18,9 @@ use Rattle.plan_groups.specs.Plan.{groups}
 use Rattle.plan_groups.proofs.GroupLaws.{group-of, group-inside, group-joinable}
 use Rattle.file_blocks.proofs.Keys.{block-key, keys-rise}
 use Rattle.plan_search.proofs.Searching.{target-some}
-use Rattle.plan_groups.proofs.Listing.{map-at}
+use Rattle.base_lists.proofs.Places.{place-of, map-at}
 use Rattle.plan_members.specs.Members.{membersOf, memberKeys}
-use Rattle.file_blocks.specs.Address.{among}
+use Rattle.base_lists.specs.Lists.{among}
 use Rattle.plan_members.specs.Prepared.{HoldsPlan}
 use Rattle.plan_members.proofs.GroupOf.{group-listed}
 use Rattle.plan_members.proofs.Places.{list-at, has-member, blocks-all}
@@ -68,11 +68,6 @@ target-key key (b ∷ bs) i j e =
     go true true h ih e′ = (let same : i ≡ j = cc in (0, omega arith, omega arith, eqb-true _ _ h))
     go true false h ih e′ = later (ih e′)
     go false y h ih e′ = later (ih e′)
-
--- one of some lists has a place among them
-place-of : {is : List ℕ} {gs : List (List ℕ)} → List·Memᴰ is gs → (g : ℕ) × (is ≡ getD gs g [])
-place-of (List·Memᴰ·head e) = (0, e)
-place-of (List·Memᴰ·tail m) = (let there = place-of m in (suc (there .0), there .1))
 
 module _ {f : List ℕ} {n limit : ℕ} {work : List ℕ} (ready : HoldsPlan f n limit work) where
   abbrev bs : List Block
@@ -160,8 +155,8 @@ module _ {f : List ℕ} {n limit : ℕ} {work : List ℕ} (ready : HoldsPlan f n
             → List·Memᴰ i (membersOf limit (blocksOf f) g)
         its-own i h at =
             let own = group-of limit bs i h in
-            let place = place-of (own .1) in
+            let place = place-of (groups limit bs) [] (own .0) (own .1) in
             let m : List·Memᴰ i (membersOf limit bs (place .0)) =
-            subst (List·Memᴰ i) (place .1) (own .2) in
+            subst (List·Memᴰ i) (sym (place .2)) (own .2) in
             subst (λ (k : ℕ). List·Memᴰ i (membersOf limit bs k))
             (sym (number-is i (place .0) h m) ∙ at) m

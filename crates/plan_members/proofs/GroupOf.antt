@@ -9,10 +9,9 @@ use native.Mathlib.Omega.{arith}
 use borrow.Author.Tests.{eq-eqb, ne-eqb}
 use lib.ListN.{length, getD}
 use Rattle.file_blocks.specs.Parse.{Block}
-use Rattle.plan_groups.specs.Plan.{groupRows, rowsFrom, groups, plan}
+use Rattle.plan_groups.specs.Plan.{groupRows, rowsFrom, groups, plan, groupOf}
 use Rattle.plan_groups.proofs.GroupLaws.{groups-once}
-use Rattle.plan_groups.proofs.Listing.{count, count-append, count-here, count-other, counted}
-use Rattle.plan_members.specs.Numbers.{groupOf}
+use Rattle.base_lists.proofs.Counts.{count, count-append, count-here, count-other, counted}
 
 module _ (i : ℕ) where
   -- the rows of a group that has the block

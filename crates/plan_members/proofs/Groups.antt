@@ -11,9 +11,10 @@ use lib.ListN.{length, getD, set, take, drop, length-set, length-take, length-dr
 use lib.ListN.{drop-of-length-le}
 use lib.Seq.{length-take-le, drop-cons, getD-take, getD-drop, getD-set-same, getD-set-other}
 use Rattle.file_blocks.specs.Parse.{blocksOf, Accepted}
-use Rattle.plan_groups.specs.Groups.{Grouped, interleave}
-use Rattle.plan_groups.specs.Plan.{plan}
-use Rattle.plan_members.specs.Numbers.{groupOf, rowsAt, GroupsFrom}
+use Rattle.plan_groups.specs.Groups.{Grouped}
+use Rattle.base_lists.specs.Interleave.{interleave}
+use Rattle.plan_groups.specs.Plan.{plan, groupOf}
+use Rattle.plan_members.specs.Numbers.{rowsAt, GroupsFrom}
 
 -- past the last row there is none
 rows-end : (n : ℕ) (work : List ℕ) → rowsAt n work n ≡ []

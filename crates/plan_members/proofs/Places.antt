@@ -10,10 +10,10 @@ use lib.ListN.{length, getD, take, drop, length-append, length-drop}
 use lib.Seq.{length-take-le, getD-take, getD-drop}
 use Rattle.file_blocks.proofs.Accepted.{length-of}
 use Rattle.file_blocks.specs.Parse.{blocksOf}
-use Rattle.plan_groups.specs.Groups.{interleave}
+use Rattle.base_lists.specs.Interleave.{interleave}
 use Rattle.plan_groups.specs.Plan.{groups, groupRows, rowsFrom, plan}
 use Rattle.plan_groups.proofs.GroupLaws.{group-some, group-inside}
-use Rattle.plan_groups.proofs.Listing.{member-at}
+use Rattle.base_lists.proofs.Places.{member-at}
 use Rattle.plan_groups.proofs.PlanLength.{rows-length, plan-length}
 use Rattle.plan_members.specs.Members.{membersOf, startOf}
 use Rattle.plan_members.specs.Prepared.{HoldsPlan}
@@ -183,7 +183,7 @@ module _ {f : List ℕ} {n limit : ℕ} {work : List ℕ} (ready : HoldsPlan f n
           blocks-all,
           group-inside limit (blocksOf f) (getD gs g [])
               (list-at gs g (has-member gs g (omega arith))) (getD (getD gs g []) k 0)
-              (member-at (getD gs g []) k inside),
+              (member-at (getD gs g []) k 0 inside),
         )
 
   -- rows from the first one of a group on, all of its number, and none further

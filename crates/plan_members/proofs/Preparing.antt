@@ -11,7 +11,8 @@ use lib.Seq.{length-take-le, ext-getD, getD-take, getD-drop, getD-set-same, getD
 use Rattle.file_records.specs.Trailer.{blockCount}
 use Rattle.file_records.specs.BlockRecord.{countSum}
 use Rattle.file_blocks.specs.Parse.{Accepted}
-use Rattle.plan_groups.specs.Groups.{Grouped, interleave}
+use Rattle.plan_groups.specs.Groups.{Grouped}
+use Rattle.base_lists.specs.Interleave.{interleave}
 use Rattle.plan_members.specs.Numbers.{GroupsFrom}
 use Rattle.plan_members.specs.Prepared.{FirstsTo, Prepared}
 use Rattle.plan_members.proofs.Groups.{groups-planned, groups-room, groups-past}

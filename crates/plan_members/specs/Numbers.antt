@@ -1,17 +1,10 @@
 -- What the work numbers hold while quarter 1 gets the group of each block.
 use Prim.Native.Nat.{ℕ, _+_, _*_, _≤_, _<_}
 use mathlib.Core.Path.{_≡_}
-use mathlib.Core.Bool.{cond}
-use mathlib.Core.List.{List, [], _∷_}
-use lib.Dec.{eqb}
+use mathlib.Core.List.{List}
 use lib.ListN.{length, getD, take, drop}
-use Rattle.plan_groups.specs.Groups.{interleave}
-
--- the group of block i in the rows of a plan; 0 where no row has the block
-unfoldable pub groupOf : ℕ → List ℕ → ℕ
-groupOf i [] = 0
-groupOf i (g ∷ []) = 0
-groupOf i (g ∷ j ∷ rows) = cond (eqb j i) g (groupOf i rows)
+use Rattle.plan_groups.specs.Plan.{groupOf}
+use Rattle.base_lists.specs.Interleave.{interleave}
 
 -- the rows from row p on, in quarters 2 and 0
 abbrev pub rowsAt : ℕ → List ℕ → ℕ → List ℕ

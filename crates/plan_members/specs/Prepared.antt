@@ -8,8 +8,7 @@ use Rattle.file_records.specs.Trailer.{blockCount}
 use Rattle.file_records.specs.BlockRecord.{countSum}
 use Rattle.file_blocks.specs.Parse.{blocksOf, Accepted}
 use Rattle.plan_groups.specs.Groups.{rowsIn}
-use Rattle.plan_groups.specs.Plan.{plan}
-use Rattle.plan_members.specs.Numbers.{groupOf}
+use Rattle.plan_groups.specs.Plan.{plan, groupOf}
 
 -- quarter 3 has the number of the first instruction of the blocks before block m, and no other
 -- number changed

@@ -6,7 +6,7 @@ ghost use Prim.Native.Nat.{ℕ, _≤_, _<_};
 ghost use lib.ListN.{length};
 ghost use Rattle.file_blocks.specs.Parse.{blocksOf};
 ghost use Rattle.plan_members.specs.Members.{membersOf, groupKeys};
-ghost use Rattle.file_blocks.specs.Address.{among};
+ghost use Rattle.base_lists.specs.Lists.{among};
 ghost use Rattle.plan_members.specs.Prepared.{HoldsPlan};
 ghost use Rattle.plan_groups.specs.Groups.{HasRoom};
 

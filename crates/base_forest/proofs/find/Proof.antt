@@ -7,7 +7,8 @@ use native.Mathlib.Nat.{le-refl}
 use native.Mathlib.Omega.{arith}
 use lib.ListN.{length, length-set}
 use mir.Facts.{fits-32-64}
-use Rattle.base_forest.specs.Forest.{parent, root, Forest, RootFound}
+use Rattle.base_forest.specs.Forest.{Forest, RootFound}
+use Rattle.base_forest.specs.Roots.{parent, root}
 use Rattle.base_forest.proofs.Ways.{Leads, start-inside, parent-inside, above, way, forest}
 use Rattle.base_forest.proofs.Ways.{ended, halved, halve, steps, nearer}
 use Rattle.base_forest.proofs.Roots.{root-of}

@@ -6,7 +6,8 @@ use mathlib.Core.List.{List}
 use borrow.Author.Needs.{needs}
 use native.Mathlib.Omega.{arith}
 use lib.ListN.{length, set, length-set}
-use Rattle.base_forest.specs.Forest.{parent, root, Forest, Flatter, RootFound, Hung}
+use Rattle.base_forest.specs.Forest.{Forest, Flatter, RootFound, Hung}
+use Rattle.base_forest.specs.Roots.{parent, root}
 use Rattle.base_forest.proofs.Roots.{root-own, forest-hang, flatter-full, flatter-trans}
 use Rattle.base_forest.proofs.Roots.{same-flatter, same-hang}
 use Rattle.base_forest.proofs.hang_under.Statement.{statement}

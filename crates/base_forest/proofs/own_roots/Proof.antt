@@ -7,8 +7,9 @@ use borrow.Author.Count.{below-none, below-more}
 use native.Mathlib.Omega.{arith}
 use lib.ListN.{length, set, length-set}
 use lib.Seq.{getD-set-same, getD-set-other, ext-getD}
-use Rattle.base_forest.specs.Forest.{range, parent}
-use Rattle.base_forest.proofs.Roots.{length-range, range-own}
+use Rattle.base_forest.specs.Roots.{parent}
+use Rattle.base_lists.specs.Lists.{range}
+use Rattle.base_lists.proofs.Range.{length-range, range-own}
 use Rattle.base_forest.proofs.own_roots.Statement.{statement}
 use Rattle.base_forest.proofs.own_roots.Tie as tie
 

@@ -10,7 +10,7 @@ use Rattle.armv4t.proofs.Op.{the-type}
 use Prim.Native.Nat.{ℕ}
 use mathlib.Core.Bool.{false}
 use mathlib.Core.Path.{sym, ap, _∙_, subst}
-use Rattle.file_blocks.specs.Address.{among}
+use Rattle.base_lists.specs.Lists.{among}
 use Rattle.emit_instr.specs.Steps.{BranchInside}
 use borrow.Author.Needs.{needs}
 use Rattle.emit_block.proofs.instrs.branch_inside.Statement.{statement}

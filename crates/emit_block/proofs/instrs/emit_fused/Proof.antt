@@ -6,7 +6,7 @@ use denote.Ref.{now}
 use Rattle.c_tree.specs.Stmt.{Owner, end}
 use Rattle.lower_forms.specs.Block.{emitPair}
 use Rattle.lower_units.specs.Block.{bodyKey, nativeText, codeFrom}
-use Rattle.file_blocks.specs.Address.{among}
+use Rattle.base_lists.specs.Lists.{among}
 use Rattle.emit_flow.proofs.Blocks.{code-native}
 use Rattle.emit_instr.specs.Onward.{Onward}
 use Rattle.emit_instr.proofs.Onward.{same-from, start}

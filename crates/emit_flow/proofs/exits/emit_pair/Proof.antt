@@ -4,7 +4,7 @@ use mathlib.Core.Path.{ap, _∙_}
 use Prim.Native.Nat.{ℕ}
 use borrow.Author.Needs.{needs}
 use Rattle.emit_flow.proofs.Pieces.{paired}
-use Rattle.file_blocks.specs.Address.{among}
+use Rattle.base_lists.specs.Lists.{among}
 use Rattle.base_text.proofs.Laws.{seq, wrote-as}
 use Rattle.emit_flow.proofs.exits.emit_pair.Statement.{statement}
 use Rattle.emit_flow.proofs.exits.emit_pair.Tie as tie

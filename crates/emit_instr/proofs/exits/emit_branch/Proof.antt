@@ -11,7 +11,7 @@ use Rattle.lower_forms.specs.InlineBody.{eachOnLine}
 use Rattle.lower_forms.specs.Block.{flushTicks, branchRegs}
 use Rattle.armv4t.specs.Cond.{isAl}
 use Rattle.lower_units.specs.Block.{bodyKey, codeFrom}
-use Rattle.file_blocks.specs.Address.{among}
+use Rattle.base_lists.specs.Lists.{among}
 use Rattle.emit_instr.proofs.Texts.{jump-step, branch-step, branch-form}
 use Rattle.emit_instr.proofs.Steps.{same-form}
 use borrow.Author.Needs.{needs}

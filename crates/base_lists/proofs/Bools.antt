@@ -1,4 +1,5 @@
--- Boolean values, as the proofs of several crates use them.
+-- Boolean values: what a true `and` says, and a choice of two.
+-- Assumes nothing.
 use mathlib.Core.Path.{_≡_, refl, sym}
 use mathlib.Core.Bool.{Bool, true, false, cond, _&&_, true≢false}
 

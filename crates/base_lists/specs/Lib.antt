@@ -1,0 +1,3 @@
+-- The definitions of lists that several floors use.
+pub mod Interleave
+pub mod Lists

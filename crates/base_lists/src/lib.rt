@@ -1,0 +1,1 @@
+// Lists, options and Boolean values: definitions and laws only.
