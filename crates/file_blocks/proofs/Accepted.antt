@@ -24,15 +24,15 @@ use Rattle.file_records.specs.BlockRecord.{lengthAt, aligned, countSum, codeRig
 use Rattle.file_records.specs.BlockRecord.{keyRises}
 use Rattle.file_instrs.specs.InstrRecord.{instrRight}
 use Rattle.file_instrs.specs.Decode.{timedAt}
-use Rattle.file_blocks.specs.Refusal.{Row, broken, firstBroken, blockRows, instrRows, rows}
+use Rattle.file_blocks.specs.Refusal.{Rule, broken, firstBroken, blockRules, instrRules, rules}
 use Rattle.file_blocks.specs.Parse.{Block, Parsed, instrsFrom, codeAt, blockAt, blocksFrom}
 use Rattle.file_blocks.specs.Parse.{parsed, parse, instrTotal}
 use Rattle.file_blocks.specs.Read.{recordAt, foundBlock, foundInstr, codeBytes}
 use Rattle.file_records.proofs.Sections.{Sections, sections}
-use Rattle.file_records.proofs.Rules as rules
+use Rattle.file_records.proofs.Rules as by-record
 use Rattle.file_blocks.proofs.Reading as reading
 use Rattle.file_blocks.proofs.Whole.{length-instrs, length-blocks, total-blocks, each-kept}
-use Rattle.file_blocks.proofs.Whole.{block-rows, instr-rows}
+use Rattle.file_blocks.proofs.Whole.{block-rules, instr-rules}
 
 -- one counted from the next
 pub shift : (i j : ℕ) → suc i + j ≡ i + suc j
@@ -64,20 +64,20 @@ block-of f (suc n) i k (suc j) d h e =
     (ap (λ (m : ℕ). m + countAt f (blockStart f i)) e)
     ∙ ap (λ (m : ℕ). blockAt f (blockStart f m) (countSum f m)) (shift i j)
 
-in-blocks : (f : List ℕ) {r : Row} → List·Memᴰ r (blockRows (blockCount f) 0) → List·Memᴰ r (rows f)
+in-blocks : (f : List ℕ) {r : Rule} → List·Memᴰ r (blockRules (blockCount f) 0) → List·Memᴰ r (rules f)
 in-blocks f m = List·Memᴰ·tail (List·Memᴰ·tail (List·Memᴰ·tail (Memᴰ·append-left _ m)))
 
-in-instrs : (f : List ℕ) {r : Row} → List·Memᴰ r (instrRows (instrCount f) 0) → List·Memᴰ r (rows f)
+in-instrs : (f : List ℕ) {r : Rule} → List·Memᴰ r (instrRules (instrCount f) 0) → List·Memᴰ r (rules f)
 in-instrs f m =
     List·Memᴰ·tail
     (List·Memᴰ·tail
-    (List·Memᴰ·tail (Memᴰ·append-right (blockRows (blockCount f) 0) (List·Memᴰ·tail m))))
+    (List·Memᴰ·tail (Memᴰ·append-right (blockRules (blockCount f) 0) (List·Memᴰ·tail m))))
 
-in-sum : (f : List ℕ) → List·Memᴰ Row.sum (rows f)
+in-sum : (f : List ℕ) → List·Memᴰ Rule.sum (rules f)
 in-sum f =
     List·Memᴰ·tail
     (List·Memᴰ·tail
-    (List·Memᴰ·tail (Memᴰ·append-right (blockRows (blockCount f) 0) (List·Memᴰ·head refl))))
+    (List·Memᴰ·tail (Memᴰ·append-right (blockRules (blockCount f) 0) (List·Memᴰ·head refl))))
 
 -- the instructions of block i are among those of the first n blocks
 sum-above : (f : List ℕ) (i n : ℕ) → i < n
@@ -95,14 +95,14 @@ pub record Reads (f : List ℕ) (b : Block) (r : BlockRecord) : Type 0 where
   pub code : b .code ≡ cond (r .present) (some (codeBytes f r)) none
 
 module _ (f : List ℕ) (bs : List Block) (accepted : parse f ≡ Parsed.accepted bs) where
-  no-row : (o : Option Row) → parsed f o ≡ Parsed.accepted bs → o ≡ none
-  no-row none e = refl
-  no-row (some r) e = absurd (let z : _≡_ {A = ℕ} 0 1 = cc in omega arith)
+  no-rule : (o : Option Rule) → parsed f o ≡ Parsed.accepted bs → o ≡ none
+  no-rule none e = refl
+  no-rule (some r) e = absurd (let z : _≡_ {A = ℕ} 0 1 = cc in omega arith)
 
   -- no rule of the file is broken
-  pub all-kept : firstBroken f (rows f) ≡ none
+  pub all-kept : firstBroken f (rules f) ≡ none
   unfolding parse
-  all-kept = no-row (firstBroken f (rows f)) accepted
+  all-kept = no-rule (firstBroken f (rules f)) accepted
 
   -- the blocks are those of the records
   pub blocks-of : bs ≡ blocksFrom f (blockCount f) 0 0
@@ -115,34 +115,34 @@ module _ (f : List ℕ) (bs : List Block) (accepted : parse f ≡ Parsed.accepte
   pub length-of : length bs ≡ blockCount f
   length-of = ap length blocks-of ∙ length-blocks f (blockCount f) 0 0
 
-  kept : (r : Row) → List·Memᴰ r (rows f) → broken f r ≡ false
-  kept r m = each-kept f (rows f) r all-kept m
+  kept : (r : Rule) → List·Memᴰ r (rules f) → broken f r ≡ false
+  kept r m = each-kept f (rules f) r all-kept m
 
   pub sections-of : Sections f
   sections-of =
       sections f
-      (not-false _ (kept Row.trailer (List·Memᴰ·tail (List·Memᴰ·tail (List·Memᴰ·head refl)))))
+      (not-false _ (kept Rule.trailer (List·Memᴰ·tail (List·Memᴰ·tail (List·Memᴰ·head refl)))))
 
   -- the rules hold of each record
   pub block-right : (i : ℕ) → i < blockCount f → blockRight f (blockStart f i) ≡ true
   block-right i h =
       not-false _
-      (kept (Row.block i)
+      (kept (Rule.block i)
       (in-blocks f
-      (Memᴰ·cast (ap Row.block (sym (zero-add i))) (block-rows (blockCount f) 0 i h .0))))
+      (Memᴰ·cast (ap Rule.block (sym (zero-add i))) (block-rules (blockCount f) 0 i h .0))))
 
   pub key-rises : (i : ℕ) → i < blockCount f → keyRises f i ≡ true
   key-rises i h =
       not-false _
-      (kept (Row.order i)
+      (kept (Rule.order i)
       (in-blocks f
-      (Memᴰ·cast (ap Row.order (sym (zero-add i))) (block-rows (blockCount f) 0 i h .1))))
+      (Memᴰ·cast (ap Rule.order (sym (zero-add i))) (block-rules (blockCount f) 0 i h .1))))
 
   pub instr-right : (i : ℕ) → i < instrCount f → instrRight f (instrStart f i) ≡ true
   instr-right i h =
       not-false _
-      (kept (Row.instr i)
-      (in-instrs f (Memᴰ·cast (ap Row.instr (sym (zero-add i))) (instr-rows (instrCount f) 0 i h))))
+      (kept (Rule.instr i)
+      (in-instrs f (Memᴰ·cast (ap Rule.instr (sym (zero-add i))) (instr-rules (instrCount f) 0 i h))))
 
   -- the readers find each record
   pub block-found : (i : ℕ) → i < length bs
@@ -158,23 +158,23 @@ module _ (f : List ℕ) (bs : List Block) (accepted : parse f ≡ Parsed.accepte
 
   -- the limits hold
   limits : withinLimits f ≡ true
-  limits = not-false _ (kept Row.limits (List·Memᴰ·tail (List·Memᴰ·head refl)))
+  limits = not-false _ (kept Rule.limits (List·Memᴰ·tail (List·Memᴰ·head refl)))
 
   pub few-blocks : blockCount f ≤ 65536
   few-blocks =
       let never : 65536 < blockCount f → ⊥ =
-      λ h. true≢false (sym limits ∙ sym (rules.many-blocks f h)) in
+      λ h. true≢false (sym limits ∙ sym (by-record.many-blocks f h)) in
       omega arith
 
   pub few-instrs : instrCount f ≤ 1048576
   few-instrs =
       let never : 1048576 < instrCount f → ⊥ =
-      λ h. true≢false (sym limits ∙ sym (rules.many-instrs f h)) in
+      λ h. true≢false (sym limits ∙ sym (by-record.many-instrs f h)) in
       omega arith
 
   -- the counts sum to I
   pub sums : countSum f (blockCount f) ≡ instrCount f
-  sums = eqb-true _ _ (not-false _ (kept Row.sum (in-sum f)))
+  sums = eqb-true _ _ (not-false _ (kept Rule.sum (in-sum f)))
 
   -- so the blocks have I instructions in all
   pub instrs-of : instrTotal bs ≡ instrCount f
@@ -194,13 +194,13 @@ module _ (f : List ℕ) (bs : List Block) (accepted : parse f ≡ Parsed.accepte
     pub has-instr : 1 ≤ countAt f (blockStart f i)
     has-instr =
         let never : countAt f (blockStart f i) < 1 → ⊥ =
-        λ h. true≢false (sym right ∙ sym (rules.no-count f (blockStart f i) h)) in
+        λ h. true≢false (sym right ∙ sym (by-record.no-count f (blockStart f i) h)) in
         omega arith
 
     pub ends-inside : addrAt f (blockStart f i) + lengthAt f (blockStart f i) ≤ 2 ^ 32
     ends-inside =
         let never : 2 ^ 32 < addrAt f (blockStart f i) + lengthAt f (blockStart f i) → ⊥ =
-        λ h. true≢false (sym right ∙ sym (rules.end-past f (blockStart f i) h)) in
+        λ h. true≢false (sym right ∙ sym (by-record.end-past f (blockStart f i) h)) in
         omega arith
 
     pub address-aligned : addrAt f (blockStart f i) % sizeOf (thumbAt f (blockStart f i)) ≡ 0
@@ -208,7 +208,7 @@ module _ (f : List ℕ) (bs : List Block) (accepted : parse f ≡ Parsed.accepte
     address-aligned =
         eqb-true _ _
         (unless-false (aligned f (blockStart f i))
-        (λ h. true≢false (sym right ∙ sym (rules.not-aligned f (blockStart f i) h))))
+        (λ h. true≢false (sym right ∙ sym (by-record.not-aligned f (blockStart f i) h))))
 
     pub instrs-inside : countSum f i + countAt f (blockStart f i) ≤ instrCount f
     instrs-inside = omega (arith, sum-above f i (blockCount f) inside, sums)
@@ -219,7 +219,7 @@ module _ (f : List ℕ) (bs : List Block) (accepted : parse f ≡ Parsed.accepte
     unfolding codeRight
     code-inside e =
         let within : leb (codeOffsetAt f (blockStart f i) + lengthAt f (blockStart f i))
-        (codeCount f) ≡ true = (rw e at (rules.code-kept f (blockStart f i) right)) in
+        (codeCount f) ≡ true = (rw e at (by-record.code-kept f (blockStart f i) right)) in
         let below : codeOffsetAt f (blockStart f i) + lengthAt f (blockStart f i) ≤ codeCount f =
         leb-true _ _ within in
         omega (arith, below, sections-of)

@@ -9,7 +9,7 @@ use lib.ListN.{length}
 use Rattle.file_blocks.specs.declared.refusal.Checked.{Checked}
 use Rattle.file_blocks.specs.Answer.{Answer, refusal, value, Counts, checkedOf}
 use Rattle.file_records.specs.Trailer.{blockCount}
-use Rattle.file_blocks.specs.Refusal.{Row, firstBroken, rows}
+use Rattle.file_blocks.specs.Refusal.{Rule, firstBroken, rules}
 use Rattle.file_blocks.specs.Parse.{Parsed, parsed, parse, checkAnswer, blocksOf, Accepted}
 use Rattle.file_blocks.proofs.Accepted.{length-of}
 
@@ -21,7 +21,7 @@ by-refusal (Parsed.refused m j) n i e =
     ap₂ Parsed.refused same-number same-place
 by-refusal (Parsed.accepted bs) n i e = absurd (let z : _≡_ {A = ℕ} 0 1 = cc in omega arith)
 
-by-value : (f : List ℕ) (o : Option Row) (c : Counts) → value c ≡ checkAnswer (parsed f o)
+by-value : (f : List ℕ) (o : Option Rule) (c : Counts) → value c ≡ checkAnswer (parsed f o)
     → (parsed f o ≡ Parsed.accepted (blocksOf f)) × (c .blocks ≡ length (blocksOf f))
 unfolding checkAnswer
 by-value f none c e = (refl, ap (λ (a : Answer Counts). blocks-in a) e)
@@ -40,7 +40,7 @@ module _ (f : List ℕ) (r : Checked) (e : checkedOf r ≡ checkAnswer (parse f)
   accepted-both : (b k : ℕ) → r ≡ Checked.Accepted b k → Accepted f × (b ≡ length (blocksOf f))
   unfolding checkedOf parse
   accepted-both b k is =
-      by-value f (firstBroken f (rows f)) (record { blocks = b; instructions = k })
+      by-value f (firstBroken f (rules f)) (record { blocks = b; instructions = k })
       (ap checkedOf (sym is) ∙ e)
 
   -- a file that the check accepts

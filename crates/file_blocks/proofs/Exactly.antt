@@ -1,4 +1,4 @@
--- 'Given exactly if': parse refuses with a row's number and place exactly if the row applies, and
+-- 'Given exactly if': parse refuses with a rule's number and place exactly if the rule applies, and
 -- accepts exactly if none does. Assumes nothing.
 use mathlib.Core.Path.{_≡_, refl, sym, ap, ap₂, _∙_}
 use mathlib.Core.Bool.{Bool, true, false}
@@ -10,14 +10,14 @@ use Prim.Native.Nat.{ℕ, _-_, _≤_}
 use native.Mathlib.Omega.{arith}
 use lib.ListN.{getD}
 use Rattle.file_records.specs.Trailer.{blockCount}
-use Rattle.file_blocks.specs.Refusal.{Row, number, place, broken, pick, firstBroken, rows}
+use Rattle.file_blocks.specs.Refusal.{Rule, number, place, broken, pick, firstBroken, rules}
 use Rattle.file_blocks.specs.Refusal.{First, Applies}
 use Rattle.file_blocks.specs.Parse.{Block, Parsed, blocksFrom, parsed, parse, checkAnswer}
 use Rattle.file_blocks.specs.Answer.{refusal}
 
--- the first broken row is the one found
-found-first : (f : List ℕ) (before : List Row) (r : Row) (after : List Row) → broken f r ≡ true
-    → ((s : Row) → List·Memᴰ s before → broken f s ≡ false)
+-- the first broken rule is the one found
+found-first : (f : List ℕ) (before : List Rule) (r : Rule) (after : List Rule) → broken f r ≡ true
+    → ((s : Rule) → List·Memᴰ s before → broken f s ≡ false)
     → firstBroken f (before ++ (r ∷ after)) ≡ some r
 found-first f [] r after e kept = rw e
 found-first f (x ∷ before) r after e kept =
@@ -25,18 +25,18 @@ found-first f (x ∷ before) r after e kept =
     (found-first f before r after e (λ s m. kept s (List·Memᴰ·tail m)))
 
 -- and the one found is the first
-first-found : (f : List ℕ) (xs : List Row) (r : Row) → firstBroken f xs ≡ some r → First f xs r
+first-found : (f : List ℕ) (xs : List Rule) (r : Rule) → firstBroken f xs ≡ some r → First f xs r
 first-found f [] r e = absurd (let z : _≡_ {A = ℕ} 0 1 = cc in omega arith)
 first-found f (x ∷ xs) r e = go (broken f x) refl (first-found f xs) e
   where
-    go : (b : Bool) → broken f x ≡ b → ((r : Row) → firstBroken f xs ≡ some r → First f xs r)
+    go : (b : Bool) → broken f x ≡ b → ((r : Rule) → firstBroken f xs ≡ some r → First f xs r)
         → pick b x (firstBroken f xs) ≡ some r → First f (x ∷ xs) r
     go true h rest e′ =
         let same : x ≡ r = cc in
         record {
           before = [];
           after = xs;
-          placed = ap (λ (s : Row). s ∷ xs) same;
+          placed = ap (λ (s : Rule). s ∷ xs) same;
           here = ap (broken f) (sym same) ∙ h;
           earlier = λ s m. absurd (List·Memᴰ·not-nil m);
         }
@@ -45,75 +45,75 @@ first-found f (x ∷ xs) r e = go (broken f x) refl (first-found f xs) e
         record {
           before = x ∷ t .before;
           after = t .after;
-          placed = ap (λ (l : List Row). x ∷ l) (t .placed);
+          placed = ap (λ (l : List Rule). x ∷ l) (t .placed);
           here = t .here;
           earlier =
               λ s m. ⊎-elim (λ (same : s ≡ x). ap (broken f) same ∙ h)
               (λ (m′ : List·Memᴰ s (t .before)). t .earlier s m′) (List·Memᴰ·cases-cons m);
         }
 
--- the row that a number and a place name
-rowOf : ℕ → ℕ → Row
-rowOf n i =
-    getD (Row.short ∷ Row.limits ∷ Row.trailer ∷ Row.block i ∷ Row.order i ∷ Row.sum ∷ Row.instr i
-    ∷ []) (n - 1) Row.short
+-- the rule that a number and a place name
+ruleOf : ℕ → ℕ → Rule
+ruleOf n i =
+    getD (Rule.short ∷ Rule.limits ∷ Rule.trailer ∷ Rule.block i ∷ Rule.order i ∷ Rule.sum ∷ Rule.instr i
+    ∷ []) (n - 1) Rule.short
 
-row-of : (r : Row) → rowOf (number r) (place r) ≡ r
-unfolding rowOf
-row-of Row.short = refl
-row-of Row.limits = refl
-row-of Row.trailer = refl
-row-of (Row.block i) = refl
-row-of (Row.order i) = refl
-row-of Row.sum = refl
-row-of (Row.instr i) = refl
+rule-of : (r : Rule) → ruleOf (number r) (place r) ≡ r
+unfolding ruleOf
+rule-of Rule.short = refl
+rule-of Rule.limits = refl
+rule-of Rule.trailer = refl
+rule-of (Rule.block i) = refl
+rule-of (Rule.order i) = refl
+rule-of Rule.sum = refl
+rule-of (Rule.instr i) = refl
 
--- two rows with the same number and place are one
-same-row : (r s : Row) → number r ≡ number s → place r ≡ place s → r ≡ s
-same-row r s e h = sym (row-of r) ∙ ap₂ rowOf e h ∙ row-of s
+-- two rules with the same number and place are one
+same-rule : (r s : Rule) → number r ≡ number s → place r ≡ place s → r ≡ s
+same-rule r s e h = sym (rule-of r) ∙ ap₂ ruleOf e h ∙ rule-of s
 
 module _ (f : List ℕ) where
-  refused-row : (o : Option Row) (r : Row) → parsed f o ≡ Parsed.refused (number r) (place r)
+  refused-rule : (o : Option Rule) (r : Rule) → parsed f o ≡ Parsed.refused (number r) (place r)
       → o ≡ some r
-  refused-row none r e = absurd (let z : _≡_ {A = ℕ} 0 1 = cc in omega arith)
-  refused-row (some s) r e =
+  refused-rule none r e = absurd (let z : _≡_ {A = ℕ} 0 1 = cc in omega arith)
+  refused-rule (some s) r e =
       let n : number s ≡ number r = cc in
       let i : place s ≡ place r = cc in
-      ap some (same-row s r n i)
+      ap some (same-rule s r n i)
 
-  applies : (r : Row) → firstBroken f (rows f) ≡ some r → Applies f r
-  applies r e = first-found f (rows f) r e
+  applies : (r : Rule) → firstBroken f (rules f) ≡ some r → Applies f r
+  applies r e = first-found f (rules f) r e
 
-  applied : (r : Row) → Applies f r → firstBroken f (rows f) ≡ some r
+  applied : (r : Rule) → Applies f r → firstBroken f (rules f) ≡ some r
   applied r a =
       ap (firstBroken f) (a .placed) ∙ found-first f (a .before) r (a .after) (a .here) (a .earlier)
 
-  -- a row's refusal is given exactly if the row applies
-  pub refused-exactly : (r : Row) → (parse f ≡ Parsed.refused (number r) (place r)) ↔ Applies f r
+  -- a rule's refusal is given exactly if the rule applies
+  pub refused-exactly : (r : Rule) → (parse f ≡ Parsed.refused (number r) (place r)) ↔ Applies f r
   unfolding parse
   refused-exactly r =
-      (λ e. applies r (refused-row (firstBroken f (rows f)) r e), λ a. ap (parsed f) (applied r a))
+      (λ e. applies r (refused-rule (firstBroken f (rules f)) r e), λ a. ap (parsed f) (applied r a))
 
-  -- a file is accepted exactly if no row applies
+  -- a file is accepted exactly if no rule applies
   pub accepted-exactly : (parse f ≡ Parsed.accepted (blocksFrom f (blockCount f) 0 0)) ↔
-      ((r : Row) → Applies f r → ⊥)
+      ((r : Rule) → Applies f r → ⊥)
   unfolding parse
   accepted-exactly = (
     λ e r a. clash (sym e ∙ ap (parsed f) (applied r a)),
-    λ never. go (firstBroken f (rows f))
+    λ never. go (firstBroken f (rules f))
         refl never,
   )
     where
       clash : {bs : List Block} {n i : ℕ} → Parsed.accepted bs ≡ Parsed.refused n i → ⊥
       clash e = let z : _≡_ {A = ℕ} 0 1 = cc in omega arith
 
-      go : (o : Option Row) → firstBroken f (rows f) ≡ o → ((r : Row) → Applies f r → ⊥)
+      go : (o : Option Rule) → firstBroken f (rules f) ≡ o → ((r : Rule) → Applies f r → ⊥)
           → parsed f o ≡ Parsed.accepted (blocksFrom f (blockCount f) 0 0)
       go none e never = refl
       go (some r) e never = absurd (never r (applies r e))
 
   -- and so the check answers with it
-  pub answer-exactly : (r : Row)
+  pub answer-exactly : (r : Rule)
       → (checkAnswer (parse f) ≡ refusal (number r) (place r)) ↔ Applies f r
   unfolding checkAnswer
   answer-exactly r = (
@@ -130,11 +130,11 @@ module _ (f : List ℕ) where
       unanswer (Parsed.accepted bs) e = absurd (let z : _≡_ {A = ℕ} 0 1 = cc in omega arith)
 
 -- a refusal's number is 1 to 7, so 0 means accepted
-pub number-range : (r : Row) → (1 ≤ number r) × (number r ≤ 7)
-number-range Row.short = omega arith
-number-range Row.limits = omega arith
-number-range Row.trailer = omega arith
-number-range (Row.block i) = omega arith
-number-range (Row.order i) = omega arith
-number-range Row.sum = omega arith
-number-range (Row.instr i) = omega arith
+pub number-range : (r : Rule) → (1 ≤ number r) × (number r ≤ 7)
+number-range Rule.short = omega arith
+number-range Rule.limits = omega arith
+number-range Rule.trailer = omega arith
+number-range (Rule.block i) = omega arith
+number-range (Rule.order i) = omega arith
+number-range Rule.sum = omega arith
+number-range (Rule.instr i) = omega arith

@@ -1,4 +1,4 @@
--- The passes over the records: what one more record says of the first broken row.
+-- The passes over the records: what one more record says of the first broken rule.
 -- Assumes nothing.
 use mathlib.Core.Path.{_≡_, refl, sym, ap, _∙_}
 use mathlib.Core.Bool.{true, false, true≢false}
@@ -15,7 +15,7 @@ use Rattle.file_records.proofs.Rules.{large-count}
 use Rattle.file_records.specs.Trailer.{blocksBack, blockCount, instrsBack, instrCount, blockStart}
 use Rattle.file_records.specs.BlockRecord.{keyAt, countAt, blockRight, keyRises, countSum}
 use Rattle.file_instrs.specs.InstrRecord.{instrRight}
-use Rattle.file_blocks.specs.Refusal.{Row, blockRows, instrRows, firstBroken}
+use Rattle.file_blocks.specs.Refusal.{Rule, blockRules, instrRules, firstBroken}
 
 -- the least key that is above that of the block before block i
 pub leastKey : List ℕ → ℕ → ℕ
@@ -29,36 +29,36 @@ rises f (suc i) =
     ap (λ (n : ℕ). leb n (keyAt f (blockStart f (suc i))))
     (sym (add-one (keyAt f (blockStart f i))))
 
--- the rows of the blocks from block i on, where there is one
-next-rows : (n i : ℕ) → i < n
-    → blockRows (n - i) i ≡ Row.block i ∷ Row.order i ∷ blockRows (n - (i + 1)) (i + 1)
-next-rows n i h =
+-- the rules of the blocks from block i on, where there is one
+next-rules : (n i : ℕ) → i < n
+    → blockRules (n - i) i ≡ Rule.block i ∷ Rule.order i ∷ blockRules (n - (i + 1)) (i + 1)
+next-rules n i h =
     let one : n - i ≡ suc (n - (i + 1)) = omega arith in
     rw (one, add-one)
 
 next-instrs : (n i : ℕ) → i < n
-    → instrRows (n - i) i ≡ Row.instr i ∷ instrRows (n - (i + 1)) (i + 1)
+    → instrRules (n - i) i ≡ Rule.instr i ∷ instrRules (n - (i + 1)) (i + 1)
 next-instrs n i h =
     let one : n - i ≡ suc (n - (i + 1)) = omega arith in
     rw (one, add-one)
 
-module _ (f : List ℕ) (rest : List Row) (start n i : ℕ) (starts : start ≡ length f - blocksBack f)
+module _ (f : List ℕ) (rest : List Rule) (start n i : ℕ) (starts : start ≡ length f - blocksBack f)
     (inside : i < n) where
   -- block i breaks a rule of its record
   pub block-broken : blockRight f (start + 16 * i) ≡ false
-      → firstBroken f (blockRows (n - i) i ++ rest) ≡ some (Row.block i)
-  block-broken e = rw (next-rows n i inside, ← starts, e)
+      → firstBroken f (blockRules (n - i) i ++ rest) ≡ some (Rule.block i)
+  block-broken e = rw (next-rules n i inside, ← starts, e)
 
   -- block i keeps those, and its key is not above the last
   pub order-broken : blockRight f (start + 16 * i) ≡ true → keyAt f (start + 16 * i) < leastKey f i
-      → firstBroken f (blockRows (n - i) i ++ rest) ≡ some (Row.order i)
-  order-broken e h = rw (next-rows n i inside, ← starts, e, rises f i, ← starts, lt-leb _ _ h)
+      → firstBroken f (blockRules (n - i) i ++ rest) ≡ some (Rule.order i)
+  order-broken e h = rw (next-rules n i inside, ← starts, e, rises f i, ← starts, lt-leb _ _ h)
 
   -- block i breaks no rule
   pub block-kept : blockRight f (start + 16 * i) ≡ true → leastKey f i ≤ keyAt f (start + 16 * i)
-      → firstBroken f (blockRows (n - i) i ++ rest)
-      ≡ firstBroken f (blockRows (n - (i + 1)) (i + 1) ++ rest)
-  block-kept e h = rw (next-rows n i inside, ← starts, e, rises f i, ← starts, le-leb _ _ h)
+      → firstBroken f (blockRules (n - i) i ++ rest)
+      ≡ firstBroken f (blockRules (n - (i + 1)) (i + 1) ++ rest)
+  block-kept e h = rw (next-rules n i inside, ← starts, e, rises f i, ← starts, le-leb _ _ h)
 
 module _ (f : List ℕ) (start i : ℕ) (starts : start ≡ length f - blocksBack f) where
   pub least-next : keyAt f (start + 16 * i) + 1 ≡ leastKey f (i + 1)
@@ -80,8 +80,8 @@ pub record Blocks (f : List ℕ) (blocks least total i : ℕ) : Type 0 where
   pub key : least ≡ leastKey f i
   pub counts : total ≡ countSum f i
   pub small : total ≤ 65535 * i
-  pub kept : firstBroken f (blockRows (blockCount f) 0 ++ (Row.sum ∷ []))
-      ≡ firstBroken f (blockRows (blocks - i) i ++ (Row.sum ∷ []))
+  pub kept : firstBroken f (blockRules (blockCount f) 0 ++ (Rule.sum ∷ []))
+      ≡ firstBroken f (blockRules (blocks - i) i ++ (Rule.sum ∷ []))
 
 module _ (f : List ℕ) (n : ℕ) (all : n ≡ blockCount f) where
   pub blocks-none : Blocks f n 0 0 0
@@ -101,31 +101,31 @@ module _ (f : List ℕ) (n : ℕ) (all : n ≡ blockCount f) where
 
     -- after the last block, the counts sum to I
     pub sum-right : countSum f i ≡ instrCount f
-        → firstBroken f (blockRows (n - i) i ++ (Row.sum ∷ [])) ≡ none
+        → firstBroken f (blockRules (n - i) i ++ (Rule.sum ∷ [])) ≡ none
     sum-right e = rw (none-left, ← (done ∙ all), eq-eqb _ _ e)
 
     -- or they do not
     pub sum-wrong : (countSum f i ≡ instrCount f → ⊥)
-        → firstBroken f (blockRows (n - i) i ++ (Row.sum ∷ [])) ≡ some Row.sum
+        → firstBroken f (blockRules (n - i) i ++ (Rule.sum ∷ [])) ≡ some Rule.sum
     sum-wrong e = rw (none-left, ← (done ∙ all), ne-eqb _ _ e)
 
 module _ (f : List ℕ) (start n i : ℕ) (starts : start ≡ length f - instrsBack f) (inside : i < n)
   where
     -- instruction i breaks a rule of its record
     pub instr-broken : instrRight f (start + 16 * i) ≡ false
-        → firstBroken f (instrRows (n - i) i) ≡ some (Row.instr i)
+        → firstBroken f (instrRules (n - i) i) ≡ some (Rule.instr i)
     instr-broken e = rw (next-instrs n i inside, ← starts, e)
 
     -- instruction i breaks none
     pub instr-kept : instrRight f (start + 16 * i) ≡ true
-        → firstBroken f (instrRows (n - i) i) ≡ firstBroken f (instrRows (n - (i + 1)) (i + 1))
+        → firstBroken f (instrRules (n - i) i) ≡ firstBroken f (instrRules (n - (i + 1)) (i + 1))
     instr-kept e = rw (next-instrs n i inside, ← starts, e)
 
 module _ (f : List ℕ) (n : ℕ) (all : n ≡ instrCount f) where
-  pub instrs-none : firstBroken f (instrRows (instrCount f) 0) ≡ firstBroken f (instrRows (n - 0) 0)
+  pub instrs-none : firstBroken f (instrRules (instrCount f) 0) ≡ firstBroken f (instrRules (n - 0) 0)
   instrs-none = rw (sub-zero, all)
 
-  pub instrs-all : (i : ℕ) → i ≡ n → firstBroken f (instrRows (n - i) i) ≡ none
+  pub instrs-all : (i : ℕ) → i ≡ n → firstBroken f (instrRules (n - i) i) ≡ none
   instrs-all i done =
       let none-left : n - i ≡ 0 = omega arith in
       rw none-left

@@ -1,4 +1,4 @@
--- The whole check: its passes one after the other give the first broken row, and an accepted file
+-- The whole check: its passes one after the other give the first broken rule, and an accepted file
 -- has the counts of its trailer. Assumes nothing.
 use mathlib.Core.Path.{_≡_, refl, sym, ap, ap₂, _∙_}
 use mathlib.Core.Bool.{Bool, true, false}
@@ -17,7 +17,7 @@ use Rattle.file_blocks.specs.Answer.{checkedOf}
 use Rattle.file_records.specs.Trailer.{blockCount, instrCount, blockStart, withinLimits}
 use Rattle.file_records.specs.Trailer.{trailerRight}
 use Rattle.file_records.specs.BlockRecord.{countAt, countSum}
-use Rattle.file_blocks.specs.Refusal.{Row, broken, pick, firstBroken, blockRows, instrRows}
+use Rattle.file_blocks.specs.Refusal.{Rule, broken, pick, firstBroken, blockRules, instrRules}
 use Rattle.file_blocks.specs.Refusal.{found}
 use Rattle.file_blocks.specs.Parse.{Parsed, instrsFrom, blockAt, blocksFrom, parsed, parse}
 use Rattle.file_blocks.specs.Parse.{instrTotal, checkAnswer}
@@ -38,19 +38,19 @@ answered p r e = ap checkedOf e ∙ stands p
 
 -- the answer of a pass, or another answer where it found nothing
 abbrev pub orElse : Found → Checked → Checked
-orElse (Found.Row n i) other = Checked.Refused n i
+orElse (Found.Broken n i) other = Checked.Refused n i
 orElse Found.Nothing other = other
 
--- one row more in front of the first list
-one-more : (f : List ℕ) (b : Bool) (r : Row) (o later : Option Row) (other : Checked)
+-- one rule more in front of the first list
+one-more : (f : List ℕ) (b : Bool) (r : Rule) (o later : Option Rule) (other : Checked)
     → orElse (found o) other ≡ checked (parsed f later)
     → orElse (found (pick b r o)) other ≡ checked (parsed f (pick b r later))
 unfolding checked
 one-more f true r o later other e = refl
 one-more f false r o later other e = e
 
--- what two names of rows say together
-passes : (f : List ℕ) (xs ys : List Row)
+-- what two names of rules say together
+passes : (f : List ℕ) (xs ys : List Rule)
     → orElse (found (firstBroken f xs)) (checked (parsed f (firstBroken f ys)))
     ≡ checked (parsed f (firstBroken f (xs ++ ys)))
 passes f [] ys = refl
@@ -77,16 +77,16 @@ total-blocks f (suc n) i k =
     let shift : i + suc n ≡ suc i + n = omega arith in
     rw (shift, ← rest, length-instrs) (sym (add-assoc _ _ _))
 
-none-first : (b : Bool) (r : Row) (o : Option Row) → pick b r o ≡ none → b ≡ false
+none-first : (b : Bool) (r : Rule) (o : Option Rule) → pick b r o ≡ none → b ≡ false
 none-first true r o e = absurd (let z : _≡_ {A = ℕ} 0 1 = cc in omega arith)
 none-first false r o e = refl
 
-none-rest : (b : Bool) (r : Row) (o : Option Row) → pick b r o ≡ none → o ≡ none
+none-rest : (b : Bool) (r : Rule) (o : Option Rule) → pick b r o ≡ none → o ≡ none
 none-rest true r o e = absurd (let z : _≡_ {A = ℕ} 0 1 = cc in omega arith)
 none-rest false r o e = e
 
--- where no row is broken, each is kept
-pub each-kept : (f : List ℕ) (xs : List Row) (r : Row) → firstBroken f xs ≡ none → List·Memᴰ r xs
+-- where no rule is broken, each is kept
+pub each-kept : (f : List ℕ) (xs : List Rule) (r : Rule) → firstBroken f xs ≡ none → List·Memᴰ r xs
     → broken f r ≡ false
 each-kept f [] r e m = absurd (List·Memᴰ·not-nil m)
 each-kept f (x ∷ xs) r e m =
@@ -96,40 +96,40 @@ each-kept f (x ∷ xs) r e m =
     go rest (inl same) = ap (broken f) same ∙ none-first (broken f x) x (firstBroken f xs) e
     go rest (inr m′) = rest m′
 
--- each block and each instruction has its rows
-pub block-rows : (n i j : ℕ) → j < n
-    → List·Memᴰ (Row.block (i + j)) (blockRows n i) × List·Memᴰ (Row.order (i + j)) (blockRows n i)
-block-rows zero i j h = absurd (not-suc-le-zero h)
-block-rows (suc n) i zero h = (
-  List·Memᴰ·head (ap Row.block (add-zero i)),
+-- each block and each instruction has its rules
+pub block-rules : (n i j : ℕ) → j < n
+    → List·Memᴰ (Rule.block (i + j)) (blockRules n i) × List·Memᴰ (Rule.order (i + j)) (blockRules n i)
+block-rules zero i j h = absurd (not-suc-le-zero h)
+block-rules (suc n) i zero h = (
+  List·Memᴰ·head (ap Rule.block (add-zero i)),
   List·Memᴰ·tail
-      (List·Memᴰ·head (ap Row.order (add-zero i))),
+      (List·Memᴰ·head (ap Rule.order (add-zero i))),
 )
-block-rows (suc n) i (suc j) h =
-    let m = block-rows n (suc i) j (le-of-suc-le-suc h) in
+block-rules (suc n) i (suc j) h =
+    let m = block-rules n (suc i) j (le-of-suc-le-suc h) in
     let same : i + suc j ≡ suc i + j = omega arith in (
-      List·Memᴰ·tail (List·Memᴰ·tail (Memᴰ·cast (ap Row.block same) (m .0))),
+      List·Memᴰ·tail (List·Memᴰ·tail (Memᴰ·cast (ap Rule.block same) (m .0))),
       List·Memᴰ·tail
-          (List·Memᴰ·tail (Memᴰ·cast (ap Row.order same) (m .1))),
+          (List·Memᴰ·tail (Memᴰ·cast (ap Rule.order same) (m .1))),
     )
 
-pub instr-rows : (n i j : ℕ) → j < n → List·Memᴰ (Row.instr (i + j)) (instrRows n i)
-instr-rows zero i j h = absurd (not-suc-le-zero h)
-instr-rows (suc n) i zero h = List·Memᴰ·head (ap Row.instr (add-zero i))
-instr-rows (suc n) i (suc j) h =
+pub instr-rules : (n i j : ℕ) → j < n → List·Memᴰ (Rule.instr (i + j)) (instrRules n i)
+instr-rules zero i j h = absurd (not-suc-le-zero h)
+instr-rules (suc n) i zero h = List·Memᴰ·head (ap Rule.instr (add-zero i))
+instr-rules (suc n) i (suc j) h =
     let same : i + suc j ≡ suc i + j = omega arith in
-    List·Memᴰ·tail (Memᴰ·cast (ap Row.instr same) (instr-rows n (suc i) j (le-of-suc-le-suc h)))
+    List·Memᴰ·tail (Memᴰ·cast (ap Rule.instr same) (instr-rules n (suc i) j (le-of-suc-le-suc h)))
 
-sum-last : (xs : List Row) → List·Memᴰ Row.sum (xs ++ (Row.sum ∷ []))
+sum-last : (xs : List Rule) → List·Memᴰ Rule.sum (xs ++ (Rule.sum ∷ []))
 sum-last [] = List·Memᴰ·head refl
 sum-last (x ∷ xs) = List·Memᴰ·tail (sum-last xs)
 
-found-none : (o : Option Row) → Found.Nothing ≡ found o → o ≡ none
+found-none : (o : Option Rule) → Found.Nothing ≡ found o → o ≡ none
 found-none none e = refl
 found-none (some r) e = absurd (let z : _≡_ {A = ℕ} 0 1 = cc in omega arith)
 
 module _ (f : List ℕ) where
-  last-pass : (ys : List Row)
+  last-pass : (ys : List Rule)
       → orElse (found (firstBroken f ys)) (checked (parsed f none))
       ≡ checked (parsed f (firstBroken f ys))
   last-pass ys = rw append-nil at (passes f ys [])
@@ -151,20 +151,20 @@ module _ (f : List ℕ) where
     -- with a right trailer, the pass over the blocks decides, and then the one over the
     -- instructions
     in-passes : withinLimits f ≡ true → trailerRight f ≡ true
-        → orElse (found (firstBroken f (blockRows (blockCount f) 0 ++ (Row.sum ∷ []))))
-        (orElse (found (firstBroken f (instrRows (instrCount f) 0))) (checked (parsed f none)))
+        → orElse (found (firstBroken f (blockRules (blockCount f) 0 ++ (Rule.sum ∷ []))))
+        (orElse (found (firstBroken f (instrRules (instrCount f) 0))) (checked (parsed f none)))
         ≡ checked (parse f)
     unfolding parse
     in-passes e h =
-        ap (orElse (found (firstBroken f (blockRows (blockCount f) 0 ++ (Row.sum ∷ [])))))
-        (last-pass (instrRows (instrCount f) 0))
-        ∙ passes f (blockRows (blockCount f) 0 ++ (Row.sum ∷ [])) (instrRows (instrCount f) 0)
-        ∙ ap (λ (l : List Row). checked (parsed f (firstBroken f l)))
-        (append-assoc (blockRows (blockCount f) 0) (Row.sum ∷ []) (instrRows (instrCount f) 0))
+        ap (orElse (found (firstBroken f (blockRules (blockCount f) 0 ++ (Rule.sum ∷ [])))))
+        (last-pass (instrRules (instrCount f) 0))
+        ∙ passes f (blockRules (blockCount f) 0 ++ (Rule.sum ∷ [])) (instrRules (instrCount f) 0)
+        ∙ ap (λ (l : List Rule). checked (parsed f (firstBroken f l)))
+        (append-assoc (blockRules (blockCount f) 0) (Rule.sum ∷ []) (instrRules (instrCount f) 0))
         ∙ sym (simp (le-leb _ _ long, e, h))
 
   -- a file whose blocks pass has the counts of its trailer
-  counts : Found.Nothing ≡ found (firstBroken f (blockRows (blockCount f) 0 ++ (Row.sum ∷ [])))
+  counts : Found.Nothing ≡ found (firstBroken f (blockRules (blockCount f) 0 ++ (Rule.sum ∷ [])))
       → Checked.Accepted (blockCount f) (instrCount f) ≡ checked (parsed f none)
   unfolding countSum checked
   counts clean =
@@ -172,8 +172,8 @@ module _ (f : List ℕ) where
       ≡ instrCount f =
       eqb-true _ _
       (not-false _
-      (each-kept f (blockRows (blockCount f) 0 ++ (Row.sum ∷ [])) Row.sum (found-none _ clean)
-      (sum-last (blockRows (blockCount f) 0)))) in
+      (each-kept f (blockRules (blockCount f) 0 ++ (Rule.sum ∷ [])) Rule.sum (found-none _ clean)
+      (sum-last (blockRules (blockCount f) 0)))) in
       let total : instrTotal (blocksFrom f (blockCount f) 0 0)
       ≡ countSum f (blockCount f) = sym (zero-add _) ∙ total-blocks f (blockCount f) 0 0
       ∙ ap (countSum f) (zero-add (blockCount f)) in
@@ -182,13 +182,13 @@ module _ (f : List ℕ) where
   -- what the answers of the two passes say of the whole
   module _ (long : 32 ≤ length f) (few : withinLimits f ≡ true) (right : trailerRight f ≡ true)
       (r : Found)
-      (blocks : r ≡ found (firstBroken f (blockRows (blockCount f) 0 ++ (Row.sum ∷ [])))) where
-    pub blocks-refused : (n i : ℕ) → r ≡ Found.Row n i → Checked.Refused n i ≡ checked (parse f)
+      (blocks : r ≡ found (firstBroken f (blockRules (blockCount f) 0 ++ (Rule.sum ∷ [])))) where
+    pub blocks-refused : (n i : ℕ) → r ≡ Found.Broken n i → Checked.Refused n i ≡ checked (parse f)
     blocks-refused n i e = rw (← blocks, e) at (in-passes long few right)
 
     module _ (e : r ≡ Found.Nothing) (q : Found)
-        (instrs : q ≡ found (firstBroken f (instrRows (instrCount f) 0))) where
-      pub instrs-refused : (n i : ℕ) → q ≡ Found.Row n i → Checked.Refused n i ≡ checked (parse f)
+        (instrs : q ≡ found (firstBroken f (instrRules (instrCount f) 0))) where
+      pub instrs-refused : (n i : ℕ) → q ≡ Found.Broken n i → Checked.Refused n i ≡ checked (parse f)
       instrs-refused n i g = rw (← blocks, e, ← instrs, g) at (in-passes long few right)
 
       pub all-kept : q ≡ Found.Nothing

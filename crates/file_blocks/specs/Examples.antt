@@ -1,4 +1,4 @@
--- Files that compute: document 01's three blocks are accepted, and for each row of the table a file
+-- Files that compute: document 01's three blocks are accepted, and for each rule of the table a file
 -- that it refuses.
 use Prim.Native.Nat.{ℕ}
 use mathlib.Core.Path.{_≡_, refl}

@@ -12,7 +12,7 @@ use Rattle.file_records.specs.Trailer.{blockCount, blockStart, instrStart}
 use Rattle.file_records.specs.BlockRecord.{addrAt, countAt, codeOffsetAt, thumbAt, presentAt}
 use Rattle.file_records.specs.BlockRecord.{lengthAt, keyPlus}
 use Rattle.file_instrs.specs.Decode.{timedAt}
-use Rattle.file_blocks.specs.Refusal.{Row, number, place, firstBroken, rows}
+use Rattle.file_blocks.specs.Refusal.{Rule, number, place, firstBroken, rules}
 
 -- a block: its address, whether it is Thumb, its code bytes or their absence, its instructions with
 -- their costs
@@ -65,14 +65,14 @@ pub data Parsed : Type 0 where
   refused : ℕ → ℕ → Parsed
   accepted : List Block → Parsed
 
--- the first broken row refuses the file
-abbrev pub parsed : List ℕ → Option Row → Parsed
+-- the first broken rule refuses the file
+abbrev pub parsed : List ℕ → Option Rule → Parsed
 parsed f none = accepted (blocksOf f)
 parsed f (some r) = refused (number r) (place r)
 
 -- a file, by the first rule that it breaks
 unfoldable pub parse : List ℕ → Parsed
-parse f = parsed f (firstBroken f (rows f))
+parse f = parsed f (firstBroken f (rules f))
 
 -- a file is accepted (document 01): none of 1 to 7 applies
 abbrev pub Accepted : List ℕ → Type 0

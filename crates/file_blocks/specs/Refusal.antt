@@ -1,5 +1,5 @@
--- The refusal table of a file: its rows in the order of their places, and the first whose rule is
--- broken.
+-- To be believed: the refusal table of a file, its rules in the order of their places, and the
+-- first that is broken. Found is what a pass of the code answers.
 use Prim.Native.Nat.{ℕ, zero, suc}
 use mathlib.Core.Bool.{Bool, true, false, not}
 use mathlib.Core.Path.{_≡_}
@@ -12,18 +12,18 @@ use Rattle.file_records.specs.Trailer.{instrCount, blockStart, instrStart}
 use Rattle.file_records.specs.BlockRecord.{blockRight, keyRises, countSum}
 use Rattle.file_instrs.specs.InstrRecord.{instrRight}
 
--- a row of the table at one place of the file
-pub data Row : Type 0 where
-  short : Row
-  limits : Row
-  trailer : Row
-  block : ℕ → Row
-  order : ℕ → Row
-  sum : Row
-  instr : ℕ → Row
+-- a rule of the table at one place of the file
+pub data Rule : Type 0 where
+  short : Rule
+  limits : Rule
+  trailer : Rule
+  block : ℕ → Rule
+  order : ℕ → Rule
+  sum : Rule
+  instr : ℕ → Rule
 
--- the number of a row's refusal
-abbrev pub number : Row → ℕ
+-- the number of a rule's refusal
+abbrev pub number : Rule → ℕ
 number short = 1
 number limits = 2
 number trailer = 3
@@ -32,8 +32,8 @@ number (order i) = 5
 number sum = 6
 number (instr i) = 7
 
--- i of a row's refusal, or 0 where there is none
-abbrev pub place : Row → ℕ
+-- i of a rule's refusal, or 0 where there is none
+abbrev pub place : Rule → ℕ
 place short = 0
 place limits = 0
 place trailer = 0
@@ -42,8 +42,8 @@ place (order i) = i
 place sum = 0
 place (instr i) = i
 
--- whether the rule of a row is broken in a file
-abbrev pub broken : List ℕ → Row → Bool
+-- whether a rule is broken in a file
+abbrev pub broken : List ℕ → Rule → Bool
 broken f short = not (hasTrailer f)
 broken f limits = not (withinLimits f)
 broken f trailer = not (trailerRight f)
@@ -52,44 +52,44 @@ broken f (order i) = not (keyRises f i)
 broken f sum = not (eqb (countSum f (blockCount f)) (instrCount f))
 broken f (instr i) = not (instrRight f (instrStart f i))
 
--- the rows of n blocks from block i on: each record's, then its key's
-abbrev pub blockRows : ℕ → ℕ → List Row
-blockRows zero i = []
-blockRows (suc n) i = block i ∷ order i ∷ blockRows n (suc i)
+-- the rules of n blocks from block i on: each record's, then its key's
+abbrev pub blockRules : ℕ → ℕ → List Rule
+blockRules zero i = []
+blockRules (suc n) i = block i ∷ order i ∷ blockRules n (suc i)
 
--- the rows of n instructions from instruction i on
-abbrev pub instrRows : ℕ → ℕ → List Row
-instrRows zero i = []
-instrRows (suc n) i = instr i ∷ instrRows n (suc i)
+-- the rules of n instructions from instruction i on
+abbrev pub instrRules : ℕ → ℕ → List Rule
+instrRules zero i = []
+instrRules (suc n) i = instr i ∷ instrRules n (suc i)
 
--- all rows in the table's order
-abbrev pub rows : List ℕ → List Row
-rows f = short ∷ limits ∷ trailer ∷ blockRows (blockCount f) 0 ++ (sum ∷ instrRows (instrCount f) 0)
+-- all rules in the table's order
+abbrev pub rules : List ℕ → List Rule
+rules f = short ∷ limits ∷ trailer ∷ blockRules (blockCount f) 0 ++ (sum ∷ instrRules (instrCount f) 0)
 
--- a row where its rule is broken, or else what the later rows give
-abbrev pub pick : Bool → Row → Option Row → Option Row
+-- a rule where it is broken, or else what the later ones give
+abbrev pub pick : Bool → Rule → Option Rule → Option Rule
 pick true r later = some r
 pick false r later = later
 
--- the first of some rows whose rule is broken
-abbrev pub firstBroken : List ℕ → List Row → Option Row
+-- the first broken one of some rules
+abbrev pub firstBroken : List ℕ → List Rule → Option Rule
 firstBroken f [] = none
 firstBroken f (r ∷ rs) = pick (broken f r) r (firstBroken f rs)
 
--- a row as the answer of a pass over the file
-abbrev pub found : Option Row → Found
+-- a rule as the answer of a pass over the file
+abbrev pub found : Option Rule → Found
 found none = Found.Nothing
-found (some r) = Found.Row (number r) (place r)
+found (some r) = Found.Broken (number r) (place r)
 
--- the first of some rows whose rule is broken, as a fact: it stands among them, its rule is broken,
--- and that of no earlier one is
-pub record First (f : List ℕ) (xs : List Row) (r : Row) : Type 0 where
-  pub before : List Row
-  pub after : List Row
+-- the first broken one of some rules, as a fact: it stands among them, it is broken, and no earlier
+-- one is
+pub record First (f : List ℕ) (xs : List Rule) (r : Rule) : Type 0 where
+  pub before : List Rule
+  pub after : List Rule
   pub placed : xs ≡ before ++ (r ∷ after)
   pub here : broken f r ≡ true
-  pub earlier : (s : Row) → List·Memᴰ s before → broken f s ≡ false
+  pub earlier : (s : Rule) → List·Memᴰ s before → broken f s ≡ false
 
--- the table gives a row's refusal: the row is the first broken one of the file
-abbrev pub Applies : List ℕ → Row → Type 0
-Applies f r = First f (rows f) r
+-- the table gives a rule's refusal: the rule is the first broken one of the file
+abbrev pub Applies : List ℕ → Rule → Type 0
+Applies f r = First f (rules f) r

@@ -1,5 +1,5 @@
 // The check of a whole file: one pass over the blocks and one over the instructions.
-use file_instrs::instr_record::all_rows;
+use file_instrs::instr_record::all_limits;
 use file_instrs::instr_record::instr_right;
 use file_records::block_record::block_right;
 use file_records::block_record::count;
@@ -12,8 +12,8 @@ ghost use mathlib.Core.Path.{_≡_};
 ghost use mathlib.Core.Bool.{true};
 ghost use mathlib.Core.List.{_∷_, [], _++_};
 ghost use Rattle.file_records.specs.Trailer.{blockCount, instrCount, trailerRight};
-ghost use Rattle.file_instrs.specs.InstrRecord.{rowsTo};
-ghost use Rattle.file_blocks.specs.Refusal.{Row, blockRows, instrRows, firstBroken, found};
+ghost use Rattle.file_instrs.specs.InstrRecord.{limitsTo};
+ghost use Rattle.file_blocks.specs.Refusal.{Rule, blockRules, instrRules, firstBroken, found};
 ghost use Rattle.file_blocks.specs.Answer.{checkedOf};
 ghost use Rattle.file_blocks.specs.Parse.{parse, checkAnswer};
 
@@ -25,9 +25,9 @@ pub enum Checked {
     Refused { number: u32, at: u64 },
 }
 
-// The first broken rule of some rows of the refusal table.
+// The first broken one of some rules of the refusal table.
 pub(crate) enum Found {
-    Row { number: u32, at: u64 },
+    Broken { number: u32, at: u64 },
     Nothing,
 }
 
@@ -37,7 +37,7 @@ fn check_blocks(file: &[u8]) -> Found
     ensures { λ r. ⌜
         r ≡ found
         (firstBroken (now (file .entry))
-        (blockRows (blockCount (now (file .entry))) 0 ++ (Row.sum ∷ [])))
+        (blockRules (blockCount (now (file .entry))) 0 ++ (Rule.sum ∷ [])))
         ⌝ }
 {
     let start = section_start(file, 1);
@@ -48,14 +48,14 @@ fn check_blocks(file: &[u8]) -> Found
     while i < blocks {
         let at = start + 16 * i;
         if !block_right(file, at) {
-            return Found::Row {
+            return Found::Broken {
                 number: 4,
                 at: i as u64,
             };
         }
         let k = key(file, at);
         if k < least {
-            return Found::Row {
+            return Found::Broken {
                 number: 5,
                 at: i as u64,
             };
@@ -67,23 +67,23 @@ fn check_blocks(file: &[u8]) -> Found
     if sum == trailer_word(file, 4) as u64 {
         Found::Nothing
     } else {
-        Found::Row { number: 6, at: 0 }
+        Found::Broken { number: 6, at: 0 }
     }
 }
 
-// Refusal 7, by the rows of all kinds and forms.
-fn check_records(file: &[u8], rows: &[u8]) -> Found
-    requires { ⌜ (trailerRight (now file) ≡ true) × (now rows ≡ rowsTo 30) ⌝ }
+// Refusal 7, by the limits of all kinds and forms.
+fn check_records(file: &[u8], limits: &[u8]) -> Found
+    requires { ⌜ (trailerRight (now file) ≡ true) × (now limits ≡ limitsTo 30) ⌝ }
     ensures { λ r. ⌜
-        r ≡ found (firstBroken (now (file .entry)) (instrRows (instrCount (now (file .entry))) 0))
+        r ≡ found (firstBroken (now (file .entry)) (instrRules (instrCount (now (file .entry))) 0))
         ⌝ }
 {
     let start = section_start(file, 3);
     let instrs = trailer_word(file, 4) as usize;
     let mut i = 0;
     while i < instrs {
-        if !instr_right(file, start + 16 * i, rows) {
-            return Found::Row {
+        if !instr_right(file, start + 16 * i, limits) {
+            return Found::Broken {
                 number: 7,
                 at: i as u64,
             };
@@ -97,11 +97,11 @@ fn check_records(file: &[u8], rows: &[u8]) -> Found
 fn check_instrs(file: &[u8]) -> Found
     requires { ⌜ trailerRight (now file) ≡ true ⌝ }
     ensures { λ r. ⌜
-        r ≡ found (firstBroken (now (file .entry)) (instrRows (instrCount (now (file .entry))) 0))
+        r ≡ found (firstBroken (now (file .entry)) (instrRules (instrCount (now (file .entry))) 0))
         ⌝ }
 {
-    let rows = all_rows();
-    check_records(file, &rows[..])
+    let limits = all_limits();
+    check_records(file, &limits[..])
 }
 
 // Whether a file is accepted, or which refusal it gets.
@@ -117,10 +117,10 @@ pub fn check(file: &[u8]) -> Checked
     if !trailer_right(file) {
         return Checked::Refused { number: 3, at: 0 };
     }
-    if let Found::Row { number, at } = check_blocks(file) {
+    if let Found::Broken { number, at } = check_blocks(file) {
         return Checked::Refused { number, at };
     }
-    if let Found::Row { number, at } = check_instrs(file) {
+    if let Found::Broken { number, at } = check_instrs(file) {
         return Checked::Refused { number, at };
     }
     Checked::Accepted {

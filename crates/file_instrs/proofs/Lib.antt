@@ -1,3 +1,3 @@
 -- The laws that the functions' proofs share.
 mod Match
-mod Rows
+mod Limits

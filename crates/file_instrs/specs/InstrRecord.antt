@@ -1,5 +1,5 @@
--- An instruction record: 16 bytes at an offset of the file, and the rules that hold of one (refusal
--- 7).
+-- To be believed: an instruction record, 16 bytes at an offset of the file, the largest value of
+-- each, called its limits, and the rules that hold of a record (refusal 7).
 use Prim.Native.Nat.{ℕ, zero, suc, _+_, _/_, _%_}
 use mathlib.Core.Bool.{Bool, true, cond, _&&_}
 use mathlib.Core.List.{List, [], _∷_, _++_}
@@ -19,7 +19,7 @@ maxReg = 15
 abbrev pub maxByte : ℕ
 maxByte = 255
 
--- one row by the form in byte 8; a form that does not exist is out of range in the first row
+-- the limits by the form in byte 8; a form that does not exist is over the first ones
 abbrev pub byForm : ℕ → List ℕ → List ℕ → List ℕ → List ℕ
 byForm form value amount register = getD (value ∷ amount ∷ register ∷ []) form value
 
@@ -62,7 +62,7 @@ byKind form =
     -- Mrs, MsrReg, MsrImm, Swi, Undefined
     ∷ []
 
--- the row of a kind and form
+-- the limits of the fields of a kind and form
 abbrev pub fields : ℕ → ℕ → List ℕ
 fields kind form = getD (byKind form) kind free
 
@@ -70,16 +70,16 @@ fields kind form = getD (byKind form) kind free
 unfoldable pub largest : ℕ → ℕ → List ℕ
 largest kind form = 14 ∷ 15 ∷ maxByte ∷ maxByte ∷ fields kind form
 
--- the rows of the numbers below n one after another; a row's number has the kind as its last digit
--- and the form before it
-unfoldable pub rowsTo : ℕ → List ℕ
-rowsTo zero = []
-rowsTo (suc n) = rowsTo n ++ largest (n % 10) (n / 10)
+-- the limits of the numbers below n one after another; a number has the kind as its last digit and
+-- the form before it
+unfoldable pub limitsTo : ℕ → List ℕ
+limitsTo zero = []
+limitsTo (suc n) = limitsTo n ++ largest (n % 10) (n / 10)
 
--- the bytes from an offset on are at most the values of a row, one by one
+-- the bytes from an offset on are at most these limits, one by one
 unfoldable pub within : List ℕ → ℕ → List ℕ → Bool
 within f at [] = true
-within f at (most ∷ row) = leb (byteAt f at) most && within f (at + 1) row
+within f at (most ∷ limits) = leb (byteAt f at) most && within f (at + 1) limits
 
 -- whether a number is even; of a word the low byte settles it
 abbrev pub even : ℕ → Bool

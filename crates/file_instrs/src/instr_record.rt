@@ -3,25 +3,25 @@ ghost use mathlib.Core.Path.{_≡_};
 ghost use Prim.Native.Nat.{ℕ, _+_, _/_, _%_, _<_, _≤_};
 ghost use lib.ListN.{length, take, drop};
 ghost use lib.Seq.{paste};
-ghost use Rattle.file_instrs.specs.InstrRecord.{fields, largest, rowsTo};
-ghost use Rattle.file_instrs.specs.InstrRecord.{within as row-within, evenFields, instrRight};
+ghost use Rattle.file_instrs.specs.InstrRecord.{fields, largest, limitsTo};
+ghost use Rattle.file_instrs.specs.InstrRecord.{within as limits-within, evenFields, instrRight};
 
-// The kind whose row a kind has: those from 10 on leave all fields free, as Swap (3) does.
-fn row_kind(kind: u8) -> u8
+// The kind whose limits a kind has: those from 10 on leave all fields free, as Swap (3) does.
+fn limits_kind(kind: u8) -> u8
     ensures { λ r. ⌜ (r < 10) × ((form : ℕ) → fields r form ≡ fields kind form) ⌝ }
 {
     if kind < 10 { kind } else { 3 }
 }
 
-// The form whose row a form has: one that does not exist is out of range in the row of form 0.
-fn row_form(form: u8) -> u8
+// The form whose limits a form has: one that does not exist is over those of form 0.
+fn limits_form(form: u8) -> u8
     ensures { λ r. ⌜ (r < 3) × ((kind : ℕ) → fields kind r ≡ fields kind form) ⌝ }
 {
     if form < 3 { form } else { 0 }
 }
 
 // The largest value of each of bytes 4 to 15, by ten times the form plus the kind.
-fn row(number: u8) -> [u8; 12]
+fn limits(number: u8) -> [u8; 12]
     requires { ⌜ number < 30 ⌝ }
     ensures { λ r. ⌜ r ≡ fields (number % 10) (number / 10) ⌝ }
 {
@@ -55,59 +55,59 @@ fn row(number: u8) -> [u8; 12]
     }
 }
 
-// Writes the values of a part of a row.
-fn put(rows: &mut [u8], from: usize, part: &[u8])
-    requires { ⌜ from + length (now part) ≤ length (now rows) ⌝ }
+// Writes a part of a record's limits.
+fn put(all: &mut [u8], from: usize, part: &[u8])
+    requires { ⌜ from + length (now part) ≤ length (now all) ⌝ }
     ensures { λ _. ⌜
-        now (rows .exit)
-        ≡ paste (now (rows .entry)) from (now (part .entry)) (length (now (part .entry)))
+        now (all .exit)
+        ≡ paste (now (all .entry)) from (now (part .entry)) (length (now (part .entry)))
         ⌝ }
 {
     let mut k = 0;
     while k < part.len() {
-        rows[from + k] = part[k];
+        all[from + k] = part[k];
         k += 1;
     }
 }
 
-// The rows of all numbers, 16 values each: those of kind, condition and cost, then those of the
+// The limits of all numbers, 16 values each: those of kind, condition and cost, then those of the
 // fields. Kinds come in any order, so that the processor guesses wrong at most jumps by kind. The
-// compiler compares all bytes of a record with a row at once, without a jump, if the row lies in
-// memory. So the rows are written there, once for a file.
-pub fn all_rows() -> [u8; 480]
-    ensures { λ r. ⌜ r ≡ rowsTo 30 ⌝ }
+// compiler compares all bytes of a record with their limits at once, without a jump, if these lie
+// in memory. So the limits are written there, once for a file.
+pub fn all_limits() -> [u8; 480]
+    ensures { λ r. ⌜ r ≡ limitsTo 30 ⌝ }
 {
     let head = [14, 15, 255, 255];
-    let mut rows = [0; 480];
+    let mut all = [0; 480];
     let mut number: u8 = 0;
     while number < 30 {
         let from = 16 * number as usize;
-        let fields = row(number);
-        put(&mut rows[..], from, &head[..]);
-        put(&mut rows[..], from + 4, &fields[..]);
+        let fields = limits(number);
+        put(&mut all[..], from, &head[..]);
+        put(&mut all[..], from + 4, &fields[..]);
         number += 1;
     }
-    rows
+    all
 }
 
-// The number of the row of a kind and a form.
-fn row_number(kind: u8, form: u8) -> usize
+// The number whose limits are those of a kind and a form.
+fn limits_number(kind: u8, form: u8) -> usize
     ensures { λ r. ⌜ (r < 30) × (largest (r % 10) (r / 10) ≡ largest kind form) ⌝ }
 {
-    (10 * row_form(form) + row_kind(kind)) as usize
+    (10 * limits_form(form) + limits_kind(kind)) as usize
 }
 
-// Whether the 16 bytes at an offset are at most the values of the row that begins at another.
-fn within(file: &[u8], at: usize, rows: &[u8], from: usize) -> bool
-    requires { ⌜ (at + 16 ≤ length (now file)) × (from + 16 ≤ length (now rows)) ⌝ }
+// Whether the 16 bytes at an offset are at most the limits that begin at another.
+fn within(file: &[u8], at: usize, limits: &[u8], from: usize) -> bool
+    requires { ⌜ (at + 16 ≤ length (now file)) × (from + 16 ≤ length (now limits)) ⌝ }
     ensures { λ r. ⌜
-        r ≡ row-within (now (file .entry)) at (take 16 (drop from (now (rows .entry))))
+        r ≡ limits-within (now (file .entry)) at (take 16 (drop from (now (limits .entry))))
         ⌝ }
 {
     let mut ok = true;
     let mut k = 0;
     while k < 16 {
-        ok = ok & (file[at + k] <= rows[from + k]);
+        ok = ok & (file[at + k] <= limits[from + k]);
         k += 1;
     }
     ok
@@ -126,12 +126,12 @@ fn even_fields(file: &[u8], at: usize) -> bool
 }
 
 // The rules of an instruction record.
-pub fn instr_right(file: &[u8], at: usize, rows: &[u8]) -> bool
-    requires { ⌜ (at + 16 ≤ length (now file)) × (now rows ≡ rowsTo 30) ⌝ }
+pub fn instr_right(file: &[u8], at: usize, limits: &[u8]) -> bool
+    requires { ⌜ (at + 16 ≤ length (now file)) × (now limits ≡ limitsTo 30) ⌝ }
     ensures { λ r. ⌜ r ≡ instrRight (now (file .entry)) at ⌝ }
 {
-    let number = row_number(file[at], file[at + 8]);
-    if !within(file, at, rows, 16 * number) {
+    let number = limits_number(file[at], file[at + 8]);
+    if !within(file, at, limits, 16 * number) {
         return false;
     }
     even_fields(file, at)

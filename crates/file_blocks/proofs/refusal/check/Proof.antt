@@ -1,4 +1,4 @@
--- `check` answers with the first broken row. Each return is reached only where the places before
+-- `check` answers with the first broken rule. Each return is reached only where the places before
 -- it, in the order of the table, broke nothing.
 use Rattle.file_blocks.specs.declared.refusal.Checked.{Checked}
 use mathlib.Core.Path.{ap₂, sym, _∙_}

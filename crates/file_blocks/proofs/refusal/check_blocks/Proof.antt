@@ -1,5 +1,5 @@
--- `check_blocks` finds the first broken row of refusals 4 to 6. The loop's invariant: the blocks
--- before block i keep their rows, so the first broken one is among the rest.
+-- `check_blocks` finds the first broken rule of refusals 4 to 6. The loop's invariant: the blocks
+-- before block i keep their rules, so the first broken one is among the rest.
 use borrow.Author.Tests.{not-true, not-false}
 use Prim.Native.Nat.{ℕ, _+_, _-_}
 use mathlib.Core.Path.{ap₂, _∙_, ap, sym}

@@ -1,7 +1,7 @@
 -- `block_file::refusal::check_records` meets its contract: the first broken rule is that of the
 -- records still to come. Assumes nothing.
 use Rattle.file_records.specs.Trailer.{instrCount}
-use Rattle.file_blocks.specs.Refusal.{found, firstBroken, instrRows}
+use Rattle.file_blocks.specs.Refusal.{found, firstBroken, instrRules}
 use Rattle.file_records.proofs.Sections.{sections}
 use Rattle.file_blocks.proofs.Passes as passes
 use Prim.Native.Nat.{_-_, _≤_}
@@ -14,12 +14,12 @@ use Rattle.file_blocks.proofs.refusal.check_records.Tie as tie
 use Rattle.file_blocks.proofs.refusal.check_records.Reads as reads
 
 abbrev Inv-loop : tie.InvT-loop
-Inv-loop file rows start instrs i₀ i = (i ≤ instrs)
-    × (firstBroken file (instrRows (instrCount file) 0)
-    ≡ firstBroken file (instrRows (instrs - i) i))
+Inv-loop file limits start instrs i₀ i = (i ≤ instrs)
+    × (firstBroken file (instrRules (instrCount file) 0)
+    ≡ firstBroken file (instrRules (instrs - i) i))
 
 abbrev μ-loop : tie.MeasureT-loop
-μ-loop file rows start instrs i₀ i = instrs - i
+μ-loop file limits start instrs i₀ i = instrs - i
 
 loop-holds : tie.Need-loop-holds Inv-loop μ-loop
 loop-holds c = (omega arith, passes.instrs-none _ _ (c .trailer-word .ensures))

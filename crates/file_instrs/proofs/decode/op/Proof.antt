@@ -3,7 +3,7 @@
 use Prim.Native.Nat.{zero-le}
 use lib.ListN.{List·getD-eq-default}
 use Rattle.file_instrs.specs.Decode.{opsAt, freeOp, opAt}
-use Rattle.file_instrs.proofs.Rows.{next}
+use Rattle.file_instrs.proofs.Limits.{next}
 use mathlib.Core.Path.{_∙_, sym}
 use borrow.Author.Needs.{needs}
 use Rattle.file_instrs.proofs.decode.op.Statement.{statement}

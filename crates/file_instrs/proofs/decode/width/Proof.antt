@@ -4,7 +4,7 @@ use Rattle.armv4t.specs.declared.MemWidth.{MemWidth}
 use Prim.Native.Nat.{ℕ, zero, suc, _≤_, zero-le}
 use native.Mathlib.Nat.{le-of-suc-le-suc, not-suc-le-zero}
 use Rattle.file_instrs.specs.Decode.{widthOf}
-use Rattle.file_instrs.proofs.Rows.{next}
+use Rattle.file_instrs.proofs.Limits.{next}
 use mathlib.Core.Path.{_≡_, refl, sym}
 use borrow.Author.Needs.{needs}
 use Rattle.file_instrs.proofs.decode.width.Statement.{statement}

@@ -1,7 +1,7 @@
 -- `even_fields` tells whether the fields that must be even are. Both tests are made at once, which
 -- is right since no kind is both Alu and Branch.
 use borrow.Author.Needs.{needs}
-use Rattle.file_instrs.proofs.Rows.{no-odd}
+use Rattle.file_instrs.proofs.Limits.{no-odd}
 use Rattle.file_instrs.proofs.instr_record.even_fields.Statement.{statement}
 use Rattle.file_instrs.proofs.instr_record.even_fields.Tie as tie
 

@@ -1,4 +1,4 @@
--- `instr_records::instr_record::put` meets its contract: each turn pastes one value more.
+-- `file_instrs::instr_record::put` meets its contract: each turn pastes one value more.
 -- Assumes nothing.
 use mathlib.Core.Path.{_≡_, refl, ap, _∙_}
 use mathlib.Core.List.{List}
@@ -13,19 +13,19 @@ use Rattle.file_instrs.proofs.instr_record.put.Statement.{statement}
 use Rattle.file_instrs.proofs.instr_record.put.Tie as tie
 
 abbrev Inv-loop : tie.InvT-loop
-Inv-loop rows₀ from part k₀ rows k =
-    (k ≤ length part) × (from + length part ≤ length rows₀) × (length rows ≡ length rows₀)
-    × (rows ≡ paste rows₀ from part k)
+Inv-loop all₀ from part k₀ all k =
+    (k ≤ length part) × (from + length part ≤ length all₀) × (length all ≡ length all₀)
+    × (all ≡ paste all₀ from part k)
 
 abbrev μ-loop : tie.MeasureT-loop
-μ-loop rows₀ from part k₀ rows k = length part - k
+μ-loop all₀ from part k₀ all k = length part - k
 
 loop-holds : tie.Need-loop-holds Inv-loop μ-loop
 loop-holds c = (
   omega arith,
   c .pre,
   refl,
-  paste-zero (now (c .args .rows)) (c .args .from)
+  paste-zero (now (c .args .all)) (c .args .from)
       (now (c .args .part)),
 )
 
@@ -35,11 +35,11 @@ loop-again c =
     let at = c .before .before .loop in (
       omega arith,
       at .inv .1,
-      length-set (at .rows) (args .from + at .k) _ ∙ at .inv .2,
+      length-set (at .all) (args .from + at .k) _ ∙ at .inv .2,
       rw add-one
           (ap (λ (l : List ℕ). set l (args .from + at .k) (getD (now (args .part)) (at .k) 0))
           (at .inv .3)
-          ∙ paste-suc (now (args .rows)) (args .from) (now (args .part)) (at .k) 0 (omega arith)
+          ∙ paste-suc (now (args .all)) (args .from) (now (args .part)) (at .k) 0 (omega arith)
           (omega arith)),
     )
 
@@ -47,7 +47,7 @@ returns : tie.Need-returns Inv-loop μ-loop
 returns c =
     let args = c .before .before .args in
     let end : c .before .loop .k ≡ length (now (args .part)) = omega arith in
-    c .before .loop .inv .3 ∙ ap (paste (now (args .rows)) (args .from) (now (args .part))) end
+    c .before .loop .inv .3 ∙ ap (paste (now (args .all)) (args .from) (now (args .part))) end
 
 pub put-spec : {M : Type 1} → statement M
 put-spec =

@@ -1,13 +1,13 @@
--- `instr_records::instr_record::row` meets its contract: each arm has the row of its numbers, and
--- the last one that of all others below 30. Assumes nothing.
+-- `file_instrs::instr_record::limits` meets its contract: each arm has the limits of its numbers,
+-- and the last one those of all others below 30. Assumes nothing.
 use mathlib.Core.Bool.{Bool}
 use mathlib.Core.List.{List, [], _∷_}
 use Prim.Native.Nat.{ℕ, _%_}
 use lib.Dec.{eqb, eqb→eq}
 use Rattle.file_instrs.proofs.Match.{default}
-use Rattle.file_instrs.proofs.Rows.{last-digit}
-use Rattle.file_instrs.proofs.instr_record.row.Statement.{statement}
-use Rattle.file_instrs.proofs.instr_record.row.Tie as tie
+use Rattle.file_instrs.proofs.Limits.{last-digit}
+use Rattle.file_instrs.proofs.instr_record.limits.Statement.{statement}
+use Rattle.file_instrs.proofs.instr_record.limits.Tie as tie
 
 -- the numbers of the arms, from the last one up
 arms : List (List ℕ)
@@ -66,8 +66,8 @@ returns-14 c =
     rw (eqb→eq (c .before .args .number % 10) 3
     (default three arms 30 tt (c .before .pre) (c .match .rest)))
 
-pub row-spec : {M : Type 1} → statement M
-row-spec =
+pub limits-spec : {M : Type 1} → statement M
+limits-spec =
     tie.close
     (tie.spec
     returns
