@@ -1,4 +1,4 @@
--- The data-processing operations by number, and which of them compare or ignore rn.
+-- To be believed: the data-processing operations by number, and which of them compare.
 use Prim.Native.Nat.{ℕ}
 use mathlib.Core.Bool.{Bool, true, false}
 use mathlib.Core.List.{List, [], _∷_}
@@ -35,22 +35,3 @@ isCompare Orr = false
 isCompare Mov = false
 isCompare Bic = false
 isCompare Mvn = false
-
--- whether an operation has one operand only, so that rn means nothing
-abbrev pub isUnary : AluOp → Bool
-isUnary And = false
-isUnary Eor = false
-isUnary Sub = false
-isUnary Rsb = false
-isUnary Add = false
-isUnary Adc = false
-isUnary Sbc = false
-isUnary Rsc = false
-isUnary Tst = false
-isUnary Teq = false
-isUnary Cmp = false
-isUnary Cmn = false
-isUnary Orr = false
-isUnary Mov = true
-isUnary Bic = false
-isUnary Mvn = true

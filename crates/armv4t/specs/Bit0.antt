@@ -1,4 +1,4 @@
--- Bit 0 of a number, cleared and set.
+-- To be believed: bit 0 of a number, cleared and set.
 use Prim.Native.Nat.{ℕ, _+_, _*_, _/_}
 
 -- n with bit 0 cleared

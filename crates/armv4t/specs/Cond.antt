@@ -1,4 +1,4 @@
--- The conditions by number, and which of them is Al.
+-- To be believed: the conditions by number, and which of them is Al.
 use Prim.Native.Nat.{ℕ}
 use mathlib.Core.Bool.{Bool, true, false}
 use mathlib.Core.List.{List, [], _∷_}

@@ -1,4 +1,4 @@
--- What the two halves of a Thumb BL make together.
+-- To be believed: what the two halves of a Thumb BL make together.
 use Prim.Native.Nat.{ℕ, _+_, _*_, _%_, _^_}
 use mathlib.Core.Path.{_≡_, refl}
 use Rattle.armv4t.specs.declared.Instr.{Instr}

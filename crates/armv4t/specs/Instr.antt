@@ -1,4 +1,4 @@
--- The size of an instruction, and what it reads as the program counter.
+-- To be believed: the size of an instruction, and what it reads as the program counter.
 use Prim.Native.Nat.{ℕ, _+_, _%_, _^_}
 use mathlib.Core.Path.{_≡_, refl}
 use mathlib.Core.Bool.{Bool, true, false}

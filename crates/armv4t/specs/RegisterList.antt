@@ -1,4 +1,4 @@
--- The register list of a BlockMem: bit r stands for register r.
+-- To be believed: the register list of a BlockMem: bit r stands for register r.
 use Prim.Native.Nat.{ℕ, _/_, _%_, _^_}
 use mathlib.Core.Bool.{Bool}
 use lib.Dec.{eqb}

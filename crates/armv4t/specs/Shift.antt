@@ -1,4 +1,4 @@
--- The kinds of shift by number, and the shift that leaves a register as it is.
+-- To be believed: the kinds of shift by number, and the shift that leaves a register as it is.
 use Prim.Native.Nat.{ℕ}
 use mathlib.Core.List.{List, [], _∷_}
 use lib.ListN.{getD}

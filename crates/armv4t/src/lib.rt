@@ -2,7 +2,7 @@
 
 ghost use mathlib.Core.Path.{_≡_};
 ghost use Prim.Native.Nat.{_%_};
-ghost use Rattle.armv4t.specs.AluOp.{aluOpOf, isCompare, isUnary};
+ghost use Rattle.armv4t.specs.AluOp.{aluOpOf, isCompare};
 ghost use Rattle.armv4t.specs.Bit0.{clearBit0, setBit0};
 ghost use Rattle.armv4t.specs.Cond.{condOf, isAl};
 ghost use Rattle.armv4t.specs.Fused.{fuse};
@@ -140,16 +140,6 @@ impl AluOp {
     {
         match self {
             AluOp::Tst | AluOp::Teq | AluOp::Cmp | AluOp::Cmn => true,
-            _ => false,
-        }
-    }
-
-    // Mov and Mvn ignore rn.
-    pub fn is_unary(self) -> bool
-        ensures { λ r. ⌜ r ≡ isUnary self ⌝ }
-    {
-        match self {
-            AluOp::Mov | AluOp::Mvn => true,
             _ => false,
         }
     }

@@ -1,4 +1,4 @@
--- A3.2 The condition field.
+-- To be believed: A3.2 The condition field.
 use mathlib.Core.Path.{_≡_, refl}
 use mathlib.Core.Bool.{Bool, true, false, not, _&&_, _||_, Bool·beq}
 use Rattle.armv4t.specs.declared.Cond.{Cond}

@@ -1,4 +1,4 @@
--- Whole instructions, computed.
+-- Examples: whole instructions, computed.
 use Prim.Native.Nat.{ℕ, _*_, _%_}
 use mathlib.Core.Path.{_≡_, refl}
 use mathlib.Core.Bool.{true, false}

@@ -1,6 +1,6 @@
--- One instruction: the machine after it and where it goes on. A key is an address whose bit 0
--- stands for T there. None: the manual does not say (Unsaid), or the operation is not written out
--- here, since no native record has it.
+-- To be believed: one instruction, the machine after it and where it goes on. A key is an address
+-- whose bit 0 stands for T there. None: the manual does not say (Unsaid), or the operation is not
+-- written out here, since no native record has it.
 use Prim.Native.Nat.{ℕ, _+_, _*_, _/_, _%_}
 use mathlib.Core.Bool.{Bool, true, cond, _&&_}
 use mathlib.Core.Option.{Option, none, some}

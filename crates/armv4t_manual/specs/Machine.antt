@@ -1,5 +1,5 @@
--- What the instructions act on: registers, flags and memory (A2.3, A2.5, A2.7). A word is a number
--- below 2^32.
+-- To be believed: what the instructions act on: registers, flags and memory (A2.3, A2.5, A2.7). A
+-- word is a number below 2^32.
 use Prim.Native.Nat.{ℕ, _+_, _*_, _/_, _%_, _^_, _<_}
 use mathlib.Core.Path.{_≡_, refl}
 use mathlib.Core.Bool.{Bool, true, false, cond}

@@ -1,5 +1,5 @@
--- A5.4 Addressing mode 4, and A4.1: LDM (1), STM (1). The registers of the list go from the lowest
--- up, at rising addresses. An empty list is open (A4.1; A7.1), and never native.
+-- To be believed: A5.4 Addressing mode 4, and A4.1: LDM (1), STM (1). The registers of the list go
+-- from the lowest up, at rising addresses. An empty list is open (A4.1; A7.1), and never native.
 use Prim.Native.Nat.{ℕ, zero, suc, _+_, _-_, _*_, _%_}
 use mathlib.Core.Path.{_≡_, refl}
 use mathlib.Core.Bool.{Bool, true, false, not, cond, _&&_}

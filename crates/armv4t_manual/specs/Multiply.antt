@@ -1,6 +1,6 @@
--- A4.1 Multiplies: MLA, MUL, SMLAL, SMULL, UMLAL, UMULL; A7.1 MUL. Open: C after MULS and MLAS, C
--- and V after long multiplies, which here stay; and the outcome where Rd is Rm, or two of RdHi,
--- RdLo and Rm are one, which here is the one computed.
+-- To be believed: A4.1 Multiplies: MLA, MUL, SMLAL, SMULL, UMLAL, UMULL; A7.1 MUL. Open: C after
+-- MULS and MLAS, C and V after long multiplies, which here stay; and the outcome where Rd is Rm, or
+-- two of RdHi, RdLo and Rm are one, which here is the one computed.
 use Prim.Native.Nat.{ℕ, _+_, _-_, _*_, _/_, _%_}
 use mathlib.Core.Path.{_≡_, refl}
 use mathlib.Core.Bool.{Bool, true, false, cond, _&&_, Bool·beq}

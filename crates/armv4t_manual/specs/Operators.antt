@@ -1,4 +1,4 @@
--- The operators of the manual's pseudo-code, by its glossary.
+-- To be believed: the operators of the manual's pseudo-code, by its glossary.
 use Prim.Native.Nat.{ℕ, _+_, _-_, _*_, _/_, _%_, _^_}
 use mathlib.Core.Path.{_≡_, refl}
 use mathlib.Core.Bool.{Bool, true, false, not, _&&_, cond, Bool·beq}

@@ -1,4 +1,4 @@
--- A5.1 Addressing mode 1: shifter_operand and shifter_carry_out.
+-- To be believed: A5.1 Addressing mode 1: shifter_operand and shifter_carry_out.
 use Prim.Native.Nat.{ℕ, zero, suc, _+_, _-_, _*_, _%_, _^_}
 use mathlib.Core.Path.{_≡_, refl}
 use mathlib.Core.Bool.{Bool, true, false, cond}

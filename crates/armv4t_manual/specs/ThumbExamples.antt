@@ -1,4 +1,4 @@
--- Thumb instructions, computed: with the halfword that encodes each.
+-- Examples: Thumb instructions, computed: with the halfword that encodes each.
 use Prim.Native.Nat.{ℕ, _*_, _%_}
 use mathlib.Core.Path.{_≡_, refl}
 use mathlib.Core.Bool.{Bool, true, false}

@@ -1,5 +1,5 @@
--- A5.2, A5.3 Addressing modes 2 and 3, and A4.1: LDR, LDRB, LDRBT, LDRH, LDRSB, LDRSH, LDRT, STR,
--- STRB, STRBT, STRH, STRT.
+-- To be believed: A5.2, A5.3 Addressing modes 2 and 3, and A4.1: LDR, LDRB, LDRBT, LDRH, LDRSB,
+-- LDRSH, LDRT, STR, STRB, STRBT, STRH, STRT.
 use Prim.Native.Nat.{ℕ, _+_, _-_, _*_, _/_, _%_, _^_}
 use mathlib.Core.Path.{_≡_, refl}
 use mathlib.Core.Bool.{Bool, true, false, not, cond, _&&_, _||_}

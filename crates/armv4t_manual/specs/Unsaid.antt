@@ -1,7 +1,8 @@
--- What is left out of the manual's account here: of the records that decode no instruction those
--- whose text does what no instruction of the set does, and the instructions that the manual leaves
--- unpredictable and whose text uses c[15], of which agreement says nothing. What else the manual
--- leaves open is fixed where the operation is written out, and marked by the word "open".
+-- To be believed: what is left out of the manual's account here, namely of the records that decode
+-- no instruction those whose text does what no instruction of the set does, and the instructions
+-- that the manual leaves unpredictable and whose text uses c[15], of which agreement says nothing.
+-- What else the manual leaves open is fixed where the operation is written out, and marked by the
+-- word "open".
 use Prim.Native.Nat.{ℕ}
 use mathlib.Core.Path.{_≡_, refl}
 use mathlib.Core.Bool.{Bool, true, false, not, _&&_, _||_}

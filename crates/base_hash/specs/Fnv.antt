@@ -1,4 +1,4 @@
--- fnv64: the hash of a block's code bytes that its guard names.
+-- To be believed: fnv64, the hash of a block's code bytes that its guard names.
 use Prim.Native.Nat.{ℕ, _*_, _%_, _^_}
 use mathlib.Core.Path.{_≡_, refl}
 use mathlib.Core.List.{List, [], _∷_}

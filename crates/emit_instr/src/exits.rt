@@ -8,6 +8,7 @@ use emit_flow::open_conditional;
 use emit_mem::put_pop;
 use emit_operands::put_cond_expr;
 use emit_operands::put_reg;
+use emit_writer::flush_ticks;
 use file_blocks::key_of;
 ghost use mathlib.Core.Path.{_≡_};
 ghost use mathlib.Core.List.{List};

@@ -18,7 +18,7 @@ use Rattle.file_records.specs.Trailer.{blockCount, instrCount, blockStart, with
 use Rattle.file_records.specs.Trailer.{trailerRight}
 use Rattle.file_records.specs.BlockRecord.{countAt, countSum}
 use Rattle.file_blocks.specs.Refusal.{Rule, broken, pick, firstBroken, blockRules, instrRules}
-use Rattle.file_blocks.specs.Refusal.{found}
+use Rattle.file_blocks.specs.Found.{found}
 use Rattle.file_blocks.specs.Parse.{Parsed, instrsFrom, blockAt, blocksFrom, parsed, parse}
 use Rattle.file_blocks.specs.Parse.{instrTotal, checkAnswer}
 

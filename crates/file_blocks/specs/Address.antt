@@ -1,4 +1,5 @@
--- What an address and a key say by themselves: page and region, and whether a key is among some.
+-- To be believed: what an address says by itself, its page and region; its key, and the key after an
+-- instruction.
 use Prim.Native.Nat.{ℕ, _/_, _%_, _^_}
 use mathlib.Core.Bool.{Bool, true, false, not, _||_}
 use lib.Dec.{eqb}

@@ -1,5 +1,5 @@
--- Files that compute: document 01's three blocks are accepted, and for each rule of the table a file
--- that it refuses.
+-- Examples: files that compute. Document 01's three blocks are accepted, and for each rule of the
+-- table a file is refused by it.
 use Prim.Native.Nat.{ℕ}
 use mathlib.Core.Path.{_≡_, refl}
 use mathlib.Core.List.{List, [], _∷_, _++_}

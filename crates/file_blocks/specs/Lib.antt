@@ -3,5 +3,6 @@ pub mod Answer
 pub mod Refusal
 pub mod Parse
 pub mod Read
+pub mod Found
 pub mod Address
 pub mod Examples

@@ -1,4 +1,4 @@
--- A file as a whole: a refusal, or the list of its blocks.
+-- To be believed: a file as a whole: a refusal, or the list of its blocks.
 use Prim.Native.Nat.{ℕ, zero, suc, _+_}
 use mathlib.Core.Path.{_≡_}
 use mathlib.Core.Bool.{Bool, cond}

@@ -1,4 +1,4 @@
--- Single records by number, and code bytes by offset and length, whether or not the file is
+-- Steps: single records by number, and code bytes by offset and length, whether or not the file is
 -- accepted. A record that the trailer does not count, or that does not lie inside the file, is
 -- Nothing; code bytes that are absent, or do not lie inside it, are the empty list.
 use Prim.Native.Nat.{ℕ, _+_, _*_, _%_, _^_}

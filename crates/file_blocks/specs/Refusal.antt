@@ -1,12 +1,11 @@
 -- To be believed: the refusal table of a file, its rules in the order of their places, and the
--- first that is broken. Found is what a pass of the code answers.
+-- first that is broken.
 use Prim.Native.Nat.{ℕ, zero, suc}
 use mathlib.Core.Bool.{Bool, true, false, not}
 use mathlib.Core.Path.{_≡_}
 use mathlib.Core.List.{List, [], _∷_, _++_, List·Memᴰ}
 use mathlib.Core.Option.{Option, none, some}
 use lib.Dec.{eqb}
-use Rattle.file_blocks.specs.declared.refusal.Found.{Found}
 use Rattle.file_records.specs.Trailer.{hasTrailer, withinLimits, trailerRight, blockCount}
 use Rattle.file_records.specs.Trailer.{instrCount, blockStart, instrStart}
 use Rattle.file_records.specs.BlockRecord.{blockRight, keyRises, countSum}
@@ -75,11 +74,6 @@ pick false r later = later
 abbrev pub firstBroken : List ℕ → List Rule → Option Rule
 firstBroken f [] = none
 firstBroken f (r ∷ rs) = pick (broken f r) r (firstBroken f rs)
-
--- a rule as the answer of a pass over the file
-abbrev pub found : Option Rule → Found
-found none = Found.Nothing
-found (some r) = Found.Broken (number r) (place r)
 
 -- the first broken one of some rules, as a fact: it stands among them, it is broken, and no earlier
 -- one is

@@ -12,8 +12,9 @@ ghost use mathlib.Core.Path.{_≡_};
 ghost use mathlib.Core.Bool.{true};
 ghost use mathlib.Core.List.{_∷_, [], _++_};
 ghost use Rattle.file_records.specs.Trailer.{blockCount, instrCount, trailerRight};
-ghost use Rattle.file_instrs.specs.InstrRecord.{limitsTo};
-ghost use Rattle.file_blocks.specs.Refusal.{Rule, blockRules, instrRules, firstBroken, found};
+ghost use Rattle.file_instrs.specs.Limits.{limitsTo};
+ghost use Rattle.file_blocks.specs.Refusal.{Rule, blockRules, instrRules, firstBroken};
+ghost use Rattle.file_blocks.specs.Found.{found};
 ghost use Rattle.file_blocks.specs.Answer.{checkedOf};
 ghost use Rattle.file_blocks.specs.Parse.{parse, checkAnswer};
 

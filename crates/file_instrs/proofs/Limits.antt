@@ -14,7 +14,8 @@ use lib.Seq.{take-all, paste, take-paste, length-paste, length-take-le, getD-tak
 use lib.Dec.{leb, eqb}
 use lib.ListN.{length, getD, take, drop, length-drop, List·getD-eq-default}
 use Rattle.file_records.specs.Bytes.{byteAt}
-use Rattle.file_instrs.specs.InstrRecord.{byKind, maxByte, fields, free, largest, limitsTo}
+use Rattle.file_instrs.specs.InstrRecord.{byKind, maxByte, fields, free, largest}
+use Rattle.file_instrs.specs.Limits.{limitsTo}
 use Rattle.file_instrs.specs.InstrRecord.{within, even, evenFields, instrRight}
 use Rattle.file_instrs.proofs.Match.{below, alike, alike→eq}
 

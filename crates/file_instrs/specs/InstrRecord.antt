@@ -1,8 +1,8 @@
 -- To be believed: an instruction record, 16 bytes at an offset of the file, the largest value of
 -- each, called its limits, and the rules that hold of a record (refusal 7).
-use Prim.Native.Nat.{ℕ, zero, suc, _+_, _/_, _%_}
+use Prim.Native.Nat.{ℕ, _+_, _%_}
 use mathlib.Core.Bool.{Bool, true, cond, _&&_}
-use mathlib.Core.List.{List, [], _∷_, _++_}
+use mathlib.Core.List.{List, [], _∷_}
 use lib.ListN.{getD}
 use lib.Dec.{leb, eqb}
 use Rattle.file_records.specs.Bytes.{byteAt}
@@ -69,12 +69,6 @@ fields kind form = getD (byKind form) kind free
 -- the largest value of each byte of a record: kind, condition, cost, and the fields of its kind
 unfoldable pub largest : ℕ → ℕ → List ℕ
 largest kind form = 14 ∷ 15 ∷ maxByte ∷ maxByte ∷ fields kind form
-
--- the limits of the numbers below n one after another; a number has the kind as its last digit and
--- the form before it
-unfoldable pub limitsTo : ℕ → List ℕ
-limitsTo zero = []
-limitsTo (suc n) = limitsTo n ++ largest (n % 10) (n / 10)
 
 -- the bytes from an offset on are at most these limits, one by one
 unfoldable pub within : List ℕ → ℕ → List ℕ → Bool

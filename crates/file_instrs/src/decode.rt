@@ -11,8 +11,12 @@ use armv4t::ShiftKind;
 use file_records::bytes::half;
 use file_records::bytes::word;
 ghost use mathlib.Core.Path.{_≡_};
+ghost use mathlib.Core.Bool.{true};
 ghost use Prim.Native.Nat.{_+_, _≤_};
 ghost use lib.ListN.{length};
+ghost use Rattle.armv4t.specs.declared.Operand2.{Operand2};
+ghost use Rattle.armv4t.specs.Shift.{noShift};
+ghost use Rattle.file_records.specs.Bytes.{byteAt};
 ghost use Rattle.file_instrs.specs.Decode.{shiftAt, operandAt, memOffsetAt, widthOf, aluAt};
 ghost use Rattle.file_instrs.specs.Decode.{mulAt, mulLongAt, memAt, blockMemAt, freeOp, opAt};
 ghost use Rattle.file_instrs.specs.Decode.{timedAt};
@@ -37,22 +41,58 @@ fn shift(file: &[u8], at: usize) -> Shift
     }
 }
 
-// The second operand of an Alu record: a value in form 0.
-fn operand(file: &[u8], at: usize) -> Operand2
+// Whether a register operand is not shifted: by an amount, to the left, by 0.
+fn unshifted(file: &[u8], at: usize) -> bool
     requires { ⌜ at + 16 ≤ length (now file) ⌝ }
-    ensures { λ r. ⌜ r ≡ operandAt (now (file .entry)) at ⌝ }
+    ensures { λ r. ⌜ (r ≡ true → shiftAt (now (file .entry)) at ≡ noShift) ⌝ }
+{
+    if file[at + 8] != 1 {
+        return false;
+    }
+    if file[at + 10] % 4 != 0 {
+        return false;
+    }
+    file[at + 11] == 0
+}
+
+// A register operand, shifted or not.
+fn register(file: &[u8], at: usize) -> Operand2
+    requires { ⌜ at + 16 ≤ length (now file) ⌝ }
+    ensures { λ r. ⌜
+        r ≡ Operand2.Reg (byteAt (now (file .entry)) (at + 9)) (shiftAt (now (file .entry)) at)
+        ⌝ }
 {
     let rm = file[at + 9];
-    if file[at + 8] == 0 {
-        Operand2::Imm {
-            value: word(file, at + 12),
-            ror: rm,
-        }
+    if unshifted(file, at) {
+        Operand2::reg(rm)
     } else {
         Operand2::Reg {
             rm,
             shift: shift(file, at),
         }
+    }
+}
+
+// A value as an operand, already rotated by so much.
+fn value(value: u32, ror: u8) -> Operand2
+    ensures { λ r. ⌜ r ≡ Operand2.Imm value ror ⌝ }
+{
+    if ror == 0 {
+        Operand2::imm(value)
+    } else {
+        Operand2::Imm { value, ror }
+    }
+}
+
+// The second operand of an Alu record: a value in form 0.
+fn operand(file: &[u8], at: usize) -> Operand2
+    requires { ⌜ at + 16 ≤ length (now file) ⌝ }
+    ensures { λ r. ⌜ r ≡ operandAt (now (file .entry)) at ⌝ }
+{
+    if file[at + 8] == 0 {
+        value(word(file, at + 12), file[at + 9])
+    } else {
+        register(file, at)
     }
 }
 

@@ -3,7 +3,8 @@ ghost use mathlib.Core.Path.{_≡_};
 ghost use Prim.Native.Nat.{ℕ, _+_, _/_, _%_, _<_, _≤_};
 ghost use lib.ListN.{length, take, drop};
 ghost use lib.Seq.{paste};
-ghost use Rattle.file_instrs.specs.InstrRecord.{fields, largest, limitsTo};
+ghost use Rattle.file_instrs.specs.InstrRecord.{fields, largest};
+ghost use Rattle.file_instrs.specs.Limits.{limitsTo};
 ghost use Rattle.file_instrs.specs.InstrRecord.{within as limits-within, evenFields, instrRight};
 
 // The kind whose limits a kind has: those from 10 on leave all fields free, as Swap (3) does.

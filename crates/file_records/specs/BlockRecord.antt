@@ -1,5 +1,5 @@
--- A block record: four words at an offset of the file, and the rules that hold of one (refusals 4
--- and 5).
+-- To be believed: a block record, four words at an offset of the file, and the rules that hold of
+-- one (refusals 4 and 5).
 use Prim.Native.Nat.{ℕ, zero, suc, _+_, _*_, _/_, _%_, _^_}
 use mathlib.Core.Bool.{Bool, true, cond, _&&_}
 use mathlib.Core.List.{List}

@@ -1,4 +1,4 @@
--- Numbers in the bytes of a file, little-endian. A byte past the end reads as 0.
+-- To be believed: numbers in the bytes of a file, little-endian. A byte past the end reads as 0.
 use Prim.Native.Nat.{ℕ, _+_, _*_}
 use mathlib.Core.List.{List}
 use lib.ListN.{getD}

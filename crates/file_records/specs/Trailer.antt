@@ -1,5 +1,5 @@
--- The trailer: eight words at the file's end, the rules that hold of them (refusals 1, 2 and 3),
--- and where the records stand.
+-- To be believed: the trailer, eight words at the file's end, the rules that hold of them (refusals
+-- 1, 2 and 3), and where the records stand.
 use Prim.Native.Nat.{ℕ, _+_, _*_, _-_}
 use mathlib.Core.Bool.{Bool, cond, _&&_}
 use mathlib.Core.List.{List}

@@ -1,4 +1,4 @@
--- The call for exits on document 01's three blocks, as examples that compute.
+-- Examples: the call for exits on document 01's three blocks, computed.
 use Prim.Native.Nat.{ℕ}
 use mathlib.Core.Path.{_≡_, refl}
 use mathlib.Core.Bool.{false}

@@ -1,4 +1,4 @@
--- What the search for a block's exits by its number answers.
+-- Steps: what the search for a block's exits by its number answers.
 use Prim.Native.Nat.{ℕ}
 use mathlib.Core.List.{List}
 use mathlib.Core.Option.{Option, none, some}

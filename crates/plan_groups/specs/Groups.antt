@@ -1,4 +1,4 @@
--- What the steps of grouping make of the work numbers.
+-- Steps: what grouping makes of the work numbers, step by step.
 use Prim.Native.Nat.{ℕ, _+_, _*_, _≤_, _<_}
 use mathlib.Core.Path.{_≡_}
 use mathlib.Core.List.{List}

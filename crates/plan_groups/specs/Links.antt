@@ -1,4 +1,5 @@
--- Lists of members in lent numbers: for each component the first member, for each member the next.
+-- Steps: lists of members in lent numbers, for each component the first member, for each member the
+-- next.
 use Prim.Native.Nat.{ℕ, zero, suc, _+_, _*_, _-_, _<_, _≤_}
 use mathlib.Core.Path.{_≡_}
 use mathlib.Core.Bool.{cond}

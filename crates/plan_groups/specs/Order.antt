@@ -1,5 +1,5 @@
--- The emission order as the code makes it: component by component along the links, with the number
--- of the group of each block.
+-- Steps: the emission order as the code makes it, component by component along the links, with the
+-- number of the group of each block.
 use Prim.Native.Nat.{ℕ, zero, suc, _+_, _*_, _-_, _<_, _≤_}
 use mathlib.Core.Path.{_≡_}
 use mathlib.Core.Bool.{Bool, true, false, cond}

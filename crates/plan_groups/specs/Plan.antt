@@ -1,4 +1,5 @@
--- The plan: which blocks share a group, and the order in which groups and blocks are emitted.
+-- To be believed: the plan, that is which blocks share a group, and the order in which groups and
+-- blocks are emitted.
 use Prim.Native.Nat.{ℕ, zero, suc, _+_}
 use mathlib.Core.Bool.{Bool, not, cond, _&&_}
 use mathlib.Core.List.{List, [], _∷_, _++_, map}

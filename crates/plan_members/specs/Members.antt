@@ -1,4 +1,4 @@
--- The members of the groups of a plan: their keys, and the rows where they stand.
+-- Steps: the members of the groups of a plan, their keys, and the rows where they stand.
 use Prim.Native.Nat.{ℕ, zero, suc, _+_}
 use mathlib.Core.Bool.{Bool, cond}
 use mathlib.Core.List.{List, [], _∷_, map}

@@ -1,4 +1,4 @@
--- What the work numbers hold while quarter 1 gets the group of each block.
+-- Steps: what the work numbers hold while quarter 1 gets the group of each block.
 use Prim.Native.Nat.{ℕ, _+_, _*_, _≤_, _<_}
 use mathlib.Core.Path.{_≡_}
 use mathlib.Core.List.{List}

@@ -1,4 +1,4 @@
--- What the work numbers hold for the passes over blocks and groups: four quarters of n numbers
+-- Steps: what the work numbers hold for the passes over blocks and groups, four quarters of n numbers
 -- each.
 use Prim.Native.Nat.{ℕ, _+_, _*_, _≤_, _<_}
 use mathlib.Core.Path.{_≡_}

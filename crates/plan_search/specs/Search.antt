@@ -1,5 +1,5 @@
--- Where a key stands among the rising keys of an accepted file, and what the search for a block
--- answers.
+-- Steps: where a key stands among the rising keys of an accepted file, and what the search for a
+-- block answers.
 use Prim.Native.Nat.{ℕ, _≤_, _<_, _^_}
 use mathlib.Core.List.{List}
 use mathlib.Core.Option.{Option, none, some}

@@ -1,4 +1,4 @@
--- The blocks that edges join, and which of them has a key.
+-- To be believed: the blocks that edges join, and which of them has a key.
 use Prim.Native.Nat.{ℕ, suc}
 use mathlib.Core.Bool.{Bool, cond, _&&_}
 use mathlib.Core.List.{List, [], _∷_}

@@ -3,7 +3,7 @@
 use borrow.Author.Tests.{not-true, not-false}
 use Prim.Native.Nat.{ℕ, _+_, _-_}
 use mathlib.Core.Path.{ap₂, _∙_, ap, sym}
-use Rattle.file_blocks.specs.Refusal.{found}
+use Rattle.file_blocks.specs.Found.{found}
 use Rattle.file_records.proofs.Sections.{sections}
 use Rattle.file_blocks.proofs.Passes as passes
 use borrow.Author.Needs.{needs}

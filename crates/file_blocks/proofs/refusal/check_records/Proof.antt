@@ -1,7 +1,8 @@
 -- `block_file::refusal::check_records` meets its contract: the first broken rule is that of the
 -- records still to come. Assumes nothing.
 use Rattle.file_records.specs.Trailer.{instrCount}
-use Rattle.file_blocks.specs.Refusal.{found, firstBroken, instrRules}
+use Rattle.file_blocks.specs.Refusal.{firstBroken, instrRules}
+use Rattle.file_blocks.specs.Found.{found}
 use Rattle.file_records.proofs.Sections.{sections}
 use Rattle.file_blocks.proofs.Passes as passes
 use Prim.Native.Nat.{_-_, _≤_}

@@ -7,7 +7,7 @@ use mathlib.Core.List.{List}
 use lib.ListN.{length, take}
 use lib.Seq.{paste, take-all}
 use borrow.Author.Needs.{needs}
-use Rattle.file_instrs.specs.InstrRecord.{limitsTo}
+use Rattle.file_instrs.specs.Limits.{limitsTo}
 use Rattle.file_instrs.proofs.Limits.{limits-next}
 use Rattle.file_instrs.proofs.instr_record.all_limits.Statement.{statement}
 use Rattle.file_instrs.proofs.instr_record.all_limits.Tie as tie
