@@ -30,6 +30,9 @@ pub enum Command {
     Listing {
         file: OsString,
     },
+    Verify {
+        folder: PathBuf,
+    },
 }
 
 /// The arguments after a command's name, options apart.
@@ -55,6 +58,7 @@ pub fn parse(args: impl Iterator<Item = OsString>) -> Result<Command, Failure> {
         "plan" => (help::PLAN, 1),
         "exits" => (help::EXITS, 2),
         "listing" => (help::LISTING, 1),
+        "verify" => (help::VERIFY, 1),
         _ => {
             let what = format!("{command} is no command; run recomp --help");
             return Err(Failure::error(what));
@@ -108,8 +112,11 @@ fn words(command: &str, mut args: impl Iterator<Item = OsString>) -> Result<Word
 
 fn build(command: &str, words: Words) -> Result<Command, Failure> {
     let mut plain = words.plain.into_iter();
-    let no_file = || wrong(command, "no block file is given");
-    let file = plain.next().ok_or_else(no_file)?;
+    let nothing = match command {
+        "verify" => "no folder is given",
+        _ => "no block file is given",
+    };
+    let file = plain.next().ok_or_else(|| wrong(command, nothing))?;
     Ok(match command {
         "units" => {
             let none = || wrong(command, "no folder is given; add -o DIR");
@@ -126,7 +133,10 @@ fn build(command: &str, words: Words) -> Result<Command, Failure> {
             file,
             block: plain.next().map(|block| parse_block(&block)).transpose()?,
         },
-        _ => Command::Listing { file },
+        "listing" => Command::Listing { file },
+        _ => Command::Verify {
+            folder: file.into(),
+        },
     })
 }
 

@@ -4,13 +4,14 @@ use crate::args::Command;
 use crate::failure::Failure;
 use crate::folder::Folder;
 use crate::input::{self, Input};
-use crate::lent::{Lent, NoResult};
+use crate::lent::{Lent, NoResult, Units};
 use crate::library;
+use crate::output::{self, print};
 use crate::progress::{Progress, Totals};
 use crate::refusal;
+use crate::verify;
 use std::ffi::OsStr;
-use std::fmt::Write as _;
-use std::io::{ErrorKind, Write as _};
+use std::fmt::Write;
 use std::path::Path;
 
 /// Text that is lent for a unit beyond its wished size, which most groups fit into.
@@ -20,6 +21,7 @@ const SPARE: u64 = 1 << 20;
 const MOST_AT_FIRST: u64 = 64 << 20;
 
 pub fn run(command: Command) -> Result<(), Failure> {
+    output::ready()?;
     match command {
         Command::Say(text) => print(text.as_bytes()),
         Command::Units { file, folder, size } => units(&file, &folder, size),
@@ -30,20 +32,8 @@ pub fn run(command: Command) -> Result<(), Failure> {
             None => exits(&file),
         },
         Command::Listing { file } => listing(&file),
+        Command::Verify { folder } => verify(&folder),
     }
-}
-
-fn print(text: &[u8]) -> Result<(), Failure> {
-    let mut out = std::io::stdout().lock();
-    let done = out.write_all(text).and_then(|()| out.flush());
-    done.map_err(|error| {
-        let advice = match error.kind() {
-            ErrorKind::BrokenPipe => "the program that reads it ended first; let it read all",
-            _ => "send it where there is room, then run again",
-        };
-        let what = format!("cannot write to standard output: {error}");
-        Failure::error(format!("{what}; {advice}"))
-    })
 }
 
 /// The failure for a call that gave nothing.
@@ -125,30 +115,23 @@ fn units(file: &OsStr, folder: &Path, size: u64) -> Result<(), Failure> {
     let input = input::read(file)?;
     let expected = size.min(MOST_AT_FIRST) + SPARE;
     let lent = Lent::new(&input.bytes, expected as usize);
-    let mut lent = lent.map_err(|nothing| failed(&input, nothing))?;
+    let lent = lent.map_err(|nothing| failed(&input, nothing))?;
+    let blocks = lent.counts.blocks;
     let mut folder = Folder::open(folder)?;
-    let totals = write_units(&mut lent, &mut folder, size, &input)?;
-    folder.finish()?;
-    let Totals {
-        units,
-        blocks,
-        bytes,
-    } = totals;
-    print(format!("units {units}, blocks {blocks}, bytes {bytes}\n").as_bytes())
+    write_units(&input, lent.units(size), &mut folder, Progress::new(blocks))?;
+    let manifest = folder.finish(size, blocks)?;
+    print(format!("{}\n", manifest.totals()).as_bytes())
 }
 
-/// Writes all units, one call each, to the last.
+/// Writes all units, as they are handed out.
 fn write_units(
-    lent: &mut Lent,
-    folder: &mut Folder,
-    size: u64,
     input: &Input,
-) -> Result<Totals, Failure> {
+    mut units: Units,
+    folder: &mut Folder,
+    mut progress: Progress,
+) -> Result<(), Failure> {
     let mut totals = Totals::default();
-    let mut progress = Progress::new(lent.counts.blocks);
-    loop {
-        let made = lent.unit(size, totals.units);
-        let (unit, text) = made.map_err(|nothing| failed(input, nothing))?;
+    while let Some((unit, text)) = units.hand_out().map_err(|nothing| failed(input, nothing))? {
         folder.write(text)?;
         totals = Totals {
             units: totals.units + 1,
@@ -156,8 +139,11 @@ fn write_units(
             bytes: totals.bytes + unit.length,
         };
         progress.show(totals);
-        if unit.last {
-            return Ok(totals);
-        }
     }
+    Ok(())
+}
+
+fn verify(folder: &Path) -> Result<(), Failure> {
+    let manifest = verify::verify(folder)?;
+    print(format!("verified: {}\n", manifest.totals()).as_bytes())
 }

@@ -1,86 +1,102 @@
-//! The folder of the units. Each is written under a temporary name; all get their names once the
-//! last one stands, so that a run that ends early leaves the units of the run before it.
+//! The folder that units are written to. Each is written under a temporary name; all get their
+//! names once the last one stands. The manifest is removed before anything else is changed and gets
+//! its name last, so that where there is one, the units are those of the run that wrote it.
 
 use crate::failure::Failure;
-use std::fs::{self, File};
-use std::io::{self, Write};
-use std::path::{Path, PathBuf};
-
-const TEMPORARY: &str = ".tmp";
-
-/// The name of a unit.
-pub fn name(unit: u64) -> String {
-    format!("unit_{unit:03}.c")
-}
-
-/// The unit that has this name, if this program gives it.
-fn number(file: &str) -> Option<u64> {
-    let digits = file.strip_prefix("unit_")?.strip_suffix(".c")?;
-    let unit = digits.parse().ok()?;
-    (name(unit) == file).then_some(unit)
-}
+use crate::held::{Beside, Entry, Held};
+use crate::manifest::{self, Manifest};
+use crate::names::{self, MANIFEST};
+use std::fs;
+use std::io::{ErrorKind, Write};
+use std::path::Path;
 
 /// A folder that takes units one after another, from 0.
 pub struct Folder {
-    path: PathBuf,
-    /// Units that stand under their temporary names.
-    written: u64,
+    held: Held,
+    /// Files of this run that have their temporary names.
+    unnamed: Vec<String>,
+    units: Vec<manifest::Entry>,
 }
 
 impl Folder {
-    /// Makes the folder if there is none, and removes what an interrupted run left.
+    /// Makes the folder if there is none, locks it, and removes the manifest and what an
+    /// interrupted run left.
     pub fn open(path: &Path) -> Result<Folder, Failure> {
-        fs::create_dir_all(path)
-            .map_err(|error| cannot("make the folder", path, &error, "name another with -o"))?;
-        let folder = Folder {
-            path: path.into(),
-            written: 0,
-        };
-        let temporary = |file: &str| file.strip_suffix(TEMPORARY).and_then(number).is_some();
-        folder.remove(temporary)?;
-        Ok(folder)
-    }
-
-    fn temporary(&self, unit: u64) -> PathBuf {
-        self.path.join(name(unit) + TEMPORARY)
+        fs::create_dir_all(path).map_err(|error| {
+            Failure::cannot("make the folder", path, error, "name another with -o")
+        })?;
+        let held = Held::open(path, Beside::Nobody)?;
+        let entries = held.entries()?;
+        let meant = |entry: &Entry| entry.name == MANIFEST || names::is_temporary(&entry.name);
+        no_folder_among(&held, &entries, meant)?;
+        clear(&held, &entries)?;
+        Ok(Folder {
+            held,
+            unnamed: vec![],
+            units: vec![],
+        })
     }
 
     /// Writes the next unit.
     pub fn write(&mut self, text: &[u8]) -> Result<(), Failure> {
-        let path = self.temporary(self.written);
-        // Counted before it is whole, so that the part that was written is removed after a failure.
-        self.written += 1;
-        write_whole(&path, text).map_err(|error| {
-            let advice = "make room or get the right to write there, then run again";
-            cannot("write", &path, &error, advice)
-        })
+        let name = names::unit(self.units.len() as u64);
+        self.units.push(manifest::Entry::of(text));
+        self.write_temporary(&name, text)
     }
 
-    /// Gives all units their names, and removes units that an older run had beyond them.
-    pub fn finish(mut self) -> Result<(), Failure> {
-        let units = self.written;
-        for unit in 0..units {
-            let path = self.path.join(name(unit));
-            fs::rename(self.temporary(unit), &path).map_err(|error| {
-                let advice = "remove what stands there, then run again";
-                cannot("write", &path, &error, advice)
-            })?;
-        }
-        self.written = 0;
-        self.remove(|file| number(file).is_some_and(|unit| unit >= units))
-    }
-
-    /// Removes the plain files whose names are meant, and nothing else.
-    fn remove(&self, meant: impl Fn(&str) -> bool) -> Result<(), Failure> {
-        let failed = |error: io::Error| {
-            let advice = "get the right to read and write there, then run again";
-            cannot("remove old units in", &self.path, &error, advice)
+    /// Writes a file under the temporary name for this one, so that all of it is on the disk.
+    fn write_temporary(&mut self, name: &str, text: &[u8]) -> Result<(), Failure> {
+        let name = names::temporary(name);
+        let path = self.held.named(&name);
+        let failed = |error: std::io::Error| {
+            let advice = match error.kind() {
+                ErrorKind::AlreadyExists => "remove what stands there, then run again",
+                ErrorKind::NotFound => "see that the folder stays where it is, then run again",
+                _ => "make room or get the right to write there, then run again",
+            };
+            Failure::cannot("write", &path, error, advice)
         };
-        for entry in fs::read_dir(&self.path).map_err(failed)? {
-            let entry = entry.map_err(failed)?;
-            let plain = entry.file_type().map_err(failed)?.is_file();
-            if plain && entry.file_name().to_str().is_some_and(&meant) {
-                fs::remove_file(entry.path()).map_err(failed)?;
+        let mut file = self.held.create(&name).map_err(failed)?;
+        // From here on it is removed after a failure.
+        self.unnamed.push(name);
+        let written = file.write_all(text).and_then(|()| file.sync_all());
+        written.map_err(failed)
+    }
+
+    /// Gives all units their names, removes units that an older run had beyond them, and then gives
+    /// the manifest its name. What it says of the units is handed back.
+    pub fn finish(mut self, size: u64, blocks: u64) -> Result<Manifest, Failure> {
+        let units = std::mem::take(&mut self.units);
+        let manifest = Manifest {
+            size,
+            blocks,
+            units,
+        };
+        // All that takes room on the disk comes before the first renaming.
+        self.write_temporary(MANIFEST, manifest.print().as_bytes())?;
+        let count = manifest.units.len() as u64;
+        self.name_units(count)?;
+        self.held.sync()?;
+        self.held.rename(&names::temporary(MANIFEST), MANIFEST)?;
+        self.unnamed.clear();
+        self.held.sync()?;
+        Ok(manifest)
+    }
+
+    /// Gives so many units their names, so that no others of such names are left.
+    fn name_units(&self, count: u64) -> Result<(), Failure> {
+        let entries = self.held.entries()?;
+        let number = |entry: &Entry| names::number(&entry.name);
+        no_folder_among(&self.held, &entries, |entry| {
+            entry.name == MANIFEST || number(entry).is_some_and(|unit| unit < count)
+        })?;
+        for unit in 0..count {
+            let name = names::unit(unit);
+            self.held.rename(&names::temporary(&name), &name)?;
+        }
+        for entry in entries {
+            if !entry.kind.is_dir() && number(&entry).is_some_and(|unit| unit >= count) {
+                self.held.remove(&entry.name)?;
             }
         }
         Ok(())
@@ -88,51 +104,50 @@ impl Folder {
 }
 
 impl Drop for Folder {
-    /// After a failure the units that have no name yet are of no use.
+    /// After a failure the files that have no name yet are of no use.
     fn drop(&mut self) {
-        for unit in 0..self.written {
+        for name in &self.unnamed {
             // One that cannot be removed now is removed by the next run.
-            let _ = fs::remove_file(self.temporary(unit));
+            let _ = fs::remove_file(self.held.reach(name));
         }
     }
 }
 
-/// Writes a file so that all of it is on the disk when this returns.
-fn write_whole(path: &Path, text: &[u8]) -> io::Result<()> {
-    let mut file = File::create(path)?;
-    file.write_all(text)?;
-    file.sync_all()
-}
-
-fn cannot(verb: &str, path: &Path, error: &io::Error, advice: &str) -> Failure {
-    let path = path.display();
-    Failure::error(format!("cannot {verb} {path}: {error}; {advice}"))
-}
-
-#[cfg(test)]
-mod tests {
-    use super::*;
-
-    #[test]
-    fn names_have_at_least_three_digits() {
-        assert_eq!(name(0), "unit_000.c");
-        assert_eq!(name(65_536), "unit_65536.c");
+/// Fails if a folder has one of the names that are meant: no file can take its place.
+fn no_folder_among(
+    held: &Held,
+    entries: &[Entry],
+    meant: impl Fn(&Entry) -> bool,
+) -> Result<(), Failure> {
+    match entries
+        .iter()
+        .find(|entry| entry.kind.is_dir() && meant(entry))
+    {
+        Some(entry) => {
+            let advice = "remove what stands there, then run again";
+            let path = held.named(&entry.name);
+            Err(Failure::cannot(
+                "write",
+                &path,
+                "there is a folder of this name",
+                advice,
+            ))
+        }
+        None => Ok(()),
     }
+}
 
-    #[test]
-    fn only_names_of_this_program_have_a_number() {
-        assert_eq!(number("unit_000.c"), Some(0));
-        assert_eq!(number("unit_1000.c"), Some(1000));
-        for other in [
-            "unit_0.c",
-            "unit_0001.c",
-            "unit_+01.c",
-            "unit_001.h",
-            "unit_.c",
-            "my_unit_001.c",
-            "unit_001.c.tmp",
-        ] {
-            assert_eq!(number(other), None, "{other}");
+/// Removes the manifest, so that it stands on the disk no longer, and then the temporary files of
+/// an interrupted run. A link or pipe under such a name is removed itself.
+fn clear(held: &Held, entries: &[Entry]) -> Result<(), Failure> {
+    if entries.iter().any(|entry| entry.name == MANIFEST) {
+        held.remove(MANIFEST)?;
+        held.sync()?;
+    }
+    for entry in entries {
+        if names::is_temporary(&entry.name) {
+            held.remove(&entry.name)?;
         }
     }
+    Ok(())
 }

@@ -3,16 +3,18 @@
 pub const RECOMP: &str = "\
 Translates block files (decoded ARM and Thumb blocks) to C units.
 
-usage: recomp COMMAND FILE ...
+usage: recomp COMMAND ...
 
   recomp units FILE -o DIR [--unit-size BYTES]   write the C units
   recomp check FILE                              say whether the file is accepted
   recomp plan FILE                               print which blocks are emitted together
   recomp exits FILE [BLOCK]                      print where blocks can statically go
   recomp listing FILE                            print key, group and exits of each block
+  recomp verify DIR                              say whether units are as they were written
 
 FILE is - for standard input. `recomp COMMAND --help` says more, `recomp --version` the version.
-Exit status: 0 done, 1 refused file (`refused N at I` and the rule), 2 any other failure.
+Exit status: 0 done, 1 refused file (`refused N at I` and the rule) or units that are not as they
+were written, 2 any other failure.
 ";
 
 pub const UNITS: &str = "\
@@ -24,10 +26,11 @@ usage: recomp units FILE -o DIR [--unit-size BYTES]
   -o DIR             the folder of the units, which is made if there is none
   --unit-size BYTES  close a unit once it has so many bytes (1M unless given; K is 1024, M is 1024K)
 
-Nothing is written for a refused file. Units get their names when all are written; files of DIR
-that are named like further units, left by an older run, are removed, and no others but the .tmp
-files of a run that was interrupted. Each unit takes one pass over the file: large units take less
-time together.
+Nothing is written for a refused file. DIR is locked meanwhile: a second run in it fails at once.
+units.txt, which `recomp verify` reads, is removed first and is there again once all units have
+their names; a run that ends early leaves none. Files of DIR that are named like further units, left
+by an older run, are removed, and no others but the .tmp files of a run that was interrupted. Each
+unit takes one pass over the file: large units take less time together.
 ";
 
 pub const CHECK: &str = "\
@@ -63,4 +66,16 @@ and the keys that it can statically go to, `-` for none.
 usage: recomp listing FILE
 
   FILE  a block file, or - for standard input
+";
+
+pub const VERIFY: &str = "\
+Says whether the units in a folder are those that `recomp units` wrote there, by length and SHA-256.
+
+usage: recomp verify DIR
+
+  DIR  the folder of the units
+
+Exit status: 0 they are. 1 they are not: the line names the first unit that is missing, longer,
+shorter or different, or that units.txt does not have. 2 there is no units.txt, so that the last run
+did not end, or something cannot be read.
 ";

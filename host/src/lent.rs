@@ -52,11 +52,40 @@ impl<'a> Lent<'a> {
     }
 
     /// A unit of those that are closed from `size` bytes on, and its text.
-    pub fn unit(&mut self, size: u64, unit: u64) -> Result<(Unit, &[u8]), NoResult> {
+    fn unit(&mut self, size: u64, unit: u64) -> Result<(Unit, &[u8]), NoResult> {
         let (file, work) = (self.file, &mut self.work);
         let call = |text: &mut [u8]| library::unit(file, size, unit, work, text);
         let said = growing(&mut self.text, call)?;
         Ok((said, &self.text[..said.length as usize]))
+    }
+
+    /// The units that are closed from `size` bytes on.
+    pub fn units(self, size: u64) -> Units<'a> {
+        Units {
+            lent: self,
+            size,
+            next: Some(0),
+        }
+    }
+}
+
+/// Hands out the units of a file in order. How many of them a call makes is known here alone.
+pub struct Units<'a> {
+    lent: Lent<'a>,
+    size: u64,
+    /// The unit that is handed out next, if one is left.
+    next: Option<u64>,
+}
+
+impl Units<'_> {
+    /// The next unit and its text; nothing after the last.
+    pub fn hand_out(&mut self) -> Result<Option<(Unit, &[u8])>, NoResult> {
+        let Some(number) = self.next else {
+            return Ok(None);
+        };
+        let (unit, text) = self.lent.unit(self.size, number)?;
+        self.next = (!unit.last).then_some(number + 1);
+        Ok(Some((unit, text)))
     }
 }
 

@@ -35,8 +35,11 @@ fn the_example_writes_the_units_of_the_program() {
         .output();
     let printed = Run::of(output.expect("the example runs")).printed();
     recomp(&["units", &path, "-o", &from_program, "--unit-size", "5000"]).printed();
-    let units = names(&from_program);
-    assert_eq!(names(&from_c), units);
+    let units = names(&from_c);
+    assert_eq!(
+        names(&from_program),
+        [&units[..], &["units.txt".into()]].concat()
+    );
     assert_eq!(printed.lines().count(), units.len());
     for unit in units {
         let [c, ours] =

@@ -1,5 +1,5 @@
 //! Commands that read a file and print: their text against the plain Rust of the tools, and input
-//! and output that fail.
+//! that fails.
 
 mod common;
 
@@ -160,35 +160,83 @@ fn reading_that_breaks_off() {
     );
 }
 
-#[test]
-fn output_that_finds_no_room() {
-    let path = sample("three_blocks.blk");
-    for command in ["check", "plan", "exits", "listing"] {
-        let full = File::options().write(true).open("/dev/full");
-        let mut program = program(&[command, &path]);
-        let full = Stdio::from(full.expect("the device that is full"));
-        let output = program.stdout(full).output();
-        let line = Run::of(output.expect("the program runs")).failed(2);
-        assert!(
-            line.starts_with("recomp: cannot write to standard output: "),
-            "{line}"
-        );
-        assert!(
-            line.ends_with("; send it where there is room, then run again"),
-            "{line}"
-        );
-    }
+/// The program with a gigabyte of memory, so that a file that is too long cannot be read first.
+fn with_a_gigabyte(args: &[&str], input: Stdio) -> Run {
+    let mut shell = Command::new("sh");
+    shell.args(["-c", "ulimit -v 1000000; exec \"$0\" \"$@\"", PROGRAM]);
+    let output = shell.args(args).stdin(input).output();
+    Run::of(output.expect("the shell runs"))
+}
+
+/// A file of nothing but zeros, which takes no room on the disk.
+fn sparse(scratch: &Scratch, length: u64) -> String {
+    let path = scratch.join("sparse.blk");
+    let file = File::create(&path).expect("a file");
+    file.set_len(length).expect("a sparse file");
+    path
 }
 
 #[test]
-fn output_that_nobody_reads() {
-    let (reader, writer) = std::io::pipe().expect("a pipe");
-    drop(reader);
-    let mut program = program(&["listing", &sample("three_blocks.blk")]);
-    let output = program.stdout(writer).output();
+fn files_longer_than_any_block_file_are_not_read() {
+    let scratch = Scratch::new();
+    let folder = scratch.join("units");
+    for length in [100 << 30, 1 << 32] {
+        let path = sparse(&scratch, length);
+        let long = "is longer than 4294967295 bytes, as no block file is; name a block file";
+        for command in ["check", "plan", "exits", "listing", "units"] {
+            let args = [command, &path, "-o", &folder];
+            let args = if command == "units" {
+                &args[..]
+            } else {
+                &args[..2]
+            };
+            let line = with_a_gigabyte(args, Stdio::null()).failed(2);
+            assert_eq!(line, format!("recomp: {path} {long}"));
+        }
+        let input = File::open(&path).expect("the file");
+        let line = with_a_gigabyte(&["check", "-"], input.into()).failed(2);
+        assert_eq!(line, format!("recomp: standard input {long}"));
+    }
+    assert!(!fs::exists(folder).expect("an answer"), "no folder is made");
+}
+
+/// One byte less may be a block file; here there is no memory for it.
+#[test]
+fn a_file_that_memory_does_not_suffice_for() {
+    let scratch = Scratch::new();
+    let path = sparse(&scratch, u32::MAX.into());
+    let line = with_a_gigabyte(&["check", &path], Stdio::null()).failed(2);
+    let start = format!("recomp: cannot read {path}: ");
+    assert!(line.starts_with(&start), "{line}");
+    assert!(
+        line.ends_with("; free memory, or run on a larger machine"),
+        "{line}"
+    );
+}
+
+#[test]
+fn standard_input_is_read_from_the_place_reached() {
+    let scratch = Scratch::new();
+    let file = lone_blocks(2).bytes;
+    let path = scratch.file("after.blk", &[b"line\n", &file[..]].concat());
+    let script = "read -r line; exec \"$0\" check -";
+    let mut shell = Command::new("sh");
+    shell
+        .args(["-c", script, PROGRAM])
+        .stdin(File::open(path).expect("the file"));
+    let printed = Run::of(shell.output().expect("the shell runs")).printed();
+    assert_eq!(printed, "accepted: blocks 2, instructions 2\n");
+}
+
+#[test]
+fn standard_input_that_cannot_be_read() {
+    let input = File::options().write(true).open("/dev/null");
+    let output = program(&["check", "-"])
+        .stdin(input.expect("the device"))
+        .output();
     let line = Run::of(output.expect("the program runs")).failed(2);
     assert!(
-        line.ends_with("; the program that reads it ended first; let it read all"),
+        line.starts_with("recomp: cannot read standard input: Bad file"),
         "{line}"
     );
 }

@@ -2,51 +2,17 @@
 
 mod common;
 
-use common::{lone, lone_blocks, names, program, recomp, recomp_on, sample, Run, Scratch, PROGRAM};
-use recomp_host::library;
+use common::stop::Halted;
+use common::{
+    assert_units, expected, has_units, lone, lone_blocks, names, read, recomp, recomp_on, sample,
+};
+use common::{Run, Scratch, PROGRAM};
 use recomp_tools::file::build;
 use recomp_tools::generate::{self, Params};
 use recomp_tools::record::Record;
 use std::fs;
 use std::path::Path;
-use std::process::{Command, Stdio};
-use std::time::{Duration, Instant};
-
-/// The units of a file at a size, from the library's calls alone.
-fn expected(file: &[u8], size: u64) -> Vec<Vec<u8>> {
-    let counts = library::check(file).expect("an accepted file");
-    let mut work = vec![0; 4 * counts.blocks as usize];
-    let mut text = vec![0; 32 << 20];
-    let mut units = vec![];
-    loop {
-        let unit = library::unit(file, size, units.len() as u64, &mut work, &mut text);
-        let unit = unit.expect("a unit");
-        units.push(text[..unit.length as usize].to_vec());
-        if unit.last {
-            assert_eq!(unit.done, counts.blocks);
-            return units;
-        }
-    }
-}
-
-fn read(folder: &str, name: &str) -> Vec<u8> {
-    fs::read(Path::new(folder).join(name)).expect("a unit")
-}
-
-/// Looks at all that a run left in its folder, and at what it printed.
-#[track_caller]
-fn assert_units(run: Run, folder: &str, file: &[u8], size: u64) {
-    let units = expected(file, size);
-    let bytes: usize = units.iter().map(Vec::len).sum();
-    let blocks = library::check(file).expect("an accepted file").blocks;
-    let totals = format!("units {}, blocks {blocks}, bytes {bytes}\n", units.len());
-    assert_eq!(run.printed(), totals);
-    let all: Vec<_> = (0..units.len()).map(|n| format!("unit_{n:03}.c")).collect();
-    assert_eq!(names(folder), all);
-    for (name, unit) in all.iter().zip(&units) {
-        assert!(read(folder, name) == *unit, "{name}");
-    }
-}
+use std::process::Command;
 
 #[test]
 fn units_of_small_files_at_several_sizes() {
@@ -108,8 +74,14 @@ fn more_than_a_thousand_units() {
     let run = recomp_on(&file, &["units", "-", "-o", folder, "--unit-size", "0"]);
     assert!(run.printed().starts_with("units 1002, blocks 1001, "));
     let names = names(folder);
-    assert_eq!(names.len(), 1002);
-    for name in ["unit_000.c", "unit_999.c", "unit_1000.c", "unit_1001.c"] {
+    assert_eq!(names.len(), 1003);
+    for name in [
+        "unit_000.c",
+        "unit_999.c",
+        "unit_1000.c",
+        "unit_1001.c",
+        "units.txt",
+    ] {
         assert!(names.iter().any(|n| n == name), "{name}");
     }
 }
@@ -138,7 +110,7 @@ fn older_units_go_and_all_else_stays() {
     recomp(&["units", path, "-o", folder]).printed();
     let mut left: Vec<_> = kept
         .into_iter()
-        .chain(["unit_000.c", "unit_050.c"])
+        .chain(["unit_000.c", "unit_050.c", "units.txt"])
         .collect();
     left.sort();
     assert_eq!(names(folder), left);
@@ -160,50 +132,23 @@ fn a_refused_file_leaves_the_folder_as_it_was() {
     );
     let line = recomp_on(&file[1..], &["units", "-", "-o", folder]).failed(1);
     assert!(line.starts_with("refused 3 at 0: "), "{line}");
-    assert_eq!(names(folder), ["unit_000.c"]);
-    assert_eq!(read(folder, "unit_000.c"), expected(&file, 1 << 20)[0]);
-}
-
-/// A folder with the one unit of another file, and a run in it that stands still: unit 2 is to be
-/// written into a pipe that nobody reads.
-fn stopped_run(scratch: &Scratch) -> (String, std::process::Child) {
-    let folder = scratch.join("units");
-    let old = recomp(&["units", &sample("three_blocks.blk"), "-o", &folder]);
-    old.printed();
-    let pipe = Path::new(&folder).join("unit_002.c.tmp");
-    let made = Command::new("mkfifo").arg(pipe).status();
-    assert!(made.expect("mkfifo runs").success());
-    let path = scratch.file("three.blk", &lone_blocks(3).bytes);
-    let mut command = program(&["units", &path, "-o", &folder, "--unit-size", "0"]);
-    command.stdout(Stdio::piped()).stderr(Stdio::piped());
-    let child = command.spawn().expect("the program starts");
-    let second = Path::new(&folder).join("unit_001.c.tmp");
-    let start = Instant::now();
-    while !second.exists() {
-        assert!(
-            start.elapsed() < Duration::from_secs(60),
-            "unit 1 is written"
-        );
-        std::thread::sleep(Duration::from_millis(5));
-    }
-    (folder, child)
+    assert!(has_units(folder, &file, 1 << 20));
 }
 
 #[test]
 fn an_interrupted_run_leaves_the_units_before_it_and_the_next_run_cleans_up() {
     let scratch = Scratch::new();
-    let (folder, mut child) = stopped_run(&scratch);
-    child.kill().expect("the program is stopped");
-    assert_eq!(child.wait().expect("it ends").code(), None);
-    let of_old = fs::read(sample("three_blocks.blk")).expect("the sample");
-    assert_eq!(read(&folder, "unit_000.c"), expected(&of_old, 1 << 20)[0]);
-    let temporary = ["unit_000.c.tmp", "unit_001.c.tmp", "unit_002.c.tmp"];
-    assert_eq!(names(&folder), [&["unit_000.c"], &temporary[..]].concat());
-    // A pipe is no file that the program wrote.
-    fs::remove_file(Path::new(&folder).join(temporary[2])).expect("the pipe");
+    let folder = &scratch.join("units");
+    recomp(&["units", &sample("three_blocks.blk"), "-o", folder]).printed();
     let file = lone_blocks(3).bytes;
-    let run = recomp_on(&file, &["units", "-", "-o", &folder, "--unit-size", "0"]);
-    assert_units(run, &folder, &file, 0);
+    let path = &scratch.file("three.blk", &file);
+    let args = ["units", path, "-o", folder, "--unit-size", "0"];
+    Halted::before(&args, "write", 3).kill();
+    let of_old = fs::read(sample("three_blocks.blk")).expect("the sample");
+    assert_eq!(read(folder, "unit_000.c"), expected(&of_old, 1 << 20)[0]);
+    let temporary = ["unit_000.c.tmp", "unit_001.c.tmp", "unit_002.c.tmp"];
+    assert_eq!(names(folder), [&["unit_000.c"], &temporary[..]].concat());
+    assert_units(recomp(&args), folder, &file, 0);
 }
 
 /// The program where no file may become longer than 2 or 4 KiB, as shells count; `prepare` stands
@@ -273,21 +218,4 @@ fn folders_that_cannot_be_made_or_written() {
         line.starts_with("recomp: cannot write /proc/self/fd/unit_000.c.tmp: "),
         "{line}"
     );
-}
-
-#[test]
-fn a_folder_in_place_of_a_unit() {
-    let scratch = Scratch::new();
-    let folder = scratch.join("units");
-    fs::create_dir_all(Path::new(&folder).join("unit_000.c")).expect("a folder");
-    let line = recomp(&["units", &sample("three_blocks.blk"), "-o", &folder]).failed(2);
-    assert!(
-        line.starts_with(&format!("recomp: cannot write {folder}/unit_000.c: ")),
-        "{line}"
-    );
-    assert!(
-        line.ends_with("; remove what stands there, then run again"),
-        "{line}"
-    );
-    assert_eq!(names(&folder), ["unit_000.c"]);
 }

@@ -4,7 +4,14 @@ mod common;
 
 use common::{recomp, sample};
 
-const COMMANDS: [&str; 5] = ["units", "check", "plan", "exits", "listing"];
+const COMMANDS: [&str; 6] = [
+    "units FILE",
+    "check FILE",
+    "plan FILE",
+    "exits FILE",
+    "listing FILE",
+    "verify DIR",
+];
 
 #[test]
 fn version() {
@@ -16,15 +23,16 @@ fn help_of_the_program_names_every_command() {
     let text = recomp(&["--help"]).printed();
     assert_eq!(recomp(&["-h"]).printed(), text);
     for command in COMMANDS {
-        assert!(text.contains(&format!("recomp {command} FILE")), "{text}");
+        assert!(text.contains(&format!("recomp {command}")), "{text}");
     }
 }
 
 #[test]
 fn help_of_each_command() {
     for command in COMMANDS {
+        let usage = format!("usage: recomp {command}");
+        let command = command.split(' ').next().expect("a name");
         let text = recomp(&[command, "--help"]).printed();
-        let usage = format!("usage: recomp {command} FILE");
         assert!(text.contains(&usage), "{text}");
         // Help is given whatever else stands there.
         assert_eq!(recomp(&[command, "a", "b", "c", "-h"]).printed(), text);
@@ -34,7 +42,7 @@ fn help_of_each_command() {
 #[test]
 fn wrong_uses() {
     let file = &sample("three_blocks.blk");
-    let cases: [(&[&str], &str); 14] = [
+    let cases: [(&[&str], &str); 17] = [
         (&[], "no command is given; run recomp --help"),
         (&["unit", file], "unit is no command; run recomp --help"),
         (
@@ -84,6 +92,18 @@ fn wrong_uses() {
         (
             &["exits", file, "0", "1"],
             "exits: 1 is one argument too many; run recomp exits --help",
+        ),
+        (
+            &["verify"],
+            "verify: no folder is given; run recomp verify --help",
+        ),
+        (
+            &["verify", "a", "b"],
+            "verify: b is one argument too many; run recomp verify --help",
+        ),
+        (
+            &["verify", "-o", "a"],
+            "verify: there is no option -o; run recomp verify --help",
         ),
     ];
     for (args, line) in cases {

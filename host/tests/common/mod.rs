@@ -3,6 +3,9 @@
 // Each file of tests uses some of it.
 #![allow(dead_code)]
 
+pub mod stop;
+
+use recomp_host::library;
 use recomp_tools::file::{build, Block, File};
 use recomp_tools::record::Record;
 use std::ffi::OsStr;
@@ -121,6 +124,59 @@ pub fn names(folder: &str) -> Vec<String> {
     let mut names: Vec<_> = entries.map(name).collect();
     names.sort();
     names
+}
+
+/// The units of a file at a size, from the library's calls alone.
+pub fn expected(file: &[u8], size: u64) -> Vec<Vec<u8>> {
+    let counts = library::check(file).expect("an accepted file");
+    let mut work = vec![0; 4 * counts.blocks as usize];
+    let mut text = vec![0; 32 << 20];
+    let mut units = vec![];
+    loop {
+        let unit = library::unit(file, size, units.len() as u64, &mut work, &mut text);
+        let unit = unit.expect("a unit");
+        units.push(text[..unit.length as usize].to_vec());
+        if unit.last {
+            assert_eq!(unit.done, counts.blocks);
+            return units;
+        }
+    }
+}
+
+pub fn read(folder: &str, name: &str) -> Vec<u8> {
+    std::fs::read(Path::new(folder).join(name)).expect("a file")
+}
+
+/// Names and contents of all files in a folder.
+pub fn contents(folder: &str) -> Vec<(String, Vec<u8>)> {
+    let content = |name: String| (name.clone(), read(folder, &name));
+    names(folder).into_iter().map(content).collect()
+}
+
+/// Whether a folder has the units of a file and their manifest, and nothing else.
+pub fn has_units(folder: &str, file: &[u8], size: u64) -> bool {
+    let units = expected(file, size);
+    let all: Vec<_> = (0..units.len()).map(|n| format!("unit_{n:03}.c")).collect();
+    names(folder) == [&all[..], &["units.txt".into()]].concat()
+        && all
+            .iter()
+            .zip(&units)
+            .all(|(name, unit)| read(folder, name) == *unit)
+}
+
+/// Looks at all that a run left in its folder, and at what it printed.
+#[track_caller]
+pub fn assert_units(run: Run, folder: &str, file: &[u8], size: u64) {
+    let units = expected(file, size);
+    let bytes: usize = units.iter().map(Vec::len).sum();
+    let blocks = library::check(file).expect("an accepted file").blocks;
+    let totals = format!("units {}, blocks {blocks}, bytes {bytes}\n", units.len());
+    assert_eq!(run.printed(), totals);
+    assert!(has_units(folder, file, size), "{:?}", names(folder));
+    assert_eq!(
+        recomp(&["verify", folder]).printed(),
+        format!("verified: {totals}")
+    );
 }
 
 /// An ARM block of one instruction, without code bytes.
