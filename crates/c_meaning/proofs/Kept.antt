@@ -1,10 +1,11 @@
--- Whatever code runs, it keeps what the scopes that it starts in declare; and code that does not
--- call the interpreter uses none of its calls up.
-use Prim.Native.Nat.{ℕ}
+-- Whatever code runs, it keeps what the scopes that it starts in declare, and uses up the answers of
+-- guard and gate in order; and code that does not call the interpreter uses none of its calls up.
+use Prim.Native.Nat.{ℕ, suc, _+_}
 use mathlib.Core.Path.{_≡_, refl, sym, ap, _∙_, subst}
 use mathlib.Core.Bool.{Bool, true, false, cond, _&&_, Bool·beq, true≢false}
 use mathlib.Core.List.{List, [], _∷_}
 use mathlib.Core.Option.{Option, none, some, Option·some-injective}
+use native.Mathlib.Omega.{arith}
 use lib.Dec.{T, leb, eqb, eqb→eq}
 use Rattle.c_tree.specs.Expr.{Ty, s8, s16, s32, u32, s64, u64, Name, x-pc, Var, Place, reg, var}
 use Rattle.c_tree.specs.Expr.{Expr}
@@ -15,7 +16,7 @@ use Rattle.c_tree.specs.Stmt.{when, braces, Helper, ror32, op-adds, proc, f-nz,
 use Rattle.c_meaning.specs.Types.{width, signed, sameTy}
 use Rattle.c_meaning.specs.State.{bind, update, index, Cell, Scope, State, setScopes, enter}
 use Rattle.c_meaning.specs.State.{outer, leave, declareIn, declared, assignIn, assigned, put}
-use Rattle.c_meaning.specs.State.{interpAnswer, afterInterp, find, Declares}
+use Rattle.c_meaning.specs.State.{answered, interpAnswer, afterInterp, Later, find, Declares}
 use Rattle.c_meaning.specs.Eval.{ty, eval, evalAs}
 use Rattle.c_meaning.specs.Exec.{Goes, on, to, back, Outcome, next, ended, returned, newValue}
 use Rattle.c_meaning.specs.Exec.{procTy, declares, initialise, others, exec, asks, returns}
@@ -201,28 +202,52 @@ body-allows may (proc f-nz) = (tt, (tt, (tt, tt)))
 body-allows may (proc f-c) = (tt, (tt, (tt, tt)))
 body-allows may (proc f-nz64) = (tt, (tt, (tt, tt)))
 
+-- where no answer is used up
+later-same : (z y : State) → ((i : ℕ) → y .answers i ≡ z .answers i) → Later z y
+later-same z y h = (0, λ i. let e : i ≡ 0 + i = omega arith in h i ∙ ap (z .answers) e)
+
+later-refl : (z : State) → Later z z
+later-refl z = later-same z z (λ i. refl)
+
+later-trans : (z u y : State) → Later z u → Later u y → Later z y
+later-trans z u y p q = (
+  p .0 + q .0,
+  λ i. let e : p .0 + (q .0 + i) ≡ p .0 + q .0 + i =
+      omega arith in q .1 i ∙ p .1 (q .0 + i) ∙ ap (z .answers) e,
+)
+
+later-answered : (z : State) → Later z (answered z)
+later-answered z = (1, λ i. let e : suc i ≡ 1 + i = omega arith in ap (z .answers) e)
+
 module _ (may : Bool) where
-  -- the interpreter's calls are the same if none may be made, and what the scopes had they have
-  -- with the same types
+  -- the interpreter's calls are the same if none may be made, what the scopes had they have with
+  -- the same types, and answers are used up in order
   abbrev Kept : State → State → Type 0
-  Kept z y = (may ≡ false → y .interpreter ≡ z .interpreter) × Over (z .scopes) (y .scopes)
+  Kept z y =
+      (may ≡ false → y .interpreter ≡ z .interpreter) × Over (z .scopes) (y .scopes) × Later z y
 
   -- the same of an outcome
   abbrev KeptBy : State → State × Goes → Type 0
   KeptBy z q = Kept z (q .0)
 
   kept-refl : (z : State) → Kept z z
-  kept-refl z = (λ h. refl, over-refl (z .scopes))
+  kept-refl z = (λ h. refl, over-refl (z .scopes), later-refl z)
 
   setScopes-kept : (z : State) (fs : List Scope) → Over (z .scopes) fs → Kept z (setScopes fs z)
-  setScopes-kept z fs p = (λ h. refl, p)
+  setScopes-kept z fs p = (λ h. refl, p, later-refl z)
 
   kept-trans : (z u y : State) → Kept z u → Kept u y → Kept z y
-  kept-trans z u y p q = (λ h. q .0 h ∙ p .0 h, over-trans (p .1) (q .1))
+  kept-trans z u y p q =
+      (λ h. q .0 h ∙ p .0 h, over-trans (p .1) (q .1), later-trans z u y (p .2) (q .2))
 
   -- a call of the interpreter
   after-interp-kept : may ≡ true → (z : State) → Kept z (afterInterp z)
-  after-interp-kept a z = (λ h. absurd (true≢false (sym a ∙ h)), over-refl (z .scopes))
+  after-interp-kept a z =
+      (λ h. absurd (true≢false (sym a ∙ h)), over-refl (z .scopes), later-refl z)
+
+  -- an answer of guard or gate
+  answered-kept : (z : State) → Kept z (answered z)
+  answered-kept z = (λ h. refl, over-refl (z .scopes), later-answered z)
 
   -- what is kept from a state is kept from one before it
   kept-on : (z u : State) {o : Option State} → Kept z u → All (Kept u) o → All (Kept z) o
@@ -255,7 +280,7 @@ module _ (may : Bool) where
 
   -- from { to }
   leave-kept : (z u : State) → Kept (enter z) u → Kept z (leave u)
-  leave-kept z u p = (p .0, over-outer (p .1))
+  leave-kept z u p = (p .0, over-outer (p .1), p .2)
 
   -- with helpers that keep
   module _ (R : ℕ → ℕ → Option ℕ) (C : Helper → List ℕ → State → Outcome)
@@ -297,8 +322,8 @@ module _ (may : Bool) where
 
     asks-kept : (t : Test) (z : State) → All (λ q. Kept z (q .1)) (asks R C t z)
     unfolding asks
-    asks-kept (guard a l h) z = defined (kept-refl z)
-    asks-kept gate z = defined (kept-refl z)
+    asks-kept (guard a l h) z = defined (answered-kept z)
+    asks-kept gate z = defined (answered-kept z)
     asks-kept (other e) z = all-value (eval R e z) λ k. defined (kept-refl z)
 
     returns-kept : (e : Expr) (z : State) → All (KeptBy z) (returns R C e z)
@@ -348,7 +373,7 @@ module _ (may : Bool) where
       all-bind
       (runs-kept noRor noCall (λ i ws u. undefined) (body h) (body-allows may h)
       (setScopes (arguments (params h) vs ∷ []) z)) λ q p.
-      defined (p .0, over-refl (z .scopes))
+      defined (p .0, over-refl (z .scopes), p .2)
 
   run-kept : (c : Code) → Allows may c → (z y : State) (w : Goes) → H.run c z ≡ some (y, w)
       → Kept z y
@@ -364,3 +389,7 @@ run-quiet c q z y w e = run-kept false c q z y w e .0 refl
 pub run-declares : (c : Code) (z y : State) (w : Goes) (x : Var) → H.run c z ≡ some (y, w)
     → Declares (z .scopes) x → Declares (y .scopes) x
 run-declares c z y w x e d = over-declares x (run-kept true c (any-allows c) z y w e .1) d
+
+-- the answers that guard and gate give
+pub run-later : (c : Code) (z y : State) (w : Goes) → H.run c z ≡ some (y, w) → Later z y
+run-later c z y w e = run-kept true c (any-allows c) z y w e .2

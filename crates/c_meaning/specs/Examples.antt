@@ -27,8 +27,7 @@ begin =
       c = update 16 0 (λ (k : ℕ). k);
       mem = λ a. 0xfe;
       scopes = empty ∷ [];
-      answers =
-          λ k. 1;
+      answers = λ k. 1;
       interpreter = λ k c mem. record { c = update 0 (9 + k) c; mem = mem; answer = 8 + k };
     }
 

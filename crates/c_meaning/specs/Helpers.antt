@@ -51,8 +51,7 @@ rotated x n =
       mem = λ a. 0;
       scopes = [];
       answers = λ k. 0;
-      interpreter =
-          λ k c mem. record { c = c; mem = mem; answer = 0 };
+      interpreter = λ k c mem. record { c = c; mem = mem; answer = 0 };
     })) λ q. returned (q .1)
 
 -- an expression of the text

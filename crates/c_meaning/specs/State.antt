@@ -81,8 +81,7 @@ setC k x z =
       c = update k x (z .c);
       mem = z .mem;
       scopes = z .scopes;
-      answers =
-          z .answers;
+      answers = z .answers;
       interpreter = z .interpreter;
     }
 
@@ -94,8 +93,7 @@ setMem f z =
       mem = f;
       scopes = z .scopes;
       answers = z .answers;
-      interpreter =
-          z .interpreter;
+      interpreter = z .interpreter;
     }
 
 -- the state with other scopes
@@ -106,8 +104,7 @@ setScopes fs z =
       mem = z .mem;
       scopes = fs;
       answers = z .answers;
-      interpreter =
-          z .interpreter;
+      interpreter = z .interpreter;
     }
 
 -- the state after an answer of the runtime
@@ -117,8 +114,7 @@ answered z =
       c = z .c;
       mem = z .mem;
       scopes = z .scopes;
-      answers =
-          λ k. z .answers (suc k);
+      answers = λ k. z .answers (suc k);
       interpreter = z .interpreter;
     }
 
@@ -135,9 +131,13 @@ afterInterp z =
       mem = q .mem;
       scopes = z .scopes;
       answers = z .answers;
-      interpreter =
-          λ k. z .interpreter (suc k);
+      interpreter = λ k. z .interpreter (suc k);
     }
+
+-- the answers that guard and gate will give from the state y on are those from z on, but for the
+-- first ones
+abbrev pub Later : State → State → Type 0
+Later z y = (j : ℕ) × ((i : ℕ) → y .answers i ≡ z .answers (j + i))
 
 -- at {: a scope of its own, in which nothing is declared yet
 abbrev pub enter : State → State

@@ -72,8 +72,7 @@ module _ (multiplier : ℕ) (ks : List ℕ) (b : Block) where
       (record {
         left = record { each = q .left .each };
         declares = q .declares;
-        sound =
-            q .sound;
+        sound = q .sound;
         agrees = moved-on (q .agrees) refl refl;
       })
   block-log step F l z m out used q (absent e f s) =

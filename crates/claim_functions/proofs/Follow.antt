@@ -22,7 +22,7 @@ use Rattle.lower_forms.specs.Block.{bodyOf}
 use Rattle.lower_forms.specs.Agree.{Agrees}
 use Rattle.lower_units.specs.Block.{nl, blockCode}
 use Rattle.lower_units.specs.Text.{Leaves, destination}
-use Rattle.claim_meaning.specs.Block.{Interprets, isCovered, Carries, BlockMeans}
+use Rattle.claim_meaning.specs.Block.{Interprets, isCovered, Carries, BlockLeaves, BlockMeans}
 use Rattle.claim_ways.specs.Ways.{Event, reach, said}
 use Rattle.claim_functions.specs.Execution.{Result, underway, returned, LabelIn, ask, act}
 use Rattle.claim_functions.specs.Execution.{told, leaveAll, Execution, x-stop, x-in, x-asking}
@@ -35,7 +35,6 @@ use Rattle.claim_functions.proofs.Log.{counts, log, logThen, logAll, ap
 use Rattle.claim_functions.proofs.Log.{counted-told, told-counts, log-on, log-to, log-back}
 use Rattle.claim_functions.proofs.Log.{log-in, log-when, log-else, log-open, log-close}
 use Rattle.claim_functions.proofs.Log.{log-append}
-use Rattle.claim_functions.proofs.Later.{run-later}
 use Rattle.claim_functions.proofs.Texts.{elsewhere}
 
 -- what stands after braces does with an outcome inside them
@@ -267,59 +266,54 @@ module _ (step : ℕ → ℕ → Machine → Machine × ℕ) (multiplier : ℕ) 
   unfolding logThen
   begun n k b i e c same z m r q es follow =
       go
-      (follow (n + d .1) (l .end) (d .0)
+      (follow (n + d .used) (l .end) (d .out)
       (record {
         exit = l .exit;
-        ends = same .runs-so (l .end) (l .exit) (d .0 .1) z (l .ends end) (l .leads);
+        ends = same .runs-so (l .end) (l .exit) (d .out .1) z (l .ends end) (l .leads);
         leads = l .leads;
         pc = l .pc;
         ready = after;
       }))
     where
-      d : (out : Machine × ℕ) × (used : ℕ)
-          × Carries (λ i. step (n + i)) (region (b .addr)) multiplier b z m out used
-          × Sound (out .0) × (l : Leaves (λ c. blockCode ks (bodyOf multiplier b)) z out)
-          × Declares (l .end .scopes) (u32, x-pc)
-          × ((k : ℕ) → Interprets (step (n + (used + k))) (l .end .interpreter k))
+      d : BlockLeaves (λ i. step (n + i)) multiplier ks b z m
       d = means b i (covered b i) (λ i. step (n + i)) z m (r .left) (r .declares) (r .sound)
           (r .agrees)
 
-      l : Leaves (λ c. blockCode ks (bodyOf multiplier b)) z (d .0)
-      l = d .4
+      l : Leaves (λ c. blockCode ks (bodyOf multiplier b)) z (d .out)
+      l = d .text
 
-      after : Ready step (n + d .1) (l .end) (d .0 .0)
+      after : Ready step (n + d .used) (l .end) (d .out .0)
       after =
           record {
             left =
                 λ j. subst (λ s. Interprets (step s) (l .end .interpreter j))
-                (add-assoc₃ n (d .1) j) (d .6 j);
-            declares = d .5;
-            sound = d .3;
+                (add-assoc₃ n (d .used) j) (d .left j);
+            declares = d .declares;
+            sound = d .sound;
             agrees = l .same;
           }
 
-      reached : Reaches (l .end) (d .0)
+      reached : Reaches (l .end) (d .out)
       reached = record { same = l .same; pc = l .pc }
 
       -- what is counted of it
-      mine : logAll c [] z ≡ blockEvents (blockKey b) (d .2)
+      mine : logAll c [] z ≡ blockEvents (blockKey b) (d .by)
       mine = append-nil (log c z)
-          ∙ same .logs-so (l .end) (l .exit) (d .0 .1) z (l .ends end) (l .leads)
-          ∙ logs b i n z m (d .0) (d .1) r (d .2)
+          ∙ same .logs-so (l .end) (l .exit) (d .out .1) z (l .ends end) (l .leads)
+          ∙ logs b i n z m (d .out) (d .used) r (d .by)
 
-      go : Onward (n + d .1) (l .end) (d .0) q (logAll c [] z) es → Carried n k z m q es
+      go : Onward (n + d .used) (l .end) (d .out) q (logAll c [] z) es → Carried n k z m q es
       go (inl h) = (
-        d .0,
-        c-last b (d .1) i e (d .2),
-        d .3,
-        ended-at q (l .end) (d .0) (h .0) reached,
+        d .out,
+        c-last b (d .used) i e (d .by),
+        d .sound,
+        ended-at q (l .end) (d .out) (h .0) reached,
         (h .1 .0, h .1 .1, sym mine ∙ h .1 .2, (counted es, sym mine ∙ h .1 .2)),
       )
       go (inr h) = (
         h .0,
-        c-more b (d .1) (d .0) (l .end) i e (d .2)
-            (run-later (blockCode ks (bodyOf multiplier b)) z (l .end) (l .exit) (l .ends end))
-            reached (h .1),
+        c-more b (d .used) (d .out) (l .end) i e (d .by)
+            (d .later) reached (h .1),
         h .2,
         h .3,
         (h .4 .0, h .4 .1, ap (λ l. l ++ chainEvents (h .1)) (sym mine) ∙ h .4 .2, h .4 .3),
@@ -337,8 +331,7 @@ module _ (step : ℕ → ℕ → Machine → Machine × ℕ) (multiplier : ℕ) 
       (subst (Does (a .0)) (sym (a .3 .1))
       (record {
         runs-so = λ u g l w. run-leads c (a .3 .0) w u g l;
-        logs-so =
-            λ u g l w. log-leads c (a .3 .0) w u g l;
+        logs-so = λ u g l w. log-leads c (a .3 .0) w u g l;
       }))
       z m r q es follow
 

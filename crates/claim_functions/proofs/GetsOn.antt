@@ -27,7 +27,7 @@ use Rattle.lower_units.specs.Units.{withLocals}
 use Rattle.lower_units.specs.Text.{Leaves, destination}
 use Rattle.claim_meaning.specs.Block.{Interprets, isCovered, CarriedOut, byManual, byInterpreter}
 use Rattle.claim_meaning.specs.Block.{Sequence, last, pair, more, Carries, inOrder, granted, absent}
-use Rattle.claim_meaning.specs.Block.{refused, BlockMeans}
+use Rattle.claim_meaning.specs.Block.{refused, BlockLeaves, BlockMeans}
 use Rattle.claim_ways.specs.Ways.{Event, reach, said, nativeStart, interpreted}
 use Rattle.claim_ways.specs.Claim.{carried}
 use Rattle.claim_functions.specs.Execution.{underway, returned, LabelIn, act, told, atStart}
@@ -153,25 +153,21 @@ module _ (step : ℕ → ℕ → Machine → Machine × ℕ) (multiplier : ℕ) 
   unfolding Rattle.c_meaning.specs.Exec.step
   further n calls b i rest z m r follow = go (l .exit) (l .ends end) (l .leads)
     where
-      d : (out : Machine × ℕ) × (used : ℕ)
-          × Carries (λ i. step (calls + i)) (region (b .addr)) multiplier b z m out used
-          × Sound (out .0) × (l : Leaves (λ c. blockCode ks (bodyOf multiplier b)) z out)
-          × Declares (l .end .scopes) (u32, x-pc)
-          × ((k : ℕ) → Interprets (step (calls + (used + k))) (l .end .interpreter k))
+      d : BlockLeaves (λ i. step (calls + i)) multiplier ks b z m
       d = means b i (covered b i) (λ i. step (calls + i)) z m (r .left) (r .declares) (r .sound)
           (r .agrees)
 
-      l : Leaves (λ c. blockCode ks (bodyOf multiplier b)) z (d .0)
-      l = d .4
+      l : Leaves (λ c. blockCode ks (bodyOf multiplier b)) z (d .out)
+      l = d .text
 
-      after : Ready step (calls + d .1) (l .end) (d .0 .0)
+      after : Ready step (calls + d .used) (l .end) (d .out .0)
       after =
           record {
             left =
                 λ j. subst (λ s. Interprets (step s) (l .end .interpreter j))
-                (add-assoc₃ calls (d .1) j) (d .6 j);
-            declares = d .5;
-            sound = d .3;
+                (add-assoc₃ calls (d .used) j) (d .left j);
+            declares = d .declares;
+            sound = d .sound;
             agrees = l .same;
           }
 
@@ -180,15 +176,15 @@ module _ (step : ℕ → ℕ → Machine → Machine × ℕ) (multiplier : ℕ) 
           → counted es ≡ log (blockCode ks (bodyOf multiplier b)) z ++ counted fs → n ≤ carried fs
           → suc n ≤ carried es
       one es fs e h =
-          let by = logs b i calls z m (d .0) (d .1) r (d .2) in
-          let sum : carried es ≡ carried (blockEvents (blockKey b) (d .2)) + carried fs
+          let by = logs b i calls z m (d .out) (d .used) r (d .by) in
+          let sum : carried es ≡ carried (blockEvents (blockKey b) (d .by)) + carried fs
           = sym (carried-counted es) ∙ ap carried (e ∙ ap (λ l. l ++ counted fs) by)
-          ∙ carried-append (blockEvents (blockKey b) (d .2)) (counted fs)
-          ∙ ap (λ k. carried (blockEvents (blockKey b) (d .2)) + k) (carried-counted fs) in
-          omega (arith, sum, block-one (blockKey b) (d .2))
+          ∙ carried-append (blockEvents (blockKey b) (d .by)) (counted fs)
+          ∙ ap (λ k. carried (blockEvents (blockKey b) (d .by)) + k) (carried-counted fs) in
+          omega (arith, sum, block-one (blockKey b) (d .by))
 
       go : (g : Goes) → run (blockCode ks (bodyOf multiplier b)) z ≡ some (l .end, g)
-          → destination g ≡ some (d .0 .1)
+          → destination g ≡ some (d .out .1)
           → Gets ts f p (suc n) (blockCode ks (bodyOf multiplier b) ⧺ rest) z
       go on e h = absurd (not-none h)
       go (back v) e h =
@@ -198,7 +194,7 @@ module _ (step : ℕ → ℕ → Machine → Machine × ℕ) (multiplier : ℕ) 
           inl (a .0, a .1, l .end, v, a .3)
       go (to k) e h =
           on-to (gets-over n nl (l .end) (l .end) refl
-          (follow (calls + d .1) (t .0) (t .1) (t .2 .0) (l .end) (d .0 .0) after))
+          (follow (calls + d .used) (t .0) (t .1) (t .2 .0) (l .end) (d .out .0) after))
         where
           t : (b : Block) × Member b
               × ((rest : Code) × LabelIn k f (nl ⨾ (blockCode ks (bodyOf multiplier b) ⧺ rest)))

@@ -287,8 +287,7 @@ module _ (multiplier : ℕ) (ks : List ℕ) (b : Block) (step : ℕ → ℕ → 
                 record {
                   left = left-later (q .left) refl;
                   declares = g .declares;
-                  sound =
-                      by-step .sound;
+                  sound = by-step .sound;
                   agrees = with-scopes (by-step .same) (g .scopes);
                 },
                 stays,

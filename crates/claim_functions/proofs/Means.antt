@@ -47,7 +47,7 @@ use Rattle.claim_ways.proofs.Faithful.{Faithful}
 use Rattle.claim_ways.proofs.Functions.{Own, head-foreign, end-foreign, InGroup, from-cut, Alone}
 use Rattle.claim_ways.proofs.Members.{File, bodies, key-of, member-of, same-place}
 use Rattle.claim_functions.specs.Execution.{Result, underway, returned, LabelIn, atStart}
-use Rattle.claim_functions.specs.Execution.{Executes}
+use Rattle.claim_functions.specs.Execution.{parameter, Executes}
 use Rattle.claim_functions.specs.Labels.{LabelsPlain}
 use Rattle.claim_functions.proofs.Plain.{Distinct, plain-group, none-lone, none-forwarder}
 use Rattle.claim_functions.proofs.Plain.{once-group, group-distinct, keys-distinct}
@@ -123,8 +123,7 @@ faithful multiplier =
       thumb = λ b. refl;
       count = λ b. refl;
       hash = λ b. refl;
-      whole =
-          λ b. body-count multiplier b;
+      whole = λ b. body-count multiplier b;
     }
 
 -- a list is no longer than all lists that it stands among together
@@ -148,8 +147,7 @@ module _ (multiplier limit max : ℕ) (f : List ℕ) (bs : List Block)
   F = record {
     hashOf = hashOf multiplier;
     bodyOf = bodyOf multiplier;
-    faithful =
-        faithful multiplier;
+    faithful = faithful multiplier;
     bytes = f;
     bs = bs;
     accepted = accepted;
@@ -277,8 +275,7 @@ module _ (multiplier limit max : ℕ) (f : List ℕ) (bs : List Block)
               record {
                 means = k .everyRecord x n;
                 covered = covered d h x n;
-                sound =
-                    k .sound x n;
+                sound = k .sound x n;
                 set = p .set;
                 aligned = p .aligned;
                 below = p .below;
@@ -302,8 +299,7 @@ module _ (multiplier limit max : ℕ) (f : List ℕ) (bs : List Block)
           left = left-all (r .left);
           declares = r .declares;
           sound = r .sound;
-          agrees =
-              r .agrees;
+          agrees = r .agrees;
         }) by
 
     -- where nothing is counted yet, the chain is that of the first block
@@ -313,13 +309,13 @@ module _ (multiplier limit max : ℕ) (f : List ℕ) (bs : List Block)
         let d =
         means [] b h (covered b h) (λ i. step (0 + i)) (inFunction z) m (ready .left)
         (ready .declares) sound (ready .agrees) in
-        let c : Chain step multiplier (SameGroup limit bs i) (d .0) 0 (blockKey b) (inFunction z)
-        m = c-last b (d .1) h refl (d .2) in
+        let c : Chain step multiplier (SameGroup limit bs i) (d .out) 0 (blockKey b) (inFunction z)
+        m = c-last b (d .used) h refl (d .by) in
         claimed r es es refl (
-          d .0,
+          d .out,
           c,
-          d .3,
-          subst (λ r. Ended r (d .0)) (sym (q .0)) tt,
+          d .sound,
+          subst (λ r. Ended r (d .out)) (sym (q .0)) tt,
           (
             chainEvents c,
             subst (λ r. ToCome r (chainEvents c)) (sym (q .0)) tt,

@@ -8,7 +8,7 @@ use Rattle.armv4t.specs.Bit0.{clearBit0}
 use Rattle.file_blocks.specs.Parse.{Block, blockKey}
 use Rattle.file_blocks.specs.Address.{region}
 use Rattle.plan_groups.specs.Plan.{groups}
-use Rattle.c_meaning.specs.State.{State}
+use Rattle.c_meaning.specs.State.{State, Later}
 use Rattle.armv4t_manual.specs.Machine.{Machine}
 use Rattle.lower_forms.specs.Agree.{Agrees}
 use Rattle.claim_meaning.specs.Block.{Carries}
@@ -23,11 +23,6 @@ SameGroup limit bs i d = (g : List ℕ) × List·Memᴰ g (groups limit bs) × L
 pub record Reaches (z : State) (out : Machine × ℕ) : Type 0 where
   pub same : Agrees z (out .0)
   pub pc : z .c 15 ≡ clearBit0 (out .1)
-
--- the answers that guard and gate will give from the state y on are those from z on, but for the
--- first ones
-abbrev pub Later : State → State → Type 0
-Later z y = (j : ℕ) × ((i : ℕ) → y .answers i ≡ z .answers (j + i))
 
 -- step k is what the call of interp_one with the number k does, counted over the whole execution;
 -- Member: the blocks that may be carried out

@@ -21,7 +21,7 @@ use Rattle.c_meaning.specs.State.{afterInterp}
 use Rattle.c_meaning.specs.Eval.{eval}
 use Rattle.c_meaning.specs.Exec.{back, exec, asks, step, runs}
 use Rattle.c_meaning.specs.Helpers.{run}
-use Rattle.c_meaning.proofs.Kept.{run-declares}
+use Rattle.c_meaning.proofs.Kept.{run-declares, run-later}
 use Rattle.armv4t_manual.specs.Machine.{Machine, Sound}
 use Rattle.armv4t.specs.InRange.{InRange}
 use Rattle.lower_forms.specs.Block.{emitInstrs, hashOf, bodyOf}
@@ -98,8 +98,7 @@ known multiplier ks b means pairs closing ranges consecutive inside aligned cove
             means = means x i;
             covered = covered x i;
             ranged = ranges x i;
-            set =
-                p .set;
+            set = p .set;
             aligned = p .aligned;
             below = p .below;
           };
@@ -218,8 +217,7 @@ module _ (multiplier : ℕ) (ks : List ℕ) (b : Block) (step : ℕ → ℕ → 
         (record {
           left = record { each = q .left .each };
           declares = q .declares;
-          sound =
-              q .sound;
+          sound = q .sound;
           agrees = moved-on (q .agrees) refl refl;
         })
         (run-block multiplier ks b z true (some h) e f ∙ run-granted multiplier ks b h z g)
@@ -247,13 +245,15 @@ block-means multiplier ks b means pairs closing ranges consecutive some-instr in
     (outsideRomBios (b .addr)) (hashOf multiplier b)
     (eqb (z .answers 0) 0) refl refl refl
     in
-    let l : Leaves (λ c. blockCode ks (bodyOf multiplier b)) z (d .0) = d .4 in (
-      d .0,
-      d .1,
-      d .2,
-      d .3,
-      l,
-      run-declares (blockCode ks (bodyOf multiplier b)) z (l .end) (l .exit) (u32, x-pc)
-          (l .ends end) declares,
-      d .5 .each,
-    )
+    let l : Leaves (λ c. blockCode ks (bodyOf multiplier b)) z (d .0) = d .4 in
+    let code = blockCode ks (bodyOf multiplier b) in
+    record {
+      out = d .0;
+      used = d .1;
+      by = d .2;
+      sound = d .3;
+      text = l;
+      declares = run-declares code z (l .end) (l .exit) (u32, x-pc) (l .ends end) declares;
+      left = d .5 .each;
+      later = run-later code z (l .end) (l .exit) (l .ends end);
+    }

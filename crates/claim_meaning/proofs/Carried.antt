@@ -288,10 +288,8 @@ module _ (multiplier : ℕ) (ks : List ℕ) (b : Block) (step : ℕ → ℕ → 
                     record {
                       end = l .end;
                       exit = l .exit;
-                      ends =
-                          λ c. l .ends (codeFrom ks (bodyOf multiplier b) (i + recordsIn r) fs);
-                      leads =
-                          l .leads;
+                      ends = λ c. l .ends (codeFrom ks (bodyOf multiplier b) (i + recordsIn r) fs);
+                      leads = l .leads;
                       pc = l .pc;
                       same = l .same;
                     };
@@ -381,8 +379,7 @@ module _ (multiplier : ℕ) (ks : List ℕ) (b : Block) (step : ℕ → ℕ → 
                 (record {
                   left = left-later (q .left) refl;
                   declares = g .declares;
-                  sound =
-                      by-step .sound;
+                  sound = by-step .sound;
                   agrees = with-scopes (by-step .same) (g .scopes);
                 })
                 in
@@ -390,8 +387,7 @@ module _ (multiplier : ℕ) (ks : List ℕ) (b : Block) (step : ℕ → ℕ → 
                   out = d .out;
                   after = d .after;
                   sequence = d .sequence;
-                  sound =
-                      d .sound;
+                  sound = d .sound;
                   leaves = through (λ c. starts true e) (d .leaves);
                   left = d .left;
                 }

@@ -192,8 +192,7 @@ goes-on z d = go (z .scopes) refl d
         record {
           scopes = known;
           declares = (some (interpAnswer z), refl);
-          goes =
-              λ b i k c h. by b i k c h (eqb (interpAnswer z) k) refl;
+          goes = λ b i k c h. by b i k c h (eqb (interpAnswer z) k) refl;
         }
       where
         known : List Scope

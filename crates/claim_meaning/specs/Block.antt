@@ -16,7 +16,7 @@ use Rattle.file_instrs.specs.declared.decode.TimedInstr.{TimedInstr}
 use Rattle.file_blocks.specs.Parse.{Block}
 use Rattle.file_blocks.specs.Address.{region, outsideRomBios}
 use Rattle.c_tree.specs.Expr.{u32, x-pc}
-use Rattle.c_meaning.specs.State.{Interpreter, State, interpAnswer, afterInterp, Declares}
+use Rattle.c_meaning.specs.State.{Interpreter, State, interpAnswer, afterInterp, Declares, Later}
 use Rattle.armv4t_manual.specs.Machine.{Machine, Sound}
 use Rattle.armv4t_manual.specs.Unsaid.{noInstruction, unpredictable, isNv}
 use Rattle.armv4t_manual.specs.Execute.{execute, keyAfter}
@@ -146,16 +146,26 @@ module _ (step : ℕ → ℕ → Machine → Machine × ℕ) (region : ℕ) wher
         → hashOf multiplier b ≡ some hash → z .answers 0 ≡ 0 → step 0 (b .addr) m ≡ out
         → Carries multiplier b z m out 1
 
--- the text of a block whose records are covered, in a function that declares pc, leaves as the
--- manual and the interpreter say; what it asks of a state holds where it ends, of the calls that
--- are left, so the same can be said of the block that a goto leads to
+-- what the text of a block comes to, from the state z and the machine m that agrees with it: it
+-- leaves as the manual and the interpreter say; what is asked of a state at its start holds where it
+-- ends, of the calls of interp_one that are left, and guard and gate go on with the answers that are
+-- left, so that the same can be said of the block that a goto leads to
+pub record BlockLeaves (step : ℕ → ℕ → Machine → Machine × ℕ) (multiplier : ℕ) (ks : List ℕ)
+    (b : Block) (z : State) (m : Machine) : Type 0 where
+  pub out : Machine × ℕ
+  pub used : ℕ
+  pub by : Carries step (region (b .addr)) multiplier b z m out used
+  pub sound : Sound (out .0)
+  pub text : Leaves (λ c. blockCode ks (bodyOf multiplier b)) z out
+  pub declares : Declares (text .end .scopes) (u32, x-pc)
+  pub left : (k : ℕ) → Interprets (step (used + k)) (text .end .interpreter k)
+  pub later : Later z (text .end)
+
+-- so does the text of a block whose records are covered, in a function that declares pc
 abbrev pub BlockMeans : ℕ → List ℕ → Block → Type 0
 BlockMeans multiplier ks b =
     ((x : TimedInstr) → List·Memᴰ x (b .instrs) → isCovered (region (b .addr)) x ≡ true)
     → (step : ℕ → ℕ → Machine → Machine × ℕ) (z : State) (m : Machine)
     → ((k : ℕ) → Interprets (step k) (z .interpreter k)) → Declares (z .scopes) (u32, x-pc)
     → Sound m → Agrees z m
-    → (out : Machine × ℕ) × (used : ℕ) × Carries step (region (b .addr)) multiplier b z m out used
-    × Sound (out .0) × (l : Leaves (λ c. blockCode ks (bodyOf multiplier b)) z out)
-    × Declares (l .end .scopes) (u32, x-pc)
-    × ((k : ℕ) → Interprets (step (used + k)) (l .end .interpreter k))
+    → BlockLeaves step multiplier ks b z m
