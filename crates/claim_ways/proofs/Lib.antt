@@ -14,5 +14,6 @@ pub mod EveryWay
 pub mod Entered
 pub mod Pieces
 pub mod Complete
+pub mod Broken
 pub mod Examples
 pub mod Demand3

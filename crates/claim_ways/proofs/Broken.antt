@@ -1,0 +1,124 @@
+-- What demand 3 refuses: events that break each of its three claims, with the proof that they do;
+-- what counts as gateless, as two instructions and as several; every block is lone or one of
+-- several.
+use Prim.Native.Nat.{ℕ, suc, _+_, _≤_, _<_}
+use mathlib.Core.Path.{_≡_, refl, sym, ap, _∙_}
+use mathlib.Core.Logic.{_⊎_, inl, inr}
+use mathlib.Core.Bool.{Bool, true, false}
+use mathlib.Core.List.{List, [], _∷_, _++_, List·Memᴰ, List·Memᴰ·head, List·Memᴰ·tail}
+use mathlib.Core.List.{List·Memᴰ·not-nil}
+use mathlib.Core.Option.{Option, some}
+use native.Mathlib.Omega.{arith}
+use lib.Dec.{T}
+use lib.ListN.{length}
+use Rattle.base_lists.proofs.Counts.{some-list}
+use Rattle.file_records.specs.BlockRecord.{lengthOf}
+use Rattle.file_blocks.specs.Parse.{Block, blockKey}
+use Rattle.file_blocks.specs.Address.{outsideRomBios}
+use Rattle.plan_groups.specs.Plan.{groups}
+use Rattle.plan_groups.proofs.GroupLaws.{groups-once}
+use Rattle.c_tree.specs.Expr.{Expr}
+use Rattle.c_tree.specs.Stmt.{Test, guard, gate, other, Owner, switch, label, interp, ret, Code}
+use Rattle.c_tree.specs.Stmt.{end}
+use Rattle.c_tree.specs.Stmt.{_⨾_, Top}
+use Rattle.claim_ways.specs.Ways.{Event, reach, said, nativeStart, interpreted, Way, w-label}
+use Rattle.claim_ways.specs.Ways.{w-ret, w-interp, w-default, w-past}
+use Rattle.claim_ways.specs.Claim.{carried, timesCarried, Gateless, Several, Lone, Passed}
+use Rattle.claim_ways.specs.Claim.{WayClaim}
+
+-- a round through guards and conditions, whatever they answer, without a consultation of the gate:
+-- so many native records, and one by the interpreter
+abbrev round : ℕ → Expr → ℕ → List Event
+round k e n =
+    nativeStart k 0 n ∷ said (guard 1 2 3) true ∷ said (other e) false ∷ said (guard 1 2 3) false
+    ∷ said (other e) true ∷ interpreted k n ∷ []
+
+-- it is gateless, and carries out one more
+pub round-gateless : (k : ℕ) (e : Expr) (n : ℕ)
+    → Gateless (round k e n) × (carried (round k e n) ≡ n + 1)
+round-gateless k e n = ((tt, (tt, (tt, (tt, tt)))), refl)
+
+-- an answer of the gate ends a gateless run, whatever it is
+pub gate-consulted : (x : Bool) (es : List Event) → Gateless (said gate x ∷ es) → ⊥
+gate-consulted x es g = g .0
+
+-- a fused pair is two instructions, each carried out once
+pub pair-is-two : (carried (nativeStart 8 3 2 ∷ []) ≡ 2)
+    × (timesCarried 8 3 (nativeStart 8 3 2 ∷ []) ≡ 1)
+    × (timesCarried 8 4 (nativeStart 8 3 2 ∷ []) ≡ 1)
+    × (timesCarried 8 5 (nativeStart 8 3 2 ∷ []) ≡ 0)
+pair-is-two = (refl, refl, refl, refl)
+
+-- two blocks of one group are several
+pub two-are-several : (limit : ℕ) (bs : List Block) (i j : ℕ)
+    → List·Memᴰ (i ∷ j ∷ []) (groups limit bs) → Several limit bs i × Several limit bs j
+two-are-several limit bs i j m = (
+  (i ∷ j ∷ [], m, List·Memᴰ·head refl, omega arith),
+  (i ∷ j ∷ [], m, List·Memᴰ·tail (List·Memᴰ·head refl), omega arith),
+)
+
+-- every block is lone or one of several
+pub lone-or-several : (limit : ℕ) (bs : List Block) (i : ℕ) → i < length bs
+    → Lone limit bs i ⊎ Several limit bs i
+lone-or-several limit bs i h =
+    go (some-list i (groups limit bs) (omega (arith, groups-once limit bs i h)))
+  where
+    go : (g : List ℕ) × List·Memᴰ g (groups limit bs) × List·Memᴰ i g
+        → Lone limit bs i ⊎ Several limit bs i
+    go ([], m, n) = absurd (List·Memᴰ·not-nil n)
+    go (j ∷ [], m, List·Memᴰ·head e) = inl (rw e m)
+    go (j ∷ [], m, List·Memᴰ·tail n) = absurd (List·Memᴰ·not-nil n)
+    go (j ∷ k ∷ g, m, n) = inr (j ∷ k ∷ g, m, n, omega arith)
+
+module _ (toHash : Block → Option ℕ) (limit : ℕ) (bs : List Block) (i : ℕ) where
+  -- one instruction more than the limit in a gateless run, in a group of several
+  pub over-the-limit : Several limit bs i → (k : ℕ) (e : Expr)
+      → WayClaim toHash limit bs i (round k e limit) → ⊥
+  over-the-limit s k e c =
+      omega (arith, c .bounded s [] (round k e limit) [] refl (round-gateless k e limit .0))
+
+  -- the second of a pair carried out once more by the interpreter, in a lone block
+  pub twice-in-a-lone-block : Lone limit bs i
+      → WayClaim toHash limit bs i (nativeStart 8 0 2 ∷ interpreted 8 1 ∷ []) → ⊥
+  twice-in-a-lone-block l c = omega (arith, c .once l 8 1)
+
+  -- native records of a block outside ROM and BIOS after the guard said no to it, and yes to
+  -- another address, to another length and to another hash
+  pub unguarded : (b : Block) (h : ℕ) → List·Memᴰ b bs → T (outsideRomBios (b .addr))
+      → toHash b ≡ some h
+      → let l = lengthOf (length (b .instrs)) (b .thumb) in
+      let us = said (guard (b .addr) l h) false ∷ said (guard (suc (b .addr)) l h) true
+      ∷ said (guard (b .addr) (suc l) h) true ∷ said (guard (b .addr) l (suc h)) true ∷ [] in
+      WayClaim toHash limit bs i (us ++ (nativeStart (blockKey b) 0 1 ∷ [])) → ⊥
+  unguarded b h m o e c =
+      passed (c .guarded _ [] (nativeStart (blockKey b) 0 1) refl b m refl o)
+    where
+      l : ℕ
+      l = lengthOf (length (b .instrs)) (b .thumb)
+
+      passed : Passed toHash b (said (guard (b .addr) l h) false
+          ∷ said (guard (suc (b .addr)) l h) true ∷ said (guard (b .addr) (suc l) h) true
+          ∷ said (guard (b .addr) l (suc h)) true ∷ []) → ⊥
+      passed (g, f, List·Memᴰ·head p) = let z : _≡_ {A = ℕ} 0 1 = cc in omega arith
+      passed (g, f, List·Memᴰ·tail (List·Memᴰ·head p)) =
+          let z : b .addr ≡ suc (b .addr) = cc in omega arith
+      passed (g, f, List·Memᴰ·tail (List·Memᴰ·tail (List·Memᴰ·head p))) =
+          let z : l ≡ suc l = cc in omega arith
+      passed (g, f, List·Memᴰ·tail (List·Memᴰ·tail (List·Memᴰ·tail (List·Memᴰ·head p)))) =
+          let y : g ≡ h = cc in let z : g ≡ suc h = cc in omega arith
+      passed (g, f, List·Memᴰ·tail (List·Memᴰ·tail (List·Memᴰ·tail (List·Memᴰ·tail n)))) =
+          List·Memᴰ·not-nil n
+
+module _ (ts : List Top) (f : Code) (o : Owner) (e : Expr) where
+  -- a way goes on after a label, and after the interpreter's answer
+  pub over-a-label : (k i j : ℕ)
+      → Way ts f (label k ⨾ interp i j ⨾ ret o e ⨾ end) [] (interpreted i j ∷ reach o ∷ [])
+  over-a-label k i j = w-label (w-interp w-ret)
+
+  -- a switch may take its default, or none of its entries
+  pub default-taken : (ks : List ℕ)
+      → Way ts f (switch ks ⨾ ret o e ⨾ end) [] (reach Owner.common ∷ [])
+  default-taken ks = w-default
+
+  pub past-a-switch : (ks : List ℕ) → Way ts f (switch ks ⨾ ret o e ⨾ end) [] (reach o ∷ [])
+  past-a-switch ks = w-past w-ret
