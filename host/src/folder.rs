@@ -75,7 +75,12 @@ impl Folder {
         // All that takes room on the disk comes before the first renaming.
         self.write_temporary(MANIFEST, manifest.print().as_bytes())?;
         let count = manifest.units.len() as u64;
+        let older = self.held.entries()?;
+        no_folder_among(&self.held, &older, |entry| {
+            entry.name == MANIFEST || entry.unit().is_some_and(|unit| unit < count)
+        })?;
         self.name_units(count)?;
+        self.remove_beyond(count, &older)?;
         self.held.sync()?;
         self.held.rename(&names::temporary(MANIFEST), MANIFEST)?;
         self.unnamed.clear();
@@ -83,19 +88,19 @@ impl Folder {
         Ok(manifest)
     }
 
-    /// Gives so many units their names, so that no others of such names are left.
+    /// Gives so many units their names, in place of those of an older run.
     fn name_units(&self, count: u64) -> Result<(), Failure> {
-        let entries = self.held.entries()?;
-        let number = |entry: &Entry| names::number(&entry.name);
-        no_folder_among(&self.held, &entries, |entry| {
-            entry.name == MANIFEST || number(entry).is_some_and(|unit| unit < count)
-        })?;
         for unit in 0..count {
             let name = names::unit(unit);
             self.held.rename(&names::temporary(&name), &name)?;
         }
-        for entry in entries {
-            if !entry.kind.is_dir() && number(&entry).is_some_and(|unit| unit >= count) {
+        Ok(())
+    }
+
+    /// Removes what an older run had beyond so many units.
+    fn remove_beyond(&self, count: u64, older: &[Entry]) -> Result<(), Failure> {
+        for entry in older {
+            if !entry.kind.is_dir() && entry.unit().is_some_and(|unit| unit >= count) {
                 self.held.remove(&entry.name)?;
             }
         }

@@ -3,6 +3,7 @@
 //! own on the folder: it needs no file, and ends with the program, however that ends.
 
 use crate::failure::Failure;
+use crate::names;
 use std::fs::{self, File, FileType, TryLockError};
 use std::io::{self, ErrorKind};
 use std::os::fd::AsRawFd;
@@ -28,6 +29,13 @@ pub struct Held {
 pub struct Entry {
     pub name: String,
     pub kind: FileType,
+}
+
+impl Entry {
+    /// The unit that it has the name of.
+    pub fn unit(&self) -> Option<u64> {
+        names::number(&self.name)
+    }
 }
 
 impl Held {

@@ -65,8 +65,8 @@ pub fn listing(file: &[u8], work: &mut [u32], text: &mut [u8]) -> Result<u64, Re
     answer(number, at, length)
 }
 
-/// Unit `unit`, from 0, of those that are closed from `max_bytes` bytes on; `text` then has its text
-/// in its front.
+/// Unit `unit`, from 0, of those that are closed from `max_bytes` bytes on; `text` then has its
+/// text in its front.
 pub fn unit(
     file: &[u8],
     max_bytes: u64,

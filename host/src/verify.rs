@@ -123,7 +123,7 @@ fn sum(mut file: File) -> io::Result<String> {
 fn no_other_unit(held: &Held, count: u64) -> Result<(), Failure> {
     let entries = held.entries()?;
     let files = entries.iter().filter(|entry| !entry.kind.is_dir());
-    let numbers = files.filter_map(|entry| names::number(&entry.name));
+    let numbers = files.filter_map(|entry| entry.unit());
     match numbers.filter(|&unit| unit >= count).min() {
         Some(unit) => {
             let advice = format!("remove it, or {AGAIN}");

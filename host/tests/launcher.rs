@@ -169,36 +169,25 @@ fn what_changed_is_proved_and_built_again() {
     let repository = Repository::new();
     repository.run(&["--version"]).status.expect("a status");
     repository.calls();
-    let changes: [(&str, &dyn Fn(&Path)); 8] = [
-        ("crates/base/src/lib.rt", &|path| {
-            fs::write(path, "").expect("a file")
-        }),
-        ("crates/base/src/new.rt", &|path| {
-            fs::write(path, "").expect("a file")
-        }),
-        ("crates/base/src/new.rt", &|path| {
-            fs::remove_file(path).expect("a file")
-        }),
-        ("crates.txt", &|path| {
-            fs::write(path, CRATES).expect("a file")
-        }),
-        ("host/src/main.rs", &|path| {
-            fs::write(path, "").expect("a file")
-        }),
-        ("host/build.rs", &|path| {
-            fs::write(path, "").expect("a file")
-        }),
-        ("host/Cargo.toml", &|path| {
-            fs::write(path, "").expect("a file")
-        }),
-        ("host/target/recomp", &|path| {
-            fs::remove_file(path).expect("a file")
-        }),
+    // Files that are written, or removed.
+    let changes = [
+        ("crates/base/src/lib.rt", Some("")),
+        ("crates/base/src/new.rt", Some("")),
+        ("crates/base/src/new.rt", None),
+        ("crates.txt", Some(CRATES)),
+        ("host/src/main.rs", Some("")),
+        ("host/build.rs", Some("")),
+        ("host/Cargo.toml", Some("")),
+        ("host/Cargo.lock", Some("")),
+        ("host/target/recomp", None),
     ];
-    for (name, change) in changes {
+    for (name, text) in changes {
         assert_eq!(repository.run(&["--version"]).printed(), VERSION);
         assert!(repository.calls().is_empty(), "{name}");
-        change(&repository.path(name));
+        match text {
+            Some(text) => repository.put(name, text),
+            None => fs::remove_file(repository.path(name)).expect("a file"),
+        }
         assert_eq!(repository.run(&["--version"]).out, VERSION);
         assert_eq!(repository.calls(), repository.both_calls(), "{name}");
     }
