@@ -355,16 +355,16 @@ return-lt : (x : ℕ) → x < two32 → x / 2 * 2 + 1 < two32
 return-lt x h = omega arith
 
 -- what an instruction makes, if that is said, has a property
-abbrev Each : (Machine × ℕ → Type 0) → Option (Machine × ℕ) → Type 0
+abbrev pub Each : (Machine × ℕ → Type 0) → Option (Machine × ℕ) → Type 0
 Each P none = Unit {0}
 Each P (some next) = P next
 
-each-unless : (P : Machine × ℕ → Type 0) (b : Bool) {next : Machine × ℕ} → P next
+pub each-unless : (P : Machine × ℕ → Type 0) (b : Bool) {next : Machine × ℕ} → P next
     → Each P (cond b none (some next))
 each-unless P true p = tt
 each-unless P false p = p
 
-execute-each : (P : Machine × ℕ → Type 0) (i : Instr) (m : Machine) → P (onward i m)
+pub execute-each : (P : Machine × ℕ → Type 0) (i : Instr) (m : Machine) → P (onward i m)
     → Each P (operation i (i .op) m) → Each P (execute i m)
 unfolding execute
 execute-each P i m p q = go (noInstruction i) (passed (i .cond) m) (unpredictable (i .op))

@@ -4,7 +4,7 @@ use Prim.Native.Nat.{ℕ, _+_, _*_, _/_, _%_, _^_, _<_}
 use mathlib.Core.Path.{_≡_, refl}
 use mathlib.Core.Bool.{Bool, true, false, cond}
 use lib.Dec.{eqb}
-use Rattle.base_words.specs.Word.{oneIf}
+use Rattle.base_words.specs.Word.{bit, oneIf}
 
 -- 2^32
 abbrev pub two32 : ℕ
@@ -66,7 +66,11 @@ abbrev pub setMem : (ℕ → ℕ) → Machine → Machine
 setMem f m =
     record { r = m .r; n = m .n; z = m .z; c = m .c; v = m .v; otherBits = m .otherBits; mem = f }
 
--- T, bit 5 of the status register
+-- T, bit 5 of the status register: set in Thumb state (A2.5)
+abbrev pub thumbState : Machine → Bool
+thumbState m = bit (m .otherBits) 5
+
+-- the machine with another T
 abbrev pub setT : Bool → Machine → Machine
 setT t m =
     record {

@@ -1,6 +1,6 @@
 -- To be believed: the Thumb instructions, their formats, the record that each decodes to, and what
--- A7.1 says that it does. Formats bear the numbers of thumb.rs, and opcodes the names of A7.1: add-1 is ADD (1).
--- Left out are halfwords that no format has, which thumb.rs makes Undefined.
+-- A7.1 says that it does. Formats bear the numbers of thumb.rs, and opcodes the names of A7.1:
+-- add-1 is ADD (1). Left out are halfwords that no format has, which thumb.rs makes Undefined.
 use Prim.Native.Nat.{ℕ, zero, suc, _+_, _-_, _*_, _/_, _%_, _^_, _<_}
 use mathlib.Core.Path.{_≡_}
 use mathlib.Core.Bool.{Bool, true, false, not, cond, _&&_}

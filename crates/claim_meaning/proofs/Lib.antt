@@ -7,4 +7,5 @@ pub mod Quiet
 pub mod Carried
 pub mod Blocks
 pub mod Supposed
+pub mod State
 pub mod Meaning

@@ -18,6 +18,7 @@ use Rattle.claim_meaning.proofs.Ranges.{accepted-ranges, accepted-conse
 use Rattle.claim_meaning.proofs.Ranges.{accepted-end, accepted-aligned}
 use Rattle.claim_meaning.proofs.Closing.{closing-means}
 use Rattle.claim_meaning.proofs.Blocks.{Placed, placed, block-means}
+use Rattle.claim_meaning.proofs.State.{keeps-state}
 
 -- an aligned address is even
 aligned-even : (t : Bool) (a : ℕ) → a % sizeOf t ≡ 0 → a % 2 ≡ 0
@@ -43,6 +44,13 @@ meaning-of multiplier f bs accepted b m ks =
           (accepted-consecutive f bs accepted b m)
           (accepted-some f bs accepted b m) (accepted-end f bs accepted b m)
           (accepted-aligned f bs accepted b m);
+      state =
+          keeps-state multiplier b
+          (λ x h. record {
+            set = stands x h .set;
+            even = aligned-even (b .thumb) (x .instr .addr) (stands x h .aligned);
+            ranges = accepted-ranges f bs accepted b m x h;
+          });
     }
   where
     stands : (x : TimedInstr) → List·Memᴰ x (b .instrs) → Placed (b .thumb) x

@@ -4,6 +4,7 @@ use mathlib.Core.Path.{_≡_}
 use mathlib.Core.Bool.{Bool, true, false, not, _&&_, _||_}
 use mathlib.Core.List.{List, [], _∷_, List·Memᴰ}
 use mathlib.Core.Option.{none, some}
+use Rattle.base_words.specs.Word.{bit}
 use Rattle.armv4t.specs.Bit0.{clearBit0}
 use Rattle.armv4t.specs.declared.Op.{Op}
 use Rattle.armv4t.specs.declared.Op.the-variants.{Alu, Mul, MulLong, Swap, Bx, Branch, ThumbBlHigh}
@@ -17,7 +18,7 @@ use Rattle.file_blocks.specs.Parse.{Block}
 use Rattle.file_blocks.specs.Address.{region, outsideRomBios}
 use Rattle.c_tree.specs.Expr.{u32, x-pc}
 use Rattle.c_meaning.specs.State.{Interpreter, State, interpAnswer, afterInterp, Declares, Later}
-use Rattle.armv4t_manual.specs.Machine.{Machine, Sound}
+use Rattle.armv4t_manual.specs.Machine.{Machine, Sound, thumbState}
 use Rattle.armv4t_manual.specs.Unsaid.{noInstruction, unpredictable, isNv}
 use Rattle.armv4t_manual.specs.Execute.{execute, keyAfter}
 use Rattle.lower_forms.specs.Forms.{Form, native, shell}
@@ -146,10 +147,23 @@ module _ (step : ℕ → ℕ → Machine → Machine × ℕ) (region : ℕ) wher
         → hashOf multiplier b ≡ some hash → z .answers 0 ≡ 0 → step 0 (b .addr) m ≡ out
         → Carries multiplier b z m out 1
 
+-- each step of the interpreter leaves T equal to bit 0 of the key that it leads to
+abbrev pub StepsKeepState : (ℕ → ℕ → Machine → Machine × ℕ) → Type 0
+StepsKeepState step = (k a : ℕ) (m : Machine) → thumbState (step k a m .0) ≡ bit (step k a m .1) 0
+
+-- where they do: T at the exit of a block is bit 0 of the key that it leads to, if it was the
+-- block's own set at its entry
+abbrev pub KeepsState : ℕ → Block → Type 0
+KeepsState multiplier b =
+    (step : ℕ → ℕ → Machine → Machine × ℕ) → StepsKeepState step → (z : State) (m : Machine)
+    (out : Machine × ℕ) (used : ℕ)
+    → thumbState m ≡ b .thumb → Carries step (region (b .addr)) multiplier b z m out used
+    → thumbState (out .0) ≡ bit (out .1) 0
+
 -- what the text of a block comes to, from the state z and the machine m that agrees with it: it
--- leaves as the manual and the interpreter say; what is asked of a state at its start holds where it
--- ends, of the calls of interp_one that are left, and guard and gate go on with the answers that are
--- left, so that the same can be said of the block that a goto leads to
+-- leaves as the manual and the interpreter say; what is asked of a state at its start holds where
+-- it ends, of the calls of interp_one that are left, and guard and gate go on with the answers that
+-- are left, so that the same can be said of the block that a goto leads to
 pub record BlockLeaves (step : ℕ → ℕ → Machine → Machine × ℕ) (multiplier : ℕ) (ks : List ℕ)
     (b : Block) (z : State) (m : Machine) : Type 0 where
   pub out : Machine × ℕ

@@ -12,7 +12,7 @@ use Rattle.armv4t_manual.specs.Execute.{execute}
 use Rattle.lower_forms.specs.Block.{bodyOf}
 use Rattle.lower_units.specs.Records.{RecordMeans, ThumbMeans, PairMeans, ThumbPairMeans}
 use Rattle.lower_units.specs.Records.{ClosingMeans}
-use Rattle.claim_meaning.specs.Block.{BlockMeans}
+use Rattle.claim_meaning.specs.Block.{BlockMeans, KeepsState}
 
 -- what is claimed of the text of a block, ks being the keys of its group; the first three are what
 -- the other claims ask of its records
@@ -46,6 +46,8 @@ pub record BlockMeaning (multiplier : ℕ) (ks : List ℕ) (b : Block) : Type 0 
   -- the text of the block as a whole leaves as the manual and the interpreter say, where its
   -- records are covered
   pub whole : BlockMeans multiplier ks b
+  -- T agrees with the key that a block leads to
+  pub state : KeepsState multiplier b
 
 -- a file, if it is accepted: every block, whatever keys its group has
 unfoldable pub MeaningOf : ℕ → List ℕ → Type 0
