@@ -7,7 +7,8 @@ use mathlib.Core.List.{List, [], _∷_, _++_, append-nil, append-assoc}
 use lib.ListN.{length, take, drop, getD, length-append}
 use lib.Seq.{take-suc, take-all}
 use Rattle.base_text.specs.Doc.{Doc, nothing, raw, text, dec, hex, hex8, hex16, _▸_, print}
-use Rattle.base_text.specs.Doc.{flat, each}
+use Rattle.base_text.specs.Doc.{each}
+use Rattle.base_text.specs.Flat.{flat}
 use Rattle.base_text.specs.Wrote.{maxUsize, overlay, Wrote}
 use Rattle.base_text.proofs.Overlay.{overlay-none, length-overlay, overlay-append}
 use Rattle.base_text.proofs.Overlay.{overlay-front, overlay-stop}
@@ -55,7 +56,7 @@ pub same-bytes : (d e : Doc) → flat d [] ≡ flat e [] → print d ≡ print e
 same-bytes d e p =
     sym (append-nil (print d)) ∙ sym (flat-print d []) ∙ p ∙ flat-print e [] ∙ append-nil (print e)
 
--- the same bytes, put together otherwise: `said w refl`
+-- the same bytes, put together otherwise: `wrote-as w refl`
 pub wrote-as : {o o′ : List ℕ} {at r : ℕ} {d e : Doc} → Wrote o at d o′ r → flat d [] ≡ flat e []
     → Wrote o at e o′ r
 wrote-as {o} {o′} {at} {r} {d} {e} w p =

@@ -1,16 +1,15 @@
 -- The most bytes that a text can take, by its pieces: a bound that computes where numbers stay
 -- unknown. Assumes nothing.
-use Prim.Native.Nat.{ℕ, zero, suc, zero-le, _+_, _*_, _/_, _%_, _≤_}
+use Prim.Native.Nat.{ℕ, zero, suc, zero-le, _+_, _/_, _%_, _≤_}
 use mathlib.Core.Bool.{Bool, true, false, cond}
-use mathlib.Core.List.{List, [], _∷_, _++_}
+use mathlib.Core.List.{[], _∷_, _++_}
 use native.Mathlib.Omega.{arith}
-use native.Mathlib.Nat.{le-refl, suc-mul}
+use native.Mathlib.Nat.{le-refl}
 use lib.Dec.{ltb}
 use lib.ListN.{length, length-append}
 use Rattle.base_text.specs.Digits.{numeral, glyph}
 use Rattle.base_text.specs.Doc.{Doc, nothing, raw, text, dec, hex, hex8, hex16, _▸_, chars}
 use Rattle.base_text.specs.Doc.{print, decimal, hexadecimal, hexadecimal8, hexadecimal16}
-use Rattle.base_text.specs.Doc.{each}
 use Rattle.base_text.proofs.Numerals.{length-fixed}
 
 numeral-length : (b most n : ℕ) → length (numeral b most n) ≤ most
@@ -45,9 +44,3 @@ length-most (hex n) = numeral-length 16 16 n
 length-most (hex8 n) = omega (arith, length-fixed 16 8 n)
 length-most (hex16 n) = omega (arith, length-fixed 16 16 n)
 length-most (a ▸ b) = omega (arith, length-append (print a) (print b), length-most a, length-most b)
-
--- a list of texts that have at most m bytes each
-pub most-each : {A : Type 0} (f : A → Doc) (m : ℕ) → ((x : A) → most (f x) ≤ m) → (xs : List A)
-    → most (each f xs) ≤ length xs * m
-most-each f m h [] = omega arith
-most-each f m h (x ∷ xs) = omega (arith, h x, most-each f m h xs, suc-mul (length xs) m)

@@ -6,7 +6,7 @@ use native.Mathlib.Nat.{min-eq-right}
 use native.Mathlib.Omega.{arith}
 use native.Mathlib.Decide.{decLe}
 use mathlib.Core.List.{List, [], _∷_, _++_}
-use lib.ListN.{length, take, drop, set, getD, take-append-drop}
+use lib.ListN.{length, take, drop, set, getD}
 use lib.Seq.{take-suc, length-take-le}
 use Rattle.base_text.specs.Wrote.{overlay}
 
@@ -100,13 +100,3 @@ overlay-more o at s i h =
     (sym (length-take-le i s (omega arith)))
     ∙ overlay-append o at (take i s) (getD s i 0 ∷ [])
     ∙ ap (overlay o at) (sym (take-suc s i 0 h))
-
--- what lies past the end may be left out
-pub overlay-clip : (o : List ℕ) (at : ℕ) (s : List ℕ) (m : ℕ) → m ≤ length s → length o ≤ at + m
-    → overlay o at (take m s) ≡ overlay o at s
-overlay-clip o at s m hs ho =
-    sym
-    (overlay-past (overlay o at (take m s)) (at + length (take m s)) (drop m s)
-    (omega (arith, length-overlay o at (take m s), length-take-le m s hs)))
-    ∙ overlay-append o at (take m s) (drop m s)
-    ∙ ap (overlay o at) (take-append-drop m s)

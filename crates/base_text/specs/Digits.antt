@@ -1,5 +1,5 @@
--- A number as text: its digits in a base, the most significant first, with no zeros in front or
--- with a fixed number of digits.
+-- To be believed: a number as text: its digits in a base, the most significant first, with no zeros
+-- in front or with a fixed number of digits.
 use Prim.Native.Nat.{ℕ, zero, suc, _+_, _/_, _%_}
 use mathlib.Core.Bool.{cond}
 use mathlib.Core.List.{List, [], _∷_, _++_}

@@ -1,4 +1,4 @@
--- A text put together from pieces, and its bytes.
+-- To be believed: a text put together from pieces, and its bytes.
 use Prim.Native.Nat.{ℕ, _+_, _/_, _%_}
 use Prim.Native.Char.{code}
 use Prim.Native.String.{String, [] as ε, _∷_ as _∷ˢ_}
@@ -64,18 +64,6 @@ print (hex n) = hexadecimal n
 print (hex8 n) = hexadecimal8 n
 print (hex16 n) = hexadecimal16 n
 print (a ▸ b) = print a ++ print b
-
--- the bytes of a doc in front of k, `print d ++ k` with the brackets to the right. Where two docs
--- are put together otherwise from the same bytes, their flat forms compute to one term
-abbrev pub flat : Doc → List ℕ → List ℕ
-flat nothing k = k
-flat (raw s) k = s ++ k
-flat (text s) k = chars s ++ k
-flat (dec n) k = decimal n ++ k
-flat (hex n) k = hexadecimal n ++ k
-flat (hex8 n) k = hexadecimal8 n ++ k
-flat (hex16 n) k = hexadecimal16 n ++ k
-flat (a ▸ b) k = flat a (flat b k)
 
 -- f of each of xs, in order
 abbrev pub each : {A : Type 0} → (A → Doc) → List A → Doc

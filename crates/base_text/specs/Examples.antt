@@ -1,4 +1,4 @@
--- Texts that a reader knows, computed.
+-- Examples: texts that a reader knows, computed.
 use mathlib.Core.Path.{_≡_, refl}
 use mathlib.Core.List.{[], _∷_}
 use Rattle.base_text.specs.Digits.{numeral, lastDigits}

@@ -1,5 +1,5 @@
--- What the contracts of the printers say: the bytes that a buffer holds afterwards, and the number
--- answered.
+-- Steps: what the contracts of the printers say: the bytes that a buffer holds afterwards, and the
+-- number answered.
 use mathlib.Core.Path.{_≡_}
 use Prim.Native.Nat.{ℕ, zero, suc, _+_, _≤_, min}
 use mathlib.Core.List.{List, [], _∷_}

@@ -6,8 +6,8 @@ use mathlib.Core.List.{List, [], _∷_, _++_}
 use mathlib.Core.Option.{Option, none, some}
 use Rattle.c_tree.specs.Stmt.{Plain, Code, end, _⨾_, when, braces, _⧺_, Helper}
 use Rattle.c_meaning.specs.State.{bind, State, enter, leave}
-use Rattle.c_meaning.specs.Exec.{Goes, on, to, back, Outcome, next, exec, execs, asks, step}
-use Rattle.c_meaning.specs.Exec.{runs}
+use Rattle.c_meaning.specs.Exec.{Goes, on, to, back, Outcome, next, exec, asks, step, runs}
+use Rattle.c_meaning.specs.Perform.{execs}
 
 module _ {A B C : Type 0} where
   -- one bind after another

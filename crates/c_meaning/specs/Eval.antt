@@ -1,6 +1,6 @@
--- The value of an expression by C99. The type is static; what C leaves undefined is none. No
--- expression has an effect, so the order in which C evaluates operands, which it leaves open,
--- cannot matter.
+-- To be believed: the value of an expression by C99. The type is static; what C leaves undefined is
+-- none. No expression has an effect, so the order in which C evaluates operands, which it leaves
+-- open, cannot matter.
 use Prim.Native.Nat.{ℕ, _+_, _-_, _*_, _/_, _%_, _^_}
 use mathlib.Core.Bool.{Bool, not, cond, _&&_, _||_, Bool·beq}
 use mathlib.Core.Option.{Option, none, some}
@@ -143,7 +143,8 @@ arith add y k l = cond (signed y) (signedAdd (width y) k l) (some ((k + l) % 2 ^
 arith sub y k l =
     cond (signed y) (signedSub (width y) k l) (some ((k + (2 ^ width y - l)) % 2 ^ width y))
 arith shl y k l = cond (ltb l (width y))
-    (cond (signed y) (signedShl (width y) k l) (some (k * 2 ^ l % 2 ^ width y))) none
+    (cond (signed y) (signedShl (width y) k l) (some (k * 2 ^ l % 2 ^ width y)))
+    none
 arith shr y k l = cond (ltb l (width y)) (some (shiftRight y k l)) none
 arith eq y k l = some (truth (eqb k l))
 arith ne y k l = some (truth (not (eqb k l)))
@@ -173,7 +174,8 @@ operate bxor x y p q = bind p λ k. bind q λ l. binValue bxor x y k l
 operate bor x y p q = bind p λ k. bind q λ l. binValue bor x y k l
 operate land x y p q =
     bind p λ k. cond (eqb k 0) (some 0) (bind q λ l. some (truth (not (eqb l 0))))
-operate lor x y p q = bind p λ k. cond (eqb k 0) (bind q λ l. some (truth (not (eqb l 0)))) (some 1)
+operate lor x y p q =
+    bind p λ k. cond (eqb k 0) (bind q λ l. some (truth (not (eqb l 0)))) (some 1)
 
 -- ~ and !
 abbrev pub unValue : Un → Ty → ℕ → ℕ
@@ -191,12 +193,15 @@ module _ (rorAnswer : ℕ → ℕ → Option ℕ) where
   eval (bin o d e) z = operate o (ty d) (ty e) (eval d z) (eval e z)
   eval (orLine d e) z = operate bor (ty d) (ty e) (eval d z) (eval e z)
   eval (cast y e) z = bind (eval e z) λ k. some (convert (ty e) y k)
-  eval (pick c d e) z = bind (eval c z) λ k. cond (eqb k 0)
+  eval (pick c d e) z =
+      bind (eval c z) λ k.
+      cond (eqb k 0)
       (bind (eval e z) λ l. some (convert (ty e) (commonType (ty d) (ty e)) l))
       (bind (eval d z) λ l. some (convert (ty d) (commonType (ty d) (ty e)) l))
   eval (ror d e) z =
-      bind (eval d z) λ k. bind (eval e z) λ l. rorAnswer (convert (ty d) u32 k)
-      (convert (ty e) u32 l)
+      bind (eval d z) λ k.
+      bind (eval e z) λ l.
+      rorAnswer (convert (ty d) u32 k) (convert (ty e) u32 l)
   eval (read w e) z = bind (eval e z) λ k. some (load w (z .mem) (convert (ty e) u32 k))
 
   -- the same, converted to a type as in an assignment, an argument or a return

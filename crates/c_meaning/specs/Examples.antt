@@ -1,22 +1,24 @@
--- What C99 makes of small trees, computed.
+-- Examples: what C99 makes of small trees, computed.
 use Prim.Native.Nat.{ℕ, _+_}
 use mathlib.Core.Path.{_≡_, refl}
 use mathlib.Core.Bool.{true, false}
 use mathlib.Core.List.{[], _∷_}
 use mathlib.Core.Option.{Option, none, some}
 use Rattle.base_words.specs.Word.{AND, OR, EOR}
-use Rattle.c_tree.specs.Expr.{s8, s32, u32, s64, word, udec, int, x-r, x-pc, reg, var, mul, add}
-use Rattle.c_tree.specs.Expr.{sub, shl, shr, land, lor, w8, w32, lit, get, par, bin, cast, ror}
+use Rattle.c_tree.specs.Expr.{s8, s16, s32, u32, s64, word, udec, int, x-r, x-pc, reg, var, mul}
+use Rattle.c_tree.specs.Expr.{add}
+use Rattle.c_tree.specs.Expr.{sub, shl, shr, land, lor, w8, w16, w32, lit, get, par, bin, cast, ror}
 use Rattle.c_tree.specs.Expr.{read}
 use Rattle.c_tree.specs.Stmt.{is, plus, f-nz, f-c, local, declare, adds, set, discard, run, write}
 use Rattle.c_tree.specs.Stmt.{gate, other, common, plain, goto, ret, retIf, interp, retInterp, end}
 use Rattle.c_tree.specs.Stmt.{_⨾_, when, braces}
 use Rattle.c_tree.specs.Preamble.{v32}
-use Rattle.c_meaning.specs.State.{bind, update, State, empty}
+use Rattle.c_meaning.specs.Types.{commonType, convert}
+use Rattle.c_meaning.specs.State.{bind, update, State, empty, load, store}
 use Rattle.c_meaning.specs.Eval.{eval, evalAs}
-use Rattle.c_meaning.specs.Exec.{Goes, to, back, Outcome, exec, others, execs, asks, step}
-use Rattle.c_meaning.specs.Exec.{runs}
-use Rattle.c_meaning.specs.Helpers.{called, rotated, evaluate, perform}
+use Rattle.c_meaning.specs.Exec.{Goes, to, back, Outcome, exec, others, asks, step, runs}
+use Rattle.c_meaning.specs.Perform.{execs, evaluate, perform}
+use Rattle.c_meaning.specs.Helpers.{called, rotated}
 use Rattle.c_meaning.specs.Helpers as H
 
 -- c[k] is k, but for c[16], the flags, which are clear; memory bytes are 0xfe; the runtime says
@@ -211,3 +213,35 @@ interprets-twice : afterCode 0
     ≡ some (10, back 9)
 unfolding H.run eval evalAs exec execs others runs step asks
 interprets-twice = refl
+
+-- int with unsigned int is unsigned int, unsigned int with int64_t is int64_t, and int8_t with
+-- int16_t is int
+int-and-unsigned : commonType s32 u32 ≡ u32
+int-and-unsigned = refl
+
+unsigned-and-long : commonType u32 s64 ≡ s64
+unsigned-and-long = refl
+
+small-ones : commonType s8 s16 ≡ s32
+small-ones = refl
+
+-- -2 as int8_t is 0xfe, as int 0xfffffffe, as int64_t with more of the sign; an unsigned 0xfffffffe
+-- has zeros in front
+minus-two : convert s8 s32 0xfe ≡ 0xfffffffe
+minus-two = refl
+
+minus-two-long : convert s32 s64 0xfffffffe ≡ 0xfffffffffffffffe
+minus-two-long = refl
+
+no-sign : convert u32 s64 0xfffffffe ≡ 0xfffffffe
+no-sign = refl
+
+cut : convert u32 s8 0x1234 ≡ 0x34
+cut = refl
+
+-- a word stored over the end of the address space, and read
+store-wraps : load w32 (store w32 0xfffffffe 0x12345678 (λ a. 0)) 0xfffffffe ≡ 0x12345678
+store-wraps = refl
+
+store-in-order : load w16 (store w32 0x1000 0x12345678 (λ a. 0)) 0x1002 ≡ 0x1234
+store-in-order = refl

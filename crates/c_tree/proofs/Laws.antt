@@ -4,7 +4,8 @@ use Prim.Native.Nat.{ℕ, _+_}
 use mathlib.Core.Bool.{Bool, _&&_, and-assoc}
 use mathlib.Core.List.{List, [], _++_}
 use lib.ListN.{length, length-append}
-use Rattle.base_text.specs.Doc.{_▸_, print, flat}
+use Rattle.base_text.specs.Doc.{_▸_, print}
+use Rattle.base_text.specs.Flat.{flat}
 use Rattle.base_text.proofs.Laws.{same-bytes, each-append}
 use Rattle.c_tree.specs.Stmt.{Code, end, _⨾_, when, braces, _⧺_, Top}
 use Rattle.c_tree.specs.Print.{simpleText, codeText, unitText}
@@ -23,7 +24,7 @@ append-assoc (s ⨾ c) d e = ap (λ (x : Code). s ⨾ x) (append-assoc c d e)
 append-assoc (when o n t b c) d e = ap (when o n t b) (append-assoc c d e)
 append-assoc (braces b c) d e = ap (braces b) (append-assoc c d e)
 
--- its text in front of any other, which is what `said` asks
+-- its text in front of any other, which is what `wrote-as` asks
 pub flat-append : (c d : Code) (k : List ℕ)
     → flat (codeText (c ⧺ d)) k ≡ flat (codeText c ▸ codeText d) k
 flat-append end d k = refl
@@ -32,16 +33,6 @@ flat-append (when o n t b c) d k =
     ap (λ (l : List ℕ). flat (codeText (when o n t b end)) l) (flat-append c d k)
 flat-append (braces b c) d k =
     ap (λ (l : List ℕ). flat (codeText (braces b end)) l) (flat-append c d k)
-
-pub print-append : (c d : Code)
-    → print (codeText (c ⧺ d)) ≡ print (codeText c) ++ print (codeText d)
-unfolding print
-print-append c d = same-bytes (codeText (c ⧺ d)) (codeText c ▸ codeText d) (flat-append c d [])
-
-pub length-code : (c d : Code)
-    → length (print (codeText (c ⧺ d))) ≡ length (print (codeText c)) + length (print (codeText d))
-length-code c d =
-    ap length (print-append c d) ∙ length-append (print (codeText c)) (print (codeText d))
 
 -- code after code binds if both do
 pub binds-append : (l : Bool) (c d : Code) → codeBinds l (c ⧺ d) ≡ (codeBinds l c && codeBinds l d)

@@ -1,17 +1,15 @@
 -- The text of PREAMBLE's functions as emit.rs has it, a line for each line, and that their trees
 -- print it.
 use mathlib.Core.Path.{_≡_, refl}
-use mathlib.Core.Bool.{true, _&&_}
 use Prim.Native.Nat.{ℕ}
 use mathlib.Core.List.{List}
 use lib.ListN.{length}
 use Rattle.base_text.specs.Digits.{numeral, lastDigits}
-use Rattle.base_text.specs.Doc.{Doc, text, _▸_, decimal, hexadecimal8, print, flat}
+use Rattle.base_text.specs.Doc.{Doc, text, _▸_, decimal, hexadecimal8, print}
+use Rattle.base_text.specs.Flat.{flat}
 use Rattle.c_tree.specs.Opening.{openingText}
 use Rattle.c_tree.specs.Print.{unitText}
-use Rattle.c_tree.specs.Binds.{level, binds, declaratorsBind, plainBinds, testBinds}
-use Rattle.c_tree.specs.Binds.{simpleBinds, codeBinds}
-use Rattle.c_tree.specs.Preamble.{rorBody, nzBody, cBody, addsBody, nz64Body, preamble}
+use Rattle.c_tree.specs.Preamble.{preamble}
 
 -- the functions as emit.rs has them
 abbrev pub helpersText : Doc
@@ -41,7 +39,7 @@ helpersText =
     ▸ text "        | ((r == 0u) ? 0x40000000u : 0u);\n"
     ▸ text "}\n"
 
--- PREAMBLE is printed, in front of any other text, which is what `said` asks
+-- PREAMBLE is printed, in front of any other text, which is what `wrote-as` asks
 pub preamble-text : (k : List ℕ) → flat (unitText preamble) k ≡ flat (openingText ▸ helpersText) k
 unfolding decimal numeral hexadecimal8 lastDigits
 preamble-text k = refl
@@ -50,10 +48,3 @@ preamble-text k = refl
 pub preamble-length : length (print (unitText preamble)) ≡ 2109
 unfolding print decimal numeral hexadecimal8 lastDigits
 preamble-length = refl
-
--- C's grammar reads the functions as their trees
-pub preamble-binds :
-    (codeBinds true rorBody && codeBinds true nzBody && codeBinds true cBody
-    && codeBinds true addsBody && codeBinds true nz64Body) ≡ true
-unfolding level binds declaratorsBind plainBinds testBinds simpleBinds codeBinds
-preamble-binds = refl

@@ -1,7 +1,8 @@
--- What C's grammar asks of a tree, so that a compiler reads the tree from its text: each operand
--- binds as tightly as its place asks (C99, 6.5), and no expression has a line end in it. What
--- follows is proved: no expression or plain statement prints `;`, `{`, `}` or a line end
--- (proofs/Clean.antt), and the `;` and braces of code are those of the tree (proofs/Skeleton.antt).
+-- Steps: what C's grammar asks of a tree, so that a compiler reads the tree from its text: each
+-- operand binds as tightly as its place asks (C99, 6.5), and no expression has a line end in it.
+-- The argument that a compiler reads the tree rests on it, and no promise. What follows is proved:
+-- no expression or plain statement prints `;`, `{`, `}` or a line end (proofs/Clean.antt), and the
+-- `;` and braces of code are those of the tree (proofs/Skeleton.antt).
 use Prim.Native.Nat.{ℕ, suc}
 use mathlib.Core.Bool.{Bool, true, false, _&&_}
 use mathlib.Core.List.{List, [], _∷_}

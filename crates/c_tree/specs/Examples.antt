@@ -1,10 +1,11 @@
--- Texts of emit.rs, computed, and what C's grammar makes of them.
+-- Examples: texts of emit.rs, computed, and what C's grammar makes of them.
 use Prim.Native.Nat.{ℕ}
 use mathlib.Core.Path.{_≡_, refl}
 use mathlib.Core.Bool.{true, false}
 use mathlib.Core.List.{List, [], _∷_}
 use Rattle.base_text.specs.Digits.{numeral, lastDigits}
-use Rattle.base_text.specs.Doc.{text, dec, _▸_, decimal, hexadecimal8, hexadecimal16, print, flat}
+use Rattle.base_text.specs.Doc.{text, dec, _▸_, decimal, hexadecimal8, hexadecimal16, print}
+use Rattle.base_text.specs.Flat.{flat}
 use Rattle.c_tree.specs.Expr.{u32, word, udec, int, x-r, x-s, x-cn, x-cz, x-cc, x-cv, x-pc}
 use Rattle.c_tree.specs.Expr.{reg, lnot, shl, shr, band, ne, land, Expr, lit, get, par, un}
 use Rattle.c_tree.specs.Expr.{bin}

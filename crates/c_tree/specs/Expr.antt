@@ -1,6 +1,6 @@
--- C's expressions, as many as emit.rs prints. None has an effect, and none holds text: what calls
--- the interpreter, the gate, the guard or a function that writes is a statement. Parentheses are
--- nodes of their own, so the text is the tree's leaves in order.
+-- To be believed: C's expressions, as many as emit.rs prints. None has an effect, and none holds
+-- text: what calls the interpreter, the gate, the guard or a function that writes is a statement.
+-- Parentheses are nodes of their own, so the text is the tree's leaves in order.
 use Prim.Native.Nat.{ℕ}
 use Prim.Native.String.{String}
 

@@ -1,4 +1,4 @@
--- The text of PREAMBLE up to its functions, a line for each line.
+-- To be believed: the text of PREAMBLE up to its functions, a line for each line.
 use Rattle.base_text.specs.Doc.{Doc, text, _▸_}
 
 -- comments, the table's mark for Windows, the types of the runtime's calls and of a table row

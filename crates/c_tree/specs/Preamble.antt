@@ -1,5 +1,5 @@
--- PREAMBLE: its opening, and its functions as trees, whose text is PREAMBLE's byte for byte
--- (proofs/Preamble.antt).
+-- To be believed: PREAMBLE: its opening, and its functions as trees, whose text is PREAMBLE's byte
+-- for byte (proofs/Preamble.antt).
 use Prim.Native.Nat.{ℕ}
 use mathlib.Core.Bool.{true}
 use mathlib.Core.List.{List, [], _∷_}
@@ -58,12 +58,15 @@ abbrev pub nzBody : Code
 nzBody =
     set (reg 16) is
     (bin bor (bin bor (kept (lit caps 0x3FFFFFFF)) (sign (v32 x-r)))
-    (flag (isZero (v32 x-r)) 0x40000000)) ⨟ close
+    (flag (isZero (v32 x-r)) 0x40000000))
+    ⨟ close
 
 -- f_c: C
 abbrev pub cBody : Code
-cBody = set (reg 16) is (bin bor (kept (un compl (lit caps 0x20000000)))
-    (flag (v32 x-v) 0x20000000)) ⨟ close
+cBody =
+    set (reg 16) is
+    (bin bor (kept (un compl (lit caps 0x20000000))) (flag (v32 x-v) 0x20000000))
+    ⨟ close
 
 -- ((((~(a ^ b)) & (a ^ r)) >> 31) & 1u)
 abbrev pub overflow : Expr

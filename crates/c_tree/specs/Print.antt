@@ -1,4 +1,4 @@
--- The text of the tree. Marks print nothing.
+-- To be believed: the text of the tree. Marks print nothing.
 use Prim.Native.Nat.{ℕ, zero, suc, _-_, _%_}
 use Prim.Native.String.{String}
 use mathlib.Core.Bool.{cond}

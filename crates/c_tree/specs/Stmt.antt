@@ -1,6 +1,6 @@
--- C's statements, functions and units, as many as emit.rs prints, with marks that print nothing. A
--- block is named by its key: in its function b_, its label L_ and the marks. At each constructor
--- stands what it prints, and where emit.rs prints it.
+-- To be believed: C's statements, functions and units, as many as emit.rs prints, with marks that
+-- print nothing. A block is named by its key: in its function b_, its label L_ and the marks. At
+-- each constructor stands what it prints, and where emit.rs prints it.
 use Prim.Native.Nat.{ℕ}
 use mathlib.Core.Bool.{Bool}
 use mathlib.Core.List.{List, [], _∷_}

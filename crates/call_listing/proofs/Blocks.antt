@@ -12,7 +12,8 @@ use Rattle.file_records.specs.Trailer.{blockStart}
 use Rattle.file_records.specs.BlockRecord.{keyPlus}
 use Rattle.file_blocks.specs.Parse.{Block, blockAt}
 use Rattle.file_blocks.specs.Read.{recordAt, IsBlock}
-use Rattle.base_text.specs.Doc.{Doc, flat, _▸_}
+use Rattle.base_text.specs.Doc.{Doc, _▸_}
+use Rattle.base_text.specs.Flat.{flat}
 use Rattle.plan_exits.specs.Exits.{exits}
 use Rattle.file_blocks.specs.Address.{keyOf}
 use Rattle.file_blocks.proofs.IsBlock.{block-record}

@@ -41,13 +41,14 @@ use Rattle.claim_meaning.proofs.Closing.{after-even}
 use Rattle.claim_meaning.proofs.Shells.{Emitted, as-native, as-shell, emitted, some-form}
 use Rattle.claim_meaning.proofs.Shells.{after-address, GoesOn, goes-on}
 use Rattle.claim_meaning.proofs.Quiet.{native-quiet}
-use Rattle.claim_meaning.proofs.Covered.{Said, covered-native, no-difference}
+use Rattle.claim_meaning.proofs.Covered.{Said, covered-native}
 use Rattle.claim_meaning.proofs.Carried.{AtRecord, left-now, left-later, stepped}
 use Rattle.claim_ways.specs.Ways.{Event, nativeStart, interpreted}
 use Rattle.claim_functions.specs.Execution.{act}
 use Rattle.claim_functions.specs.Counted.{recordEvent, sequenceEvents}
 use Rattle.claim_functions.proofs.Log.{ledOn, log, log-append, silent-log, silent-on}
 use Rattle.claim_functions.proofs.Texts.{native-goes, native-leaves, lines-log, closing-log}
+use Rattle.lower_units.proofs.Thumbs.{neither}
 
 -- what is known of a record of a block
 pub record Facts (ks : List ℕ) (b : Block) (x : TimedInstr) : Type 0 where
@@ -186,7 +187,7 @@ module _ (multiplier : ℕ) (ks : List ℕ) (b : Block) (step : ℕ → ℕ → 
     unfolding bodyOf codeFrom log Rattle.c_meaning.specs.Exec.step
     native-one i cycles r fs e natively n z m q next x′ =
         go (k .means .acts cycles r (own-set cycles ∙ e) owner z m (q .sound) (q .agrees)
-        (no-difference _ (passed (x .instr .cond) m) _ (said .condition) (said .same)) next x′)
+        (neither _ (passed (x .instr .cond) m) _ (said .condition) (said .same)) next x′)
       where
         owner : Owner
         owner = Owner.nativeOf (bodyKey body)

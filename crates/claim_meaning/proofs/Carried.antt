@@ -46,7 +46,8 @@ use Rattle.claim_meaning.proofs.Shells.{Emitted, as-native, as-shell, e
 use Rattle.claim_meaning.proofs.Shells.{Half, halves, after-address, run-return, GoesOn}
 use Rattle.claim_meaning.proofs.Shells.{goes-on}
 use Rattle.claim_meaning.proofs.Quiet.{closing-quiet, native-quiet}
-use Rattle.claim_meaning.proofs.Covered.{Said, covered-native, covered-half, no-difference}
+use Rattle.claim_meaning.proofs.Covered.{Said, covered-native, covered-half}
+use Rattle.lower_units.proofs.Thumbs.{neither}
 
 -- an even address with the Thumb bit
 even-key-of : (t : Bool) (a : ℕ) → a % 2 ≡ 0 → keyOf a t ≡ key t a
@@ -235,7 +236,7 @@ module _ (multiplier : ℕ) (ks : List ℕ) (b : Block) (step : ℕ → ℕ → 
       unfolding bodyOf codeFrom run runs
       native-done xs fs alone onward i cycles r e before z m q =
           go (k .means .acts cycles r (own-set cycles ∙ e) owner z m (q .sound) (q .agrees)
-          (no-difference _ (passed (x .instr .cond) m) _ (said .condition) (said .same)) next
+          (neither _ (passed (x .instr .cond) m) _ (said .condition) (said .same)) next
           (outcome .1))
         where
           owner : Owner

@@ -6,7 +6,7 @@ use Rattle.armv4t.specs.declared.Instr.{Instr}
 use Rattle.file_instrs.specs.declared.decode.TimedInstr.{TimedInstr}
 use Rattle.armv4t_manual.specs.Unsaid.{noInstruction, unpredictable, isNv}
 use Rattle.lower_forms.specs.Block.{emitInstr}
-use Rattle.lower_forms.specs.Means.{differsIn}
+use Rattle.lower_forms.specs.Differs.{differsIn}
 use Rattle.lower_forms.proofs.Body.{or-l, or-r}
 use Rattle.claim_meaning.specs.Block.{isNative, isHalf, isSaid, isCovered}
 
@@ -63,9 +63,3 @@ covered-half region x e c =
     said-of (x .instr)
     (half-said (isNative (emitInstr (x .instr .thumb) region 0 x .0)) (isHalf (x .instr .op))
     (isSaid (x .instr)) e c)
-
--- an instruction without NV that does not differ is no named difference
-pub no-difference : (nv pass d : Bool) → nv ≡ false → d ≡ false → (nv || (pass && d)) ≡ false
-no-difference true pass d e f = e
-no-difference false true d e f = f
-no-difference false false d e f = refl

@@ -1,10 +1,7 @@
 -- What is claimed of the text of a file's blocks holds of every accepted file.
-use Prim.Native.Nat.{ℕ, _%_}
+use Prim.Native.Nat.{ℕ}
 use mathlib.Core.Path.{_≡_}
-use mathlib.Core.Bool.{Bool, true, false}
 use mathlib.Core.List.{List, [], _∷_, _++_, List·Memᴰ}
-use native.Mathlib.Omega.{arith}
-use Rattle.armv4t.specs.Instr.{sizeOf}
 use Rattle.file_instrs.specs.declared.decode.TimedInstr.{TimedInstr}
 use Rattle.file_blocks.specs.Address.{region}
 use Rattle.armv4t_manual.proofs.Kept.{execute-sound}
@@ -19,11 +16,7 @@ use Rattle.claim_meaning.proofs.Ranges.{accepted-end, accepted-aligned}
 use Rattle.claim_meaning.proofs.Closing.{closing-means}
 use Rattle.claim_meaning.proofs.Blocks.{Placed, placed, block-means}
 use Rattle.claim_meaning.proofs.State.{keeps-state}
-
--- an aligned address is even
-aligned-even : (t : Bool) (a : ℕ) → a % sizeOf t ≡ 0 → a % 2 ≡ 0
-aligned-even true a h = omega arith
-aligned-even false a h = omega arith
+use Rattle.lower_units.proofs.Aligned.{aligned-even}
 
 pub meaning-of : (multiplier : ℕ) (f : List ℕ) → MeaningOf multiplier f
 unfolding MeaningOf

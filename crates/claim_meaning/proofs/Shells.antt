@@ -4,7 +4,6 @@ use mathlib.Core.Path.{_≡_, refl, ap, _∙_}
 use mathlib.Core.Bool.{Bool, true, false, cond}
 use mathlib.Core.List.{List, [], _∷_, _++_}
 use mathlib.Core.Option.{Option, none, some}
-use native.Mathlib.Omega.{arith}
 use lib.Dec.{eqb}
 use Rattle.armv4t.specs.declared.Op.{Op}
 use Rattle.armv4t.specs.declared.Op.the-variants.{Alu, Mul, MulLong, Swap, Bx, Branch, ThumbBlHigh}
@@ -20,8 +19,9 @@ use Rattle.c_tree.specs.Stmt.{common, Code, _⨾_, retInterp}
 use Rattle.c_meaning.specs.State.{bind, update, index, Scope, State, setC, setScopes, interpAnswer}
 use Rattle.c_meaning.specs.State.{afterInterp, Declares}
 use Rattle.c_meaning.specs.Eval.{eval, evalAs}
-use Rattle.c_meaning.specs.Exec.{back, exec, execs, asks, step, runs}
-use Rattle.c_meaning.specs.Helpers.{perform, run}
+use Rattle.c_meaning.specs.Exec.{back, exec, asks, step, runs}
+use Rattle.c_meaning.specs.Perform.{execs, perform}
+use Rattle.c_meaning.specs.Helpers.{run}
 use Rattle.armv4t_manual.proofs.Kept.{WrittenOut}
 use Rattle.lower_forms.specs.Forms.{Lines, Native, Form, Body}
 use Rattle.lower_forms.specs.InlineBody.{inlineBody}
@@ -33,6 +33,7 @@ use Rattle.claim_meaning.specs.Block.{isNative, isHalf}
 use Rattle.lower_forms.proofs.Gives.{lt-true}
 use Rattle.lower_units.proofs.Lines.{run-lines}
 use Rattle.lower_units.proofs.Exits.{ticks-first}
+use Rattle.lower_units.proofs.Pairs.{not-pair}
 
 -- a record that is not fused is native, or a shell that starts at its address; which of them, no
 -- cycles decide
@@ -107,9 +108,6 @@ some-form thumb region cycles x (y ∷ ys) = go (fuse (x .instr) (y .instr))
 pub record Half (op : Op) : Type 0 where
   pub half : isHalf op ≡ true
   pub written : WrittenOut op
-
-not-pair : {target ret : ℕ} → Nothing ≡ Pair target ret → ⊥
-not-pair e = let z : _≡_ {A = ℕ} 0 1 = cc in omega arith
 
 low-half : (lr : ℕ) (op : Op) (addr : ℕ) {target ret : ℕ} → fuseLow lr op addr ≡ Pair target ret
     → Half op

@@ -1,4 +1,4 @@
--- What the claim about blocks supposes can be had: there is an interpreter that acts as a step of
+-- What the claim about blocks supposes is possible: there is an interpreter that acts as a step of
 -- the machine, and a function's head declares pc.
 use Prim.Native.Nat.{ℕ}
 use mathlib.Core.Path.{_≡_, refl, ap, _∙_}

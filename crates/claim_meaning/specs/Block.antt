@@ -1,4 +1,5 @@
--- What is claimed of the text of a whole block, from its first statement to its transfer.
+-- To be believed: what is claimed of the text of a whole block, from its first statement to its
+-- transfer.
 use Prim.Native.Nat.{ℕ, suc, _+_}
 use mathlib.Core.Path.{_≡_}
 use mathlib.Core.Bool.{Bool, true, false, not, _&&_, _||_}
@@ -24,7 +25,7 @@ use Rattle.armv4t_manual.specs.Execute.{execute, keyAfter}
 use Rattle.lower_forms.specs.Forms.{Form, native, shell}
 use Rattle.lower_forms.specs.Block.{emitInstr, hashOf, bodyOf}
 use Rattle.lower_forms.specs.Agree.{Agrees}
-use Rattle.lower_forms.specs.Means.{differsIn}
+use Rattle.lower_forms.specs.Differs.{differsIn}
 use Rattle.lower_units.specs.Block.{blockCode}
 use Rattle.lower_units.specs.Text.{Leaves}
 use Rattle.lower_units.specs.Records.{isTaken}

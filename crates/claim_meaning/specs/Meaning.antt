@@ -1,5 +1,5 @@
--- What the text of a file's blocks means (document 01, Meaning): demand 2's second half, as one
--- statement about a file.
+-- To be believed: what the text of a file's blocks means (document 01, Meaning): demand 2's second
+-- half, as one statement about a file.
 use Prim.Native.Nat.{ℕ, _%_}
 use mathlib.Core.Path.{_≡_}
 use mathlib.Core.List.{List, [], _∷_, _++_, List·Memᴰ}
@@ -51,5 +51,7 @@ pub record BlockMeaning (multiplier : ℕ) (ks : List ℕ) (b : Block) : Type 0 
 
 -- a file, if it is accepted: every block, whatever keys its group has
 unfoldable pub MeaningOf : ℕ → List ℕ → Type 0
-MeaningOf multiplier f = (bs : List Block) → parse f ≡ Parsed.accepted bs → (b : Block)
-    → List·Memᴰ b bs → (ks : List ℕ) → BlockMeaning multiplier ks b
+MeaningOf multiplier f =
+    (bs : List Block) → parse f ≡ Parsed.accepted bs
+    → (b : Block) → List·Memᴰ b bs
+    → (ks : List ℕ) → BlockMeaning multiplier ks b

@@ -50,8 +50,7 @@ Spent limit g =
       S = ℕ;
       step = spend;
       allow = λ s e. spend s e ≤ limit;
-      owed =
-          λ k s. s + at-least (clearBit0 k) g ≤ limit;
+      owed = λ k s. s + at-least (clearBit0 k) g ≤ limit;
     }
 
 test-mono : (a c n w : ℕ) → a ≤ c → cond (leb c n) w 0 ≤ cond (leb a n) w 0

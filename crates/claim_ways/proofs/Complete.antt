@@ -157,8 +157,7 @@ complete hashOf bodyOf faithful f bs accepted limit max i b e =
       bodyOf = bodyOf;
       faithful = faithful;
       bytes = f;
-      bs =
-          bs;
+      bs = bs;
       accepted = accepted;
       limit = limit;
     } in

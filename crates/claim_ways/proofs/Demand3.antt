@@ -2,11 +2,11 @@
 use Prim.Native.Nat.{ℕ}
 use mathlib.Core.Path.{refl}
 use mathlib.Core.List.{List}
-use Rattle.claim_ways.specs.Claim.{Claim}
 use Rattle.lower_forms.specs.Block.{bodyOf, hashOf}
 use Rattle.lower_forms.proofs.RecordCount.{body-count}
 use Rattle.claim_ways.proofs.Faithful.{Faithful}
-use Rattle.claim_ways.specs.Demand3.{Demand3Of, Demand3, Demand3Applies}
+use Rattle.claim_ways.specs.Demand3.{Demand3Of}
+use Rattle.claim_ways.specs.Complete.{Demand3, Demand3Applies}
 use Rattle.claim_ways.proofs.EveryWay.{every-way}
 use Rattle.claim_ways.proofs.Complete.{complete}
 
@@ -18,19 +18,19 @@ faithful multiplier =
       thumb = λ b. refl;
       count = λ b. refl;
       hash = λ b. refl;
-      whole =
-          λ b. body-count multiplier b;
+      whole = λ b. body-count multiplier b;
     }
+
+-- demand 3 of each file
+pub demand-3-of : (multiplier limit max : ℕ) (f : List ℕ) → Demand3Of multiplier limit max f
+unfolding Demand3Of
+demand-3-of multiplier = every-way (hashOf multiplier) (bodyOf multiplier) (faithful multiplier)
 
 pub demand-3 : Demand3
 unfolding Demand3
-demand-3 multiplier = every-way (hashOf multiplier) (bodyOf multiplier) (faithful multiplier)
+demand-3 = demand-3-of
 
--- so it holds of each file
-pub demand-3-of : (multiplier limit max : ℕ) (f : List ℕ) → Demand3Of multiplier limit max f
-unfolding Demand3 Demand3Of Claim
-demand-3-of multiplier = demand-3 multiplier
-
+-- and it is about something
 pub demand-3-applies : Demand3Applies
 unfolding Demand3Applies
 demand-3-applies multiplier = complete (hashOf multiplier) (bodyOf multiplier) (faithful multiplier)

@@ -23,15 +23,10 @@ use Rattle.claim_ways.specs.Ways.{w-stay, w-unsaid, w-call, w-interp, w-
 use Rattle.claim_ways.specs.Ways.{w-default, w-past, w-when, w-unanswered, w-braces}
 use Rattle.claim_ways.specs.Claim.{timesCarried}
 use Rattle.claim_ways.proofs.Functions.{forwarder}
-
-assoc : (b c d : Code) → (b ⧺ c) ⧺ d ≡ b ⧺ (c ⧺ d)
-assoc end c d = refl
-assoc (s ⨾ b) c d = ap (λ x. s ⨾ x) (assoc b c d)
-assoc (when o n t a b) c d = ap (λ x. when o n t a x) (assoc b c d)
-assoc (braces a b) c d = ap (λ x. braces a x) (assoc b c d)
+use Rattle.c_tree.proofs.Laws.{append-assoc}
 
 taken-append : (x : Bool) (b c d : Code) → taken x b c ⧺ d ≡ taken x b (c ⧺ d)
-taken-append true b c d = assoc b c d
+taken-append true b c d = append-assoc b c d
 taken-append false b c d = refl
 
 -- a way is one with other code after
@@ -52,7 +47,7 @@ extend {ts} d (w-when {f = f} {b = b} {c = c} {xs = xs} {es = es} {n = n} {x = x
     w-when (subst (λ e. Way ts f e xs es) (taken-append (negated n x) b c d) (extend d w))
 extend d w-unanswered = w-unanswered
 extend {ts} d (w-braces {f = f} {b = b} {c = c} {xs = xs} {es = es} w) =
-    w-braces (subst (λ e. Way ts f e xs es) (assoc b c d) (extend d w))
+    w-braces (subst (λ e. Way ts f e xs es) (append-assoc b c d) (extend d w))
 extend d (w-call m w) = w-call m w
 extend d (w-interp w) = w-interp (extend d w)
 extend d w-retInterp = w-retInterp

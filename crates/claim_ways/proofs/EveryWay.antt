@@ -22,7 +22,7 @@ use Rattle.lower_units.specs.Units.{withLocals, groupCode, emitGroup, unitHead,
 use Rattle.lower_units.specs.Units.{bodiesOf, emitCChunked, unitsBy}
 use Rattle.claim_ways.specs.Ways.{Event, said, Way, stop, w-gap, w-call}
 use Rattle.claim_ways.proofs.Faithful.{Faithful}
-use Rattle.claim_ways.specs.Claim.{AtNative, allUnits, Passed, WayClaim, ClaimOf, Claim}
+use Rattle.claim_ways.specs.Claim.{AtNative, allUnits, Passed, WayClaim, ClaimOf}
 use Rattle.claim_ways.proofs.Logic.{Follow}
 use Rattle.claim_ways.proofs.Followed.{group-follows}
 use Rattle.claim_ways.proofs.Bounded.{total, Spent, at-most-total, spent-rules, parts}
@@ -61,8 +61,7 @@ module _ (limit : ℕ) (bodies : List Body) (apart : Apart bodies) where
               first = omega arith;
               second = omega arith;
               third = omega arith;
-              fourth =
-                  omega arith;
+              fourth = omega arith;
             })
             (λ k m. omega (arith, at-most-total (clearBit0 k) (b ∷ c ∷ g))) w,
         group-follows (History bodies) b (c ∷ g)
@@ -70,8 +69,7 @@ module _ (limit : ℕ) (bodies : List Body) (apart : Apart bodies) where
             (record {
               first = λ d n a. absurd a;
               second = λ d n a. absurd a;
-              third =
-                  λ d n a. absurd a;
+              third = λ d n a. absurd a;
               fourth = λ d n a. absurd a;
             }) (λ k m. tt) w,
       )
@@ -204,8 +202,8 @@ module _ (F : File) (max : ℕ) where
 
 -- demand 3
 pub every-way : (hashOf : Block → Option ℕ) (bodyOf : Block → Body) → Faithful hashOf bodyOf
-    → Claim hashOf bodyOf
-unfolding Claim ClaimOf
+    → (limit max : ℕ) (f : List ℕ) → ClaimOf hashOf bodyOf limit max f
+unfolding ClaimOf
 every-way hashOf bodyOf faithful limit max f bs accepted i b e c m xs es w =
     let F : File =
     record {
@@ -213,8 +211,7 @@ every-way hashOf bodyOf faithful limit max f bs accepted i b e c m xs es w =
       bodyOf = bodyOf;
       faithful = faithful;
       bytes = f;
-      bs =
-          bs;
+      bs = bs;
       accepted = accepted;
       limit = limit;
     } in

@@ -2,23 +2,17 @@
 -- twice.
 use Prim.Native.Nat.{ℕ, _%_, _≤_, _<_}
 use mathlib.Core.Path.{_≡_, sym, ap, _∙_}
-use mathlib.Core.Bool.{Bool, true, false}
 use mathlib.Core.List.{List}
 use native.Mathlib.Omega.{arith}
 use native.Mathlib.Decide.{decLt}
 use lib.ListN.{length, getD}
-use Rattle.armv4t.specs.Instr.{sizeOf}
 use Rattle.file_records.specs.Trailer.{blockCount, blockStart}
 use Rattle.file_records.specs.BlockRecord.{addrAt, thumbAt, countAt}
 use Rattle.file_blocks.specs.Parse.{Block, Parsed, blockAt, parse, blockKey}
 use Rattle.file_blocks.specs.Read.{recordAt}
 use Rattle.file_blocks.proofs.Accepted.{length-of, has-instr, address-aligned, record-reads}
 use Rattle.file_blocks.proofs.Keys.{block-is, block-key, keys-rise}
-
--- a multiple of 2 or 4 is even
-halved : (x : Bool) (a : ℕ) → a % sizeOf x ≡ 0 → a % 2 ≡ 0
-halved true a e = e
-halved false a e = omega arith
+use Rattle.lower_units.proofs.Aligned.{aligned-even}
 
 module _ (f : List ℕ) (bs : List Block) (accepted : parse f ≡ Parsed.accepted bs) where
   long : length bs ≡ blockCount f
@@ -32,7 +26,7 @@ module _ (f : List ℕ) (bs : List Block) (accepted : parse f ≡ Parsed.accepte
     unfolding blockAt
     block-even =
         ap (λ (b : Block). b .addr % 2) (block-is f bs accepted i d inside)
-        ∙ halved (thumbAt f (blockStart f i)) (addrAt f (blockStart f i))
+        ∙ aligned-even (thumbAt f (blockStart f i)) (addrAt f (blockStart f i))
         (address-aligned f bs accepted i inside)
 
     pub block-filled : 1 ≤ length (getD bs i d .instrs)

@@ -77,8 +77,7 @@ module _ (bs : List Body) (apart : Apart bs) (b : Body) (m : List·Memᴰ b bs) 
       (record {
         first = λ c n a. absurd a;
         second = λ c n a. absurd a;
-        third =
-            λ c n a. absurd a;
+        third = λ c n a. absurd a;
         fourth = λ c n a. absurd a;
       }) tt w
 

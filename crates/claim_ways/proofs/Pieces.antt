@@ -32,8 +32,7 @@ later x u us p =
       unit = p .unit;
       made = List·Memᴰ·tail (p .made);
       before = p .before;
-      after =
-          p .after;
+      after = p .after;
       piece = p .piece;
     }
 
@@ -54,8 +53,7 @@ module _ (max : ℕ) (closed : List Top) where
         unit = _;
         made = List·Memᴰ·head refl;
         before = before;
-        after =
-            after ++ closed;
+        after = after ++ closed;
         piece = longer ts x before after closed e;
       }
   stays x before after (g ∷ gs) ts n e =
@@ -72,8 +70,7 @@ module _ (max : ℕ) (closed : List Top) where
             unit = _;
             made = List·Memᴰ·head refl;
             before = before;
-            after =
-                after ++ emitGroup g;
+            after = after ++ emitGroup g;
             piece = longer ts x before after (emitGroup g) e;
           }
       go false us vs p = p

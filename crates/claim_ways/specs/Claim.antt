@@ -1,5 +1,5 @@
--- The claim on ways (demand 3): one statement about every way through the units of every accepted
--- file.
+-- To be believed: the claim on ways (demand 3): one statement about every way through the units of
+-- every accepted file.
 use Prim.Native.Nat.{ℕ, _+_, _≤_}
 use mathlib.Core.Path.{_≡_}
 use mathlib.Core.Bool.{Bool, true, cond, _&&_}
@@ -97,12 +97,8 @@ module _ (toHash : Block → Option ℕ) (toBody : Block → Body) where
   -- units; every list of answers and every way
   unfoldable pub ClaimOf : ℕ → ℕ → List ℕ → Type 0
   ClaimOf limit max f =
-      (bs : List Block) → parse f ≡ Parsed.accepted bs → (i : ℕ) (b : Block)
-      → getElem? bs i ≡ some b
+      (bs : List Block) → parse f ≡ Parsed.accepted bs
+      → (i : ℕ) (b : Block) → getElem? bs i ≡ some b
       → (c : Code) → List·Memᴰ (function (block (blockKey b)) c) (allUnits toBody limit max bs)
       → (xs : List Bool) (es : List Event) → Way (allUnits toBody limit max bs) c c xs es
       → WayClaim toHash limit bs i es
-
-  -- every file, limit and wished size
-  unfoldable pub Claim : Type 0
-  Claim = (limit max : ℕ) (f : List ℕ) → ClaimOf limit max f

@@ -1,5 +1,5 @@
--- That the claim is about something: each block has one function, in the unit where its group is,
--- and a way from it to its first instruction.
+-- Steps: demand 3 of every file, and that it is about something: each block has one function, in
+-- the unit where its group is, and a way from it to its first instruction.
 use Prim.Native.Nat.{ℕ, _+_, _≤_}
 use mathlib.Core.Path.{_≡_}
 use mathlib.Core.Bool.{Bool, cond}
@@ -12,9 +12,11 @@ use Rattle.plan_groups.specs.Plan.{groups}
 use Rattle.c_tree.specs.Stmt.{Code, helper, block, group, Top, opening, function, blank, extern}
 use Rattle.c_tree.specs.Stmt.{table, count}
 use Rattle.lower_forms.specs.Forms.{Body}
+use Rattle.lower_forms.specs.Block.{bodyOf}
 use Rattle.lower_units.specs.Units.{TranslationUnit, emitGroup, bodiesOf, unitsBy}
 use Rattle.claim_ways.specs.Ways.{Event, Way}
 use Rattle.claim_ways.specs.Claim.{timesCarried, allUnits}
+use Rattle.claim_ways.specs.Demand3.{Demand3Of}
 
 -- 1 for the function of the block with the key k, else 0
 abbrev pub functionTimes : ℕ → Top → ℕ
@@ -60,3 +62,11 @@ module _ (toBody : Block → Body) where
   Complete =
       (f : List ℕ) (bs : List Block) → parse f ≡ Parsed.accepted bs → (limit max i : ℕ) (b : Block)
       → getElem? bs i ≡ some b → BlockHasWay limit max bs i b
+
+-- demand 3 of every file
+unfoldable pub Demand3 : Type 0
+Demand3 = (multiplier limit max : ℕ) (f : List ℕ) → Demand3Of multiplier limit max f
+
+-- each block has its function, and a way from it
+unfoldable pub Demand3Applies : Type 0
+Demand3Applies = (multiplier : ℕ) → Complete (bodyOf multiplier)

@@ -1,4 +1,4 @@
--- The ways through the units, rule by rule as document 01 has them.
+-- To be believed: the ways through the units, rule by rule as document 01 has them.
 use Prim.Native.Nat.{ℕ}
 use mathlib.Core.Bool.{Bool, true, false, not}
 use mathlib.Core.List.{List, [], _∷_, List·Memᴰ}

@@ -1,8 +1,7 @@
 -- The lines of an instruction by its fields, and whose they are.
-use mathlib.Core.Path.{_≡_, refl, sym, ap, _∙_}
+use mathlib.Core.Path.{_≡_, refl, ap, _∙_}
 use Prim.Native.Nat.{ℕ}
 use mathlib.Core.Bool.{Bool, true, false, not, cond}
-use mathlib.Core.List.{List}
 use mathlib.Core.Option.{Option, none, some, Option·some-injective, Option·none-ne-some}
 use lib.Dec.{eqb}
 use Rattle.armv4t.specs.declared.AluOp.{AluOp}
@@ -10,24 +9,12 @@ use Rattle.armv4t.specs.declared.Operand2.{Operand2}
 use Rattle.armv4t.specs.declared.Instr.{Instr}
 use Rattle.armv4t.specs.declared.Op.the-variants.{Alu, Mul}
 use Rattle.armv4t.specs.Instr.{pcValue}
-use Rattle.base_text.specs.Doc.{_▸_, flat}
 use Rattle.c_tree.specs.Expr.{Expr}
-use Rattle.c_tree.specs.Stmt.{Plain, Owner, common, Code}
-use Rattle.c_tree.specs.Print.{codeText}
 use Rattle.lower_forms.specs.Forms.{Lines}
 use Rattle.lower_forms.specs.Operands.{regExpr, op2Exprs, regOf, operandOf}
 use Rattle.lower_forms.specs.InlineBody.{eachOnLine, alu, aluBody, mulBody, opBody}
-use Rattle.lower_units.specs.Block.{lines}
 use Rattle.emit_operands.specs.Operands.{isSome}
 use Rattle.emit_operands.proofs.Operands.{operand-of}
-use Rattle.emit_operands.proofs.Lines.{lines-owner, lines-after}
-use Rattle.emit_alu.specs.Rows.{statementsText}
-
--- statementsText, and code after them, are the lines of any owner with that code after them
-pub rows-after : (o : Owner) (ps : List Plain) (c : Code) (k : List ℕ)
-    → flat (statementsText ps ▸ codeText c) k ≡ flat (codeText (lines o 8 (eachOnLine ps) c)) k
-rows-after o ps c k =
-    sym (lines-after common 8 (eachOnLine ps) c k) ∙ lines-owner common o 8 (eachOnLine ps) c k
 
 -- Alu, if it has lines
 pub alu-lines : (thumb : Bool) (i : Instr) (op : AluOp) (s : Bool) (rd rn : ℕ) (op2 : Operand2)

@@ -7,23 +7,23 @@ use mathlib.Core.List.{List, [], _∷_, _++_}
 use mathlib.Core.Option.{Option, none, some}
 use Rattle.armv4t.specs.declared.AluOp.{AluOp}
 use Rattle.base_text.specs.Digits.{numeral}
-use Rattle.base_text.specs.Doc.{Doc, nothing, text, dec, _▸_, decimal, flat}
+use Rattle.base_text.specs.Doc.{Doc, nothing, text, dec, _▸_, decimal}
+use Rattle.base_text.specs.Flat.{flat}
 use Rattle.c_tree.specs.Expr.{u32, u64, udec, int, x-r, reg, var, mul, shl, shr, bor, Expr, lit}
 use Rattle.c_tree.specs.Expr.{get, par, bin, cast}
 use Rattle.c_tree.specs.Stmt.{plus, f-nz, f-nz64, Plain, declare, set, run}
 use Rattle.c_tree.specs.Preamble.{v32}
 use Rattle.c_tree.specs.Print.{exprText, plainText, spaces}
 use Rattle.lower_forms.specs.InlineBody.{listIf, let32, setReg, result, logicalC, sum, mulBody}
-use Rattle.lower_forms.specs.InlineBody.{widened}
-use Rattle.lower_forms.specs.InlineBody.{r64, mulLongBody}
+use Rattle.lower_forms.specs.InlineBody.{widened, r64, mulLongBody}
 use Rattle.emit_operands.specs.Operands.{carryText, isSome}
-use Rattle.emit_alu.specs.Rows.{statementsText, before, between, after}
+use Rattle.emit_alu.specs.Texts.{statementsText, before, between, after}
 
 -- lines after lines
-pub rows-append : (ps qs : List Plain) (k : List ℕ)
+pub statements-append : (ps qs : List Plain) (k : List ℕ)
     → flat (statementsText ps ▸ statementsText qs) k ≡ flat (statementsText (ps ++ qs)) k
-rows-append [] qs k = refl
-rows-append (p ∷ ps) qs k = ap (flat (spaces 8 ▸ plainText p ▸ text ";\n")) (rows-append ps qs k)
+statements-append [] qs k = refl
+statements-append (p ∷ ps) qs k = ap (flat (spaces 8 ▸ plainText p ▸ text ";\n")) (statements-append ps qs k)
 
 -- constants
 pub one-u : (k : List ℕ) → flat (text "1u") k ≡ flat (exprText (lit udec 1)) k

@@ -1,3 +1,3 @@
 -- The definitions that the crate's promises name.
-pub mod Rows
+pub mod Texts
 pub mod Processing

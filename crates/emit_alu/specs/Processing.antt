@@ -5,7 +5,7 @@ use Rattle.c_tree.specs.Expr.{Expr}
 use Rattle.lower_forms.specs.InlineBody.{alu, logicalRest, sum}
 use Rattle.lower_forms.specs.Operands.{regOf, operandOf}
 use Rattle.emit_alu.specs.declared.alu.Processing.{Processing}
-use Rattle.emit_alu.specs.Rows.{statementsText}
+use Rattle.emit_alu.specs.Texts.{statementsText}
 
 -- the first operand
 abbrev pub first : Processing → Expr

@@ -17,7 +17,7 @@ ghost use Rattle.c_tree.specs.Preamble.{v32};
 ghost use Rattle.c_tree.specs.Print.{exprText};
 ghost use Rattle.lower_forms.specs.InlineBody.{result, logicalC};
 ghost use Rattle.lower_forms.specs.Operands.{operandOf};
-ghost use Rattle.emit_alu.specs.Rows.{statementsText};
+ghost use Rattle.emit_alu.specs.Texts.{statementsText};
 ghost use Rattle.emit_alu.specs.Processing.{first, second, logicalRestText};
 
 // The last line of data processing.

@@ -15,7 +15,7 @@ ghost use Rattle.c_tree.specs.Print.{exprText};
 ghost use Rattle.lower_forms.specs.InlineBody.{listIf, let32, setReg, mulBody, widened, r64};
 ghost use Rattle.lower_forms.specs.InlineBody.{mulLongBody, opBody};
 ghost use Rattle.emit_operands.specs.Operands.{isSome};
-ghost use Rattle.emit_alu.specs.Rows.{statementsText};
+ghost use Rattle.emit_alu.specs.Texts.{statementsText};
 
 // Whether a multiplication is lowered to lines; a long one always is.
 pub fn mul_is_inlined(rd: Reg) -> bool

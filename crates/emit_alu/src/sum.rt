@@ -9,7 +9,7 @@ ghost use Rattle.base_text.specs.Wrote.{Wrote};
 ghost use Rattle.c_tree.specs.Expr.{compl, Expr, un};
 ghost use Rattle.c_tree.specs.Print.{exprText};
 ghost use Rattle.lower_forms.specs.InlineBody.{result};
-ghost use Rattle.emit_alu.specs.Rows.{statementsText, before, between, after, SameText};
+ghost use Rattle.emit_alu.specs.Texts.{statementsText, before, between, after, SameText};
 ghost use Rattle.emit_alu.specs.Processing.{first, second, sumText};
 
 // What stands before the terms of a sum: with s the call of op_adds, which sets the flags.

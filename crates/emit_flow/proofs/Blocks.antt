@@ -4,10 +4,10 @@ use Prim.Native.Nat.{ℕ, _+_}
 use mathlib.Core.Bool.{Bool, true, cond}
 use mathlib.Core.List.{List, [], _∷_, _++_}
 use mathlib.Core.Option.{some}
-use Rattle.base_text.specs.Doc.{text, _▸_, flat}
+use Rattle.base_text.specs.Doc.{text, _▸_}
+use Rattle.base_text.specs.Flat.{flat}
 use Rattle.c_tree.specs.Expr.{Expr}
-use Rattle.c_tree.specs.Stmt.{Plain, guard, Owner, common, retInterp, Code, end, _⨾_, when}
-use Rattle.c_tree.specs.Stmt.{braces}
+use Rattle.c_tree.specs.Stmt.{Plain, guard, Owner, common, retInterp, Code, end, _⨾_, when, braces}
 use Rattle.c_tree.specs.Print.{exprText, codeText}
 use Rattle.lower_forms.specs.Forms.{Lines, Native, straight, straightIf, branchIf, Form, shell}
 use Rattle.lower_forms.specs.Forms.{recordsIn, Body}
@@ -15,7 +15,8 @@ use Rattle.lower_forms.specs.Block.{flushTicks, pcLine}
 use Rattle.file_records.specs.BlockRecord.{keyPlus}
 use Rattle.lower_units.specs.Block.{bodyKey, bodyLength, bodyEnd, nl, sp, line, lines, transfer}
 use Rattle.lower_units.specs.Block.{closing, conditional, nativeText, shellCode, codeFrom}
-use Rattle.lower_units.specs.Block.{defer, underGuard, exitCode, linesText, closingLines}
+use Rattle.lower_units.specs.Block.{defer, underGuard, exitCode, closingLines}
+use Rattle.lower_units.specs.Lines.{linesText}
 use Rattle.emit_flow.specs.Pieces.{straightOpen, straightEnd, beforeCondition, afterCondition}
 use Rattle.emit_flow.specs.Pieces.{afterConditional, straightIfOpen, straightIfEnd}
 use Rattle.emit_flow.proofs.Pieces.{lines-after}

@@ -8,7 +8,8 @@ use mathlib.Core.Option.{none}
 use lib.Dec.{leb}
 use Rattle.armv4t.specs.Bit0.{clearBit0, setBit0}
 use Rattle.base_text.specs.Digits.{numeral}
-use Rattle.base_text.specs.Doc.{text, dec, hex8, hex16, _▸_, decimal, hexadecimal, flat}
+use Rattle.base_text.specs.Doc.{text, dec, hex8, hex16, _▸_, decimal, hexadecimal}
+use Rattle.base_text.specs.Flat.{flat}
 use Rattle.c_tree.specs.Expr.{word, Expr, lit}
 use Rattle.c_tree.specs.Stmt.{Plain, gate, guard, Owner, common, plain, ret, retIf, Code, end, _⨾_}
 use Rattle.c_tree.specs.Stmt.{when}
@@ -17,7 +18,8 @@ use Rattle.lower_forms.specs.Forms.{Lines, jump, bx, Body}
 use Rattle.lower_forms.specs.InlineBody.{listIf, eachOnLine}
 use Rattle.lower_forms.specs.Block.{flushTicks, setWord, emitPair, branchRegs, pcLine}
 use Rattle.lower_units.specs.Block.{nl, sp, line, lines, gotoCode, transfer}
-use Rattle.lower_units.specs.Block.{nativeText, defer, underGuard, linesText}
+use Rattle.lower_units.specs.Block.{nativeText, defer, underGuard}
+use Rattle.lower_units.specs.Lines.{linesText}
 use Rattle.base_lists.specs.Lists.{among}
 use Rattle.emit_flow.specs.Pieces.{afterCondition, afterConditional}
 use Rattle.lower_units.proofs.LinesAfter.{lines-append}

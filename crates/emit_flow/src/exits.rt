@@ -17,7 +17,8 @@ ghost use Rattle.lower_forms.specs.Forms.{jump};
 ghost use Rattle.lower_forms.specs.InlineBody.{listIf, eachOnLine};
 ghost use Rattle.lower_forms.specs.Block.{flushTicks, setWord, pcLine, emitPair, branchRegs};
 ghost use Rattle.lower_units.specs.Block.{nl, sp, line, transfer as Block·transfer, exitCode};
-ghost use Rattle.lower_units.specs.Block.{nativeText, linesText};
+ghost use Rattle.lower_units.specs.Block.{nativeText};
+ghost use Rattle.lower_units.specs.Lines.{linesText};
 ghost use Rattle.base_lists.specs.Lists.{among};
 ghost use Rattle.emit_flow.specs.Pieces.{afterCondition, afterConditional};
 

@@ -11,7 +11,8 @@ ghost use Rattle.c_tree.specs.Stmt.{gate, Owner, common, ret, retIf, end, _⨾_
 ghost use Rattle.c_tree.specs.Print.{codeText};
 ghost use Rattle.lower_forms.specs.InlineBody.{eachOnLine};
 ghost use Rattle.lower_forms.specs.Block.{setWord, pcLine};
-ghost use Rattle.lower_units.specs.Block.{nl, sp, gotoCode, transfer, linesText};
+ghost use Rattle.lower_units.specs.Block.{nl, sp, gotoCode, transfer};
+ghost use Rattle.lower_units.specs.Lines.{linesText};
 ghost use Rattle.base_lists.specs.Lists.{among};
 ghost use Rattle.emit_flow.specs.Pieces.{indent};
 

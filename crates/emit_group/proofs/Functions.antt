@@ -5,7 +5,8 @@ use native.Mathlib.Omega.{arith}
 use mathlib.Core.Bool.{Bool}
 use mathlib.Core.List.{List, [], _∷_, map}
 use lib.ListN.{length, getD, length-map}
-use Rattle.base_text.specs.Doc.{_▸_, flat, each}
+use Rattle.base_text.specs.Doc.{_▸_, each}
+use Rattle.base_text.specs.Flat.{flat}
 use Rattle.base_text.specs.Wrote.{Wrote}
 use Rattle.base_text.proofs.Laws.{seq, wrote-as}
 use Rattle.base_hash.specs.Fnv.{hashMultiplier}

@@ -10,12 +10,12 @@ use Rattle.armv4t.specs.declared.Instr.{Instr}
 use Rattle.armv4t.specs.declared.Op.{Op}
 use Rattle.armv4t.specs.declared.Op.the-variants.{Alu}
 use Rattle.armv4t.specs.Instr.{pcValue}
-use Rattle.base_text.specs.Doc.{flat}
+use Rattle.base_text.specs.Flat.{flat}
 use Rattle.base_text.specs.Wrote.{Wrote}
 use Rattle.base_text.proofs.Laws.{wrote-as}
 use Rattle.lower_forms.specs.Forms.{Lines}
 use Rattle.lower_forms.specs.InlineBody.{eachOnLine, alu, opBody, inlineBody}
-use Rattle.lower_units.specs.Block.{linesText}
+use Rattle.lower_units.specs.Lines.{linesText}
 use Rattle.lower_forms.specs.Operands.{regOf, operandOf}
 use Rattle.emit_alu.proofs.Bodies.{alu-lines}
 

@@ -4,7 +4,8 @@ use Prim.Native.Nat.{ℕ, _≤_}
 use native.Mathlib.Omega.{arith}
 use mathlib.Core.List.{List}
 use lib.ListN.{length}
-use Rattle.base_text.specs.Doc.{Doc, nothing, _▸_, flat}
+use Rattle.base_text.specs.Doc.{Doc, nothing, _▸_}
+use Rattle.base_text.specs.Flat.{flat}
 use Rattle.base_text.specs.Wrote.{maxUsize, Wrote}
 use Rattle.base_text.proofs.Laws.{none, seq, wrote-as, kept as Wrote·kept}
 use Rattle.c_tree.specs.Stmt.{Code, end}

@@ -4,7 +4,8 @@ use Prim.Native.Nat.{ℕ, _+_, _%_, _^_}
 use mathlib.Core.Bool.{Bool, true, false, not, cond, _&&_, true≢false}
 use mathlib.Core.List.{List, [], _∷_, _++_}
 use Rattle.armv4t.specs.declared.Instr.{Instr}
-use Rattle.base_text.specs.Doc.{_▸_, flat}
+use Rattle.base_text.specs.Doc.{_▸_}
+use Rattle.base_text.specs.Flat.{flat}
 use Rattle.base_text.specs.Wrote.{Wrote}
 use Rattle.c_tree.specs.Expr.{Expr}
 use Rattle.c_tree.specs.Stmt.{Plain, Owner, common, retInterp, end, _⨾_}
@@ -18,7 +19,8 @@ use Rattle.lower_forms.specs.InlineBody.{eachOnLine}
 use Rattle.lower_forms.specs.Block.{flushTicks, emitBranch, branchRegs, pcLine}
 use Rattle.file_records.specs.BlockRecord.{keyPlus}
 use Rattle.lower_units.specs.Block.{bodyKey, bodyEnd, nl, sp, line, lines, transfer, nativeText}
-use Rattle.lower_units.specs.Block.{shellCode, codeFrom, exitCode, linesText, closingLines}
+use Rattle.lower_units.specs.Block.{shellCode, codeFrom, exitCode, closingLines}
+use Rattle.lower_units.specs.Lines.{linesText}
 use Rattle.emit_flow.specs.Pieces.{beforeCondition, afterCondition, afterConditional}
 use Rattle.emit_flow.proofs.Blocks.{straight-text, straight-if-text, branch-text, code-native}
 use Rattle.emit_flow.proofs.Blocks.{code-shell, code-last, closing-text}

@@ -3,7 +3,8 @@
 use mathlib.Core.Path.{_≡_}
 use Prim.Native.Nat.{ℕ}
 use mathlib.Core.List.{List}
-use Rattle.base_text.specs.Doc.{Doc, _▸_, flat}
+use Rattle.base_text.specs.Doc.{Doc, _▸_}
+use Rattle.base_text.specs.Flat.{flat}
 use Rattle.base_text.specs.Wrote.{Wrote}
 use Rattle.c_tree.specs.Stmt.{Code}
 use Rattle.c_tree.specs.Print.{codeText}

@@ -20,7 +20,7 @@ ghost use mathlib.Core.Option.{some};
 ghost use Rattle.base_text.specs.Wrote.{Wrote};
 ghost use Rattle.lower_forms.specs.Forms.{Lines};
 ghost use Rattle.lower_forms.specs.InlineBody.{inlineBody};
-ghost use Rattle.lower_units.specs.Block.{linesText};
+ghost use Rattle.lower_units.specs.Lines.{linesText};
 ghost use Rattle.emit_operands.specs.Operands.{isSome};
 
 // Whether an instruction is lowered to lines, or left to the interpreter.

@@ -24,7 +24,7 @@ ghost use Rattle.lower_forms.specs.Forms.{Lines, Form, Body};
 ghost use Rattle.lower_forms.specs.Operands.{condExpr};
 ghost use Rattle.lower_forms.specs.InlineBody.{inlineBody};
 ghost use Rattle.lower_forms.specs.Block.{flushTicks, emitLines, emitStraight};
-ghost use Rattle.lower_units.specs.Block.{linesText};
+ghost use Rattle.lower_units.specs.Lines.{linesText};
 ghost use Rattle.emit_instr.specs.Steps.{FormWritten, lowered};
 ghost use Rattle.base_lists.specs.Lists.{isEmpty};
 

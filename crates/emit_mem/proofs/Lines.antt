@@ -2,7 +2,8 @@
 use Prim.Native.Nat.{ℕ, _+_}
 use mathlib.Core.Path.{_≡_, refl, sym, ap, _∙_}
 use mathlib.Core.List.{List, [], _∷_, _++_}
-use Rattle.base_text.specs.Doc.{_▸_, flat}
+use Rattle.base_text.specs.Doc.{_▸_}
+use Rattle.base_text.specs.Flat.{flat}
 use Rattle.c_tree.specs.Expr.{w32, Expr, read}
 use Rattle.c_tree.specs.Stmt.{Plain, write, common, Code, end}
 use Rattle.c_tree.specs.Print.{codeText}
@@ -10,8 +11,7 @@ use Rattle.emit_operands.proofs.Lines.{lines-after}
 use Rattle.lower_forms.specs.Forms.{Lines}
 use Rattle.emit_mem.proofs.Listed.{listed-suc}
 use Rattle.lower_forms.specs.InlineBody.{listIf, eachOnLine, setReg, aligned, listed, advance}
-use Rattle.lower_forms.specs.InlineBody.{loads}
-use Rattle.lower_forms.specs.InlineBody.{stores}
+use Rattle.lower_forms.specs.InlineBody.{loads, stores}
 use Rattle.armv4t.specs.RegisterList.{isListed}
 use Rattle.lower_units.specs.Block.{lines}
 use Rattle.lower_units.proofs.LinesAfter.{lines-append}
@@ -24,17 +24,18 @@ lines-both n ls ms c k =
     ∙ lines-after common n ls (lines common n ms c) k)
 
 -- statements after statements, each in a line of its own
-apart-append : (ps qs : List Plain) → eachOnLine (ps ++ qs) ≡ eachOnLine ps ++ eachOnLine qs
-apart-append [] qs = refl
-apart-append (p ∷ ps) qs = ap (_∷_ (p ∷ [])) (apart-append ps qs)
+each-on-line-append : (ps qs : List Plain) → eachOnLine (ps ++ qs) ≡ eachOnLine ps ++ eachOnLine qs
+each-on-line-append [] qs = refl
+each-on-line-append (p ∷ ps) qs = ap (_∷_ (p ∷ [])) (each-on-line-append ps qs)
 
-pub apart-both : (n : ℕ) (ps qs : List Plain)
+pub each-on-line-both : (n : ℕ) (ps qs : List Plain)
     → flat (codeText (lines common n (eachOnLine ps) end)
     ▸ codeText (lines common n (eachOnLine qs) end)) []
     ≡ flat (codeText (lines common n (eachOnLine (ps ++ qs)) end)) []
-apart-both n ps qs =
+each-on-line-both n ps qs =
     lines-both n (eachOnLine ps) (eachOnLine qs) end []
-    ∙ ap (λ (ls : Lines). flat (codeText (lines common n ls end)) []) (sym (apart-append ps qs))
+    ∙ ap (λ (ls : Lines). flat (codeText (lines common n ls end)) [])
+    (sym (each-on-line-append ps qs))
 
 -- the loads and the stores of two names of registers, one after the other
 pub loads-append : (xs ys : List ℕ) → loads (xs ++ ys) ≡ loads xs ++ loads ys

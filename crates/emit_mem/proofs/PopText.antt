@@ -5,7 +5,8 @@ use mathlib.Core.List.{List, [], _∷_, _++_}
 use mathlib.Core.Path.{_≡_, refl, sym, ap, _∙_}
 use lib.ListN.{length}
 use Rattle.base_text.specs.Digits.{numeral}
-use Rattle.base_text.specs.Doc.{Doc, text, _▸_, decimal, flat}
+use Rattle.base_text.specs.Doc.{Doc, text, _▸_, decimal}
+use Rattle.base_text.specs.Flat.{flat}
 use Rattle.c_tree.specs.Expr.{udec, x-addr, reg, compl, add, band, bor, w32, lit, get, un, bin}
 use Rattle.c_tree.specs.Expr.{read}
 use Rattle.c_tree.specs.Stmt.{Plain, Owner, common, plain, Code, end, _⨾_, braces}
@@ -13,7 +14,8 @@ use Rattle.c_tree.specs.Print.{codeText}
 use Rattle.lower_forms.specs.Forms.{Lines}
 use Rattle.lower_forms.specs.InlineBody.{eachOnLine, let32, setReg, aligned, loads}
 use Rattle.lower_forms.specs.Block.{flushTicks, emitPop}
-use Rattle.lower_units.specs.Block.{nl, sp, lines, leave, nativeText, linesText}
+use Rattle.lower_units.specs.Block.{nl, sp, lines, leave, nativeText}
+use Rattle.lower_units.specs.Lines.{linesText}
 use Rattle.emit_operands.proofs.Lines.{lines-owner, lines-after}
 use Rattle.emit_mem.proofs.Lines.{lines-both}
 

@@ -13,7 +13,7 @@ ghost use Rattle.c_tree.specs.Expr.{x-ob, reg, get};
 ghost use Rattle.c_tree.specs.Preamble.{v32};
 ghost use Rattle.c_tree.specs.Print.{exprText};
 ghost use Rattle.lower_forms.specs.InlineBody.{listIf, eachOnLine, setReg, loaded, stored};
-ghost use Rattle.lower_units.specs.Block.{linesText};
+ghost use Rattle.lower_units.specs.Lines.{linesText};
 ghost use Rattle.emit_mem.specs.Mem.{accessOf};
 
 // A byte as it is loaded.

@@ -18,7 +18,7 @@ ghost use Rattle.base_text.specs.Wrote.{Wrote};
 ghost use Rattle.c_tree.specs.Print.{exprText};
 ghost use Rattle.lower_forms.specs.InlineBody.{eachOnLine, setReg, movedBase, start};
 ghost use Rattle.armv4t.specs.RegisterList.{isListed};
-ghost use Rattle.lower_units.specs.Block.{linesText};
+ghost use Rattle.lower_units.specs.Lines.{linesText};
 ghost use Rattle.emit_mem.specs.BlockMem.{baseBack, baseLines, moves, blockBody};
 
 // The fields of a BlockMem.

@@ -23,7 +23,7 @@ ghost use Rattle.c_tree.specs.Preamble.{v32};
 ghost use Rattle.c_tree.specs.Print.{exprText};
 ghost use Rattle.lower_forms.specs.Forms.{Lines};
 ghost use Rattle.lower_forms.specs.InlineBody.{eachOnLine, let32, baseExpr, addOrSub};
-ghost use Rattle.lower_units.specs.Block.{linesText};
+ghost use Rattle.lower_units.specs.Lines.{linesText};
 ghost use Rattle.emit_mem.specs.Mem.{offsetOf, transferLines, wholeAccess, transferBody};
 
 // The fields of a Mem.

@@ -16,7 +16,8 @@ ghost use Rattle.c_tree.specs.Expr.{word, lit};
 ghost use Rattle.c_tree.specs.Print.{exprText, spaces, codeText};
 ghost use Rattle.lower_forms.specs.InlineBody.{listIf, listed, loads, movedBase, stores};
 ghost use Rattle.armv4t.specs.RegisterList.{isListed};
-ghost use Rattle.lower_units.specs.Block.{lines, linesText};
+ghost use Rattle.lower_units.specs.Block.{lines};
+ghost use Rattle.lower_units.specs.Lines.{linesText};
 ghost use Rattle.emit_mem.specs.BlockMem.{storedOf};
 
 // The indent of a line, 6 in a pop, and the register that it sets.

@@ -3,7 +3,8 @@
 use mathlib.Core.Path.{_≡_, refl, ap}
 use Prim.Native.Nat.{ℕ}
 use mathlib.Core.List.{List, [], _∷_}
-use Rattle.base_text.specs.Doc.{text, _▸_, flat}
+use Rattle.base_text.specs.Doc.{text, _▸_}
+use Rattle.base_text.specs.Flat.{flat}
 use Rattle.c_tree.specs.Stmt.{Plain, Owner, Code, end, _⨾_}
 use Rattle.c_tree.specs.Print.{plainText, spaces, simpleText, codeText}
 use Rattle.lower_forms.specs.Forms.{Lines}

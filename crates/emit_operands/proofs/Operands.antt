@@ -14,7 +14,8 @@ use Rattle.armv4t.specs.declared.Operand2.{Operand2}
 use Rattle.armv4t.specs.declared.Instr.{Instr}
 use Rattle.armv4t.specs.Instr.{pcValue}
 use Rattle.base_text.specs.Digits.{numeral}
-use Rattle.base_text.specs.Doc.{text, dec, _▸_, decimal, flat}
+use Rattle.base_text.specs.Doc.{text, dec, _▸_, decimal}
+use Rattle.base_text.specs.Flat.{flat}
 use Rattle.c_tree.specs.Expr.{udec, int, Expr, lit}
 use Rattle.c_tree.specs.Print.{exprText}
 use Rattle.lower_forms.specs.Operands.{bitOf, carryIn, shiftExprs, op2Exprs, operandOf}

@@ -7,7 +7,8 @@ use mathlib.Core.Bool.{Bool}
 use mathlib.Core.List.{List, [], _∷_, _++_, map}
 use lib.ListN.{length, getD, take, length-map}
 use lib.Seq.{take-suc, take-all, length-take-le}
-use Rattle.base_text.specs.Doc.{Doc, nothing, text, _▸_, flat, each}
+use Rattle.base_text.specs.Doc.{Doc, nothing, text, _▸_, each}
+use Rattle.base_text.specs.Flat.{flat}
 use Rattle.base_text.specs.Wrote.{Wrote}
 use Rattle.base_text.proofs.Laws.{seq, wrote-as}
 use Rattle.file_blocks.specs.Parse.{Block, blockKey}

@@ -4,7 +4,8 @@ use mathlib.Core.Path.{_≡_, refl, sym, ap, _∙_}
 use Prim.Native.Nat.{ℕ}
 use mathlib.Core.List.{List, [], _∷_, map}
 use lib.ListN.{length}
-use Rattle.base_text.specs.Doc.{Doc, _▸_, flat, each}
+use Rattle.base_text.specs.Doc.{Doc, _▸_, each}
+use Rattle.base_text.specs.Flat.{flat}
 use Rattle.base_text.proofs.Laws.{each-append}
 use Rattle.c_tree.specs.Stmt.{label, end, _⨾_, Top, extern, table, count}
 use Rattle.c_tree.specs.Print.{casesText, codeText, rowText, topText, unitText}

@@ -7,7 +7,8 @@ use mathlib.Core.Bool.{Bool, true, false}
 use mathlib.Core.List.{List, [], _∷_, _++_, map}
 use lib.ListN.{length, getD, take, drop, length-drop}
 use lib.Seq.{getD-drop}
-use Rattle.base_text.specs.Doc.{_▸_, flat, each}
+use Rattle.base_text.specs.Doc.{_▸_, each}
+use Rattle.base_text.specs.Flat.{flat}
 use Rattle.base_text.specs.Wrote.{maxUsize, Wrote}
 use Rattle.base_text.proofs.Laws.{none, seq, wrote-as, each-append, each-more}
 use Rattle.file_blocks.specs.Parse.{blocksOf}

@@ -4,7 +4,7 @@ use crate::ticks::put_tick;
 ghost use mathlib.Core.Path.{_≡_};
 ghost use Rattle.base_text.specs.Wrote.{Wrote};
 ghost use Rattle.lower_forms.specs.Block.{flushTicks};
-ghost use Rattle.lower_units.specs.Block.{linesText};
+ghost use Rattle.lower_units.specs.Lines.{linesText};
 ghost use Rattle.emit_writer.specs.Writer.{flushed};
 
 // The lent text, the place reached in it, and the cycles that no tick says yet.

@@ -25,11 +25,12 @@ use Rattle.armv4t_manual.specs.Machine as M
 use Rattle.armv4t_manual.specs.Operators.{NOT, CarryFrom, minus, BorrowFrom, OverflowFromAdd}
 use Rattle.armv4t_manual.specs.DataProcessing.{addWithCarry, subWithBorrow, settle}
 use Rattle.armv4t_manual.specs.DataProcessing as D
-use Rattle.lower_forms.specs.Agree.{Agrees, Makes}
+use Rattle.lower_forms.specs.Agree.{Agrees}
+use Rattle.lower_forms.specs.Means.{Makes}
 use Rattle.lower_forms.proofs.Gives.{Reads, to, r-udec, r-par, r-not, r-and, r-or, r-xor}
 use Rattle.lower_forms.proofs.Gives.{r-add, r-var}
 use Rattle.lower_forms.proofs.Flags.{nz-ok, c-ok, adds-ok}
-use Rattle.lower_forms.proofs.Operands.{Regs, CarryIs, carry-reads}
+use Rattle.lower_forms.proofs.Operands.{Regs, CarryIs, carry-reads, one-lt}
 use Rattle.lower_forms.proofs.Steps.{step, stop, opened, given, within, do-declare, do-adds}
 use Rattle.lower_forms.proofs.Steps.{do-nz, do-c, do-reg, with-scopes, with-reg, with-flags}
 
@@ -171,10 +172,6 @@ module _ (x y i : ℕ) (hx : x < 4294967296) (hy : y < 4294967296) (hi : i < 2) 
             ∙ ap (λ b. Bool·beq (bit x 31) b && not (Bool·beq (bit x 31) (bit (minus x y i) 31)))
             (not-bit y hy) ∙ over-sub (bit x 31) (bit y 31) (bit (minus x y i) 31)) j,
       )
-
-one-lt : (b : Bool) → oneIf b < 2
-one-lt true = lit< tt
-one-lt false = lit< tt
 
 turned : (b : Bool) → 1 - oneIf (not b) ≡ oneIf b
 turned true = refl

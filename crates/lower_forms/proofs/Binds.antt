@@ -40,7 +40,7 @@ use Rattle.c_tree.specs.Binds.{level, binds, declaratorsBind, plainBinds}
 use Rattle.lower_forms.specs.Forms.{Lines, Native, straight, straightIf, branchIf, jump, pair}
 use Rattle.lower_forms.specs.Forms.{bx, pop, Form, native, shell}
 use Rattle.lower_forms.specs.Operands.{condExpr, regExpr, carryIn, shiftExprs, op2Exprs}
-use Rattle.lower_forms.specs.InlineBody.{listIf, eachOnLine, let32, setReg, result, logicalC}
+use Rattle.lower_forms.specs.InlineBody.{listIf, eachOnLine, let32, setReg, result}
 use Rattle.lower_forms.specs.InlineBody.{logical, sum, alu, aluBody, mulBody, mulLongBody}
 use Rattle.lower_forms.specs.InlineBody.{baseExpr, shiftedOffset, offsetExpr, addOrSub}
 use Rattle.lower_forms.specs.InlineBody.{loaded, stored, access, memBody, listed, loads}
@@ -213,8 +213,8 @@ lines-append {ks} {ls} h k = record { lines = go ks (h .lines) }
         both _ _ (left (plainsBind l) (linesBind ks) h)
         (go ks (right (plainsBind l) (linesBind ks) h))
 
-apart-bound : {ps : List Plain} → Plains ps → Bound (eachOnLine ps)
-apart-bound {ps} h = record { lines = go ps (h .plains) }
+each-on-line-bound : {ps : List Plain} → Plains ps → Bound (eachOnLine ps)
+each-on-line-bound {ps} h = record { lines = go ps (h .plains) }
   where
     go : (ps : List Plain) → plainsBind ps ≡ true → linesBind (eachOnLine ps) ≡ true
     go [] h = refl
@@ -233,20 +233,15 @@ let-binds : (x : Name) (e : Expr) → binds false e ≡ true → plainBinds fals
 unfolding declaratorsBind plainBinds
 let-binds x e h = both (binds false e) true h refl
 
-only-plains : (b : Bool) (p : Plain) → plainBinds false p ≡ true → Plains (listIf b p)
-only-plains true p h = one h
-only-plains false p h = record { plains = refl }
+list-if-plains : (b : Bool) (p : Plain) → plainBinds false p ≡ true → Plains (listIf b p)
+list-if-plains true p h = one h
+list-if-plains false p h = record { plains = refl }
 
 -- Alu
 
 result-binds : (op : AluOp) (rd : ℕ) → plainBinds false (result op rd) ≡ true
 unfolding binds plainBinds
 result-binds op rd = either (λ p. plainBinds false p ≡ true) (isCompare op) refl refl
-
-carry-plains : (carry : Option Expr) → MaybeOperand carry → Plains (logicalC carry)
-unfolding plainBinds
-carry-plains none h = record { plains = refl }
-carry-plains (some e) h = one (h .whole)
 
 logical-plains : (op : AluOp) (s : Bool) (rd : ℕ) (carry : Option Expr) (e : Expr)
     → MaybeOperand carry → binds false e ≡ true → Plains (logical op s rd carry e)
@@ -302,7 +297,7 @@ alu-plains Mvn s rd carry h k c = logical-plains Mvn s rd carry _ c (un-binds k)
 alu-bound : (op : AluOp) (s : Bool) (rd : ℕ) {a : Expr} (o : Option (Expr × Option Expr))
     → Operand a → MaybeOperands o → MaybeBound (aluBody op s rd a o)
 alu-bound op s rd none h k = tt
-alu-bound op s rd (some b) h k = apart-bound (alu-plains op s rd (b .1) h (k .0) (k .1))
+alu-bound op s rd (some b) h k = each-on-line-bound (alu-plains op s rd (b .1) h (k .0) (k .1))
 
 -- Mul and MulLong: registers only, so it computes
 
@@ -365,10 +360,10 @@ access-plains : (load : Bool) (w : MemWidth) (signed : Bool) (rd rn : ℕ) (wb :
 unfolding binds plainBinds
 access-plains true w signed rd rn wb =
     plains-append
-    (only-plains (wb && not (eqb rn rd) && not (eqb rn 15)) (setReg rn (v32 x-ob)) refl)
+    (list-if-plains (wb && not (eqb rn rd) && not (eqb rn 15)) (setReg rn (v32 x-ob)) refl)
     (one {p = setReg rd (loaded w signed)} (loaded-binds w signed))
 access-plains false w signed rd rn wb =
-    stored-binds w rd ◂ only-plains (wb && not (eqb rn 15)) (setReg rn (v32 x-ob)) refl
+    stored-binds w rd ◂ list-if-plains (wb && not (eqb rn 15)) (setReg rn (v32 x-ob)) refl
 
 ob-binds : (up : Bool) {off : Expr} → Operand off
     → binds false (bin (addOrSub up) (v32 x-base) off) ≡ true
@@ -381,7 +376,7 @@ mem-bound : (base : Expr) (up pre : Bool) {rest : List Plain} (off : Option Expr
     → MaybeBound (memBody base up pre rest off)
 mem-bound base up pre none h k o = tt
 mem-bound base up pre (some off) h k o =
-    apart-bound
+    each-on-line-bound
     (let-binds x-base base h ◂ let-binds x-ob (bin (addOrSub up) (v32 x-base) off) (ob-binds up o) ◂
     let-binds x-addr (v32 (cond pre x-ob x-base)) (get-binds _) ◂ k)
 
@@ -424,18 +419,18 @@ transfers-bound : (load : Bool) (i : Instr) (rn : ℕ) (writeback inList : Bool)
     (regs : List ℕ) → Whole moved → Bound (loadsOrStores load i rn writeback inList moved regs)
 unfolding plainBinds
 transfers-bound true i rn writeback inList moved regs h =
-    lines-append (apart-bound (only-plains (writeback && not inList) (setReg rn moved) h))
+    lines-append (each-on-line-bound (list-if-plains (writeback && not inList) (setReg rn moved) h))
     (loads-bound regs)
 transfers-bound false i rn writeback inList moved regs h =
     lines-append (stores-bound _ (storedReg-binds i rn (getD regs 0 16) moved h) regs)
-    (apart-bound (only-plains writeback (setReg rn moved) h))
+    (each-on-line-bound (list-if-plains writeback (setReg rn moved) h))
 
 blockMem-bound : (i : Instr) (load : Bool) (rn : ℕ) (inList pre up writeback : Bool) (regs : List ℕ)
     → Bound (blockMemBody i load rn inList pre up writeback regs)
 blockMem-bound i load rn inList pre up writeback regs =
     let total : ℕ = length regs * 4 in
     lines-append
-    (apart-bound
+    (each-on-line-bound
     (let-binds x-base (get (reg rn)) (get-binds (reg rn)) ◂ one
     (let-binds x-addr (start up pre total) (start-binds up pre total))))
     (transfers-bound load i rn writeback inList (movedBase up total) regs (moved-binds up total))
@@ -447,9 +442,9 @@ op-bound thumb i (Alu op s rd rn op2) =
     either MaybeBound (eqb rd 15) tt
     (alu-bound op s rd (op2Exprs i op2) (reg-operand i rn) (op2-operands i op2))
 op-bound thumb i (Mul acc s rd rn rs rm) =
-    either MaybeBound (eqb rd 15) tt (apart-bound (mul-plains acc s rd rn rs rm))
+    either MaybeBound (eqb rd 15) tt (each-on-line-bound (mul-plains acc s rd rn rs rm))
 op-bound thumb i (MulLong signed acc s hi lo rs rm) =
-    apart-bound (mulLong-plains signed acc s hi lo rs rm)
+    each-on-line-bound (mulLong-plains signed acc s hi lo rs rm)
 op-bound thumb i (Swap byte rd rm rn) = tt
 op-bound thumb i (Bx rm) = tt
 op-bound thumb i (Branch link target) = tt
@@ -482,7 +477,7 @@ word-binds r n = refl
 shell-fits : (thumb high : Bool) (cycles : ℕ) (i : Instr)
     → formBinds (emitShell thumb high cycles i) ≡ true
 shell-fits thumb high cycles i =
-    lines-append (ticks-bound cycles) (apart-bound (one (word-binds 15 (i .addr)))) .lines
+    lines-append (ticks-bound cycles) (each-on-line-bound (one (word-binds 15 (i .addr)))) .lines
 
 lines-fits : (thumb touchesBus : Bool) (cycles : ℕ) (x : TimedInstr) (body : Option Lines)
     → MaybeBound body → formBinds (emitLines thumb touchesBus cycles x body .0) ≡ true
@@ -505,9 +500,9 @@ branch-fits : (thumb : Bool) (cycles : ℕ) (i : Instr) (link : Bool) (target : 
 branch-fits thumb cycles i link target =
     let regs : Plains
     (listIf link (setWord 14 ((i .addr + 4) % 2 ^ 32)) ++ (setWord 15 target ∷ [])) =
-    plains-append (only-plains link _ (word-binds 14 _)) (one (word-binds 15 target)) in
+    plains-append (list-if-plains link _ (word-binds 14 _)) (one (word-binds 15 target)) in
     either (λ r. nativeBinds r ≡ true) (isAl (i .cond))
-    (lines-append (ticks-bound cycles) (apart-bound regs) .lines)
+    (lines-append (ticks-bound cycles) (each-on-line-bound regs) .lines)
     (both _ _ (both _ _ (ticks-bound cycles .lines) (cond-binds (i .cond))) (regs .plains))
 
 pop-fits : (thumb : Bool) (cycles rn : ℕ) (regs : List ℕ)
@@ -523,12 +518,12 @@ pop-fits thumb cycles rn regs =
 pair-fits : (cycles target ret : ℕ) → nativeBinds (emitPair cycles target ret) ≡ true
 pair-fits cycles target ret =
     lines-append (ticks-bound cycles)
-    (apart-bound (word-binds 14 ret ◂ one (word-binds 15 (clearBit0 target)))) .lines
+    (each-on-line-bound (word-binds 14 ret ◂ one (word-binds 15 (clearBit0 target)))) .lines
 
 -- the lines before a closing transfer bind
 pub closing-lines-bind : (cycles a : ℕ) → linesBind (flushTicks cycles ++ pcLine a) ≡ true
 closing-lines-bind cycles a =
-    lines-append (ticks-bound cycles) (apart-bound (one (word-binds 15 a))) .lines
+    lines-append (ticks-bound cycles) (each-on-line-bound (one (word-binds 15 a))) .lines
 
 -- all forms of a block bind
 pub forms-bind : (multiplier : ℕ) (b : Block)

@@ -32,8 +32,8 @@ use Rattle.armv4t_manual.specs.DataProcessing.{isAdd, isWordOffset, dataProcess
 use Rattle.armv4t_manual.specs.Multiply.{multiply, multiplyLong}
 use Rattle.armv4t_manual.specs.Transfer.{offsetValue, base, load, store}
 use Rattle.armv4t_manual.specs.Execute.{onward}
-use Rattle.lower_forms.specs.Agree.{Agrees, Makes}
-use Rattle.lower_forms.specs.Means.{statements, Leads, OpMeans}
+use Rattle.lower_forms.specs.Agree.{Agrees}
+use Rattle.lower_forms.specs.Means.{Makes, statements, Leads, OpMeans}
 use Rattle.lower_forms.proofs.Gives.{Reads, r-word, r-uhex, r-par}
 use Rattle.lower_forms.proofs.Operands.{same-of, under, pc-lt, operand-reads, shifted-reads}
 use Rattle.lower_forms.proofs.Operands.{value-carries, shifted-carries}
@@ -74,9 +74,9 @@ all-of [] = refl
 all-of (p ∷ ps) = ap (λ (qs : List Plain). p ∷ qs) (all-of ps)
 
 -- lines of one statement each do what the statements do
-apart-makes : (ps : List Plain) {z : State} {m : Machine} → Makes ps z m
+each-on-line-makes : (ps : List Plain) {z : State} {m : Machine} → Makes ps z m
     → Makes (statements (eachOnLine ps)) z m
-apart-makes ps {z} {m} h = subst (λ (qs : List Plain). Makes qs z m) (sym (all-of ps)) h
+each-on-line-makes ps {z} {m} h = subst (λ (qs : List Plain). Makes qs z m) (sym (all-of ps)) h
 
 module _ (i : Instr) {z : State} {m : Machine} (s : Sound m) (a : Agrees z m) (op : AluOp)
     (w : Bool) (rd rn : ℕ) (hd : rd < 15) (hn : rn ≤ 15) where
@@ -87,7 +87,7 @@ module _ (i : Instr) {z : State} {m : Machine} (s : Sound m) (a : Agrees z m) (o
   alu-lines (Operand2.Imm value rot) h ls q =
       subst (λ (ls : Lines). Makes (statements ls) (enter z)
       (dataProcessing op w rd rn (Operand2.Imm value rot) (pcValue i) m)) (some-same q)
-      (apart-makes _
+      (each-on-line-makes _
       (alu-ok s a rd hd op w _ _ _ (R m (pcValue i) rn) value
       (shifter m (pcValue i) (Operand2.Imm value rot) .1)
       (λ u g. operand-reads u m s i (g .regs) rn hn) (λ u g. r-word h)
@@ -96,7 +96,7 @@ module _ (i : Instr) {z : State} {m : Machine} (s : Sound m) (a : Agrees z m) (o
       subst (λ (ls : Lines). Makes (statements ls) (enter z)
       (dataProcessing op w rd rn (Operand2.Reg rm (Shift.Imm kind n)) (pcValue i) m))
       (some-same q)
-      (apart-makes _
+      (each-on-line-makes _
       (alu-ok s a rd hd op w _ _ _ (R m (pcValue i) rn)
       (shift kind (R m (pcValue i) rm) n (m .c) .0)
       (shift kind (R m (pcValue i) rm) n (m .c) .1)
@@ -171,7 +171,8 @@ mul-means i acc w rd rn rs rm r ls q z m s a bad d next o = go (eqb rd 15) refl 
         subst (λ (n : Machine × ℕ). Leads i ls z n) (some-same o) (
           (subst (λ (ls : Lines). Makes (statements ls) (enter z) (multiply acc w rd rn rs rm m))
               (some-same q)
-              (apart-makes _ (multiply-ok s a rd rn rs rm (under rd (r .0) e) hs hm acc w hn))),
+              (each-on-line-makes _
+              (multiply-ok s a rd rn rs rm (under rd (r .0) e) hs hm acc w hn))),
           refl,
         )
 
@@ -190,7 +191,7 @@ mul-long-means i sig acc w hi lo rs rm r ls q z m s a bad d next o =
     subst (λ (n : Machine × ℕ). Leads i ls z n) (some-same o) (
       (subst (λ (ls : Lines). Makes (statements ls) (enter z)
           (multiplyLong sig acc w hi lo rs rm m)) (some-same q)
-          (apart-makes _ (multiply-long-ok s a hi lo rs rm hh hl hs hm sig acc w))),
+          (each-on-line-makes _ (multiply-long-ok s a hi lo rs rm hh hl hs hm sig acc w))),
       refl,
     )
 
@@ -265,7 +266,7 @@ module _ (i : Instr) (ld : Bool) (width : MemWidth) (sig : Bool) (rd rn : ℕ) (
       subst (λ (ls : Lines). Makes (statements ls) (enter z)
       (cond ld (load width sig rd rn x off pre up writeback m)
       (store width rd rn x off pre up writeback m))) (t .2)
-      (apart-makes _ (go ld (t .0) (offset-always i s offset (r .2) (t .0) (t .1))))
+      (each-on-line-makes _ (go ld (t .0) (offset-always i s offset (r .2) (t .0) (t .1))))
     where
       x : ℕ
       x = base (i .thumb) m (pcValue i) rn

@@ -1,9 +1,9 @@
 -- What the lines of load and store multiple mean.
 use mathlib.Core.Path.{_≡_, refl, sym, ap, _∙_, subst}
 use mathlib.Core.Bool.{Bool, true, false, not, cond, _&&_, _||_}
-use mathlib.Core.List.{List, [], _∷_, _++_}
+use mathlib.Core.List.{List}
 use mathlib.Core.Option.{none, some}
-use Prim.Native.Nat.{ℕ, zero, suc, _+_, _*_, _≤_, _<_}
+use Prim.Native.Nat.{ℕ, _*_, _≤_, _<_}
 use native.Mathlib.Omega.{arith}
 use lib.Dec.{T, eqb, eqb-refl}
 use lib.ListN.{length}
@@ -24,36 +24,14 @@ use Rattle.armv4t_manual.specs.Transfer.{moved}
 use Rattle.armv4t_manual.specs.Multiple.{listed, start, loadAll, loadMultiple, lowest}
 use Rattle.armv4t_manual.specs.Multiple.{storeMultiple}
 use Rattle.armv4t_manual.specs.Execute.{onward, loadMultiplePc}
-use Rattle.lower_forms.specs.Agree.{Agrees, Makes}
-use Rattle.lower_forms.specs.Means.{statements, Leads, OpMeans}
+use Rattle.lower_forms.specs.Agree.{Agrees}
+use Rattle.lower_forms.specs.Means.{Makes, statements, Leads, OpMeans}
 use Rattle.lower_forms.proofs.Operands.{same-of, under}
 use Rattle.lower_forms.proofs.Body.{some-same, not-none, or-l, or-r}
-use Rattle.lower_forms.proofs.Listed.{listed-same, listed-15, Named, listed-named, member}
-use Rattle.lower_forms.proofs.Listed.{named-member}
+use Rattle.lower_forms.proofs.Listed.{listed-same, listed-length, listed-15, Named}
+use Rattle.lower_forms.proofs.Listed.{listed-named, member, named-member}
 use Rattle.lower_forms.proofs.Multiple.{load-multiple-ok, store-multiple-ok}
 use Rattle.base_lists.proofs.Each.{Each, each-map}
-
--- a list of registers below n has at most n
-pub append-length : (is js : List ℕ) → length (is ++ js) ≡ length is + length js
-append-length [] js = omega arith
-append-length (i ∷ is) js = more (length (is ++ js)) (length is) (length js) (append-length is js)
-  where
-    more : (p q r : ℕ) → p ≡ q + r → suc p ≡ suc q + r
-    more p q r e = omega arith
-
-one-more : (b : Bool) (n : ℕ) → length (cond b (n ∷ []) []) ≤ 1
-one-more true n = omega arith
-one-more false n = omega arith
-
-pub listed-length : (rlist n : ℕ) → length (listed rlist n) ≤ n
-unfolding listed
-listed-length rlist zero = omega arith
-listed-length rlist (suc n) =
-    subst (λ (l : ℕ). l ≤ suc n) (sym (append-length (listed rlist n) _))
-    (sum _ _ (listed-length rlist n) (one-more (bit rlist n) n))
-  where
-    sum : (p q : ℕ) → p ≤ n → q ≤ 1 → p + q ≤ suc n
-    sum p q h l = omega arith
 
 four : (k : ℕ) → k ≤ 16 → k * 4 < 4294967296
 four k h = omega arith

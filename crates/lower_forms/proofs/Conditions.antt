@@ -5,7 +5,7 @@ use mathlib.Core.List.{List}
 use mathlib.Core.Option.{some}
 use Prim.Native.Nat.{ℕ, _+_, _*_, _/_, _%_, _^_, _<_}
 use native.Mathlib.Omega.{arith}
-use lib.Dec.{T, lit<}
+use lib.Dec.{T}
 use Rattle.base_words.specs.Word.{AND, oneIf}
 use Rattle.base_words.proofs.Bits.{and-mask}
 use Rattle.armv4t.specs.declared.Cond.{Cond}
@@ -14,19 +14,16 @@ use Rattle.armv4t.specs.declared.Cond.the-variants.{Gt, Le, Al, Nv}
 use Rattle.c_tree.specs.Expr.{x-s, x-cn, x-cz, x-cc, x-cv}
 use Rattle.c_meaning.specs.State.{State, Scope, empty, enter}
 use Rattle.c_meaning.specs.Eval.{eval, evalAs}
-use Rattle.c_meaning.specs.Exec.{exec, execs, others}
-use Rattle.c_meaning.specs.Helpers.{rotated, perform}
+use Rattle.c_meaning.specs.Exec.{exec, others}
+use Rattle.c_meaning.specs.Perform.{execs, perform}
+use Rattle.c_meaning.specs.Helpers.{rotated}
 use Rattle.lower_forms.specs.Operands.{condExpr, flags}
 use Rattle.armv4t_manual.specs.Machine.{Machine, pack, setFlags, Sound}
 use Rattle.armv4t_manual.specs.Conditions.{passed}
 use Rattle.armv4t_manual.specs.Unsaid.{isNv}
 use Rattle.lower_forms.specs.Agree.{Agrees}
-use Rattle.lower_forms.proofs.Operands.{pack-c}
+use Rattle.lower_forms.proofs.Operands.{pack-c, one-lt}
 use Rattle.lower_forms.proofs.Steps.{given, within}
-
-one-lt : (b : Bool) → oneIf b < 2
-one-lt true = lit< tt
-one-lt false = lit< tt
 
 module _ (n z c v : Bool) (low : ℕ) (h : low < 2 ^ 28) where
   pub pack-n : pack n z c v low / 2 ^ 31 ≡ oneIf n

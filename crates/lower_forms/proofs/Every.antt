@@ -99,8 +99,7 @@ module _ (P : Form → Type 0)
           );
         })
         (λ t r. record {
-          forms =
-              (pairs (cycles + (x .cost + y .cost)) t r, instrs-all thumb region 0 rest .forms);
+          forms = (pairs (cycles + (x .cost + y .cost)) t r, instrs-all thumb region 0 rest .forms);
         })
 
     -- all forms of a block

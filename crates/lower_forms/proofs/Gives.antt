@@ -109,8 +109,7 @@ module _ {z : State} where
     r-and =
         record {
           typed = rw (p .typed, q .typed);
-          gives =
-              rw (p .gives, q .gives, p .typed, q .typed);
+          gives = rw (p .gives, q .gives, p .typed, q .typed);
           small = and-lt 32 x y (p .small) (q .small);
         }
 
@@ -119,8 +118,7 @@ module _ {z : State} where
     r-or =
         record {
           typed = rw (p .typed, q .typed);
-          gives =
-              rw (p .gives, q .gives, p .typed, q .typed);
+          gives = rw (p .gives, q .gives, p .typed, q .typed);
           small = or-lt 32 x y (p .small) (q .small);
         }
 
@@ -129,8 +127,7 @@ module _ {z : State} where
     r-xor =
         record {
           typed = rw (p .typed, q .typed);
-          gives =
-              rw (p .gives, q .gives, p .typed, q .typed);
+          gives = rw (p .gives, q .gives, p .typed, q .typed);
           small = xor-lt 32 x y (p .small) (q .small);
         }
 
@@ -139,8 +136,7 @@ module _ {z : State} where
     r-add =
         record {
           typed = rw (p .typed, q .typed);
-          gives =
-              rw (p .gives, q .gives, p .typed, q .typed);
+          gives = rw (p .gives, q .gives, p .typed, q .typed);
           small = mod-lt (x + y) (lit< tt);
         }
 
@@ -149,10 +145,8 @@ module _ {z : State} where
     r-sub =
         record {
           typed = rw (p .typed, q .typed);
-          gives =
-              rw (p .gives, q .gives, p .typed, q .typed);
-          small =
-              mod-lt (x + (4294967296 - y)) (lit< tt);
+          gives = rw (p .gives, q .gives, p .typed, q .typed);
+          small = mod-lt (x + (4294967296 - y)) (lit< tt);
         }
 
     pub r-mul : Reads (bin mul d e) z (x * y % 4294967296)
@@ -160,8 +154,7 @@ module _ {z : State} where
     r-mul =
         record {
           typed = rw (p .typed, q .typed);
-          gives =
-              rw (p .gives, q .gives, p .typed, q .typed);
+          gives = rw (p .gives, q .gives, p .typed, q .typed);
           small = mod-lt (x * y) (lit< tt);
         }
 
@@ -170,10 +163,8 @@ module _ {z : State} where
     r-shl h =
         record {
           typed = rw (p .typed);
-          gives =
-              rw (p .gives, q .gives, p .typed, q .typed, lt-true h);
-          small =
-              mod-lt (x * 2 ^ y) (lit< tt);
+          gives = rw (p .gives, q .gives, p .typed, q .typed, lt-true h);
+          small = mod-lt (x * 2 ^ y) (lit< tt);
         }
 
     pub r-shr : y < 32 → Reads (bin shr d e) z (x / 2 ^ y)
@@ -181,10 +172,8 @@ module _ {z : State} where
     r-shr h =
         record {
           typed = rw (p .typed);
-          gives =
-              rw (p .gives, q .gives, p .typed, q .typed, lt-true h);
-          small =
-              lt-of-le-of-lt (div-le-self x (2 ^ y)) (p .small);
+          gives = rw (p .gives, q .gives, p .typed, q .typed, lt-true h);
+          small = lt-of-le-of-lt (div-le-self x (2 ^ y)) (p .small);
         }
 
   module _ {e : Expr} {x : ℕ} (p : Reads e z x) (k : ℕ) (h : k < 32) where
@@ -194,10 +183,8 @@ module _ {z : State} where
     r-shr-int =
         record {
           typed = rw (p .typed);
-          gives =
-              rw (p .gives, int-lit h, p .typed, lt-true h);
-          small =
-              lt-of-le-of-lt (div-le-self x (2 ^ k)) (p .small);
+          gives = rw (p .gives, int-lit h, p .typed, lt-true h);
+          small = lt-of-le-of-lt (div-le-self x (2 ^ k)) (p .small);
         }
 
     pub r-shl-int : Reads (bin shl e (lit int k)) z (x * 2 ^ k % 4294967296)
@@ -205,8 +192,7 @@ module _ {z : State} where
     r-shl-int =
         record {
           typed = rw (p .typed);
-          gives =
-              rw (p .gives, int-lit h, p .typed, lt-true h);
+          gives = rw (p .gives, int-lit h, p .typed, lt-true h);
           small = mod-lt (x * 2 ^ k) (lit< tt);
         }
 
@@ -225,8 +211,7 @@ module _ {z : State} where
           gives =
               rw (p .gives, int-lit h, p .typed, lt-true h, neg-bit x (p .small))
               (ap some (asr-cond (bit x 31) (x / 2 ^ k) (4294967296 - 2 ^ (32 - k))));
-          small =
-              asr-small x k (p .small) h;
+          small = asr-small x k (p .small) h;
         }
 
 -- ror32
@@ -261,8 +246,6 @@ unfolding eval
 r-ror {x = x} {k = k} p q h =
     record {
       typed = refl;
-      gives =
-          rw (p .gives, q .gives, p .typed, q .typed) (ror-ok x k (p .small) h);
-      small =
-          rotate-small x k (p .small) h;
+      gives = rw (p .gives, q .gives, p .typed, q .typed) (ror-ok x k (p .small) h);
+      small = rotate-small x k (p .small) h;
     }

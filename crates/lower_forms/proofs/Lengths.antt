@@ -7,7 +7,7 @@ use mathlib.Core.Bool.{Bool, true, false, not, cond, _&&_, _||_}
 use mathlib.Core.List.{List, [], _∷_, _++_}
 use mathlib.Core.Option.{Option, none, some}
 use lib.Dec.{eqb}
-use lib.ListN.{length, getD, length-append}
+use lib.ListN.{length, getD}
 use Rattle.base_text.proofs.Lengths.{most}
 use Rattle.armv4t.specs.declared.Cond.{Cond}
 use Rattle.armv4t.specs.declared.Cond.the-variants.{Eq, Ne, Cs, Cc, Mi, Pl, Vs, Vc, Hi, Ls, Ge, Lt}
@@ -40,8 +40,7 @@ use Rattle.lower_forms.specs.Forms.{Lines, Native, straight, straightIf,
 use Rattle.lower_forms.specs.Forms.{bx, pop, Form, native, shell}
 use Rattle.lower_forms.specs.Operands.{condExpr, regExpr, shiftExprs, op2Exprs}
 use Rattle.lower_forms.specs.InlineBody.{listIf, eachOnLine, setReg, result, logical, sum}
-use Rattle.lower_forms.specs.InlineBody.{alu}
-use Rattle.lower_forms.specs.InlineBody.{aluBody, mulBody, mulLongBody, baseExpr}
+use Rattle.lower_forms.specs.InlineBody.{alu, aluBody, mulBody, mulLongBody, baseExpr}
 use Rattle.lower_forms.specs.InlineBody.{shiftedOffset, offsetExpr, loaded, stored, access}
 use Rattle.lower_forms.specs.InlineBody.{memBody, listed, loads, movedBase, start, storedReg}
 use Rattle.lower_forms.specs.InlineBody.{stores, loadsOrStores, blockMemBody, opBody}
@@ -52,6 +51,8 @@ use Rattle.lower_forms.specs.Block.{emitBranch, emitLines, emitStraight,
 use Rattle.lower_forms.proofs.Every.{every-form}
 use Rattle.base_lists.proofs.Each.{Each}
 use Rattle.base_lists.proofs.Bools.{either}
+use Rattle.lower_forms.proofs.Listed.{listed-same}
+use Rattle.lower_forms.proofs.Listed as L
 
 -- the statements of a line, with a `;` and a space each
 abbrev pub plainsMost : List Plain → ℕ
@@ -250,10 +251,10 @@ stored-brief Byte rd = record { brief = omega arith }
 stored-brief Half rd = record { brief = omega arith }
 stored-brief Word rd = record { brief = omega arith }
 
-only-within : (b : Bool) (p : Plain) (n : ℕ) → most (plainText p) ≤ n
+list-if-within : (b : Bool) (p : Plain) (n : ℕ) → most (plainText p) ≤ n
     → linesMost (eachOnLine (listIf b p)) ≤ n + 11
-only-within true p n h = omega (arith, h)
-only-within false p n h = omega arith
+list-if-within true p n h = omega (arith, h)
+list-if-within false p n h = omega arith
 
 lines-append : (ks ls : Lines) → linesMost (ks ++ ls) ≡ linesMost ks + linesMost ls
 lines-append [] ls = omega arith
@@ -273,7 +274,7 @@ access-within false w signed rd rn wb =
     omega (
       arith,
       stored-brief w rd .brief,
-      only-within (wb && not (eqb rn 15))
+      list-if-within (wb && not (eqb rn 15))
           (setReg rn (v32 x-ob)) 40 (omega arith),
     )
 
@@ -293,20 +294,7 @@ mem-within base false false rest (some off) h k o =
 -- BlockMem: a line for each of at most 16 registers
 
 listed-length : (rlist n : ℕ) → length (listed rlist n) ≤ n
-unfolding listed
-listed-length rlist zero = omega arith
-listed-length rlist (suc n) =
-    omega (
-      arith,
-      length-append (listed rlist n) (listIf (isListed rlist n) n),
-      one
-          (isListed rlist n),
-      listed-length rlist n,
-    )
-  where
-    one : (b : Bool) → length (listIf b n) ≤ 1
-    one true = omega arith
-    one false = omega arith
+listed-length rlist n = rw (listed-same rlist n) (L.listed-length rlist n)
 
 loads-within : (rs : List ℕ) → linesMost (loads rs) ≤ length rs * 116
 loads-within [] = omega arith
@@ -342,7 +330,7 @@ transfers-within true i rn writeback inList moved regs h l =
     omega (
       arith,
       lines-append (eachOnLine (listIf (writeback && not inList) (setReg rn moved))) (loads regs),
-      only-within (writeback && not inList) (setReg rn moved) 60 (omega (arith, h .short)),
+      list-if-within (writeback && not inList) (setReg rn moved) 60 (omega (arith, h .short)),
       loads-within regs,
       l,
     )
@@ -351,7 +339,7 @@ transfers-within false i rn writeback inList moved regs h l =
       arith,
       lines-append (stores (storedReg i rn (getD regs 0 16) moved) regs)
           (eachOnLine (listIf writeback (setReg rn moved))),
-      only-within writeback (setReg rn moved) 60 (omega (arith, h .short)),
+      list-if-within writeback (setReg rn moved) 60 (omega (arith, h .short)),
       stores-within (storedReg i rn (getD regs 0 16) moved)
           (storedReg-short i rn (getD regs 0 16) moved h) regs,
       l,

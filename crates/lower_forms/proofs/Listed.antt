@@ -2,8 +2,9 @@
 use mathlib.Core.Path.{_≡_, refl, sym, ap, ap₂, _∙_, subst}
 use mathlib.Core.Logic.{_≢_}
 use mathlib.Core.Bool.{Bool, true, false, cond, _||_}
-use mathlib.Core.List.{List, [], _∷_, _++_}
-use Prim.Native.Nat.{ℕ, zero, suc, _+_, _%_, _<_}
+use mathlib.Core.List.{List, [], _∷_, _++_, append-nil}
+use Prim.Native.Nat.{ℕ, zero, suc, _+_, _%_, _≤_, _<_}
+use lib.ListN.{length, length-append}
 use native.Mathlib.Omega.{arith}
 use lib.Dec.{T, eqb, eqb→eq, eqb-refl}
 use Rattle.base_words.specs.Word.{bit}
@@ -17,19 +18,26 @@ use Rattle.lower_forms.proofs.Operands.{same-of, ne-of}
 use Rattle.base_lists.proofs.Each.{Each, each-append, each-map}
 
 -- the emitter's list is the manual's
-only-same : (b : Bool) (n : ℕ) → listIf b n ≡ cond b (n ∷ []) []
-only-same true n = refl
-only-same false n = refl
+list-if-same : (b : Bool) (n : ℕ) → listIf b n ≡ cond b (n ∷ []) []
+list-if-same true n = refl
+list-if-same false n = refl
 
 pub listed-same : (rlist n : ℕ) → F.listed rlist n ≡ listed rlist n
 unfolding F.listed listed
 listed-same rlist zero = refl
 listed-same rlist (suc n) =
-    ap₂ (λ (p q : List ℕ). p ++ q) (listed-same rlist n) (only-same (bit rlist n) n)
+    ap₂ (λ (p q : List ℕ). p ++ q) (listed-same rlist n) (list-if-same (bit rlist n) n)
 
-append-nil : (is : List ℕ) → is ++ [] ≡ is
-append-nil [] = refl
-append-nil (i ∷ is) = ap (λ (js : List ℕ). i ∷ js) (append-nil is)
+-- a list of registers below n has at most n
+pub listed-length : (rlist n : ℕ) → length (listed rlist n) ≤ n
+unfolding listed
+listed-length rlist zero = omega arith
+listed-length rlist (suc n) = go (bit rlist n) (listed-length rlist n)
+  where
+    go : (b : Bool) → length (listed rlist n) ≤ n
+        → length (listed rlist n ++ cond b (n ∷ []) []) ≤ suc n
+    go true h = omega (arith, length-append (listed rlist n) (n ∷ []))
+    go false h = omega (arith, length-append (listed rlist n) [])
 
 -- without R15 the list of 16 is that of 15
 pub listed-15 : (rlist : ℕ) → bit rlist 15 ≡ false → listed rlist 16 ≡ listed rlist 15

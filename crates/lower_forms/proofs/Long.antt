@@ -22,7 +22,8 @@ use Rattle.armv4t_manual.specs.Machine.{Machine, setFlags, Sound}
 use Rattle.armv4t_manual.specs.Machine as M
 use Rattle.armv4t_manual.specs.Operators.{CarryFrom}
 use Rattle.armv4t_manual.specs.Multiply.{absolute, product, multiplyLong}
-use Rattle.lower_forms.specs.Agree.{Agrees, Makes}
+use Rattle.lower_forms.specs.Agree.{Agrees}
+use Rattle.lower_forms.specs.Means.{Makes}
 use Rattle.lower_forms.proofs.Flags.{nz64-ok}
 use Rattle.lower_forms.proofs.Gives.{Reads, neg-bit}
 use Rattle.lower_forms.proofs.Multiply.{reg-reads}

@@ -43,8 +43,7 @@ module _ {z : State} {e : Expr} {x : ℕ} (p : Reads e z x) (b : (a : ℕ) → z
       record {
         typed = refl;
         gives = rw (p .gives, p .typed);
-        small =
-            le-trans (half-small (z .mem) b x) (lit≤ tt);
+        small = le-trans (half-small (z .mem) b x) (lit≤ tt);
       }
 
   pub r-read8 : Reads (read w8 e) z (z .mem x)
@@ -79,8 +78,7 @@ module _ {z : State} {e : Expr} {x : ℕ} (p : Reads e z x) where
       record {
         typed = refl;
         gives = rw (p .gives, p .typed, mod-eq-of-lt h, neg8 x h);
-        small =
-            cond-lt (bit x 7) (x + 4294967040) x (omega arith) (p .small);
+        small = cond-lt (bit x 7) (x + 4294967040) x (omega arith) (p .small);
       }
 
   pub r-signed16 : x < 65536 → Reads (cast u32 (cast s32 (cast s16 e))) z (SignExtend16 x)
@@ -89,8 +87,7 @@ module _ {z : State} {e : Expr} {x : ℕ} (p : Reads e z x) where
       record {
         typed = refl;
         gives = rw (p .gives, p .typed, mod-eq-of-lt h, neg16 x h);
-        small =
-            cond-lt (bit x 15) (x + 4294901760) x (omega arith) (p .small);
+        small = cond-lt (bit x 15) (x + 4294901760) x (omega arith) (p .small);
       }
 
 -- c ? d : e
@@ -100,15 +97,13 @@ unfolding eval
 r-pick true p q r =
     record {
       typed = rw (q .typed, r .typed);
-      gives =
-          rw (p .gives, q .gives, q .typed, r .typed);
+      gives = rw (p .gives, q .gives, q .typed, r .typed);
       small = q .small;
     }
 r-pick false p q r =
     record {
       typed = rw (q .typed, r .typed);
-      gives =
-          rw (p .gives, r .gives, q .typed, r .typed);
+      gives = rw (p .gives, r .gives, q .typed, r .typed);
       small = r .small;
     }
 

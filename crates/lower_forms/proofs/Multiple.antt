@@ -23,8 +23,8 @@ use Rattle.armv4t_manual.specs.Machine as M
 use Rattle.armv4t_manual.specs.Transfer.{Memory4, setMemory4, moved}
 use Rattle.armv4t_manual.specs.Multiple.{loadAll, storeAll}
 use Rattle.armv4t_manual.specs.Multiple as MM
-use Rattle.lower_forms.specs.Agree.{Agrees, Makes}
-use Rattle.lower_forms.specs.Means.{statements}
+use Rattle.lower_forms.specs.Agree.{Agrees}
+use Rattle.lower_forms.specs.Means.{Makes, statements}
 use Rattle.lower_forms.proofs.Gives.{Reads, to, r-reg, r-udec, r-word, r-add, r-sub, r-var}
 use Rattle.lower_forms.proofs.Memory.{r-read, r-aligned}
 use Rattle.lower_forms.proofs.Operands.{Regs, same-of, under}
@@ -226,8 +226,7 @@ module _ {z : State} {m : Machine} (s : Sound m) (a : Agrees z m) (i : Instr) (r
       (record {
         regs = b .regs;
         flags = b .flags;
-        memory =
-            ap (store w32 (k / 4 * 4) (v j)) (b .memory);
+        memory = ap (store w32 (k / 4 * 4) (v j)) (b .memory);
       }) q refl (mod-lt (k + 4) (lit< tt)) next))
 
   -- STM, where a base that is listed and not written is the lowest

@@ -16,7 +16,8 @@ use Rattle.lower_forms.specs.InlineBody.{listIf, setReg, mulBody}
 use Rattle.armv4t_manual.specs.Machine.{Machine, setFlags, Sound}
 use Rattle.armv4t_manual.specs.Machine as M
 use Rattle.armv4t_manual.specs.Multiply.{multiply}
-use Rattle.lower_forms.specs.Agree.{Agrees, Makes}
+use Rattle.lower_forms.specs.Agree.{Agrees}
+use Rattle.lower_forms.specs.Means.{Makes}
 use Rattle.lower_forms.proofs.Gives.{Reads, r-reg, r-mul, r-var}
 use Rattle.lower_forms.proofs.Flags.{nz-ok}
 use Rattle.lower_forms.proofs.Steps.{step, stop, opened, given, within, do-declare, do-plus}

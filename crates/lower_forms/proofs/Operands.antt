@@ -40,7 +40,8 @@ under r h q = go r h (ne-of r 15 q)
 abbrev pub Regs : State → Machine → Type 0
 Regs z m = (i : ℕ) → i < 15 → z .c i ≡ m .r i
 
-one-lt : (b : Bool) → oneIf b < 2
+-- a flag as a number
+pub one-lt : (b : Bool) → oneIf b < 2
 one-lt true = lit< tt
 one-lt false = lit< tt
 

@@ -11,10 +11,12 @@ use Rattle.c_tree.specs.Expr.{u32, Name, reg, var, Expr}
 use Rattle.c_tree.specs.Stmt.{is, plus, f-nz, f-c, Plain, declare, adds, set, run, op-adds, proc}
 use Rattle.c_meaning.specs.State.{State, Scope, update, index, setC, setScopes}
 use Rattle.c_meaning.specs.Eval.{evalAs}
-use Rattle.c_meaning.specs.Exec.{on, back, exec, execs, others}
-use Rattle.c_meaning.specs.Helpers.{called, rotated, perform}
+use Rattle.c_meaning.specs.Exec.{on, back, exec, others}
+use Rattle.c_meaning.specs.Perform.{execs, perform}
+use Rattle.c_meaning.specs.Helpers.{called, rotated}
 use Rattle.armv4t_manual.specs.Machine.{Machine, pack, setReg, setFlags}
-use Rattle.lower_forms.specs.Agree.{Agrees, Makes}
+use Rattle.lower_forms.specs.Agree.{Agrees}
+use Rattle.lower_forms.specs.Means.{Makes}
 use Rattle.lower_forms.proofs.Gives.{Reads, le-true}
 
 -- one statement
@@ -108,8 +110,7 @@ module _ {z : State} {m : Machine} (a : Agrees z m) where
   with-reg k x h =
       record {
         regs = λ i l. ap (cond (eqb i k) x) (a .regs i l);
-        flags =
-            rw (gt 16 k (omega arith)) (a .flags);
+        flags = rw (gt 16 k (omega arith)) (a .flags);
         memory = a .memory;
       }
 
@@ -118,8 +119,7 @@ module _ {z : State} {m : Machine} (a : Agrees z m) where
   with-pc k x e =
       record {
         regs = λ i l. rw (ne i k (omega (arith, e, l))) (a .regs i l);
-        flags =
-            a .flags;
+        flags = a .flags;
         memory = a .memory;
       }
 
@@ -129,8 +129,7 @@ module _ {z : State} {m : Machine} (a : Agrees z m) where
       rw e (record {
         regs = λ i l. go (eqb i k) (a .regs i l);
         flags = with-reg k x h .flags;
-        memory =
-            a .memory;
+        memory = a .memory;
       })
     where
       go : (b : Bool) {p q : ℕ} → p ≡ q → cond b x p ≡ cond b x (cond b y q)
@@ -143,6 +142,5 @@ module _ {z : State} {m : Machine} (a : Agrees z m) where
       record {
         regs = λ i l. rw (ne i 16 (omega arith)) (a .regs i l);
         flags = refl;
-        memory =
-            a .memory;
+        memory = a .memory;
       }

@@ -18,7 +18,7 @@ use Rattle.armv4t_manual.specs.Thumb.{format-7, format-8, format-9, format-10, 
 use Rattle.armv4t_manual.specs.Thumb.{format-13, format-14, format-15, format-16, format-17}
 use Rattle.armv4t_manual.specs.Thumb.{format-18, format-19-high, format-19-low}
 use Rattle.armv4t_manual.proofs.Thumb.{low, folded-odd, folded-even, multiple, by-bit}
-use Rattle.lower_forms.specs.Means.{differsIn}
+use Rattle.lower_forms.specs.Differs.{differsIn}
 
 -- an instruction at an address is no named difference
 abbrev Same : ℕ → Thumb → Type 0

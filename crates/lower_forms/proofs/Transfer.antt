@@ -24,7 +24,8 @@ use Rattle.armv4t_manual.specs.Machine as M
 use Rattle.armv4t_manual.specs.Operators.{Rotate-Right, SignExtend8, SignExtend16}
 use Rattle.armv4t_manual.specs.Transfer.{Memory2, moved, address}
 use Rattle.armv4t_manual.specs.Transfer as T
-use Rattle.lower_forms.specs.Agree.{Agrees, Makes}
+use Rattle.lower_forms.specs.Agree.{Agrees}
+use Rattle.lower_forms.specs.Means.{Makes}
 use Rattle.lower_forms.proofs.Gives.{Reads, to, r-udec, r-par, r-add, r-sub, r-mul, r-var}
 use Rattle.lower_forms.proofs.Gives.{r-ror, rotate-none}
 use Rattle.lower_forms.proofs.Memory.{r-read, r-read16, r-read8, half-small, r-signed8}

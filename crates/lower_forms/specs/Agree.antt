@@ -1,11 +1,7 @@
--- When C's state agrees with the manual's machine, and when statements make one that does.
+-- To be believed: when C's state agrees with the manual's machine.
 use Prim.Native.Nat.{ℕ, _<_}
 use mathlib.Core.Path.{_≡_}
-use mathlib.Core.List.{List}
-use mathlib.Core.Option.{some}
-use Rattle.c_tree.specs.Stmt.{Plain}
 use Rattle.c_meaning.specs.State.{State}
-use Rattle.c_meaning.specs.Helpers.{perform}
 use Rattle.armv4t_manual.specs.Machine.{Machine, cpsr}
 
 -- c[0] to c[14] are the registers, c[16] the status register, and the bytes of memory are the same
@@ -13,9 +9,3 @@ pub record Agrees (z : State) (m : Machine) : Type 0 where
   pub regs : (i : ℕ) → i < 15 → z .c i ≡ m .r i
   pub flags : z .c 16 ≡ cpsr m
   pub memory : z .mem ≡ m .mem
-
--- plain statements, run from z, end defined in a state that agrees with m
-pub record Makes (ps : List Plain) (z : State) (m : Machine) : Type 0 where
-  pub end : State
-  pub ends : perform ps z ≡ some end
-  pub same : Agrees end m

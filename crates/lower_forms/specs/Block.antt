@@ -1,4 +1,5 @@
--- A block's instructions as forms of text: emit_block's loop, with the cycles pending.
+-- To be believed: a block's instructions as forms of text: emit_block's loop, with the cycles
+-- pending.
 use Prim.Native.Nat.{ℕ, zero, suc, _+_, _*_, _%_, _^_}
 use mathlib.Core.Bool.{Bool, true, false, not, cond, _&&_}
 use mathlib.Core.List.{List, [], _∷_, _++_}
@@ -25,8 +26,7 @@ use Rattle.lower_forms.specs.Forms.{Lines, Native, straight, straightIf,
 use Rattle.lower_forms.specs.Forms.{bx, pop, Form, native, shell, Body}
 use Rattle.lower_forms.specs.Operands.{condExpr, regExpr}
 use Rattle.lower_forms.specs.InlineBody.{listIf, eachOnLine, let32, setReg, aligned, listed}
-use Rattle.lower_forms.specs.InlineBody.{loads}
-use Rattle.lower_forms.specs.InlineBody.{inlineBody}
+use Rattle.lower_forms.specs.InlineBody.{loads, inlineBody}
 use Rattle.armv4t.specs.RegisterList.{isListed}
 use Rattle.base_hash.specs.Fnv.{fnv64}
 
@@ -62,7 +62,8 @@ branchRegs link ret target = listIf link (setWord 14 ret) ++ (setWord 15 target 
 abbrev pub emitBranch : Bool → ℕ → Instr → Bool → ℕ → Native
 emitBranch thumb cycles i link target =
     let regs : List Plain = branchRegs link ((i .addr + 4) % 2 ^ 32) target in
-    cond (isAl (i .cond)) (jump (flushTicks cycles ++ eachOnLine regs) (keyOf target thumb))
+    cond (isAl (i .cond))
+    (jump (flushTicks cycles ++ eachOnLine regs) (keyOf target thumb))
     (branchIf (flushTicks cycles) (condExpr (i .cond)) regs (keyOf target thumb))
 
 -- whether an indirect exit, Bx or pop of PC, is native: condition Al, outside region 0
@@ -149,9 +150,9 @@ emitInstrs thumb region cycles (x ∷ y ∷ rest) =
     let s : Form × ℕ = emitInstr thumb region cycles x in
     let two : List Form × ℕ = consForm (s .0) (emitInstrs thumb region (s .1) (y ∷ rest)) in
     fusedOr (fuse (x .instr) (y .instr)) two
-    (λ target ret. consForm
-    (native (emitPair (cycles + (x .cost + y .cost))
-    target ret)) (emitInstrs thumb region 0 rest))
+    (λ target ret.
+    consForm (native (emitPair (cycles + (x .cost + y .cost)) target ret))
+    (emitInstrs thumb region 0 rest))
 
 -- the hash of a block's code bytes, or their absence
 abbrev pub hashOf : ℕ → Block → Option ℕ

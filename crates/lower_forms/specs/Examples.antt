@@ -1,5 +1,5 @@
--- An instruction of each class, with the lines that emit.rs prints for it, and the forms and cycles
--- of a few blocks, computed.
+-- Examples: an instruction of each class, with the lines that emit.rs prints for it, and the forms
+-- and cycles of a few blocks, computed.
 use Prim.Native.Nat.{ℕ}
 use mathlib.Core.Path.{_≡_, refl}
 use mathlib.Core.Bool.{Bool, true, false}
@@ -112,8 +112,7 @@ ldrPc =
     record {
       addr = 0x0800_0702;
       cond = Al;
-      op =
-          Mem true Word false 0 15 (MemOffset.Imm 16) true true false;
+      op = Mem true Word false 0 15 (MemOffset.Imm 16) true true false;
       thumb = true;
     }
 

@@ -1,6 +1,6 @@
--- The forms of text that emit_block prints for the instructions of a block. A form holds the
--- expressions and plain statements that vary; the statements that a way goes by, and the layout,
--- come with the form (the crate `lower_units`).
+-- To be believed: the forms of text that emit_block prints for the instructions of a block. A form
+-- holds the expressions and plain statements that vary; the statements that a way goes by, and the
+-- layout, come with the form (the crate `lower_units`).
 use Prim.Native.Nat.{ℕ}
 use mathlib.Core.Bool.{Bool}
 use mathlib.Core.List.{List}

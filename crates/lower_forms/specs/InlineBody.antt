@@ -1,5 +1,5 @@
--- The statements that an instruction is lowered to, without its condition: inline_body, class by
--- class.
+-- To be believed: the statements that an instruction is lowered to, without its condition:
+-- inline_body, class by class.
 use Prim.Native.Nat.{ℕ, zero, suc, _+_, _*_, _/_, _%_, _^_}
 use mathlib.Core.Bool.{Bool, true, false, not, cond, _&&_, _||_}
 use mathlib.Core.List.{List, [], _∷_, _++_}
@@ -121,7 +121,8 @@ mulLongBody signed acc s hi lo rs rm =
     ∷ listIf acc
     (set (var (u64, x-r)) plus
     (bin bor (par (bin shl (cast u64 (get (reg hi))) (lit int 32))) (cast u64 (get (reg lo)))))
-    ++ (setReg lo (cast u32 r64) ∷ setReg hi (cast u32 (par (bin shr r64 (lit int 32))))
+    ++ (setReg lo (cast u32 r64)
+    ∷ setReg hi (cast u32 (par (bin shr r64 (lit int 32))))
     ∷ listIf s (run f-nz64 r64))
 
 -- the base of a Mem: PC is word-aligned in a Thumb block
@@ -179,15 +180,18 @@ abbrev pub access : Bool → MemWidth → Bool → ℕ → ℕ → Bool → List
 access true width signed rd rn wb =
     listIf (wb && not (eqb rn rd) && not (eqb rn 15)) (setReg rn (v32 x-ob))
     ++ (setReg rd (loaded width signed) ∷ [])
-access false width signed rd rn wb = stored width (get (reg rd)) ∷ listIf (wb && not (eqb rn 15))
-    (setReg rn (v32 x-ob))
+access false width signed rd rn wb =
+    stored width (get (reg rd)) ∷ listIf (wb && not (eqb rn 15)) (setReg rn (v32 x-ob))
 
 -- the lines of a Mem, by its base, whether the offset is added, whether it counts before the
 -- access, the statements of the access, and the offset
 abbrev pub memLines : Expr → Bool → Bool → List Plain → Expr → Lines
 memLines base up pre rest off =
-    eachOnLine (let32 x-base base ∷ let32 x-ob (bin (addOrSub up) (v32 x-base) off)
-    ∷ let32 x-addr (v32 (cond pre x-ob x-base)) ∷ rest)
+    eachOnLine
+    (let32 x-base base
+    ∷ let32 x-ob (bin (addOrSub up) (v32 x-base) off)
+    ∷ let32 x-addr (v32 (cond pre x-ob x-base))
+    ∷ rest)
 
 -- Mem, if its offset can be printed
 abbrev pub memBody : Expr → Bool → Bool → List Plain → Option Expr → Option Lines

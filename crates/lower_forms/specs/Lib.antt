@@ -4,6 +4,7 @@ pub mod Operands
 pub mod InlineBody
 pub mod Block
 pub mod Agree
+pub mod Differs
 pub mod Means
 pub mod Examples
 pub mod MeaningExamples

@@ -1,4 +1,5 @@
--- What small instructions do, computed twice: by their lines as C99 reads them, and by the manual.
+-- Examples: what small instructions do, computed twice: by their lines as C99 reads them, and by
+-- the manual.
 use Prim.Native.Nat.{ℕ, _%_}
 use mathlib.Core.Path.{_≡_, refl}
 use mathlib.Core.Bool.{true, false}
@@ -18,8 +19,9 @@ use Rattle.armv4t.specs.declared.Instr.{Instr}
 use Rattle.c_tree.specs.Expr.{w32}
 use Rattle.c_meaning.specs.State.{bind, update, State, empty, enter, load}
 use Rattle.c_meaning.specs.Eval.{eval, evalAs}
-use Rattle.c_meaning.specs.Exec.{exec, others, execs, asks, step, runs}
-use Rattle.c_meaning.specs.Helpers.{rotated, called, perform}
+use Rattle.c_meaning.specs.Exec.{exec, others, asks, step, runs}
+use Rattle.c_meaning.specs.Perform.{execs, perform}
+use Rattle.c_meaning.specs.Helpers.{rotated, called}
 use Rattle.armv4t_manual.specs.Machine.{Machine, cpsr}
 use Rattle.armv4t_manual.specs.Transfer.{Memory4}
 use Rattle.armv4t_manual.specs.Multiple as M
@@ -41,8 +43,7 @@ machine =
       c = true;
       v = false;
       otherBits = 0;
-      mem =
-          λ a. a % 256;
+      mem = λ a. a % 256;
     }
 
 -- a state that agrees with it, with one scope and nothing declared
@@ -52,8 +53,7 @@ state =
       c = update 16 0x20000000 regs;
       mem = λ a. a % 256;
       scopes = empty ∷ [];
-      answers =
-          λ k. 0;
+      answers = λ k. 0;
       interpreter = λ k c mem. record { c = c; mem = mem; answer = 0 };
     }
 

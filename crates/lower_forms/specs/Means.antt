@@ -1,48 +1,27 @@
--- What is claimed of the plain statements that an operation is lowered to, and where the text is
--- not the manual's.
-use Prim.Native.Nat.{ℕ, _%_}
+-- Steps: what is proved of the plain statements that an operation is lowered to.
+use Prim.Native.Nat.{ℕ}
 use mathlib.Core.Path.{_≡_}
-use mathlib.Core.Bool.{Bool, false, not, _&&_}
+use mathlib.Core.Bool.{false}
 use mathlib.Core.List.{List, [], _∷_, _++_}
 use mathlib.Core.Option.{some}
-use lib.Dec.{eqb}
-use Rattle.base_words.specs.Word.{bit}
 use Rattle.armv4t.specs.declared.Op.{Op}
-use Rattle.armv4t.specs.declared.Op.the-variants.{Alu, Mul, MulLong, Swap, Bx, Branch, ThumbBlHigh}
-use Rattle.armv4t.specs.declared.Op.the-variants.{ThumbBlLow, Mem, BlockMem, Mrs, MsrReg, MsrImm}
-use Rattle.armv4t.specs.declared.Op.the-variants.{Swi, Undefined}
 use Rattle.armv4t.specs.declared.Instr.{Instr}
-use Rattle.armv4t.specs.Instr.{pcValue}
 use Rattle.c_tree.specs.Stmt.{Plain}
 use Rattle.c_meaning.specs.State.{State, enter}
 use Rattle.armv4t_manual.specs.Machine.{Machine, Sound}
-use Rattle.armv4t_manual.specs.Multiple.{lowest}
 use Rattle.armv4t_manual.specs.Unsaid.{unpredictable}
-use Rattle.armv4t_manual.specs.Execute.{keyAfter, addsToPc, operation}
+use Rattle.armv4t_manual.specs.Execute.{keyAfter, operation}
 use Rattle.lower_forms.specs.Forms.{Lines}
 use Rattle.lower_forms.specs.InlineBody.{opBody}
-use Rattle.lower_forms.specs.Agree.{Agrees, Makes}
+use Rattle.lower_forms.specs.Agree.{Agrees}
+use Rattle.c_meaning.specs.Perform.{perform}
+use Rattle.lower_forms.specs.Differs.{differsIn}
 
--- differences 1 and 2 of docs/DIFFERENCES.md, by the operation: a store of a base that is listed
--- but not lowest, without writeback; and ADD of PC and a value in Thumb, where PC has bit 1 and the
--- decoder has not taken it off the value
-abbrev pub differsIn : Instr → Op → Bool
-differsIn i (Alu op s rd rn op2) = addsToPc (i .thumb) op rn op2 && not (eqb (pcValue i % 4) 0)
-differsIn i (Mul acc s rd rn rs rm) = false
-differsIn i (MulLong signed acc s hi lo rs rm) = false
-differsIn i (Swap b rd rm rn) = false
-differsIn i (Bx rm) = false
-differsIn i (Branch link target) = false
-differsIn i (ThumbBlHigh lr) = false
-differsIn i (ThumbBlLow off) = false
-differsIn i (Mem ld width signed rd rn offset pre up writeback) = false
-differsIn i (BlockMem ld rn rlist pre up s-bit writeback) =
-    not ld && not writeback && bit rlist rn && not (eqb (lowest rlist) rn)
-differsIn i (Mrs spsr rd) = false
-differsIn i (MsrReg spsr fields rm) = false
-differsIn i (MsrImm spsr fields value) = false
-differsIn i (Swi imm) = false
-differsIn i (Undefined raw) = false
+-- plain statements, run from z, end defined in a state that agrees with m
+pub record Makes (ps : List Plain) (z : State) (m : Machine) : Type 0 where
+  pub end : State
+  pub ends : perform ps z ≡ some end
+  pub same : Agrees end m
 
 -- the statements of lines
 abbrev pub statements : Lines → List Plain

@@ -1,4 +1,4 @@
--- Conditions, registers and shifted operands as expressions.
+-- To be believed: conditions, registers and shifted operands as expressions.
 use Prim.Native.Nat.{ℕ, zero, suc, _-_, _/_, _%_, _^_}
 use mathlib.Core.Bool.{cond}
 use mathlib.Core.List.{List, [], _∷_}
@@ -81,8 +81,7 @@ shiftExprs e Asr zero = (shiftSigned e 31, some (par (bin shr e (lit udec 31))))
 shiftExprs e Asr (suc n) = (shiftSigned e (suc n), some (bitOf e n))
 shiftExprs e Ror zero = (
   par (bin bor (par (bin shl carryIn (lit int 31))) (par (bin shr e (lit udec 1)))),
-  some
-      (par (bin band e (lit udec 1))),
+  some (par (bin band e (lit udec 1))),
 )
 shiftExprs e Ror (suc n) = (ror e (lit udec (suc n)), some (bitOf e n))
 

@@ -17,8 +17,9 @@ use Rattle.c_tree.specs.Stmt.{_⨾_, when, braces}
 use Rattle.c_tree.specs.Preamble.{v32}
 use Rattle.c_meaning.specs.State.{bind, State, empty, setC, enter, leave}
 use Rattle.c_meaning.specs.Eval.{eval, evalAs}
-use Rattle.c_meaning.specs.Exec.{back, Outcome, next, asks, exec, execs, step, runs}
-use Rattle.c_meaning.specs.Helpers.{rotated, perform, run}
+use Rattle.c_meaning.specs.Exec.{back, Outcome, next, asks, exec, step, runs}
+use Rattle.c_meaning.specs.Perform.{execs, perform}
+use Rattle.c_meaning.specs.Helpers.{rotated, run}
 use Rattle.lower_forms.specs.Forms.{bx}
 use Rattle.lower_forms.specs.Operands.{regExpr}
 use Rattle.lower_forms.specs.Block.{flushTicks}
@@ -30,7 +31,7 @@ use Rattle.lower_forms.specs.Agree.{Agrees}
 use Rattle.lower_units.specs.Text.{Leaves}
 use Rattle.lower_forms.proofs.Gives.{Reads, to, r-udec, r-uhex, r-par, r-and, r-or, r-not, r-var}
 use Rattle.lower_forms.proofs.Memory.{r-even, r-aligned}
-use Rattle.lower_forms.proofs.Operands.{operand-reads}
+use Rattle.lower_forms.proofs.Operands.{operand-reads, one-lt}
 use Rattle.lower_units.proofs.Lines.{run-plain, run-line}
 use Rattle.lower_units.proofs.Wrapped.{after-ticks}
 use Rattle.lower_units.proofs.Exits.{with-pc, closed-out}
@@ -93,10 +94,6 @@ unfolding nib
 nib-lt n z c v =
     go (oneIf n) (oneIf z) (oneIf c) (oneIf v) (one-lt n) (one-lt z) (one-lt c) (one-lt v)
   where
-    one-lt : (b : Bool) → oneIf b < 2
-    one-lt true = lit< tt
-    one-lt false = lit< tt
-
     go : (n z c v : ℕ) → n < 2 → z < 2 → c < 2 → v < 2 → n * 8 + z * 4 + c * 2 + v < 16
     go n z c v hn hz hc hv = omega arith
 

@@ -11,8 +11,9 @@ use Rattle.c_tree.specs.Expr.{Expr}
 use Rattle.c_tree.specs.Stmt.{Plain, other, Owner, gap, Code, end, _⨾_, when, braces}
 use Rattle.c_meaning.specs.State.{bind, State, setC, answered, enter, leave}
 use Rattle.c_meaning.specs.Eval.{eval, evalAs}
-use Rattle.c_meaning.specs.Exec.{Goes, on, to, back, Outcome, next, asks, exec, execs, step, runs}
-use Rattle.c_meaning.specs.Helpers.{rotated, perform, run}
+use Rattle.c_meaning.specs.Exec.{Goes, on, to, back, Outcome, next, asks, exec, step, runs}
+use Rattle.c_meaning.specs.Perform.{execs, perform}
+use Rattle.c_meaning.specs.Helpers.{rotated, run}
 use Rattle.lower_forms.specs.Forms.{Lines, jump, branchIf}
 use Rattle.lower_forms.specs.Operands.{condExpr, flags}
 use Rattle.lower_forms.specs.InlineBody.{listIf, eachOnLine}
@@ -56,8 +57,7 @@ transfers ks a o n k z h =
           exit = back k;
           ends = λ c. rw (p, lt-true h);
           leads = refl;
-          regs =
-              refl;
+          regs = refl;
           memory = refl;
         }
     go true p false q y r =
@@ -67,8 +67,7 @@ transfers ks a o n k z h =
           ends = λ c. rw (p, q);
           leads = refl;
           regs = refl;
-          memory =
-              refl;
+          memory = refl;
         }
     go true p true q true r =
         record {
@@ -76,8 +75,7 @@ transfers ks a o n k z h =
           exit = to k;
           ends = λ c. rw (p, q, r);
           leads = refl;
-          regs =
-              refl;
+          regs = refl;
           memory = refl;
         }
     go true p true q false r =
@@ -85,8 +83,7 @@ transfers ks a o n k z h =
           end = answered z;
           exit = back k;
           ends = λ c. rw (p, q, r, lt-true h);
-          leads =
-              refl;
+          leads = refl;
           regs = refl;
           memory = refl;
         }

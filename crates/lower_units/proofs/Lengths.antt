@@ -4,7 +4,7 @@ use Prim.Native.Nat.{ℕ, zero, suc, _+_, _*_, _%_, _≤_, _<_}
 use mathlib.Core.Bool.{Bool, true, false, cond}
 use mathlib.Core.List.{List, [], _∷_, _++_, map, flatten, List·Memᴰ, List·Memᴰ·head, List·Memᴰ·tail}
 use mathlib.Core.Option.{Option, none, some}
-use mathlib.Core.Path.{_≡_, refl, ap, subst}
+use mathlib.Core.Path.{_≡_, refl, subst}
 use native.Mathlib.Omega.{arith}
 use native.Mathlib.Decide.{decLt}
 use lib.Dec.{leb, eqb}
@@ -21,7 +21,7 @@ use Rattle.base_lists.proofs.Counts.{count, counted}
 use Rattle.base_lists.proofs.Range.{length-range, range-own}
 use Rattle.base_text.specs.Wrote.{maxUsize}
 use Rattle.base_text.specs.Digits.{lastDigits}
-use Rattle.base_text.specs.Doc.{hex8, text, _▸_, hexadecimal8, print, each}
+use Rattle.base_text.specs.Doc.{hex8, text, _▸_, hexadecimal8, each}
 use Rattle.base_text.proofs.Lengths.{most, length-most}
 use Rattle.c_tree.specs.Expr.{u32, x-t, Expr, lit, udec, band, bin}
 use Rattle.c_tree.specs.Stmt.{Plain, declare, Owner, common, other, Code, end, _⨾_, gap, plain}
@@ -222,22 +222,11 @@ module _ (ks : List ℕ) (b : Body) (short : Short b) where
       (guard-most (b .hash))
       (omega (arith, short .count, code-from-most 0 (b .forms) (short .forms)))
 
-  -- the text of a block
-  pub block-most : length (print (codeText (blockCode ks b))) ≤ 400 + b .count * 2600
-  block-most = omega (arith, length-most (codeText (blockCode ks b)), code-most)
-
 -- what the instructions of a block become is so
 pub body-short : (multiplier : ℕ) (b : Block) → Short (bodyOf multiplier b)
 unfolding bodyOf
 body-short multiplier b =
     record { forms = forms-within multiplier b; count = omega (arith, body-count multiplier b) }
-
--- the text of a block, by its instructions
-pub block-short : (ks : List ℕ) (multiplier : ℕ) (b : Block)
-    → length (print (codeText (blockCode ks (bodyOf multiplier b))))
-    ≤ 400 + length (b .instrs) * 2600
-unfolding bodyOf
-block-short ks multiplier b = block-most ks (bodyOf multiplier b) (body-short multiplier b)
 
 -- what the members of a group take at most: so much for each instruction, and so much for label,
 -- case and entry of each block and its share of the heads
@@ -325,12 +314,6 @@ pub text-append : (ts us : List Top)
     → length (textOf (ts ++ us)) ≡ length (textOf ts) + length (textOf us)
 unfolding textOf
 text-append ts us = length-unit ts us
-
-group-below : (bs : List Body) (g : List ℕ) (gs : List (List ℕ)) → List·Memᴰ g gs
-    → membersMost (bodiesOf bs g) ≤ groupsMost (map (bodiesOf bs) gs)
-group-below bs g (h ∷ gs) (List·Memᴰ·head e) =
-    omega (arith, ap (λ (k : List ℕ). membersMost (bodiesOf bs k)) e)
-group-below bs g (h ∷ gs) (List·Memᴰ·tail m) = omega (arith, group-below bs g gs m)
 
 -- tops with a text of at most n bytes
 abbrev Within : ℕ → List Top → Type 0
@@ -464,19 +447,6 @@ module _ (limit : ℕ) (bs : List Block) where
             (arith, length-map bs (bodyOf multiplier), group-inside limit bs g m i h)),
         instructions-within (costs bodies) (flatten (groups limit bs)) (range (length bs) 0) once,
         file-cost multiplier bs,
-      )
-
-  -- the text of a group of the file
-  pub group-short : (multiplier : ℕ) (g : List ℕ) → List·Memᴰ g (groups limit bs)
-      → length (textOf (emitGroup (bodiesOf (map (bodyOf multiplier) bs) g)))
-      ≤ length bs * 700 + instrTotal bs * 2600
-  group-short multiplier g m =
-      let bodies : List Body = map (bodyOf multiplier) bs in
-      omega (
-        arith,
-        group-most (bodiesOf bodies g) (members-short bodies (bodies-short multiplier bs) g),
-        group-below bodies g (groups limit bs) m,
-        all-members multiplier,
       )
 
   -- the text of a unit: at most all blocks, PREAMBLE and the table, whatever the blocks

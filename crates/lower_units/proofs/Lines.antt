@@ -5,8 +5,9 @@ use mathlib.Core.List.{List, [], _∷_}
 use mathlib.Core.Option.{Option, none, some}
 use Rattle.c_tree.specs.Stmt.{Plain, Owner, plain, Code, _⨾_}
 use Rattle.c_meaning.specs.State.{bind, State}
-use Rattle.c_meaning.specs.Exec.{Goes, Outcome, next, on, exec, execs, step, runs}
-use Rattle.c_meaning.specs.Helpers.{called, rotated, perform, run}
+use Rattle.c_meaning.specs.Exec.{Goes, Outcome, next, on, exec, step, runs}
+use Rattle.c_meaning.specs.Perform.{execs, perform}
+use Rattle.c_meaning.specs.Helpers.{called, rotated, run}
 use Rattle.c_meaning.proofs.Append.{bind-bind, bind-same, execs-append}
 use Rattle.lower_forms.specs.Forms.{Lines}
 use Rattle.lower_units.specs.Block.{nl, line, lines}

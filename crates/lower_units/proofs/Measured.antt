@@ -1,24 +1,24 @@
 -- A text is as long with 0 in the place of each hash, and the keys are the same: what is measured
 -- instead of a unit has the unit's length.
-use mathlib.Core.Path.{_≡_, refl, sym, ap, ap₂, _∙_}
-use Prim.Native.Nat.{ℕ, zero, suc, _+_}
+use mathlib.Core.Path.{_≡_, refl, sym, ap, _∙_}
+use Prim.Native.Nat.{ℕ, suc, _+_}
 use mathlib.Core.Bool.{Bool, true, false, cond}
-use mathlib.Core.List.{List, [], _∷_, _++_, map}
+use mathlib.Core.List.{List, [], _∷_, map}
 use mathlib.Core.Option.{Option, none, some}
 use native.Mathlib.Omega.{arith}
-use lib.ListN.{length, getD, length-append, length-map}
+use lib.ListN.{length, length-append}
 use Rattle.base_text.specs.Doc.{Doc, nothing, raw, text, dec, hex, hex8, hex16, _▸_, chars, decimal}
 use Rattle.base_text.specs.Doc.{hexadecimal, hexadecimal8, hexadecimal16, print}
 use Rattle.base_text.proofs.Numerals.{length-fixed}
 use Rattle.c_tree.specs.Stmt.{Owner, common, recordMark, call, Code, end, _⨾_, when, braces, _⧺_}
-use Rattle.c_tree.specs.Stmt.{block, Top, function, extern, table, count}
+use Rattle.c_tree.specs.Stmt.{block, Top, function, count}
 use Rattle.c_tree.specs.Print.{casesText, codeText, unitText}
 use Rattle.lower_forms.specs.Forms.{Form, shell, recordsIn, Body}
 use Rattle.lower_units.specs.Block.{bodyKey, nl, sp, lines, closing, nativeText, shellCode}
 use Rattle.lower_units.specs.Block.{codeFrom, underGuard, blockCode}
 use Rattle.file_blocks.specs.Address.{outsideRomBios}
 use Rattle.lower_units.specs.Units.{withLocals, emitBlock, labelled, groupCode, forwarders}
-use Rattle.lower_units.specs.Units.{emitGroup, lastUnitEnd, textOf, defaultBody, bodiesOf}
+use Rattle.lower_units.specs.Units.{emitGroup, textOf}
 use Rattle.lower_units.specs.Measured.{hashIf, hashedIf, measured}
 
 -- the length of a doc by its pieces: that of a hash is 16, whatever it is
@@ -59,8 +59,7 @@ hashed-written b =
       count = b .count;
       hash = h;
       forms = b .forms;
-      pending =
-          b .pending;
+      pending = b .pending;
     }) (go (b .hash))
   where
     go : (h : Option ℕ) → hashIf true h ≡ h
@@ -105,10 +104,6 @@ module _ (written : Bool) where
           ≡ size (codeText (cond g (underGuard ks b (b .hash)) (codeFrom ks b 0 (b .forms))))
       go true = guard-size ks b (b .hash)
       go false = code-size ks b
-
-  -- the keys stay
-  pub hashed-key : (b : Body) → bodyKey (hashedIf written b) ≡ bodyKey b
-  hashed-key b = refl
 
   pub hashed-keys : (bs : List Body) → map bodyKey (map (hashedIf written) bs) ≡ map bodyKey bs
   hashed-keys [] = refl
@@ -159,35 +154,6 @@ module _ (written : Bool) where
   unfolding textOf
   hashed-length bs = length-size (unitText (emitGroup (map (hashedIf written) bs))) ∙ group-size bs
       ∙ sym (length-size (unitText (emitGroup bs)))
-
-  -- the end of the last unit stays: it shows keys alone
-  pub hashed-end : (bs : List Body) → lastUnitEnd (map (hashedIf written) bs) ≡ lastUnitEnd bs
-  unfolding lastUnitEnd
-  hashed-end bs =
-      ap₂ (λ (ts us : List Top). ts ++ us) (externs bs)
-      (ap₂ (λ (ks : List ℕ) (n : ℕ). table ks ∷ count n ∷ []) (hashed-keys bs)
-      (length-map bs (hashedIf written)))
-    where
-      externs : (cs : List Body)
-          → map (λ (b : Body). extern (bodyKey b)) (map (hashedIf written) cs)
-          ≡ map (λ (b : Body). extern (bodyKey b)) cs
-      externs [] = refl
-      externs (c ∷ cs) = ap (λ (ts : List Top). extern (bodyKey c) ∷ ts) (externs cs)
-
-  -- the members of a group
-  pub hashed-members : (bs : List Body) (is : List ℕ)
-      → bodiesOf (map (hashedIf written) bs) is ≡ map (hashedIf written) (bodiesOf bs is)
-  unfolding bodiesOf
-  hashed-members bs [] = refl
-  hashed-members bs (i ∷ is) =
-      ap₂ (λ (c : Body) (cs : List Body). c ∷ cs) (at bs i) (hashed-members bs is)
-    where
-      at : (cs : List Body) (j : ℕ)
-          → getD (map (hashedIf written) cs) j defaultBody
-          ≡ hashedIf written (getD cs j defaultBody)
-      at [] j = refl
-      at (c ∷ cs) zero = refl
-      at (c ∷ cs) (suc j) = at cs j
 
 -- so what is measured instead of a group has its length
 pub measured-length : (bs : List Body)

@@ -15,7 +15,7 @@ use Rattle.armv4t_manual.specs.Machine.{Machine}
 use Rattle.armv4t_manual.specs.Conditions.{passed}
 use Rattle.armv4t_manual.specs.Unsaid.{noInstruction, unpredictable, isNv}
 use Rattle.armv4t_manual.specs.Execute.{onward, operation, execute}
-use Rattle.lower_forms.specs.Means.{differsIn}
+use Rattle.lower_forms.specs.Differs.{differsIn}
 use Rattle.lower_units.specs.Records.{isNamedDifference}
 use Rattle.lower_forms.proofs.Body.{some-same, not-none, or-l, or-r}
 

@@ -33,15 +33,11 @@ use Rattle.lower_units.specs.Records.{PairMeans}
 use Rattle.lower_forms.proofs.Body.{some-same}
 use Rattle.lower_units.proofs.Exits.{jump-leaves}
 use Rattle.lower_units.proofs.Outcome.{outcome, always}
+use Rattle.lower_units.proofs.Aligned.{twos, two-lt}
 
--- what is a pair is that one
-is-pair : Fused → Type 0
-is-pair Nothing = ⊥
-is-pair (Pair target ret) = Unit {0}
-
-not-pair : {target ret : ℕ} → Nothing ≡ Pair target ret → ⊥
-unfolding is-pair
-not-pair e = subst is-pair (sym e) tt
+-- what fused is not nothing
+pub not-pair : {target ret : ℕ} → Nothing ≡ Pair target ret → ⊥
+not-pair e = let z : _≡_ {A = ℕ} 0 1 = cc in omega arith
 
 from-pair : Fused → ℕ × ℕ
 from-pair Nothing = (0, 0)
@@ -131,14 +127,8 @@ module _ (lr off addr cycles : ℕ) (ks : List ℕ) (a : ℕ) (o : Owner) {z : S
   ret : ℕ
   ret = setBit0 ((addr + 2) % 4294967296)
 
-  down : (k : ℕ) → k < 4294967296 → k / 2 * 2 < 4294967296
-  down k h = omega arith
-
   up : (k : ℕ) → k < 4294967296 → k / 2 * 2 + 1 < 4294967296
   up k h = omega arith
-
-  same-address : (k : ℕ) → k / 2 * 2 ≡ (k / 2 * 2 + 1) / 2 * 2
-  same-address k = omega arith
 
   twice : (b : Bool) (x y w : ℕ) → cond b x w ≡ cond b x (cond b y w)
   twice true x y w = refl
@@ -153,8 +143,7 @@ module _ (lr off addr cycles : ℕ) (ks : List ℕ) (a : ℕ) (o : Owner) {z : S
       n = m .n;
       z = m .z;
       c = m .c;
-      v =
-          m .v;
+      v = m .v;
       otherBits = m .otherBits;
       mem = m .mem;
     },
@@ -168,9 +157,9 @@ module _ (lr off addr cycles : ℕ) (ks : List ℕ) (a : ℕ) (o : Owner) {z : S
       let ht : target < 4294967296 = mod-lt (lr + off * 2) (lit< tt) in
       subst (Leaves (nativeText ks a o (emitPair cycles target ret)) z) same
       (jump-leaves ks a o cycles true ret (clearBit0 target) (setBit0 target)
-      (up ((addr + 2) % 4294967296) (mod-lt (addr + 2) (lit< tt))) (down target ht)
+      (up ((addr + 2) % 4294967296) (mod-lt (addr + 2) (lit< tt))) (two-lt target ht)
       (up target ht)
-      (same-address target) g)
+      (twos target) g)
 
 -- the two halves, one after the other
 halves-mean : (i j : Instr) {z : State} {m : Machine} → Agrees z m → (half next : Machine × ℕ)

@@ -7,7 +7,7 @@ use mathlib.Core.Option.{Option, some}
 use native.Mathlib.Nat.{mod-lt}
 use native.Mathlib.Omega.{arith}
 use lib.Dec.{eqb, lit<, lit≤}
-use lib.ListN.{length}
+use lib.ListN.{length, length-append}
 use Rattle.base_words.specs.Word.{bit}
 use Rattle.base_words.proofs.Bits.{or-shifted, or-zero-r}
 use Rattle.armv4t.specs.declared.Instr.{Instr}
@@ -16,8 +16,9 @@ use Rattle.c_tree.specs.Expr.{bin, read}
 use Rattle.c_tree.specs.Stmt.{Plain, Owner, plain, Code, end, _⨾_, braces}
 use Rattle.c_meaning.specs.State.{bind, State, Scope, empty, index, value, setC, load, enter, leave}
 use Rattle.c_meaning.specs.State as S
-use Rattle.c_meaning.specs.Exec.{back, execs, step, runs}
-use Rattle.c_meaning.specs.Helpers.{perform, run}
+use Rattle.c_meaning.specs.Exec.{back, step, runs}
+use Rattle.c_meaning.specs.Perform.{execs, perform}
+use Rattle.c_meaning.specs.Helpers.{run}
 use Rattle.lower_forms.specs.Forms.{Lines}
 use Rattle.lower_forms.specs.InlineBody.{eachOnLine, let32, setReg, aligned, listed, loads}
 use Rattle.lower_forms.specs.Block.{emitPop}
@@ -35,9 +36,8 @@ use Rattle.lower_units.specs.Text.{Leaves}
 use Rattle.lower_forms.proofs.Gives.{Reads, to, r-reg, r-udec, r-add, r-var, r-or}
 use Rattle.lower_forms.proofs.Memory.{r-read, r-even, r-aligned, load-small}
 use Rattle.lower_forms.proofs.Multiply.{reg-reads}
-use Rattle.lower_forms.proofs.Listed.{listed-same, Named, listed-named}
+use Rattle.lower_forms.proofs.Listed.{listed-same, Named, listed-named, listed-length}
 use Rattle.lower_forms.proofs.Multiple.{in-scope}
-use Rattle.lower_forms.proofs.BodyMultiple.{append-length, listed-length}
 use Rattle.lower_units.proofs.Lines.{run-plain, run-lines}
 use Rattle.lower_units.proofs.Wrapped.{after-ticks}
 use Rattle.lower_units.proofs.Exits.{with-pc, closed-out}
@@ -45,7 +45,7 @@ use Rattle.lower_units.proofs.Exchange.{leave-back}
 use Rattle.lower_forms.proofs.Steps.{exec1, opened, given, within, do-declare, do-plus, do-reg}
 use Rattle.lower_forms.proofs.Steps.{with-scopes, with-reg}
 use Rattle.base_lists.proofs.Each.{Each, each-map}
-use Rattle.lower_units.proofs.Aligned.{plus-zero, twos, zeros}
+use Rattle.lower_units.proofs.Aligned.{plus-zero, twos, two-lt, zeros}
 use Rattle.lower_forms.proofs.Body.{aligned-lt}
 
 -- plain statements end in a state of which P holds
@@ -205,15 +205,12 @@ module _ {z : State} {m : Machine} (s : Sound m) (a : Agrees z m) (rn : ℕ) (hn
         rest : Code
         rest = nl ⨾ lines o 6 ls out
 
-two-lt : (x : ℕ) → x < 4294967296 → x / 2 * 2 < 4294967296
-two-lt x h = omega arith
-
 -- with R15 the list of 16 has one more
 with-pc-length : (rlist : ℕ) → bit rlist 15 ≡ true
     → length (MM.listed rlist 16) ≡ length (MM.listed rlist 15) + 1
 unfolding MM.listed
 with-pc-length rlist q = ap (λ (b : Bool). length (MM.listed rlist 15 ++ cond b (15 ∷ []) [])) q
-    ∙ append-length (MM.listed rlist 15) (15 ∷ [])
+    ∙ length-append (MM.listed rlist 15) (15 ∷ [])
 
 -- the pop of PC, LDMIA Rn!, {.., pc}: the text leaves as the manual does
 pub pop-leaves : (i : Instr) (rn rlist : ℕ) → rn < 15 → bit rlist 15 ≡ true

@@ -6,7 +6,7 @@ use mathlib.Core.Path.{_≡_, refl}
 use mathlib.Core.Bool.{Bool, true, false}
 use mathlib.Core.List.{List, [], _∷_, _++_, map, List·Memᴰ, List·Memᴰ·head, List·Memᴰ·tail}
 use mathlib.Core.Option.{none}
-use lib.ListN.{replicate}
+use lib.ListN.{length, replicate}
 use Rattle.armv4t.specs.declared.Cond.{Cond}
 use Rattle.armv4t.specs.declared.Cond.the-variants.{Eq, Al}
 use Rattle.armv4t.specs.declared.Op.{Op}
@@ -27,7 +27,7 @@ use Rattle.lower_units.specs.Block.{gotoCode, transfer, closing, nativeT
 use Rattle.lower_units.specs.Block.{underGuard, blockCode}
 use Rattle.file_blocks.specs.Address.{outsideRomBios}
 use Rattle.lower_units.specs.Units.{withLocals, emitBlock, emitGroup, lastUnitEnd, textOf}
-use Rattle.lower_units.specs.Units.{cut, bodiesOf, emitCChunked, unitsBy, unitCount}
+use Rattle.lower_units.specs.Units.{cut, bodiesOf, emitCChunked, unitsBy, units as fileUnits}
 use Rattle.plan_search.specs.Target.{target}
 use Rattle.plan_groups.specs.Plan.{joinExits, joinBlocks, parents, withRoot, insert, sortByKey}
 use Rattle.plan_groups.specs.Plan.{parts, groupsFrom, groups, rowsFrom, plan}
@@ -44,8 +44,7 @@ one k op =
       addr = 0x0800_0010;
       thumb = false;
       code = none;
-      instrs =
-          timed 0x0800_0010 false k op ∷ [];
+      instrs = timed 0x0800_0010 false k op ∷ [];
     }
 
 -- a Thumb block of the two halves of a BL
@@ -79,8 +78,7 @@ short =
       addr = 0x0801_0000;
       thumb = false;
       code = none;
-      instrs =
-          timed 0x0801_0000 false Al (Bx 14) ∷ [];
+      instrs = timed 0x0801_0000 false Al (Bx 14) ∷ [];
     }
 
 -- a block of n instructions, and the short one that it branches to
@@ -98,8 +96,7 @@ from before addr target =
       addr = 0x0800_0100;
       thumb = false;
       code = none;
-      instrs =
-          before ++ (timed addr false Al (Branch false target) ∷ []);
+      instrs = before ++ (timed addr false Al (Branch false target) ∷ []);
     }
 
 -- a block that shares its group with none
@@ -141,7 +138,7 @@ defined (exit b keys) = exits b
 defined (part n rows) = plan partLimit (two n)
 defined (goto b s) =
     print (codeText (blockCode (0x0800_0100 ∷ 0x0800_0104 ∷ []) (bodyOf hashMultiplier b)))
-defined (units bs n) = unitCount hashMultiplier partLimit 0 bs ∷ []
+defined (units bs n) = length (fileUnits hashMultiplier partLimit 0 bs) ∷ []
 
 -- what document 01 says of a case
 pub stated : Case → List ℕ

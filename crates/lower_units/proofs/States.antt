@@ -46,8 +46,7 @@ every-state z w b =
         z = bit x 30;
         c = bit x 29;
         v = bit x 28;
-        otherBits =
-            x % 2 ^ 28;
+        otherBits = x % 2 ^ 28;
         mem = z .mem;
       },
       record { regs = λ i h. refl; flags = unpack x (w 16); memory = refl },

@@ -24,7 +24,7 @@ use Rattle.armv4t_manual.proofs.Thumb.{thumb-executes, thumb-in-range, thumb-sa
 use Rattle.lower_forms.specs.Forms.{native}
 use Rattle.lower_forms.specs.Block.{emitPair, emitInstr}
 use Rattle.lower_forms.specs.Agree.{Agrees}
-use Rattle.lower_forms.specs.Means.{differsIn}
+use Rattle.lower_forms.specs.Differs.{differsIn}
 use Rattle.lower_forms.proofs.Thumb.{thumb-same}
 use Rattle.lower_units.specs.Block.{nativeText}
 use Rattle.lower_units.specs.Text.{Leaves}
@@ -34,7 +34,7 @@ use Rattle.lower_units.proofs.RecordMeans.{record-means}
 use Rattle.lower_units.proofs.Pairs.{pair-means}
 
 -- neither of two, the second after a test
-neither : (x y z : Bool) → x ≡ false → z ≡ false → (x || (y && z)) ≡ false
+pub neither : (x y z : Bool) → x ≡ false → z ≡ false → (x || (y && z)) ≡ false
 neither x true z p q = ap (λ (b : Bool). b || z) p ∙ q
 neither x false z p q = ap (λ (b : Bool). b || false) p
 

@@ -44,8 +44,7 @@ blocks =
     record {
       addr = 0x02000000;
       thumb = false;
-      code =
-          some (1 ∷ 0 ∷ 160 ∷ 225 ∷ 0 ∷ 0 ∷ 0 ∷ 239 ∷ []);
+      code = some (1 ∷ 0 ∷ 160 ∷ 225 ∷ 0 ∷ 0 ∷ 0 ∷ 239 ∷ []);
       instrs =
           timed 0x02000000 false Al (Alu Mov false 0 0 (Operand2.Reg 1 (Shift.Imm Lsl 0))) 1
           ∷ timed 0x02000004 false Al (Swi 0) 1 ∷ [];
@@ -70,8 +69,7 @@ blocks =
       addr = 0x08000104;
       thumb = false;
       code = none;
-      instrs =
-          timed 0x08000104 false Al (Swi 0) 1 ∷ [];
+      instrs = timed 0x08000104 false Al (Swi 0) 1 ∷ [];
     }
     ∷ record {
       addr = 0x08000200;

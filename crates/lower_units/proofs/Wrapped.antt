@@ -11,8 +11,9 @@ use Rattle.c_tree.specs.Expr.{Expr}
 use Rattle.c_tree.specs.Stmt.{other, Owner, gap, Code, end, _⨾_, when, braces}
 use Rattle.c_meaning.specs.State.{bind, State, enter, leave}
 use Rattle.c_meaning.specs.Eval.{eval}
-use Rattle.c_meaning.specs.Exec.{on, Outcome, next, exec, execs, asks, step, runs}
-use Rattle.c_meaning.specs.Helpers.{rotated, perform, run}
+use Rattle.c_meaning.specs.Exec.{on, Outcome, next, exec, asks, step, runs}
+use Rattle.c_meaning.specs.Perform.{execs, perform}
+use Rattle.c_meaning.specs.Helpers.{rotated, run}
 use Rattle.lower_forms.specs.Forms.{Lines, straight, straightIf}
 use Rattle.lower_forms.specs.Operands.{condExpr, flags}
 use Rattle.lower_forms.specs.Block.{flushTicks}
@@ -20,8 +21,8 @@ use Rattle.lower_units.specs.Block.{nl, sp, lines, line, conditional, na
 use Rattle.armv4t_manual.specs.Machine.{Machine, pack, Sound}
 use Rattle.armv4t_manual.specs.Conditions.{passed}
 use Rattle.armv4t_manual.specs.Unsaid.{isNv}
-use Rattle.lower_forms.specs.Agree.{Agrees, Makes}
-use Rattle.lower_forms.specs.Means.{statements}
+use Rattle.lower_forms.specs.Agree.{Agrees}
+use Rattle.lower_forms.specs.Means.{Makes, statements}
 use Rattle.lower_units.specs.Text.{Continues}
 use Rattle.lower_units.proofs.Lines.{run-line, run-lines}
 use Rattle.lower_forms.proofs.Conditions.{flagScope, test-ok, declared}

@@ -1,5 +1,5 @@
--- The tree of a block's text: transfer, emit_shell and emit_block. Code is made with what stands
--- after it as its last argument.
+-- To be believed: the tree of a block's text: transfer, emit_shell and emit_block. Code is made
+-- with what stands after it as its last argument.
 use Prim.Native.Nat.{ℕ, _+_, _%_, _^_}
 use mathlib.Core.Bool.{Bool, true, false, cond}
 use mathlib.Core.List.{List, [], _∷_, _++_}
@@ -12,8 +12,6 @@ use Rattle.c_tree.specs.Stmt.{is, and, or, Plain, declare, set, guard, gate, ot
 use Rattle.c_tree.specs.Stmt.{Simple, gap, recordMark, plain, goto, ret, retIf, interp, retInterp}
 use Rattle.c_tree.specs.Stmt.{Code, end, _⨾_, when, braces}
 use Rattle.c_tree.specs.Preamble.{v32}
-use Rattle.c_tree.specs.Print.{codeText}
-use Rattle.base_text.specs.Doc.{Doc}
 use Rattle.file_records.specs.BlockRecord.{lengthOf, keyPlus}
 use Rattle.file_blocks.specs.Address.{outsideRomBios}
 use Rattle.base_lists.specs.Lists.{among}
@@ -53,10 +51,6 @@ abbrev pub lines : Owner → ℕ → Lines → Code → Code
 lines o n [] c = c
 lines o n (l ∷ ls) c = sp n ⨾ line o l (nl ⨾ lines o n ls c)
 
--- their text. No owner shows in it, so common stands for any
-abbrev pub linesText : ℕ → Lines → Doc
-linesText n ls = codeText (lines common n ls end)
-
 -- a goto: gated (document 01), with the chain gate before it, or plain
 unfoldable pub gotoCode : Bool → Owner → ℕ → ℕ → Code → Code
 gotoCode true o n k c = sp n ⨾ retIf o gate (lit word k) ⨾ nl ⨾ sp n ⨾ goto o k ⨾ nl ⨾ c
@@ -67,7 +61,9 @@ gotoCode false o n k c = sp n ⨾ goto o k ⨾ nl ⨾ c
 -- block's
 unfoldable pub transfer : List ℕ → ℕ → Owner → ℕ → ℕ → Code → Code
 transfer ks a o n k c =
-    cond (among k ks) (gotoCode (leb (clearBit0 k) a) o n k c) (sp n ⨾ ret o (lit word k) ⨾ nl ⨾ c)
+    cond (among k ks)
+    (gotoCode (leb (clearBit0 k) a) o n k c)
+    (sp n ⨾ ret o (lit word k) ⨾ nl ⨾ c)
 
 -- an exit from the block at address a that nothing stands after: lines, and the transfer to a key
 abbrev pub exitCode : List ℕ → ℕ → Owner → Lines → ℕ → Code
@@ -99,13 +95,17 @@ toThumb o =
 
 -- what Bx does with an ARM target
 abbrev pub toArm : Owner → Code
-toArm o = gap true 6 ⨾ line o (set (reg 16) and (un compl (lit uhex 0x20)) ∷ set (reg 15) is
-    (masked 3) ∷ []) (leave o (masked 3))
+toArm o =
+    gap true 6
+    ⨾ line o (set (reg 16) and (un compl (lit uhex 0x20)) ∷ set (reg 15) is (masked 3) ∷ [])
+    (leave o (masked 3))
 
 -- { flags; if (e) { b } }, and c after it
 abbrev pub conditional : Owner → Expr → Code → Code → Code
-conditional o e b c = sp 4
-    ⨾ braces (sp 1 ⨾ line o flags (gap true 6 ⨾ when o false (other e) b (sp 1 ⨾ end))) (nl ⨾ c)
+conditional o e b c =
+    sp 4
+    ⨾ braces (sp 1 ⨾ line o flags (gap true 6 ⨾ when o false (other e) b (sp 1 ⨾ end)))
+    (nl ⨾ c)
 
 -- the text of a native record, every statement with its owner; an unconditional exit drops what
 -- would stand after it
@@ -133,14 +133,20 @@ nativeText ks a o (pop t p l q e) c =
 -- emit_shell after its lines, for the record with index i that has others after it: the
 -- interpreter, and a return where its answer is not k, the next record's key
 abbrev pub shellCode : Body → ℕ → ℕ → Code → Code
-shellCode b i k c = sp 4 ⨾ interp (bodyKey b) i ⨾ sp 1
-    ⨾ retIf common (other (bin ne (v32 x-pc) (lit word k))) (v32 x-pc) ⨾ nl ⨾ c
+shellCode b i k c =
+    sp 4
+    ⨾ interp (bodyKey b) i
+    ⨾ sp 1
+    ⨾ retIf common (other (bin ne (v32 x-pc) (lit word k))) (v32 x-pc)
+    ⨾ nl
+    ⨾ c
 
 -- the text of a block from the record with index i on. A shell that is the block's last record
 -- returns; after an unfused half that is last stands the closing transfer
 unfoldable pub codeFrom : List ℕ → Body → ℕ → List Form → Code
 codeFrom ks b i [] = closing ks b
-codeFrom ks b i (Form.native r ∷ rs) = recordMark (bodyKey b) i (recordsIn r)
+codeFrom ks b i (Form.native r ∷ rs) =
+    recordMark (bodyKey b) i (recordsIn r)
     ⨾ nativeText ks (b .addr) (Owner.nativeOf (bodyKey b)) r (codeFrom ks b (i + recordsIn r) rs)
 codeFrom ks b i (shell h t k ∷ []) =
     lines common 4 t (sp 4 ⨾ retInterp (bodyKey b) i ⨾ nl ⨾ cond h (closing ks b) end)
@@ -154,12 +160,16 @@ defer b c = plain common (set (reg 15) is (lit word (b .addr))) ⨾ sp 1 ⨾ ret
 -- a block outside regions 0 and 8: after the guard, or without code bytes the interpreter alone
 unfoldable pub underGuard : List ℕ → Body → Option ℕ → Code
 underGuard ks b none = sp 4 ⨾ defer b (nl ⨾ end)
-underGuard ks b (some h) = sp 4
-    ⨾ when common true (guard (b .addr) (bodyLength b) h) (sp 1 ⨾ defer b (sp 1 ⨾ end))
+underGuard ks b (some h) =
+    sp 4
+    ⨾ when common true (guard (b .addr) (bodyLength b) h)
+    (sp 1 ⨾ defer b (sp 1 ⨾ end))
     (nl ⨾ codeFrom ks b 0 (b .forms))
 
 -- emit_block between its head, or label, and its close; ks: the keys of a group of several, empty
 -- for a lone block
 unfoldable pub blockCode : List ℕ → Body → Code
 blockCode ks b =
-    cond (outsideRomBios (b .addr)) (underGuard ks b (b .hash)) (codeFrom ks b 0 (b .forms))
+    cond (outsideRomBios (b .addr))
+    (underGuard ks b (b .hash))
+    (codeFrom ks b 0 (b .forms))

@@ -1,5 +1,5 @@
--- Differences 1 to 3 of docs/DIFFERENCES.md, which the claim on records excepts, each by the
--- smallest record that shows it: what `execute` and what the text makes of it, computed.
+-- Examples: differences 1 to 3 of docs/DIFFERENCES.md, which the claim on records excepts, each by
+-- the smallest record that shows it: what `execute` and what the text makes of it, computed.
 use Prim.Native.Nat.{ℕ}
 use mathlib.Core.Path.{_≡_, refl}
 use mathlib.Core.Bool.{Bool, true, false}
@@ -17,7 +17,8 @@ use Rattle.c_tree.specs.Expr.{w32}
 use Rattle.c_tree.specs.Stmt.{common, end}
 use Rattle.c_meaning.specs.State.{bind, State, empty, load}
 use Rattle.c_meaning.specs.Eval.{eval, evalAs}
-use Rattle.c_meaning.specs.Exec.{Outcome, exec, others, execs, asks, step, runs}
+use Rattle.c_meaning.specs.Exec.{Outcome, exec, others, asks, step, runs}
+use Rattle.c_meaning.specs.Perform.{execs}
 use Rattle.c_meaning.specs.Helpers.{rotated, called, run}
 use Rattle.armv4t_manual.specs.Machine.{Machine}
 use Rattle.armv4t_manual.specs.Transfer.{Memory4}
@@ -43,8 +44,7 @@ state =
       mem = λ a. 0;
       scopes = empty ∷ [];
       answers = λ k. 0;
-      interpreter =
-          λ k c mem. record { c = c; mem = mem; answer = 0 };
+      interpreter = λ k c mem. record { c = c; mem = mem; answer = 0 };
     }
 
 -- a record by its address, its set, its condition and its operation; its cost is 1

@@ -1,5 +1,5 @@
--- Texts that the original printed, computed: a block or group by itself, and how many units there
--- are. The records are written as forms.
+-- Examples: texts that the original printed, computed: a block or group by itself, and how many
+-- units there are. The records are written as forms.
 use Prim.Native.Nat.{ℕ, zero-le}
 use mathlib.Core.Path.{_≡_, refl}
 use mathlib.Core.Bool.{Bool, true, false}
@@ -71,8 +71,7 @@ bare =
       thumb = false;
       count = 1;
       hash = none;
-      forms =
-          native (straight [] (mov 0 1)) ∷ [];
+      forms = native (straight [] (mov 0 1)) ∷ [];
       pending = 1;
     }
 
@@ -93,10 +92,8 @@ lone =
       thumb = false;
       count = 2;
       hash = none;
-      forms =
-          native (straight [] (mov 0 1)) ∷ native (bx (ticked 4 []) (get (reg 14))) ∷ [];
-      pending =
-          0;
+      forms = native (straight [] (mov 0 1)) ∷ native (bx (ticked 4 []) (get (reg 14))) ∷ [];
+      pending = 0;
     }
 
 lone-text : textOf (emitGroup (lone ∷ []))
@@ -116,8 +113,7 @@ half =
       thumb = true;
       count = 1;
       hash = none;
-      forms =
-          shell true (to 0x08000200) 0x08000203 ∷ [];
+      forms = shell true (to 0x08000200) 0x08000203 ∷ [];
       pending = 0;
     }
 
@@ -209,8 +205,7 @@ swi =
       thumb = false;
       count = 1;
       hash = none;
-      forms =
-          shell false (to 0x08000104) 0x08000108 ∷ [];
+      forms = shell false (to 0x08000104) 0x08000108 ∷ [];
       pending = 0;
     }
 

@@ -1,4 +1,4 @@
--- What BX does, computed twice: by its text as C99 reads it, and by the manual.
+-- Examples: what BX does, computed twice: by its text as C99 reads it, and by the manual.
 use Prim.Native.Nat.{ℕ}
 use mathlib.Core.Path.{_≡_, refl}
 use mathlib.Core.Bool.{Bool, true, false, cond}
@@ -11,7 +11,8 @@ use Rattle.file_instrs.specs.declared.decode.TimedInstr.{TimedInstr}
 use Rattle.c_tree.specs.Stmt.{common, end}
 use Rattle.c_meaning.specs.State.{bind, update, State, empty}
 use Rattle.c_meaning.specs.Eval.{eval, evalAs}
-use Rattle.c_meaning.specs.Exec.{Outcome, exec, others, execs, asks, step, runs}
+use Rattle.c_meaning.specs.Exec.{Outcome, exec, others, asks, step, runs}
+use Rattle.c_meaning.specs.Perform.{execs}
 use Rattle.c_meaning.specs.Helpers.{rotated, called, run}
 use Rattle.armv4t_manual.specs.Machine.{Machine, cpsr}
 use Rattle.armv4t_manual.specs.Execute.{execute}
@@ -35,8 +36,7 @@ machine thumb =
       z = false;
       c = false;
       v = false;
-      otherBits =
-          cond thumb 0x30 0x10;
+      otherBits = cond thumb 0x30 0x10;
       mem = λ a. 0;
     }
 
@@ -46,8 +46,7 @@ state thumb =
       c = update 16 (cond thumb 0x30 0x10) regs;
       mem = λ a. 0;
       scopes = empty ∷ [];
-      answers =
-          λ k. 0;
+      answers = λ k. 0;
       interpreter = λ k c mem. record { c = c; mem = mem; answer = 0 };
     }
 

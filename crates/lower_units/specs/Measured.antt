@@ -1,5 +1,5 @@
--- Blocks as they are measured. A hash has 16 digits whatever it is, so a text that is only measured
--- has 0 in its place, and no hash is computed.
+-- Steps: blocks as they are measured. A hash has 16 digits whatever it is, so a text that is only
+-- measured has 0 in its place, and no hash is computed.
 use Prim.Native.Nat.{ℕ}
 use mathlib.Core.Bool.{Bool, false, cond}
 use mathlib.Core.Option.{Option, none, some}
@@ -17,8 +17,7 @@ hashedIf written b =
       addr = b .addr;
       thumb = b .thumb;
       count = b .count;
-      hash =
-          hashIf written (b .hash);
+      hash = hashIf written (b .hash);
       forms = b .forms;
       pending = b .pending;
     }

@@ -1,5 +1,5 @@
--- What is claimed of native records and of fused pairs, of Thumb's instructions among them, and of
--- the closing fall-through.
+-- To be believed: what is claimed of native records and of fused pairs, of Thumb's instructions
+-- among them, and of the closing fall-through.
 use Prim.Native.Nat.{ℕ, _%_}
 use mathlib.Core.Path.{_≡_}
 use mathlib.Core.Bool.{Bool, true, false, _&&_, _||_}
@@ -25,7 +25,7 @@ use Rattle.armv4t_manual.specs.Thumb.{thumbOperation}
 use Rattle.lower_forms.specs.Forms.{Native, native, Body}
 use Rattle.lower_forms.specs.Block.{emitPair, emitInstr}
 use Rattle.lower_forms.specs.Agree.{Agrees}
-use Rattle.lower_forms.specs.Means.{differsIn}
+use Rattle.lower_forms.specs.Differs.{differsIn}
 use Rattle.lower_units.specs.Block.{nativeText, closing}
 use Rattle.lower_units.specs.Text.{Leaves, Acts}
 

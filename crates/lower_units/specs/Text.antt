@@ -1,4 +1,4 @@
--- What a text does, as a whole: it continues, or it leaves.
+-- To be believed: what a text does, as a whole: it continues, or it leaves.
 use Prim.Native.Nat.{ℕ}
 use mathlib.Core.Path.{_≡_}
 use mathlib.Core.Bool.{Bool, true, false}

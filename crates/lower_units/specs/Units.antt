@@ -1,4 +1,5 @@
--- The tree of groups and units: emit_block's function, emit_group and emit_c_chunked.
+-- To be believed: the tree of groups and units: emit_block's function, emit_group and
+-- emit_c_chunked.
 use Prim.Native.Nat.{ℕ, suc, _+_}
 use mathlib.Core.Bool.{Bool, true, false, cond}
 use mathlib.Core.List.{List, [], _∷_, _++_, map}
@@ -122,16 +123,10 @@ pub record UnitAnswer : Type 0 where
 abbrev pub madeUnit : TranslationUnit → Made UnitAnswer
 madeUnit u =
     record {
-      values =
-          record { length = length (textOf (u .tree)); done = u .done; last = u .last };
-      content =
-          textOf (u .tree);
+      values = record { length = length (textOf (u .tree)); done = u .done; last = u .last };
+      content = textOf (u .tree);
     }
 
 -- what the call for unit k of a file's blocks makes, if there is such a unit
 abbrev pub unit : ℕ → ℕ → ℕ → List Block → ℕ → Option (Made UnitAnswer)
 unit multiplier limit max bs k = getElem? (map madeUnit (units multiplier limit max bs)) k
-
--- how many units there are
-abbrev pub unitCount : ℕ → ℕ → ℕ → List Block → ℕ
-unitCount multiplier limit max bs = length (units multiplier limit max bs)

@@ -20,7 +20,8 @@ use Rattle.file_blocks.specs.Read.{IsBlock}
 use Rattle.plan_groups.specs.Calls.{partLimit}
 use Rattle.plan_groups.specs.Plan.{plan}
 use Rattle.base_text.proofs.Laws.{seq, wrote-as, kept}
-use Rattle.base_text.specs.Doc.{Doc, text, _▸_, flat}
+use Rattle.base_text.specs.Doc.{Doc, text, _▸_}
+use Rattle.base_text.specs.Flat.{flat}
 use Rattle.base_text.specs.Wrote.{Wrote}
 
 abbrev header : Doc

@@ -1,6 +1,6 @@
 -- `emit_alu::logical::put_logical_rest` meets its contract: what its calls write, one after
 -- another. Assumes nothing.
-use Rattle.emit_alu.proofs.Texts.{rows-append}
+use Rattle.emit_alu.proofs.Texts.{statements-append}
 use mathlib.Core.Bool.{cond}
 use mathlib.Core.List.{[], _∷_}
 use Rattle.c_tree.specs.Expr.{x-r}
@@ -19,7 +19,7 @@ returns c =
     let c1 = c2 .before .before .before .before in
     let a = c1 .before .before .before .args .a in
     wrote-as (seq (c1 .put-flags .ensures) (c2 .put-result .ensures))
-    (rows-append (cond (a .s) (run f-nz (v32 x-r) ∷ logicalC (operandOf (a .pc) (a .op2) .1)) [])
+    (statements-append (cond (a .s) (run f-nz (v32 x-r) ∷ logicalC (operandOf (a .pc) (a .op2) .1)) [])
     (result (a .op) (a .rd) ∷ []) [])
 
 pub put-logical-rest-spec : {M : Type 1} → statement M

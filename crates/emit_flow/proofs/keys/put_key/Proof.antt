@@ -5,7 +5,8 @@ use mathlib.Core.List.{[]}
 use Prim.Native.Nat.{ℕ}
 use borrow.Author.Needs.{needs}
 use borrow.Author.Tests.{eq-eqb, ne-eqb}
-use Rattle.base_text.specs.Doc.{text, hex8, _▸_, flat}
+use Rattle.base_text.specs.Doc.{text, hex8, _▸_}
+use Rattle.base_text.specs.Flat.{flat}
 use Rattle.base_text.proofs.Laws.{seq, wrote-as, kept}
 use Rattle.emit_flow.proofs.keys.put_key.Statement.{statement}
 use Rattle.emit_flow.proofs.keys.put_key.Tie as tie

@@ -10,7 +10,7 @@ use Rattle.plan_members.proofs.Places.{row-block-inside}
 use Rattle.plan_members.specs.Members.{membersOf, keysWithin}
 use Rattle.file_blocks.specs.Parse.{blocksOf}
 use Rattle.base_text.proofs.Laws.{wrote-as}
-use Rattle.base_text.specs.Doc.{flat}
+use Rattle.base_text.specs.Flat.{flat}
 use Rattle.emit_group.specs.Groups.{memberText}
 use Rattle.emit_group.proofs.groups.put_code.Statement.{statement}
 use Rattle.emit_group.proofs.groups.put_code.Tie as tie

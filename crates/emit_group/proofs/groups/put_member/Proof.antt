@@ -8,7 +8,7 @@ use Rattle.c_tree.specs.Print.{codeText}
 use Rattle.c_tree.specs.Stmt.{label, end, _⨾_}
 use Rattle.lower_units.specs.Block.{nl}
 use Rattle.base_text.proofs.Laws.{seq, wrote-as}
-use Rattle.base_text.specs.Doc.{flat}
+use Rattle.base_text.specs.Flat.{flat}
 use Rattle.emit_group.proofs.Functions.{member-key}
 use Rattle.emit_group.proofs.groups.put_member.Statement.{statement}
 use Rattle.emit_group.proofs.groups.put_member.Tie as tie

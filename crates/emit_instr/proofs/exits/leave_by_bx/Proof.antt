@@ -3,7 +3,7 @@
 use Prim.Native.Nat.{ℕ, _+_}
 use mathlib.Core.Path.{refl, ap}
 use mathlib.Core.List.{[]}
-use Rattle.base_text.specs.Doc.{flat}
+use Rattle.base_text.specs.Flat.{flat}
 use Rattle.base_text.proofs.Laws.{wrote-as}
 use Rattle.c_tree.specs.Stmt.{Owner}
 use Rattle.c_tree.specs.Print.{codeText}

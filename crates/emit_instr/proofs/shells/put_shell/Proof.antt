@@ -3,7 +3,7 @@
 use Prim.Native.Nat.{ℕ}
 use mathlib.Core.Path.{ap}
 use mathlib.Core.List.{[], _++_}
-use Rattle.base_text.specs.Doc.{flat}
+use Rattle.base_text.specs.Flat.{flat}
 use Rattle.base_text.proofs.Laws.{wrote-as}
 use Rattle.c_tree.specs.Stmt.{common, end}
 use Rattle.c_tree.specs.Print.{codeText}

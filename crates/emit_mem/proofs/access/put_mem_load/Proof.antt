@@ -7,7 +7,7 @@ use borrow.Author.Needs.{needs}
 use Rattle.c_tree.specs.Expr.{x-ob}
 use Rattle.c_tree.specs.Preamble.{v32}
 use Rattle.c_tree.specs.Stmt.{Plain}
-use Rattle.emit_mem.proofs.Lines.{apart-both}
+use Rattle.emit_mem.proofs.Lines.{each-on-line-both}
 use Rattle.lower_forms.specs.InlineBody.{listIf, setReg, loaded}
 use Rattle.base_text.proofs.Laws.{seq, wrote-as, kept}
 use Rattle.emit_mem.proofs.access.put_mem_load.Statement.{statement}
@@ -23,7 +23,8 @@ returns c =
     listIf (a .wb && not (eqb (m .rn) (m .rd)) && not (eqb (m .rn) 15))
     (setReg (m .rn) (v32 x-ob)) in
     let load : List Plain = setReg (m .rd) (loaded (m .width) (m .signed)) ∷ [] in
-    wrote-as (seq (c1 .put-load-ob .ensures) (c2 .put-load-line .ensures)) (apart-both 8 back load)
+    wrote-as (seq (c1 .put-load-ob .ensures) (c2 .put-load-line .ensures))
+    (each-on-line-both 8 back load)
 
 pub put-mem-load-spec : {M : Type 1} → statement M
 put-mem-load-spec =

@@ -7,7 +7,7 @@ use borrow.Author.Needs.{needs}
 use Rattle.c_tree.specs.Expr.{x-ob, reg, get}
 use Rattle.c_tree.specs.Preamble.{v32}
 use Rattle.c_tree.specs.Stmt.{Plain}
-use Rattle.emit_mem.proofs.Lines.{apart-both}
+use Rattle.emit_mem.proofs.Lines.{each-on-line-both}
 use Rattle.lower_forms.specs.InlineBody.{listIf, setReg, stored}
 use Rattle.base_text.proofs.Laws.{seq, wrote-as, kept}
 use Rattle.emit_mem.proofs.access.put_mem_store.Statement.{statement}
@@ -22,7 +22,7 @@ returns c =
     let store : List Plain = stored (m .width) (get (reg (m .rd))) ∷ [] in
     let back : List Plain = listIf (a .wb && not (eqb (m .rn) 15)) (setReg (m .rn) (v32 x-ob)) in
     wrote-as (seq (c1 .put-store-line .ensures) (c2 .put-store-ob .ensures))
-    (apart-both 8 store back)
+    (each-on-line-both 8 store back)
 
 pub put-mem-store-spec : {M : Type 1} → statement M
 put-mem-store-spec =

@@ -9,9 +9,9 @@ use Rattle.emit_mem.proofs.mem.put_mem.Statement.{statement}
 use Rattle.emit_mem.proofs.mem.put_mem.Tie as tie
 use Rattle.lower_forms.specs.Forms.{Lines}
 use Rattle.lower_forms.specs.InlineBody.{baseExpr}
-use Rattle.lower_units.specs.Block.{linesText}
+use Rattle.lower_units.specs.Lines.{linesText}
 use Rattle.base_text.proofs.Laws.{wrote-as, kept}
-use Rattle.base_text.specs.Doc.{flat}
+use Rattle.base_text.specs.Flat.{flat}
 
 returns : tie.Need-returns
 returns c = λ ls e.

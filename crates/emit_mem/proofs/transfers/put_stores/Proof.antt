@@ -9,7 +9,7 @@ use Rattle.emit_mem.proofs.Lines.{stores-more}
 use Rattle.emit_mem.proofs.transfers.put_stores.Statement.{statement}
 use Rattle.emit_mem.proofs.transfers.put_stores.Tie as tie
 use Rattle.lower_forms.specs.InlineBody.{listed, stores}
-use Rattle.lower_units.specs.Block.{linesText}
+use Rattle.lower_units.specs.Lines.{linesText}
 use Rattle.base_text.proofs.Laws.{none, seq, wrote-as, kept}
 use Rattle.base_text.specs.Wrote.{Wrote}
 

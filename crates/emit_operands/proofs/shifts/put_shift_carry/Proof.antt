@@ -1,9 +1,8 @@
 -- `emit_operands::shifts::put_shift_carry` meets its contract: what its calls write, one after
 -- another. Assumes nothing.
 use mathlib.Core.Path.{refl, ap}
-use Rattle.emit_operands.specs.Operands.{carryText}
-use Rattle.emit_operands.specs.Operands.{sourceExpr}
-use Rattle.base_text.specs.Doc.{flat}
+use Rattle.emit_operands.specs.Operands.{carryText, sourceExpr}
+use Rattle.base_text.specs.Flat.{flat}
 use Rattle.c_tree.specs.Expr.{Expr}
 use mathlib.Core.Option.{Option}
 use mathlib.Core.List.{[]}

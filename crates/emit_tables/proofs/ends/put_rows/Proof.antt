@@ -8,7 +8,8 @@ use native.Mathlib.Omega.{arith}
 use lib.ListN.{take}
 use Rattle.c_tree.specs.Print.{rowText}
 use Rattle.base_text.proofs.Laws.{none, wrote-as, each-more, each-all, kept}
-use Rattle.base_text.specs.Doc.{flat, each}
+use Rattle.base_text.specs.Doc.{each}
+use Rattle.base_text.specs.Flat.{flat}
 use Rattle.base_text.specs.Wrote.{Wrote}
 use Rattle.emit_tables.proofs.Rows.{file-length}
 use Rattle.emit_tables.proofs.ends.put_rows.Statement.{statement}

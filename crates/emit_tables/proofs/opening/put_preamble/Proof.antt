@@ -3,7 +3,8 @@
 use borrow.Author.Needs.{needs}
 use mathlib.Core.Path.{_≡_, sym, _∙_}
 use mathlib.Core.List.{[], _∷_}
-use Rattle.base_text.specs.Doc.{text, _▸_, flat}
+use Rattle.base_text.specs.Doc.{text, _▸_}
+use Rattle.base_text.specs.Flat.{flat}
 use Rattle.base_text.proofs.Laws.{each-append, wrote-as, kept}
 use Rattle.c_tree.specs.Stmt.{blank}
 use Rattle.c_tree.specs.Print.{topText, unitText}

@@ -4,7 +4,8 @@ use mathlib.Core.Path.{_≡_, refl}
 use Prim.Native.Nat.{ℕ, zero, suc}
 use mathlib.Core.List.{[]}
 use borrow.Author.Needs.{needs}
-use Rattle.base_text.specs.Doc.{text, dec, _▸_, flat}
+use Rattle.base_text.specs.Doc.{text, dec, _▸_}
+use Rattle.base_text.specs.Flat.{flat}
 use Rattle.base_text.proofs.Laws.{none, seq, wrote-as, kept}
 use Rattle.emit_writer.specs.Ticks.{ticks}
 use Rattle.emit_writer.proofs.ticks.put_tick.Statement.{statement}

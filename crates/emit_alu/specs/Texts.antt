@@ -3,10 +3,11 @@ use mathlib.Core.Path.{_≡_}
 use Prim.Native.Nat.{ℕ}
 use mathlib.Core.Bool.{Bool, cond}
 use mathlib.Core.List.{List}
-use Rattle.base_text.specs.Doc.{Doc, text, flat}
+use Rattle.base_text.specs.Doc.{Doc, text}
+use Rattle.base_text.specs.Flat.{flat}
 use Rattle.c_tree.specs.Stmt.{Plain}
 use Rattle.lower_forms.specs.InlineBody.{eachOnLine}
-use Rattle.lower_units.specs.Block.{linesText}
+use Rattle.lower_units.specs.Lines.{linesText}
 
 -- statements in lines of their own, as text
 abbrev pub statementsText : List Plain → Doc
