@@ -2,9 +2,9 @@
 -- its entry, and each step of the interpreter leaves it so.
 use Prim.Native.Nat.{ℕ, _%_}
 use mathlib.Core.Path.{_≡_, refl, sym, ap, _∙_, subst}
-use mathlib.Core.Bool.{Bool, true, false, cond, true≢false}
-use mathlib.Core.List.{List, [], _∷_, List·Memᴰ, List·Memᴰ·head, List·Memᴰ·tail}
-use mathlib.Core.Option.{none, some}
+use mathlib.Core.Bool.{Bool}
+use mathlib.Core.List.{List, List·Memᴰ, List·Memᴰ·head, List·Memᴰ·tail}
+use mathlib.Core.Option.{some}
 use native.Mathlib.Omega.{arith}
 use Rattle.base_words.specs.Word.{bit}
 use Rattle.armv4t.specs.declared.Op.{Op}
@@ -18,13 +18,12 @@ use Rattle.armv4t.specs.InRange.{InRange}
 use Rattle.file_instrs.specs.declared.decode.TimedInstr.{TimedInstr}
 use Rattle.file_blocks.specs.Parse.{Block}
 use Rattle.file_blocks.specs.Address.{region}
-use Rattle.c_meaning.specs.State.{State}
 use Rattle.armv4t_manual.specs.Machine.{Machine, thumbState}
 use Rattle.armv4t_manual.specs.Execute.{keyAfter, operation, execute}
 use Rattle.armv4t_manual.proofs.Kept.{Each, execute-each}
 use Rattle.armv4t_manual.proofs.State.{execute-state, key-after-bit}
 use Rattle.claim_meaning.specs.Block.{CarriedOut, byManual, byInterpreter, Sequence, last}
-use Rattle.claim_meaning.specs.Block.{pair, more, Carries, inOrder, granted, absent, refused}
+use Rattle.claim_meaning.specs.Block.{pair, more, inOrder, granted, absent, refused}
 use Rattle.claim_meaning.specs.Block.{StepsKeepState, KeepsState}
 
 -- what is asked of a record: it is of a set, at an even address, with its fields in range

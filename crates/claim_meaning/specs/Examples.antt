@@ -2,9 +2,9 @@
 -- ARM block are not, and the text of the pair leads to a Thumb key with T clear.
 use Prim.Native.Nat.{ℕ}
 use mathlib.Core.Path.{_≡_, refl}
-use mathlib.Core.Bool.{true, false}
+use mathlib.Core.Bool.{false}
 use mathlib.Core.List.{[], _∷_}
-use mathlib.Core.Option.{Option, some}
+use mathlib.Core.Option.{some}
 use Rattle.armv4t.specs.declared.Cond.the-variants.{Al}
 use Rattle.armv4t.specs.declared.Op.{Op}
 use Rattle.armv4t.specs.declared.Op.the-variants.{ThumbBlHigh, ThumbBlLow}

@@ -1,8 +1,8 @@
 -- What demand 3 refuses: events that break each of its three claims, with the proof that they do;
 -- what counts as gateless, as two instructions and as several; every block is lone or one of
 -- several.
-use Prim.Native.Nat.{ℕ, suc, _+_, _≤_, _<_}
-use mathlib.Core.Path.{_≡_, refl, sym, ap, _∙_}
+use Prim.Native.Nat.{ℕ, suc, _+_, _<_}
+use mathlib.Core.Path.{_≡_, refl}
 use mathlib.Core.Logic.{_⊎_, inl, inr}
 use mathlib.Core.Bool.{Bool, true, false}
 use mathlib.Core.List.{List, [], _∷_, _++_, List·Memᴰ, List·Memᴰ·head, List·Memᴰ·tail}
@@ -18,7 +18,7 @@ use Rattle.file_blocks.specs.Address.{outsideRomBios}
 use Rattle.plan_groups.specs.Plan.{groups}
 use Rattle.plan_groups.proofs.GroupLaws.{groups-once}
 use Rattle.c_tree.specs.Expr.{Expr}
-use Rattle.c_tree.specs.Stmt.{Test, guard, gate, other, Owner, switch, label, interp, ret, Code}
+use Rattle.c_tree.specs.Stmt.{guard, gate, other, Owner, switch, label, interp, ret, Code}
 use Rattle.c_tree.specs.Stmt.{end}
 use Rattle.c_tree.specs.Stmt.{_⨾_, Top}
 use Rattle.claim_ways.specs.Ways.{Event, reach, said, nativeStart, interpreted, Way, w-label}
