@@ -6,6 +6,7 @@ mod common;
 use common::{lone_blocks, names, root, sample, Run, Scratch, PROGRAM};
 use std::fs::{self, File, Permissions};
 use std::os::unix::fs::{symlink, PermissionsExt};
+use std::os::unix::process::CommandExt;
 use std::path::{Path, PathBuf};
 use std::process::{Command, Stdio};
 use std::time::{Duration, Instant};
@@ -256,6 +257,25 @@ fn a_build_that_fails_leaves_no_program() {
         let said = format!("{PROVING}{PROVED}what cargo prints\n{line}");
         assert_run(run, 2, "", &said);
         assert_eq!(repository.calls(), repository.both_calls());
+    }
+    assert_eq!(repository.run(&["--version"]).out, VERSION);
+}
+
+#[test]
+fn a_launcher_that_is_ended_leaves_nothing_behind() {
+    let repository = Repository::new();
+    let mut command = repository.command(&repository.path("recomp"), &["--version"]);
+    // The signal goes to the launcher and all that it started, as from a terminal.
+    command
+        .process_group(0)
+        .env("WHILE_PROVING", "kill -TERM 0");
+    let run = Run::of(command.output().expect("the launcher runs"));
+    assert_eq!((run.status, run.out.as_str()), (None, ""));
+    let folder = repository.path("host/target");
+    let start = Instant::now();
+    while !names(folder.to_str().expect("UTF-8")).is_empty() {
+        assert!(start.elapsed() < Duration::from_secs(60), "all is removed");
+        std::thread::sleep(Duration::from_millis(5));
     }
     assert_eq!(repository.run(&["--version"]).out, VERSION);
 }
