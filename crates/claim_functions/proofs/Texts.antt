@@ -16,6 +16,7 @@ use Rattle.lower_forms.specs.Forms.{pop, Body}
 use Rattle.lower_units.specs.Block.{nl, sp, line, lines, nativeText, closing}
 use Rattle.lower_units.specs.Text.{Continues, Leaves, destination}
 use Rattle.lower_units.proofs.Statements.{lines-each, closing-each, native-each}
+use Rattle.claim_ways.proofs.Entered.{lines-append, line-append}
 use Rattle.claim_ways.specs.Ways.{Event}
 use Rattle.claim_functions.proofs.Outcomes.{goesOf, not-none, on-not-to}
 use Rattle.claim_functions.proofs.Log.{ledOn, log, log-append, Silent, silent-log}
@@ -38,19 +39,6 @@ closing-log ks b z =
     silent-log (closing ks b)
     (closing-each Silent (λ l n. refl) (λ o p. refl) (λ o k. refl) (λ o e. refl) (λ o t e. refl) ks
     b) z
-
--- lines, and what stands after them
-line-append : (o : Owner) (ps : List Plain) (c d : Code) → line o ps (c ⧺ d) ≡ line o ps c ⧺ d
-line-append o [] c d = refl
-line-append o (p ∷ []) c d = refl
-line-append o (p ∷ q ∷ ps) c d =
-    ap (λ x. Rattle.c_tree.specs.Stmt.plain o p ⨾ sp 1 ⨾ x) (line-append o (q ∷ ps) c d)
-
-lines-append : (o : Owner) (n : ℕ) (ls : Lines) (c d : Code)
-    → lines o n ls (c ⧺ d) ≡ lines o n ls c ⧺ d
-lines-append o n [] c d = refl
-lines-append o n (l ∷ ls) c d = ap (λ x. sp n ⨾ line o l (nl ⨾ x)) (lines-append o n ls c d)
-    ∙ ap (λ x. sp n ⨾ x) (line-append o l (nl ⨾ lines o n ls c) d)
 
 -- the text of a native record stands before what is after it, or drops that
 shape : (ks : List ℕ) (a : ℕ) (o : Owner) (r : Native)
