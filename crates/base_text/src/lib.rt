@@ -67,9 +67,8 @@ fn clip(part: &mut [u8], s: &[u8])
 // Stores the last hexadecimal digit of n at index at of part, if part has that index, and answers n
 // without it.
 fn digit(part: &mut [u8], at: usize, n: u64) -> u64
-    ensures { λ r. ⌜
-        (now (part .exit) ≡ set (now (part .entry)) at (glyph (n % 16))) × (r ≡ n / 16)
-        ⌝ }
+    ensures stored { λ _. ⌜ now (part .exit) ≡ set (now (part .entry)) at (glyph (n % 16)) ⌝ }
+    ensures rest { λ r. ⌜ r ≡ n / 16 ⌝ }
 {
     store(part, at, digits::glyph(n % 16));
     n / 16

@@ -1,5 +1,6 @@
--- Whatever code runs, it keeps what the scopes that it starts in declare, and uses up the answers of
--- guard and gate in order; and code that does not call the interpreter uses none of its calls up.
+-- Whatever code runs, it keeps what the scopes that it starts in declare, and uses up the answers
+-- of guard and gate in order; and code that does not call the interpreter uses none of its calls
+-- up.
 use Prim.Native.Nat.{ℕ, suc, _+_}
 use mathlib.Core.Path.{_≡_, refl, sym, ap, _∙_, subst}
 use mathlib.Core.Bool.{Bool, true, false, cond, _&&_, Bool·beq, true≢false}

@@ -1,5 +1,5 @@
--- Examples: that T agrees with the key needs records that are covered. The halves of a Thumb BL in an
--- ARM block are not, and the text of the pair leads to a Thumb key with T clear.
+-- Examples: that T agrees with the key needs records that are covered. The halves of a Thumb BL in
+-- an ARM block are not, and the text of the pair leads to a Thumb key with T clear.
 use Prim.Native.Nat.{ℕ}
 use mathlib.Core.Path.{_≡_, refl}
 use mathlib.Core.Bool.{false}

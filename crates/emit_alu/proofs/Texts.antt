@@ -23,7 +23,8 @@ use Rattle.emit_alu.specs.Texts.{statementsText, before, between, after}
 pub statements-append : (ps qs : List Plain) (k : List ℕ)
     → flat (statementsText ps ▸ statementsText qs) k ≡ flat (statementsText (ps ++ qs)) k
 statements-append [] qs k = refl
-statements-append (p ∷ ps) qs k = ap (flat (spaces 8 ▸ plainText p ▸ text ";\n")) (statements-append ps qs k)
+statements-append (p ∷ ps) qs k =
+    ap (flat (spaces 8 ▸ plainText p ▸ text ";\n")) (statements-append ps qs k)
 
 -- constants
 pub one-u : (k : List ℕ) → flat (text "1u") k ≡ flat (exprText (lit udec 1)) k

@@ -7,7 +7,8 @@ ghost use Rattle.lower_forms.specs.InlineBody.{listed};
 
 // The bytes of the registers below limit that are listed.
 pub(crate) fn bytes_listed(rlist: u16, limit: u8) -> u32
-    ensures { λ n. ⌜ (n ≡ length (listed rlist limit) * 4) × (n ≤ limit * 4) ⌝ }
+    ensures bytes { λ n. ⌜ n ≡ length (listed rlist limit) * 4 ⌝ }
+    ensures small { λ n. ⌜ n ≤ limit * 4 ⌝ }
 {
     let mut n: u32 = 0;
     let mut r = 0;

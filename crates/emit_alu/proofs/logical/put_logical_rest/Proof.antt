@@ -19,7 +19,8 @@ returns c =
     let c1 = c2 .before .before .before .before in
     let a = c1 .before .before .before .args .a in
     wrote-as (seq (c1 .put-flags .ensures) (c2 .put-result .ensures))
-    (statements-append (cond (a .s) (run f-nz (v32 x-r) ∷ logicalC (operandOf (a .pc) (a .op2) .1)) [])
+    (statements-append
+    (cond (a .s) (run f-nz (v32 x-r) ∷ logicalC (operandOf (a .pc) (a .op2) .1)) [])
     (result (a .op) (a .rd) ∷ []) [])
 
 pub put-logical-rest-spec : {M : Type 1} → statement M

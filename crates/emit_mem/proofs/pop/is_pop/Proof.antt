@@ -18,10 +18,9 @@ returns c = λ i e.
 returns-2 : tie.Need-returns-2
 returns-2 c = λ i e.
     let up = c .before in
+    let m = up .before .before .args .m in
     rw (sym (up .before .is-upward-load .ensures) ∙ up .if1 .taken, sym e ∙ c .if2 .left)
-    (sym (and-false
-    (isListed (up .before .before .args .m .rlist) 15
-    && not (eqb (up .before .before .args .m .rn) 15))))
+    (sym (and-false (isListed (m .rlist) 15 && not (eqb (m .rn) 15))))
 
 returns-3 : tie.Need-returns-3
 returns-3 c = λ i e. rw (sym (c .before .is-upward-load .ensures) ∙ c .if1 .left) refl
