@@ -172,7 +172,7 @@ codeText (when o n t b c) = text "if (" ▸ text (cond n "!" "") ▸ testText t 
     ▸ codeText b ▸ text "}" ▸ codeText c
 codeText (braces b c) = text "{" ▸ codeText b ▸ text "}" ▸ codeText c
 
--- parameters
+-- the parameters of a function, with commas between
 abbrev pub typedList : List Var → Doc
 typedList [] = nothing
 typedList (x ∷ xs) = typed x ▸ each (λ (y : Var). text ", " ▸ typed y) xs

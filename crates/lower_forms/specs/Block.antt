@@ -58,7 +58,8 @@ emitPair cycles target ret =
 abbrev pub branchRegs : Bool → ℕ → ℕ → List Plain
 branchRegs link ret target = listIf link (setWord 14 ret) ++ (setWord 15 target ∷ [])
 
--- Branch
+-- Branch, the cycles being those pending with its own: the registers and the transfer to the
+-- target's key, under its condition unless that is Al
 abbrev pub emitBranch : Bool → ℕ → Instr → Bool → ℕ → Native
 emitBranch thumb cycles i link target =
     let regs : List Plain = branchRegs link ((i .addr + 4) % 2 ^ 32) target in
@@ -76,7 +77,8 @@ isPop region i load rn rlist pre up s-bit writeback =
     load && not pre && up && not s-bit && writeback && isListed rlist 15 && not (eqb rn 15)
     && nativeExit region i
 
--- a pop of PC
+-- a pop of PC, the cycles being those pending with its own: the loads of the other registers, the
+-- base, PC, and the return of the key
 abbrev pub emitPop : Bool → ℕ → ℕ → List ℕ → Native
 emitPop thumb cycles rn regs =
     pop (flushTicks cycles) (let32 x-addr (get (reg rn)))

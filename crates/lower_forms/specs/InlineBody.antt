@@ -55,7 +55,7 @@ setReg r e = set (reg r) is e
 abbrev pub result : AluOp → ℕ → Plain
 result op rd = cond (isCompare op) (discard (u32, x-r)) (setReg rd (v32 x-r))
 
--- logical_c
+-- logical_c: the statement that sets C, if there is a carry
 abbrev pub logicalC : Option Expr → List Plain
 logicalC none = []
 logicalC (some e) = run f-c e ∷ []
@@ -97,14 +97,14 @@ abbrev pub aluBody : AluOp → Bool → ℕ → Expr → Option (Expr × Option 
 aluBody op s rd a none = none
 aluBody op s rd a (some b) = some (eachOnLine (alu op s rd a (b .0) (b .1)))
 
--- Mul
+-- Mul: the product, with rn added if acc is set, into rd, and N and Z if s is set
 abbrev pub mulBody : Bool → Bool → ℕ → ℕ → ℕ → ℕ → List Plain
 mulBody acc s rd rn rs rm =
     let32 x-r (bin mul (get (reg rm)) (get (reg rs)))
     ∷ listIf acc (set (var (u32, x-r)) plus (get (reg rn)))
     ++ (setReg rd (v32 x-r) ∷ listIf s (run f-nz (v32 x-r)))
 
--- a factor of MulLong
+-- a factor of MulLong with 64 bits: with its sign in front (true) or zeros
 abbrev pub widened : Bool → Expr → Expr
 widened true e = cast s64 (cast s32 e)
 widened false e = cast u64 e
@@ -113,7 +113,7 @@ widened false e = cast u64 e
 abbrev pub r64 : Expr
 r64 = get (var (u64, x-r))
 
--- MulLong
+-- MulLong: the product, with hi and lo added if acc is set, into both, and N and Z if s is set
 abbrev pub mulLongBody : Bool → Bool → Bool → ℕ → ℕ → ℕ → ℕ → List Plain
 mulLongBody signed acc s hi lo rs rm =
     declare (u64, x-r)
@@ -143,7 +143,7 @@ offsetExpr i (MemOffset.Imm value) = some (lit uhex value)
 offsetExpr i (MemOffset.Reg rm (Shift.Imm kind amount)) = shiftedOffset (regExpr i rm) kind amount
 offsetExpr i (MemOffset.Reg rm (Shift.Reg kind rs)) = none
 
--- upwards or downwards
+-- the operator that moves an address upwards (true) or downwards
 abbrev pub addOrSub : Bool → Bin
 addOrSub true = add
 addOrSub false = sub
@@ -169,7 +169,7 @@ loaded Half true =
     par (pick (par (bin band (v32 x-addr) (lit udec 1))) (signedRead s8 w8) (signedRead s16 w16))
 loaded Word signed = ror (read w32 (aligned 3)) (rotation 3)
 
--- how a Mem stores
+-- how a Mem stores a value, by width
 abbrev pub stored : MemWidth → Expr → Plain
 stored Byte e = write w8 (v32 x-addr) e
 stored Half e = write w16 (aligned 1) e
@@ -216,7 +216,8 @@ loads (r ∷ rs) = (setReg r (read w32 (aligned 3)) ∷ advance ∷ []) ∷ load
 abbrev pub movedBase : Bool → ℕ → Expr
 movedBase up total = bin (addOrSub up) (v32 x-base) (lit udec total)
 
--- the lowest address of a BlockMem: up, pre
+-- the lowest address of a BlockMem of so many bytes: whether it goes up from the base, whether the
+-- base itself is passed over
 abbrev pub start : Bool → Bool → ℕ → Expr
 start true false total = v32 x-base
 start true true total = bin add (v32 x-base) (lit udec 4)
@@ -244,7 +245,8 @@ loadsOrStores false i rn writeback inList moved regs =
     stores (storedReg i rn (getD regs 0 16) moved) regs
     ++ eachOnLine (listIf writeback (setReg rn moved))
 
--- BlockMem: inList if its base register is listed
+-- BlockMem: the base, the lowest address, and the loads or stores; inList: its base register is
+-- listed
 abbrev pub blockMemBody : Instr → Bool → ℕ → Bool → Bool → Bool → Bool → List ℕ → Lines
 blockMemBody i load rn inList pre up writeback regs =
     let total : ℕ = length regs * 4 in

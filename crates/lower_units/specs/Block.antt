@@ -78,7 +78,7 @@ closingLines b = flushTicks (b .pending) ++ pcLine (bodyEnd b)
 unfoldable pub closing : List ℕ → Body → Code
 closing ks b = exitCode ks (b .addr) common (closingLines b) (keyPlus (bodyEnd b) (b .thumb))
 
--- t & ~1u, and t & ~3u
+-- t & ~nu
 abbrev pub masked : ℕ → Expr
 masked n = bin band (v32 x-t) (un compl (lit udec n))
 
