@@ -9,14 +9,15 @@ use Rattle.armv4t.specs.declared.AluOp.{AluOp}
 use Rattle.base_text.specs.Digits.{numeral}
 use Rattle.base_text.specs.Doc.{Doc, nothing, text, dec, _▸_, decimal}
 use Rattle.base_text.specs.Flat.{flat}
-use Rattle.c_tree.specs.Expr.{u32, u64, udec, int, x-r, reg, var, mul, shl, shr, bor, Expr, lit}
-use Rattle.c_tree.specs.Expr.{get, par, bin, cast}
-use Rattle.c_tree.specs.Stmt.{plus, f-nz, f-nz64, Plain, declare, set, run}
+use Rattle.c_tree.specs.Expr.{udec, x-r, Expr, lit}
+use Rattle.c_tree.specs.Stmt.{f-nz, f-nz64, Plain, run}
 use Rattle.c_tree.specs.Preamble.{v32}
 use Rattle.c_tree.specs.Print.{exprText, plainText, spaces}
-use Rattle.lower_forms.specs.InlineBody.{listIf, let32, setReg, result, logicalC, sum, mulBody}
-use Rattle.lower_forms.specs.InlineBody.{widened, r64, mulLongBody}
+use Rattle.lower_forms.specs.InlineBody.{listIf, setReg, result, logicalC, sum, mulBody}
+use Rattle.lower_forms.specs.InlineBody.{r64, mulLongBody}
 use Rattle.emit_operands.specs.Operands.{carryText, isSome}
+use Rattle.emit_alu.specs.Multiply.{product, accumulated, longProduct, longAccumulated}
+use Rattle.emit_alu.specs.Multiply.{halves}
 use Rattle.emit_alu.specs.Texts.{statementsText, before, between, after}
 
 -- lines after lines
@@ -72,8 +73,7 @@ sum-of op s rd x y z d e p q k =
 pub halves-text : (hi lo : ℕ) (k : List ℕ)
     → flat (text "        c[" ▸ dec lo ▸ text "] = (uint32_t)r;\n        c[" ▸ dec hi
     ▸ text "] = (uint32_t)(r >> 32);\n") k
-    ≡ flat (statementsText
-    (setReg lo (cast u32 r64) ∷ setReg hi (cast u32 (par (bin shr r64 (lit int 32)))) ∷ [])) k
+    ≡ flat (statementsText (halves hi lo)) k
 halves-text hi lo k =
     ap (λ (n : List ℕ). flat
     (text "        c[" ▸ dec lo ▸ text "] = (uint32_t)r;\n        c[" ▸ dec hi
@@ -83,10 +83,7 @@ halves-text hi lo k =
 pub more-text : (hi lo : ℕ) (k : List ℕ)
     → flat (text "        r += ((uint64_t)c[" ▸ dec hi ▸ text "] << 32) | (uint64_t)c[" ▸ dec lo
     ▸ text "];\n") k
-    ≡ flat (statementsText
-    (set (var (u64, x-r)) plus
-    (bin bor (par (bin shl (cast u64 (get (reg hi))) (lit int 32))) (cast u64 (get (reg lo))))
-    ∷ [])) k
+    ≡ flat (statementsText (longAccumulated hi lo ∷ [])) k
 more-text hi lo k =
     ap (λ (n : List ℕ). flat (text "        r += ((uint64_t)c[" ▸ dec hi ▸ text "] << ")
     (n ++ flat (text ") | (uint64_t)c[" ▸ dec lo ▸ text "];\n") k))
@@ -94,8 +91,7 @@ more-text hi lo k =
 
 -- the lines of a multiplication, one after the other
 pub mul-text : (acc s : Bool) (rd rn rs rm : ℕ) (k : List ℕ)
-    → flat (statementsText (let32 x-r (bin mul (get (reg rm)) (get (reg rs))) ∷ [])
-    ▸ statementsText (listIf acc (set (var (u32, x-r)) plus (get (reg rn))))
+    → flat (statementsText (product rs rm ∷ []) ▸ statementsText (listIf acc (accumulated rn))
     ▸ statementsText (setReg rd (v32 x-r) ∷ []) ▸ statementsText (listIf s (run f-nz (v32 x-r))))
     k
     ≡ flat (statementsText (mulBody acc s rd rn rs rm)) k
@@ -103,15 +99,8 @@ mul-text true s rd rn rs rm k = refl
 mul-text false s rd rn rs rm k = refl
 
 pub mul-long-text : (signed acc s : Bool) (hi lo rs rm : ℕ) (k : List ℕ)
-    → flat (statementsText
-    (declare (u64, x-r)
-    (cast u64 (par (bin mul (widened signed (get (reg rm))) (widened signed (get (reg rs)))))) []
-    ∷ []) ▸ statementsText
-    (listIf acc
-    (set (var (u64, x-r)) plus
-    (bin bor (par (bin shl (cast u64 (get (reg hi))) (lit int 32))) (cast u64 (get (reg lo))))))
-    ▸ statementsText
-    (setReg lo (cast u32 r64) ∷ setReg hi (cast u32 (par (bin shr r64 (lit int 32)))) ∷ [])
+    → flat (statementsText (longProduct signed rs rm ∷ [])
+    ▸ statementsText (listIf acc (longAccumulated hi lo)) ▸ statementsText (halves hi lo)
     ▸ statementsText (listIf s (run f-nz64 r64))) k
     ≡ flat (statementsText (mulLongBody signed acc s hi lo rs rm)) k
 mul-long-text signed true s hi lo rs rm k = refl

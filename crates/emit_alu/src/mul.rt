@@ -7,15 +7,16 @@ ghost use mathlib.Core.List.{[], _∷_};
 ghost use Rattle.armv4t.specs.declared.Instr.{Instr};
 ghost use Rattle.armv4t.specs.declared.Op.the-variants.{Mul};
 ghost use Rattle.base_text.specs.Wrote.{Wrote};
-ghost use Rattle.c_tree.specs.Expr.{u32, u64, x-r, reg, var, int, mul, shl, shr, bor, lit, get};
-ghost use Rattle.c_tree.specs.Expr.{par, bin, cast};
-ghost use Rattle.c_tree.specs.Stmt.{plus, f-nz, f-nz64, declare, set, run};
+ghost use Rattle.c_tree.specs.Expr.{x-r, reg, get};
+ghost use Rattle.c_tree.specs.Stmt.{f-nz, f-nz64, run};
 ghost use Rattle.c_tree.specs.Preamble.{v32};
 ghost use Rattle.c_tree.specs.Print.{exprText};
-ghost use Rattle.lower_forms.specs.InlineBody.{listIf, let32, setReg, mulBody, widened, r64};
+ghost use Rattle.lower_forms.specs.InlineBody.{listIf, setReg, mulBody, widened, r64};
 ghost use Rattle.lower_forms.specs.InlineBody.{mulLongBody, opBody};
 ghost use Rattle.emit_operands.specs.Operands.{isSome};
 ghost use Rattle.emit_alu.specs.Texts.{statementsText};
+ghost use Rattle.emit_alu.specs.Multiply.{product, accumulated, longProduct, longAccumulated};
+ghost use Rattle.emit_alu.specs.Multiply.{halves};
 
 // Whether a multiplication is lowered to lines; a long one always is.
 pub fn mul_is_inlined(rd: Reg) -> bool
@@ -30,9 +31,7 @@ pub fn mul_is_inlined(rd: Reg) -> bool
 // The line of the product.
 fn put_product(out: &mut [u8], at: usize, rs: Reg, rm: Reg) -> usize
     ensures { λ r. ⌜
-        Wrote (now (out .entry)) at
-        (statementsText (let32 x-r (bin mul (get (reg rm)) (get (reg rs))) ∷ []))
-        (now (out .exit)) r
+        Wrote (now (out .entry)) at (statementsText (product rs rm ∷ [])) (now (out .exit)) r
         ⌝ }
 {
     let p = base_text::put_then_dec(out, at, b"        uint32_t r = c[", rm as u64);
@@ -43,8 +42,7 @@ fn put_product(out: &mut [u8], at: usize, rs: Reg, rm: Reg) -> usize
 // The line that adds rn, if acc is set.
 fn put_more(out: &mut [u8], at: usize, acc: bool, rn: Reg) -> usize
     ensures { λ r. ⌜
-        Wrote (now (out .entry)) at
-        (statementsText (listIf acc (set (var (u32, x-r)) plus (get (reg rn)))))
+        Wrote (now (out .entry)) at (statementsText (listIf acc (accumulated rn)))
         (now (out .exit)) r
         ⌝ }
 {
@@ -119,12 +117,8 @@ fn put_wide(out: &mut [u8], at: usize, signed: bool, n: Reg) -> usize
 // The line of the product of 64 bits.
 fn put_long_product(out: &mut [u8], at: usize, signed: bool, rs: Reg, rm: Reg) -> usize
     ensures { λ r. ⌜
-        Wrote (now (out .entry)) at
-        (statementsText
-        (declare (u64, x-r)
-        (cast u64
-        (par (bin mul (widened signed (get (reg rm))) (widened signed (get (reg rs)))))) []
-        ∷ [])) (now (out .exit)) r
+        Wrote (now (out .entry)) at (statementsText (longProduct signed rs rm ∷ []))
+        (now (out .exit)) r
         ⌝ }
 {
     let p = base_text::put(out, at, b"        uint64_t r = (uint64_t)(");
@@ -137,12 +131,8 @@ fn put_long_product(out: &mut [u8], at: usize, signed: bool, rs: Reg, rm: Reg) -
 // The line that adds the two registers of the outcome as they were, if acc is set.
 fn put_long_more(out: &mut [u8], at: usize, acc: bool, hi: Reg, lo: Reg) -> usize
     ensures { λ r. ⌜
-        Wrote (now (out .entry)) at
-        (statementsText
-        (listIf acc
-        (set (var (u64, x-r)) plus
-        (bin bor (par (bin shl (cast u64 (get (reg hi))) (lit int 32)))
-        (cast u64 (get (reg lo))))))) (now (out .exit)) r
+        Wrote (now (out .entry)) at (statementsText (listIf acc (longAccumulated hi lo)))
+        (now (out .exit)) r
         ⌝ }
 {
     if acc {
@@ -156,10 +146,7 @@ fn put_long_more(out: &mut [u8], at: usize, acc: bool, hi: Reg, lo: Reg) -> usiz
 // Both halves of the product.
 fn put_halves(out: &mut [u8], at: usize, hi: Reg, lo: Reg) -> usize
     ensures { λ r. ⌜
-        Wrote (now (out .entry)) at
-        (statementsText
-        (setReg lo (cast u32 r64) ∷ setReg hi (cast u32 (par (bin shr r64 (lit int 32)))) ∷ []))
-        (now (out .exit)) r
+        Wrote (now (out .entry)) at (statementsText (halves hi lo)) (now (out .exit)) r
         ⌝ }
 {
     let p = base_text::put_then_dec(out, at, b"        c[", lo as u64);
