@@ -12,7 +12,8 @@ use Rattle.claim_ways.specs.Demand3.{Demand3Of}
 use Rattle.claim_ways.proofs.Pieces.{in-trees}
 use Rattle.claim_ways.proofs.Demand3.{demand-3-of}
 use Rattle.claim_functions.specs.Claim.{ExecutionsAreWays, ExecutionClaim}
-use Rattle.claim_functions.proofs.Ways.{append-end, way-of}
+use Rattle.claim_functions.proofs.Ways.{way-of}
+use Rattle.c_tree.proofs.Laws.{append-end}
 
 module _ (multiplier limit max : ℕ) (f : List ℕ) where
   -- what stands in a unit stands in the units

@@ -12,7 +12,8 @@ use Rattle.claim_functions.specs.Execution.{returned, LabelIn, told, lea
 use Rattle.claim_functions.specs.Execution.{Execution, x-on, x-to, x-back, x-when, x-else}
 use Rattle.claim_functions.specs.Execution.{parameter, x-open, x-close, x-call, x-case}
 use Rattle.claim_functions.specs.Execution.{x-default}
-use Rattle.claim_functions.proofs.Outcomes.{stateOf, goesOf, not-none, on-not-to}
+use Rattle.claim_functions.proofs.Outcomes.{stateOf, goesOf, on-not-to}
+use Rattle.lower_forms.proofs.Body.{not-none}
 use Rattle.claim_functions.proofs.Outcomes.{on-not-back, to-not-back}
 
 -- a label stands once

@@ -16,8 +16,8 @@ use Rattle.claim_ways.specs.Ways.{Event}
 use Rattle.claim_ways.proofs.Functions.{forwarder}
 use Rattle.claim_functions.specs.Counted.{counted}
 use Rattle.claim_functions.proofs.Log.{Silent, counted-told, told-counts}
-use Rattle.claim_functions.proofs.Outcomes.{stateOf, goesOf, not-none, on-not-to}
-use Rattle.claim_functions.proofs.Outcomes.{on-not-back}
+use Rattle.claim_functions.proofs.Outcomes.{stateOf, goesOf, on-not-to, on-not-back}
+use Rattle.lower_forms.proofs.Body.{not-none}
 use Rattle.claim_functions.specs.Execution.{Result, underway, LabelIn, act, parameter}
 use Rattle.claim_functions.specs.Execution.{atStart}
 use Rattle.claim_functions.specs.Execution.{Execution, x-stop, x-in, x-on, x-to, x-back}

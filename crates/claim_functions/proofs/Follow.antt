@@ -28,7 +28,8 @@ use Rattle.claim_functions.specs.Execution.{Result, underway, returned, 
 use Rattle.claim_functions.specs.Execution.{told, leaveAll, Execution, x-stop, x-in, x-asking}
 use Rattle.claim_functions.specs.Execution.{x-on, x-to, x-back, x-when, x-else, x-open}
 use Rattle.claim_functions.specs.Execution.{x-close, x-call, x-case, x-default}
-use Rattle.claim_functions.proofs.Outcomes.{stateOf, goesOf, not-none}
+use Rattle.claim_functions.proofs.Outcomes.{stateOf, goesOf}
+use Rattle.lower_forms.proofs.Body.{not-none}
 use Rattle.claim_functions.specs.Chain.{Reaches, Chain, c-last, c-more}
 use Rattle.claim_functions.specs.Counted.{counted, blockEvents, chainEvents, lastEvents}
 use Rattle.claim_functions.proofs.Log.{counts, log, logThen, logAll, append-nil}

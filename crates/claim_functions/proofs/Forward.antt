@@ -13,10 +13,11 @@ use Rattle.claim_functions.specs.Execution.{Result, returned, LabelIn, a
 use Rattle.claim_functions.specs.Execution.{leaveAll, Execution, x-on, x-to, x-back, x-when}
 use Rattle.claim_functions.specs.Execution.{x-else, x-open, x-close}
 use Rattle.claim_functions.specs.Counted.{counted}
-use Rattle.claim_functions.proofs.Outcomes.{stateOf, goesOf, not-none}
+use Rattle.claim_functions.proofs.Outcomes.{stateOf, goesOf}
+use Rattle.lower_forms.proofs.Body.{not-none}
 use Rattle.claim_functions.proofs.Log.{counts, ledOn, tested, log, append-nil, counted-told}
 use Rattle.claim_functions.proofs.Log.{told-counts}
-use Rattle.claim_functions.proofs.Ways.{append-end}
+use Rattle.c_tree.proofs.Laws.{append-end}
 
 module _ (ts : List Top) (f : Code) (n : Option ℕ) where
   -- an execution that goes on from where code led, with ds after the braces around it and rest

@@ -13,6 +13,7 @@ use Rattle.lower_forms.specs.Forms.{Body}
 use Rattle.lower_units.specs.Block.{bodyKey}
 use Rattle.lower_units.specs.Units.{groupCode, forwarders, emitGroup}
 use Rattle.claim_ways.proofs.Functions.{Own, Alone, Among, forwarder, group-stands, block-stands}
+use Rattle.claim_ways.proofs.Functions.{OfGroup, no-group}
 
 -- the key and the body of a function
 abbrev headKey : Head → ℕ
@@ -35,17 +36,6 @@ codeOf blank = end
 codeOf (extern k) = end
 codeOf (table ks) = end
 codeOf (count n) = end
-
--- whether it is a group's
-abbrev OfGroup : Top → Type 0
-OfGroup opening = ⊥
-OfGroup (function (helper h) c) = ⊥
-OfGroup (function (block k) c) = ⊥
-OfGroup (function (group k) c) = Unit {0}
-OfGroup blank = ⊥
-OfGroup (extern k) = ⊥
-OfGroup (table ks) = ⊥
-OfGroup (count n) = ⊥
 
 -- a forwarder hands over the number of its block's key
 forwards : (a k : ℕ) (c : Code) (bs : List Body) (n : ℕ)
@@ -89,13 +79,6 @@ block-function k c (a ∷ d ∷ g) (List·Memᴰ·tail (List·Memᴰ·tail m)) =
       List·Memᴰ·head refl,
       (r .0, r .1 ∙ ap (forwarder (bodyKey a)) same, r .2),
     )
-
-no-group : (a n : ℕ) (bs : List Body) (t : Top) → OfGroup t → List·Memᴰ t (forwarders a n bs) → ⊥
-unfolding forwarders
-no-group a n [] t h (List·Memᴰ·head e) = subst OfGroup e h
-no-group a n [] t h (List·Memᴰ·tail m) = List·Memᴰ·not-nil m
-no-group a n (b ∷ bs) t h (List·Memᴰ·head e) = subst OfGroup e h
-no-group a n (b ∷ bs) t h (List·Memᴰ·tail m) = no-group a (suc n) bs t h m
 
 -- the function of a group has the key of its first block
 pub group-function : (k : ℕ) (c : Code) (g : List Body)

@@ -17,10 +17,10 @@ use Rattle.base_lists.specs.Lists.{among}
 use Rattle.c_tree.specs.Expr.{u32, x-pc}
 use Rattle.c_tree.specs.Stmt.{registers, local, discard, common, Simple, gap, plain, call, switch}
 use Rattle.c_tree.specs.Stmt.{Code, end, _⨾_, _⧺_, group, Top, function}
-use Rattle.c_meaning.specs.State.{State, Declares}
+use Rattle.c_meaning.specs.State.{State}
 use Rattle.c_meaning.specs.Exec.{Goes, on, to, back, exec, step}
 use Rattle.c_meaning.specs.Helpers.{run}
-use Rattle.armv4t_manual.specs.Machine.{Machine, Sound}
+use Rattle.armv4t_manual.specs.Machine.{Machine}
 use Rattle.lower_forms.specs.Block.{bodyOf}
 use Rattle.lower_units.specs.Block.{nl, sp, blockCode}
 use Rattle.lower_units.specs.Units.{withLocals}
@@ -34,7 +34,7 @@ use Rattle.claim_functions.specs.Execution.{underway, returned, LabelIn,
 use Rattle.claim_functions.specs.Execution.{parameter}
 use Rattle.claim_functions.specs.Execution.{Execution, x-stop, x-on, x-call, x-case}
 use Rattle.claim_functions.specs.Counted.{counted, recordEvent, sequenceEvents, blockEvents}
-use Rattle.claim_functions.proofs.Outcomes.{not-none}
+use Rattle.lower_forms.proofs.Body.{not-none}
 use Rattle.claim_functions.proofs.Log.{log}
 use Rattle.claim_functions.proofs.Gotos.{in-block, run-to-inside}
 use Rattle.claim_functions.proofs.Forward.{executed}

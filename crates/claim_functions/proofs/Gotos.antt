@@ -7,7 +7,7 @@ use mathlib.Core.List.{List, [], _∷_, List·Memᴰ, List·Memᴰ·head, List·
 use mathlib.Core.Option.{Option, none, some}
 use native.Mathlib.Omega.{arith}
 use borrow.Author.Tests.{eq-eqb}
-use lib.Dec.{T, leb, eqb, eqb→eq}
+use lib.Dec.{T, leb, eqb}
 use Rattle.armv4t.specs.Bit0.{clearBit0}
 use Rattle.file_blocks.specs.Address.{outsideRomBios}
 use Rattle.base_lists.specs.Lists.{among}
@@ -29,7 +29,8 @@ use Rattle.lower_units.specs.Block.{nl, sp, line, lines, gotoCode, transfer, cl
 use Rattle.lower_units.specs.Block.{leave, toThumb, toArm, conditional, nativeText, codeFrom}
 use Rattle.lower_units.specs.Block.{underGuard, blockCode}
 use Rattle.claim_functions.specs.Execution.{ask, act}
-use Rattle.claim_functions.proofs.Outcomes.{goesOf, not-none, on-not-to}
+use Rattle.claim_functions.proofs.Outcomes.{goesOf, on-not-to}
+use Rattle.lower_forms.proofs.Body.{not-none}
 
 module _ (ks : List ℕ) where
   -- a goto is to one of the keys
@@ -156,16 +157,6 @@ module _ (ks : List ℕ) where
         go : (x : Bool) → Inner (cond x (underGuard ks b (b .hash)) (codeFrom ks b 0 (b .forms)))
         go true = in-guard (b .hash)
         go false = in-code (b .forms) 0
-
--- a key among some
-pub key-among : (k : ℕ) (ks : List ℕ) → T (among k ks) → List·Memᴰ k ks
-key-among k [] h = absurd h
-key-among k (j ∷ ks) h = go (key-among k ks) (eqb k j) refl h
-  where
-    go : (T (among k ks) → List·Memᴰ k ks) → (x : Bool) → eqb k j ≡ x → T (x || among k ks)
-        → List·Memᴰ k (j ∷ ks)
-    go f true e t = List·Memᴰ·head (eqb→eq k j (subst T (sym e) tt))
-    go f false e t = List·Memᴰ·tail (f t)
 
 pub among-key : (k : ℕ) (ks : List ℕ) → List·Memᴰ k ks → T (among k ks)
 among-key k (j ∷ ks) (List·Memᴰ·head e) = rw (eq-eqb k j e) tt

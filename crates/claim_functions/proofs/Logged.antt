@@ -15,26 +15,25 @@ use Rattle.armv4t.specs.declared.Fused.the-variants.{Pair}
 use Rattle.armv4t.specs.Fused.{fuse}
 use Rattle.file_instrs.specs.declared.decode.TimedInstr.{TimedInstr}
 use Rattle.file_blocks.specs.Parse.{Block}
-use Rattle.file_blocks.specs.Address.{region, keyOf, fallThrough}
-use Rattle.c_tree.specs.Expr.{u32, word, x-pc, ne, lit, bin}
+use Rattle.file_blocks.specs.Address.{region, fallThrough}
+use Rattle.c_tree.specs.Expr.{word, x-pc, ne, lit, bin}
 use Rattle.c_tree.specs.Preamble.{v32}
 use Rattle.c_tree.specs.Stmt.{other, Owner, common, retIf, interp, Code, end, _⨾_}
 use Rattle.c_meaning.specs.State.{State, setC, setScopes, interpAnswer, afterInterp}
 use Rattle.c_meaning.specs.Exec.{on, back, step, runs}
 use Rattle.c_meaning.specs.Helpers.{run}
-use Rattle.c_meaning.proofs.Kept.{Quiet, run-quiet, run-declares}
 use Rattle.armv4t_manual.specs.Machine.{Machine, Sound}
 use Rattle.armv4t_manual.specs.Conditions.{passed}
-use Rattle.armv4t_manual.specs.Execute.{key, execute, keyAfter}
+use Rattle.armv4t_manual.specs.Execute.{execute, keyAfter}
 use Rattle.lower_forms.specs.Forms.{Native, Form, recordsIn, Body}
 use Rattle.lower_forms.specs.Block.{flushTicks, pcLine, emitShell, emitPair, emitInstr, emitInstrs}
 use Rattle.lower_forms.specs.Block.{bodyOf}
 use Rattle.lower_forms.proofs.Steps.{with-scopes}
 use Rattle.lower_forms.proofs.RecordCount.{recordCount, instr-count}
 use Rattle.lower_units.specs.Block.{bodyKey, nl, sp, nativeText, shellCode, codeFrom}
-use Rattle.lower_units.specs.Text.{Continues, Leaves, Acts, continues, leaves}
+use Rattle.lower_units.specs.Text.{Leaves, Acts, continues, leaves}
 use Rattle.lower_units.specs.Records.{isTaken, RecordMeans, PairMeans}
-use Rattle.claim_meaning.specs.Block.{Interprets, ActsAsStep, isNative, isNativeRecord, isCovered}
+use Rattle.claim_meaning.specs.Block.{ActsAsStep, isNative, isNativeRecord, isCovered}
 use Rattle.claim_meaning.specs.Block.{Alone, leavesBy, Ends, final, away, transfers, CarriedOut}
 use Rattle.claim_meaning.specs.Block.{byManual, byInterpreter, Sequence, last, pair, more}
 use Rattle.claim_meaning.proofs.Closing.{after-even}
@@ -49,6 +48,7 @@ use Rattle.claim_functions.specs.Counted.{recordEvent, sequenceEvents}
 use Rattle.claim_functions.proofs.Log.{ledOn, log, log-append, silent-log, silent-on}
 use Rattle.claim_functions.proofs.Texts.{native-goes, native-leaves, lines-log, closing-log}
 use Rattle.lower_units.proofs.Thumbs.{neither}
+use Rattle.claim_meaning.proofs.Carried.{even-key-of, key-of-lt, ready-after}
 
 -- what is known of a record of a block
 pub record Facts (ks : List ℕ) (b : Block) (x : TimedInstr) : Type 0 where
@@ -74,24 +74,6 @@ facts-later {x = x} k =
       pairs = λ us vs y z e. k .pairs (x ∷ us) vs y z (ap (λ (ys : List TimedInstr). x ∷ ys) e);
     }
 
--- the state after the text of a native record that continues
-ready-on : {step : ℕ → ℕ → Machine → Machine × ℕ} {n : ℕ} {text : Code → Code} {z : State}
-    {m next : Machine} → AtRecord step n z m → Sound next
-    → Quiet (text end) → (c : Continues text z next) → AtRecord step n (c .end) next
-unfolding run runs
-ready-on {step} {n} {text} {z} q s quiet c =
-    record {
-      left =
-          record {
-            each =
-                λ k. subst (λ f. Interprets (step (n + k)) (f k))
-                (sym (run-quiet (text end) quiet z (c .end) on (c .goes end))) (q .left .each k);
-          };
-      declares = run-declares (text end) z (c .end) on (u32, x-pc) (c .goes end) (q .declares);
-      sound = s;
-      agrees = c .same;
-    }
-
 -- the forms of a record that is not fused, and of those after it; and of a pair
 forms-alone : (t : Bool) (region cycles : ℕ) (x : TimedInstr) (xs : List TimedInstr) → Alone x xs
     → emitInstrs t region cycles (x ∷ xs) .0
@@ -114,14 +96,6 @@ forms-pair : (t : Bool) (region cycles : ℕ) (x y : TimedInstr) (ys : List Time
     ∷ emitInstrs t region 0 ys .0
 unfolding emitInstrs
 forms-pair t region cycles x y ys target ret e = rw e
-
-even-key-of : (t : Bool) (a : ℕ) → a % 2 ≡ 0 → keyOf a t ≡ key t a
-even-key-of true a e = omega arith
-even-key-of false a e = omega arith
-
-key-of-lt : (t : Bool) (a : ℕ) → a < 4294967296 → keyOf a t < 4294967296
-key-of-lt true a h = omega arith
-key-of-lt false a h = omega arith
 
 -- what is counted of a shell that others stand after
 shell-alone : (b : Body) (i k : ℕ) (z : State)
@@ -205,7 +179,7 @@ module _ (multiplier : ℕ) (ks : List ℕ) (b : Block) (step : ℕ → ℕ → 
         go (continues t to-next c) =
             inl (
               c .end,
-              ready-on q (k .sound m next (q .sound) x′) (native-quiet ks (b .addr) owner r end tt)
+              ready-after q (k .sound m next (q .sound) x′) (native-quiet ks (b .addr) owner r end tt)
                   c,
               rw natively t,
               to-next,

@@ -1,17 +1,15 @@
 -- What an execution of a block's function carries out.
-use Prim.Native.Nat.{ℕ, zero, suc, _+_, _*_, _^_, _≤_, _<_}
+use Prim.Native.Nat.{ℕ, zero, suc, _+_, _≤_, _<_}
 use mathlib.Core.Path.{_≡_, refl, sym, ap, _∙_, subst}
 use mathlib.Core.Logic.{_⊎_, inl, inr}
-use mathlib.Core.Bool.{Bool, true, false}
+use mathlib.Core.Bool.{Bool, true}
 use mathlib.Core.List.{List, [], _∷_, _++_, map, flatten, List·Memᴰ, List·Memᴰ·head}
-use mathlib.Core.List.{List·Memᴰ·tail, List·Memᴰ·not-nil}
-use mathlib.Core.List.{Memᴰ·cast, Memᴰ·of-map}
+use mathlib.Core.List.{List·Memᴰ·tail, List·Memᴰ·not-nil, Memᴰ·cast, Memᴰ·of-map}
 use mathlib.Core.Option.{none, some}
 use native.Mathlib.Nat.{le-of-suc-le-suc, not-suc-le-zero, mod-eq-of-lt}
 use native.Mathlib.Omega.{arith}
 use lib.Dec.{T}
 use lib.ListN.{length, getD, getElem?, length-map, length-append}
-use Rattle.armv4t.specs.Instr.{sizeOf}
 use Rattle.file_instrs.specs.declared.decode.TimedInstr.{TimedInstr}
 use Rattle.file_blocks.specs.Parse.{Block, Parsed, parse, blockKey}
 use Rattle.file_blocks.specs.Address.{region}
@@ -28,7 +26,6 @@ use Rattle.armv4t_manual.specs.Machine.{Machine, Sound}
 use Rattle.lower_forms.specs.Block.{hashOf, bodyOf}
 use Rattle.lower_forms.specs.Forms.{Body}
 use Rattle.lower_forms.specs.Agree.{Agrees}
-use Rattle.lower_forms.proofs.RecordCount.{body-count}
 use Rattle.lower_units.specs.Block.{bodyKey, nl, blockCode}
 use Rattle.lower_units.specs.Units.{TranslationUnit, withLocals, groupCode, emitGroup, unitHead}
 use Rattle.lower_units.specs.Units.{lastUnitEnd, defaultBody, bodiesOf, emitCChunked, unitsBy}
@@ -39,11 +36,10 @@ use Rattle.claim_meaning.specs.Meaning.{MeaningOf}
 use Rattle.claim_meaning.proofs.Meaning.{meaning-of}
 use Rattle.claim_meaning.proofs.Ranges.{accepted-consecutive, accepted-some, accepted-end}
 use Rattle.claim_meaning.proofs.Ranges.{accepted-aligned}
-use Rattle.claim_meaning.proofs.Blocks.{placed}
+use Rattle.claim_meaning.proofs.Blocks.{placed, start-below}
 use Rattle.claim_meaning.proofs.Carried.{left-all}
 use Rattle.claim_ways.specs.Ways.{LabelAt, Event}
 use Rattle.claim_ways.specs.Claim.{allUnits}
-use Rattle.claim_ways.proofs.Faithful.{Faithful}
 use Rattle.claim_ways.proofs.Functions.{Own, head-foreign, end-foreign, InGroup, from-cut, Alone}
 use Rattle.claim_ways.proofs.Members.{File, bodies, key-of, member-of, same-place}
 use Rattle.claim_functions.specs.Execution.{Result, underway, returned, LabelIn, atStart}
@@ -55,9 +51,9 @@ use Rattle.claim_functions.specs.Chain.{SameGroup, Chain, c-last, c-more
 use Rattle.claim_functions.specs.Counted.{counted, blockEvents, chainEvents, lastEvents}
 use Rattle.claim_functions.specs.Means.{ExecutionMeans, ExecutionBegins, ExecutionGetsOn}
 use Rattle.claim_functions.specs.Determined.{ExecutionDetermined}
-use Rattle.claim_functions.proofs.Ways.{label-at, append-end}
+use Rattle.claim_functions.proofs.Ways.{label-at}
 use Rattle.claim_functions.proofs.Determined.{same}
-use Rattle.claim_functions.proofs.Gotos.{key-among, among-key}
+use Rattle.claim_functions.proofs.Gotos.{among-key}
 use Rattle.claim_functions.proofs.GetsOn.{Gets, gets, gets-gap, gets-head, gets-case}
 use Rattle.claim_functions.proofs.GetsOn.{gets-forwarder}
 use Rattle.claim_functions.proofs.Pieces.{whole-none, whole-cut}
@@ -70,6 +66,9 @@ use Rattle.claim_functions.proofs.Labels.{in-group-code, none-in-lone, 
 use Rattle.claim_functions.proofs.Entering.{Early, From, inFunction, past-gap, past-head}
 use Rattle.claim_functions.proofs.Entering.{past-forwarder, past-switch}
 use Rattle.claim_functions.proofs.Functions.{Forwards, block-function, group-function}
+use Rattle.claim_ways.proofs.Emitted.{among→mem}
+use Rattle.claim_ways.proofs.Demand3.{faithful}
+use Rattle.c_tree.proofs.Laws.{append-end}
 
 -- what stands at a place of a list
 at-place : {A : Type 0} (xs : List A) (i : ℕ) (d : A) → i < length xs
@@ -82,11 +81,6 @@ in-list : {A : Type 0} (xs : List A) (i : ℕ) (a : A) → getElem? xs i ≡ som
 in-list [] i a e = absurd (let z : _≡_ {A = ℕ} 0 1 = cc in omega arith)
 in-list (x ∷ xs) zero a e = let same : a ≡ x = cc in List·Memᴰ·head same
 in-list (x ∷ xs) (suc i) a e = List·Memᴰ·tail (in-list xs i a e)
-
--- some instructions that end inside 2^32 start below it
-start-below : (t : Bool) (a n : ℕ) → 1 ≤ n → a + n * sizeOf t ≤ 4294967296 → a < 4294967296
-start-below true a n h l = omega arith
-start-below false a n h l = omega arith
 
 -- what a block carries out is the same from another state in which the guard will say the same, and
 -- what blocks one after the other do
@@ -114,17 +108,6 @@ chain-as z p (c-more b used next w i e by l r c) =
           (λ l. l ++ chainEvents c) (q .1),
       refl,
     )
-
-faithful : (multiplier : ℕ) → Faithful (hashOf multiplier) (bodyOf multiplier)
-unfolding bodyOf
-faithful multiplier =
-    record {
-      addr = λ b. refl;
-      thumb = λ b. refl;
-      count = λ b. refl;
-      hash = λ b. refl;
-      whole = λ b. body-count multiplier b;
-    }
 
 -- a list is no longer than all lists that it stands among together
 length-within : (g : List ℕ) (gs : List (List ℕ)) → List·Memᴰ g gs → length g ≤ length (flatten gs)
@@ -422,7 +405,7 @@ module _ (multiplier limit max : ℕ) (f : List ℕ) (bs : List Block)
           × LabelIn k (groupCode (ofGroup g))
           (nl ⨾ (blockCode (map bodyKey (ofGroup g)) (bodyOf multiplier e) ⧺ rest)))
       found-label k t =
-          let c = Memᴰ·of-map bodyKey (ofGroup g) (key-among k (map bodyKey (ofGroup g)) t) in
+          let c = Memᴰ·of-map bodyKey (ofGroup g) (among→mem k (map bodyKey (ofGroup g)) t) in
           let r = to-label (c .0) (ofGroup g) (c .1) in
           let s = member g among mine (c .0) (c .1) in (
             s .0,

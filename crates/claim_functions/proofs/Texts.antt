@@ -3,9 +3,9 @@
 use Prim.Native.Nat.{ℕ}
 use mathlib.Core.Path.{_≡_, refl, sym, ap, _∙_}
 use mathlib.Core.Logic.{_⊎_, inl, inr}
-use mathlib.Core.List.{List, [], _∷_}
+use mathlib.Core.List.{List, []}
 use mathlib.Core.Option.{some}
-use Rattle.c_tree.specs.Stmt.{Plain, Owner, common, goto, Code, end, _⨾_, _⧺_}
+use Rattle.c_tree.specs.Stmt.{Owner, common, goto, Code, end, _⨾_, _⧺_}
 use Rattle.c_tree.proofs.Statements.{EachStatement}
 use Rattle.c_meaning.specs.State.{State}
 use Rattle.c_meaning.specs.Exec.{Goes, on, to, back, step, runs}
@@ -13,12 +13,13 @@ use Rattle.c_meaning.specs.Helpers.{run}
 use Rattle.armv4t_manual.specs.Machine.{Machine}
 use Rattle.lower_forms.specs.Forms.{Lines, Native, straight, straightIf, branchIf, jump, pair, bx}
 use Rattle.lower_forms.specs.Forms.{pop, Body}
-use Rattle.lower_units.specs.Block.{nl, sp, line, lines, nativeText, closing}
+use Rattle.lower_units.specs.Block.{lines, nativeText, closing}
 use Rattle.lower_units.specs.Text.{Continues, Leaves, destination}
 use Rattle.lower_units.proofs.Statements.{lines-each, closing-each, native-each}
-use Rattle.claim_ways.proofs.Entered.{lines-append, line-append}
+use Rattle.claim_ways.proofs.Entered.{lines-append}
 use Rattle.claim_ways.specs.Ways.{Event}
-use Rattle.claim_functions.proofs.Outcomes.{goesOf, not-none, on-not-to}
+use Rattle.claim_functions.proofs.Outcomes.{goesOf, on-not-to}
+use Rattle.lower_forms.proofs.Body.{not-none}
 use Rattle.claim_functions.proofs.Log.{ledOn, log, log-append, Silent, silent-log}
 
 -- nothing is counted of lines, of the text of a native record after its mark, and of the closing

@@ -7,8 +7,7 @@ use mathlib.Core.Option.{Option, none, some}
 use lib.ListN.{getElem?}
 use Rattle.c_tree.specs.Expr.{u32, x-pc, var, Expr}
 use Rattle.c_tree.specs.Stmt.{Test, Owner, Simple, gap, recordMark, plain, label, goto, ret, retIf}
-use Rattle.c_tree.specs.Stmt.{interp, retInterp, call, switch, Code, end, _⨾_, when, braces, _⧺_}
-use Rattle.c_tree.specs.Stmt.{Top}
+use Rattle.c_tree.specs.Stmt.{interp, retInterp, call, switch, Code, end, _⨾_, _⧺_, Top}
 use Rattle.c_meaning.specs.State.{State, bind, put, interpAnswer, afterInterp}
 use Rattle.c_meaning.specs.Eval.{evalAs}
 use Rattle.c_meaning.specs.Exec.{Goes, on, to, back, exec, returns, step}
@@ -18,12 +17,14 @@ use Rattle.claim_ways.specs.Ways.{negated, taken, Way, stop, w-gap, w-record, w
 use Rattle.claim_ways.specs.Ways.{w-goto, w-lost, w-ret, w-leave, w-stay, w-unsaid, w-when}
 use Rattle.claim_ways.specs.Ways.{w-unanswered, w-braces, w-call, w-interp, w-retInterp, w-entry}
 use Rattle.claim_ways.specs.Ways.{w-default}
-use Rattle.claim_functions.proofs.Outcomes.{goesOf, not-none}
+use Rattle.claim_functions.proofs.Outcomes.{goesOf}
+use Rattle.lower_forms.proofs.Body.{not-none}
 use Rattle.claim_functions.specs.Execution.{Result, LabelIn, l-here, l-later, l-when}
 use Rattle.claim_functions.specs.Execution.{l-braces, heard, ask, act, told, Execution}
 use Rattle.claim_functions.specs.Execution.{x-stop, x-in, x-asking, x-on, x-to, x-back}
 use Rattle.claim_functions.specs.Execution.{x-when, x-else, x-open, x-close, x-call, x-case}
 use Rattle.claim_functions.specs.Execution.{x-default}
+use Rattle.c_tree.proofs.Laws.{append-end}
 
 -- the code after the braces around a statement
 abbrev pub afterAll : List Code → Code
@@ -36,13 +37,6 @@ label-at l-here = here
 label-at (l-later p) = later (label-at p)
 label-at (l-when p) = past-when (label-at p)
 label-at (l-braces p) = past-braces (label-at p)
-
--- code is itself with nothing after it
-pub append-end : (c : Code) → c ⧺ end ≡ c
-append-end end = refl
-append-end (s ⨾ c) = ap (λ x. s ⨾ x) (append-end c)
-append-end (when o n t b c) = ap (λ x. when o n t b x) (append-end c)
-append-end (braces b c) = ap (λ x. braces b x) (append-end c)
 
 -- a statement that can lead only on, and one that can only return
 only-on : (o : Option State) (u : State) (g : Goes)

@@ -38,7 +38,7 @@ use Rattle.claim_meaning.proofs.Carried.{left-later, AtRecord, Done, st
 use Rattle.claim_meaning.proofs.Carried.{interpreter-leaves, carries}
 
 -- some instructions that end inside 2^32 start below it
-start-below : (t : Bool) (a n : ℕ) → 1 ≤ n → a + n * sizeOf t ≤ 4294967296 → a < 4294967296
+pub start-below : (t : Bool) (a n : ℕ) → 1 ≤ n → a + n * sizeOf t ≤ 4294967296 → a < 4294967296
 start-below true a n h l = omega arith
 start-below false a n h l = omega arith
 

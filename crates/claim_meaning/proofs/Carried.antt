@@ -50,11 +50,11 @@ use Rattle.claim_meaning.proofs.Covered.{Said, covered-native, covered-
 use Rattle.lower_units.proofs.Thumbs.{neither}
 
 -- an even address with the Thumb bit
-even-key-of : (t : Bool) (a : ℕ) → a % 2 ≡ 0 → keyOf a t ≡ key t a
+pub even-key-of : (t : Bool) (a : ℕ) → a % 2 ≡ 0 → keyOf a t ≡ key t a
 even-key-of true a e = omega arith
 even-key-of false a e = omega arith
 
-key-of-lt : (t : Bool) (a : ℕ) → a < 4294967296 → keyOf a t < 4294967296
+pub key-of-lt : (t : Bool) (a : ℕ) → a < 4294967296 → keyOf a t < 4294967296
 key-of-lt true a h = omega arith
 key-of-lt false a h = omega arith
 
@@ -150,7 +150,7 @@ pub record AtRecord (step : ℕ → ℕ → Machine → Machine × ℕ) (n : ℕ
     pub agrees : Agrees z m
 
 -- after text that continues
-ready-after : {step : ℕ → ℕ → Machine → Machine × ℕ} {n : ℕ} {text : Code → Code} {z : State}
+pub ready-after : {step : ℕ → ℕ → Machine → Machine × ℕ} {n : ℕ} {text : Code → Code} {z : State}
     {m next : Machine} → AtRecord step n z m → Sound next
     → Quiet (text end) → (c : Continues text z next) → AtRecord step n (c .end) next
 unfolding run runs

@@ -10,7 +10,8 @@ use Rattle.claim_ways.specs.Complete.{Demand3, Demand3AppliesOf, Demand3
 use Rattle.claim_ways.proofs.EveryWay.{every-way}
 use Rattle.claim_ways.proofs.Complete.{complete}
 
-faithful : (multiplier : ℕ) → Faithful (hashOf multiplier) (bodyOf multiplier)
+-- a body is faithful to its block
+pub faithful : (multiplier : ℕ) → Faithful (hashOf multiplier) (bodyOf multiplier)
 unfolding bodyOf
 faithful multiplier =
     record {

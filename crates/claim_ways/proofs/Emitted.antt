@@ -64,7 +64,7 @@ or-cases : (x y : Bool) → T (x || y) → T x ⊎ T y
 or-cases true y t = inl tt
 or-cases false y t = inr t
 
-among→mem : (k : ℕ) (ks : List ℕ) → T (among k ks) → List·Memᴰ k ks
+pub among→mem : (k : ℕ) (ks : List ℕ) → T (among k ks) → List·Memᴰ k ks
 among→mem k [] t = absurd t
 among→mem k (j ∷ js) t = go (or-cases (eqb k j) (among k js) t) (among→mem k js)
   where

@@ -147,7 +147,7 @@ keyOf (table ks) = 0
 keyOf (count n) = 0
 
 -- whether it is a group's
-abbrev OfGroup : Top → Type 0
+abbrev pub OfGroup : Top → Type 0
 OfGroup opening = ⊥
 OfGroup (function (helper h) c) = ⊥
 OfGroup (function (block k) c) = ⊥
@@ -191,7 +191,7 @@ block-stands k c (a ∷ d ∷ g) (List·Memᴰ·tail (List·Memᴰ·tail m)) =
     let r = forwards (bodyKey a) k c (a ∷ d ∷ g) 0 m in
     inr (tt, (r .0, r .1, r .2), (bodyKey a, r .3 .0, r .3 .1))
 
-no-group : (a n : ℕ) (bs : List Body) (t : Top) → OfGroup t → List·Memᴰ t (forwarders a n bs) → ⊥
+pub no-group : (a n : ℕ) (bs : List Body) (t : Top) → OfGroup t → List·Memᴰ t (forwarders a n bs) → ⊥
 unfolding forwarders
 no-group a n [] t h (List·Memᴰ·head e) = subst OfGroup e h
 no-group a n [] t h (List·Memᴰ·tail m) = List·Memᴰ·not-nil m
