@@ -1,7 +1,9 @@
 /* The calls of librecomp.a: block files to plans, exits, listings and C units.
  *
  * `rt staticlib recomp` proves the library and writes target/staticlib/librecomp.a. What is said
- * here in words is proved of every call and every input; the definitions are named at each call.
+ * here in words is proved of every call and every input, but for what is marked as not proved; the
+ * definitions are named at each call. What every call leaves: `callFrame` in
+ * crates/call_frame/specs/Frame.antt; the numbers handed over: `numbersOf` in Numbers.antt there.
  *
  * For all calls:
  * - The return value is 0, or the number of a refusal:
@@ -23,8 +25,9 @@
  *   after 1 to 8. What they hold before a call does not matter. Those after are never changed.
  * - A lent plan or text is changed on success only, and only in its front, as far as the result
  *   reaches.
- * - Nothing is allocated, kept or read beyond what is lent. Calls with different buffers may run at
- *   the same time; they may share the file.
+ * - Nothing is allocated, kept or read beyond what is lent.
+ * - Not proved: calls with different buffers may run at the same time, and may share the file. No
+ *   promise speaks of threads; it is so because a call keeps nothing and writes only what is lent.
  *
  * What is asked of a caller and cannot be tested by a call: each pointer is not null, is aligned
  * for its type and points to as many items as its length says (a length may be 0), and whatever a
@@ -41,19 +44,20 @@ extern "C" {
 #endif
 
 /* Whether the file is accepted: refusals 1 to 7, or the number of its blocks and instructions.
- * Definition: `parse` in crates/file_blocks/specs/Parse.antt. */
+ * Definition: `checkCall` in crates/call_check/specs/Calls.antt, over `parse` in
+ * crates/file_blocks/specs/Parse.antt. */
 uint32_t recomp_check(const uint8_t *file, size_t file_len,
                       uint64_t *at, uint64_t *blocks, uint64_t *instructions);
 
 /* The keys that block `block` (from 0) can statically go to: `*count` of them, 0 to 2, a branch's
  * target before the fall-through; `*first` and `*second` are 0 where there is none.
- * Refusals 1 to 7 and 9. Definition: `exitsCall` in crates/plan_exits/specs/Calls.antt. */
+ * Refusals 1 to 7 and 9. Definition: `exitsCall` in crates/call_exits/specs/Calls.antt. */
 uint32_t recomp_exits(const uint8_t *file, size_t file_len, uint64_t block,
                       uint64_t *at, uint64_t *count, uint64_t *first, uint64_t *second);
 
 /* The plan: for each of the `*blocks` blocks its group and its number in the file, both from 0, in
  * the order of emission. It needs 2 * blocks numbers.
- * Refusals 1 to 8 and 10. Definition: `planCall` in crates/plan_groups/specs/Calls.antt. */
+ * Refusals 1 to 8 and 10. Definition: `planCall` in crates/call_plan/specs/Calls.antt. */
 uint32_t recomp_plan(const uint8_t *file, size_t file_len, uint32_t *work, size_t work_len,
                      uint32_t *plan, size_t plan_len, uint64_t *at, uint64_t *blocks);
 
@@ -67,7 +71,8 @@ uint32_t recomp_listing(const uint8_t *file, size_t file_len, uint32_t *work, si
  * a group: `*length` bytes of UTF-8, with no zero byte after it. `*done` is the number of blocks in
  * it and in all units before it, `*last` is 1 for the last unit and 0 for the others. Every accepted
  * file has a last unit, at every size; refusal 9 is given for every number above that unit's.
- * Each call goes through the file from its start, and its time does not depend on earlier calls.
+ * Not proved: each call goes through the file from its start, so its time does not depend on earlier
+ * calls. No promise speaks of time.
  * Refusals 1 to 10. Definition: `unitCall` in crates/call_unit/specs/Calls.antt. It is also proved
  * that along every way through the units, at every size, at most 8,192 instructions are carried out
  * between two calls of the chain gate in a group of several blocks, that a block alone in its group

@@ -9,8 +9,8 @@ use Rattle.call_frame.specs.Frame.{Call, makes, callFrame}
 use Rattle.call_frame.specs.Numbers.{numbersOf}
 
 -- what it makes: how many blocks and instructions there are
-abbrev pub checking : Call Counts
-checking =
+abbrev pub asksCheck : Call Counts
+asksCheck =
     record {
       early = none;
       perBlock = 0;
@@ -20,7 +20,7 @@ checking =
 
 -- the call for the check of a file
 abbrev pub checkCall : Parsed → Answer Counts
-checkCall p = callFrame checking p [] [] .answer
+checkCall p = callFrame asksCheck p [] [] .answer
 
 -- its numbers: after those of every answer the blocks and the instructions
 abbrev pub checkNumbers : Answer Counts → List ℕ

@@ -16,8 +16,8 @@ exitsAnswer (ExitsAnswer.Exits e) = value (keysOf e)
 exitsAnswer (ExitsAnswer.Refused n i) = refusal n i
 
 -- what it makes: the keys of block k, or 9 where there is no such block
-abbrev pub askingExits : ℕ → Call (List ℕ)
-askingExits k =
+abbrev pub asksExits : ℕ → Call (List ℕ)
+asksExits k =
     record {
       early = none;
       perBlock = 0;
@@ -27,7 +27,7 @@ askingExits k =
 
 -- the call for the exits of block k of a file
 abbrev pub exitsCall : ℕ → Parsed → Answer (List ℕ)
-exitsCall k p = callFrame (askingExits k) p [] [] .answer
+exitsCall k p = callFrame (asksExits k) p [] [] .answer
 
 -- its numbers: after those of every answer how many keys there are, and two keys, 0 where there is
 -- none

@@ -1,4 +1,4 @@
--- The call for exits on document 01's three blocks, as examples that compute.
+-- Examples: the call for exits on document 01's three blocks, computed.
 use mathlib.Core.Path.{_≡_, refl}
 use mathlib.Core.List.{[], _∷_}
 use Rattle.file_blocks.specs.Answer.{refusal, value}

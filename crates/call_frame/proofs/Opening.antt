@@ -32,7 +32,8 @@ accepted-instrs f r e b k is =
 
 -- what opening finds in an accepted file: the early refusal, or 8
 module _ (f : List ℕ) (ok : Accepted f) (early : Option Refusal) (perBlock lent : ℕ) where
-  pub opening-early : (r : Refusal) → early ≡ some r → opening early perBlock lent (parse f) ≡ some r
+  pub opening-early : (r : Refusal) → early ≡ some r
+      → opening early perBlock lent (parse f) ≡ some r
   unfolding opening
   opening-early r is = rw (ok, is)
 

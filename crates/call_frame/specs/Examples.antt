@@ -1,4 +1,4 @@
--- The frame on a file with no blocks and on a refused one, as examples that compute; the calls have
+-- Examples: the frame on some blocks, on none and on a refused file, computed; the calls have
 -- others.
 use Prim.Native.Nat.{ℕ}
 use mathlib.Core.Path.{_≡_, refl}

@@ -1,25 +1,35 @@
--- The public call for the listing: what it answers, and what every lent buffer holds afterwards.
+-- To be believed: the public call for the listing of a file. It is lent work numbers and a text.
 use Prim.Native.Nat.{ℕ}
-use mathlib.Core.List.{List}
-use mathlib.Core.Option.{Option, some}
+use mathlib.Core.List.{List, [], _∷_}
+use mathlib.Core.Option.{none}
 use lib.ListN.{length}
 use Rattle.file_blocks.specs.Answer.{Answer, refusal, value}
 use Rattle.file_blocks.specs.Parse.{Block, Parsed}
 use Rattle.base_text.specs.Doc.{print}
-use Rattle.plan_groups.specs.Calls.{partLimit, Made, CallOutcome, callOnFile}
-use Rattle.call_listing.specs.declared.calls.Listed.{Listed}
+use Rattle.call_frame.specs.Frame.{Call, Outcome, makes, callFrame}
+use Rattle.call_frame.specs.Numbers.{Handed, handed}
+use Rattle.call_listing.specs.declared.calls.ListingAnswer.{ListingAnswer}
 use Rattle.call_listing.specs.Listing.{listing}
 
--- what the cases of Listed stand for: the length of the text, or a refusal
-unfoldable pub listedOf : Listed → Answer ℕ
-listedOf (Listed.Length n) = value n
-listedOf (Listed.Refused n i) = refusal n i
+-- what the cases of ListingAnswer stand for: the length of the text, or a refusal
+unfoldable pub listingAnswer : ListingAnswer → Answer ℕ
+listingAnswer (ListingAnswer.Length n) = value n
+listingAnswer (ListingAnswer.Refused n i) = refusal n i
 
--- what the call for the listing makes: the length of the text, and the text
-abbrev pub madeListing : ℕ → List Block → Option (Made ℕ)
-madeListing limit bs =
-    some (record { values = length (print (listing limit bs)); content = print (listing limit bs) })
+-- what it makes at a group limit: the length of the text, and the text
+abbrev pub asksListing : ℕ → Call ℕ
+asksListing limit =
+    record {
+      early = none;
+      perBlock = 4;
+      own = λ (bs : List Block) (rooms : List ℕ).
+          makes (length (print (listing limit bs))) (print (listing limit bs) ∷ []);
+    }
 
--- the call for the listing of a file
-abbrev pub listingCall : Parsed → List ℕ → List ℕ → CallOutcome ℕ
-listingCall = callOnFile (madeListing partLimit)
+-- the call for the listing of a file, by the work numbers and the text that are lent
+abbrev pub listingCall : ℕ → Parsed → List ℕ → List ℕ → Outcome ℕ
+listingCall limit p work text = callFrame (asksListing limit) p work (text ∷ [])
+
+-- what it hands over: after the numbers of every answer the length
+abbrev pub listingNumbers : Outcome ℕ → Handed
+listingNumbers = handed 1 (λ (n : ℕ). n ∷ [])

@@ -1,10 +1,11 @@
--- The listing of document 01's three blocks and the call for it, as examples that compute.
+-- Examples: the listing of document 01's three blocks and the call for it, computed.
 use mathlib.Core.Path.{_≡_, refl}
 use mathlib.Core.List.{[], _∷_, _++_}
 use lib.ListN.{replicate}
 use Rattle.file_blocks.specs.Answer.{refusal, value}
 use Rattle.file_blocks.specs.Parse.{Parsed}
-use Rattle.plan_groups.specs.Calls.{partLimit, callOnBlocks, callOnFile}
+use Rattle.plan_groups.specs.Limit.{partLimit}
+use Rattle.call_frame.specs.Frame.{callOnBlocks, callFrame}
 use Rattle.base_text.specs.Digits.{numeral, lastDigits}
 use Rattle.base_text.specs.Doc.{text, decimal, hexadecimal8, print}
 use Rattle.plan_exits.specs.Examples.{armBlock, threeBlocks}
@@ -25,29 +26,31 @@ unfolding print decimal hexadecimal8 numeral lastDigits listing linesFrom blockL
 three-blocks = refl
 
 -- eleven work numbers are too few
-listing-8 : listingCall (Parsed.accepted threeBlocks) (replicate 11 5) []
-    ≡ record { answer = refusal 8 0; work = replicate 11 5; result = [] }
-unfolding callOnFile callOnBlocks threeBlocks
+listing-8 : listingCall partLimit (Parsed.accepted threeBlocks) (replicate 11 5) []
+    ≡ record { answer = refusal 8 0; work = replicate 11 5; results = [] ∷ [] }
+unfolding callFrame callOnBlocks threeBlocks
 listing-8 = refl
 
 -- the text has 62 bytes: 61 are too few, and of thirteen work numbers twelve are cleared
-listing-10 : listingCall (Parsed.accepted threeBlocks) (replicate 13 5) (replicate 61 7)
-    ≡ record { answer = refusal 10 0; work = replicate 12 0 ++ (5 ∷ []); result = replicate 61 7 }
-unfolding callOnFile callOnBlocks print decimal hexadecimal8 numeral lastDigits listing linesFrom
+listing-10 : listingCall partLimit (Parsed.accepted threeBlocks) (replicate 13 5) (replicate 61 7)
+    ≡ record
+    { answer = refusal 10 0; work = replicate 12 0 ++ (5 ∷ []); results = replicate 61 7 ∷ [] }
+unfolding callFrame callOnBlocks print decimal hexadecimal8 numeral lastDigits listing linesFrom
     blockLine groupOf threeBlocks armBlock plan rowsFrom groups groupsFrom parts sortByKey insert
     withRoot parents joinBlocks joinExits target follow exits instrExits
 listing-10 = refl
 
 -- in 63 bytes the last one is left
-listing-made : listingCall (Parsed.accepted threeBlocks) (replicate 12 5) (replicate 63 7)
+listing-made : listingCall partLimit (Parsed.accepted threeBlocks) (replicate 12 5) (replicate 63 7)
     ≡ record {
       answer = value 62;
       work = replicate 12 0;
-      result =
-          print (text "key group exits\n08000000 1 08000008\n08000004 0 -\n08000008 1 -\n")
-          ++ (7 ∷ []);
+      results =
+          (print (text "key group exits\n08000000 1 08000008\n08000004 0 -\n08000008 1 -\n")
+          ++ (7 ∷ []))
+          ∷ [];
     }
-unfolding callOnFile callOnBlocks print decimal hexadecimal8 numeral lastDigits listing linesFrom
+unfolding callFrame callOnBlocks print decimal hexadecimal8 numeral lastDigits listing linesFrom
     blockLine groupOf threeBlocks armBlock plan rowsFrom groups groupsFrom parts sortByKey insert
     withRoot parents joinBlocks joinExits target follow exits instrExits
 listing-made = refl

@@ -1,6 +1,7 @@
-// The listing of a file, into a lent buffer.
+// The public call for the listing.
 mod calls;
 mod lines;
 
-pub use calls::Listed;
+pub use calls::ListingAnswer;
+pub use calls::listing_numbers;
 pub use calls::listing_of;

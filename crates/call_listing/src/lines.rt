@@ -6,17 +6,17 @@ use file_blocks::key_of;
 use plan_exits::Exits;
 use plan_exits::exits_at;
 ghost use mathlib.Core.Path.{_≡_};
-ghost use Prim.Native.Nat.{ℕ, _+_, _<_};
-ghost use lib.ListN.{getD};
+ghost use mathlib.Core.Option.{none};
+ghost use Prim.Native.Nat.{ℕ};
+ghost use lib.ListN.{length};
 ghost use Rattle.file_records.specs.Trailer.{blockStart};
-ghost use Rattle.file_blocks.specs.Parse.{blockAt, blocksOf, Accepted};
+ghost use Rattle.file_blocks.specs.Parse.{blockAt, blocksOf};
 ghost use Rattle.base_text.specs.Wrote.{Wrote};
 ghost use Rattle.file_blocks.specs.Read.{IsBlock};
-ghost use Rattle.plan_groups.specs.Calls.{partLimit};
-ghost use Rattle.plan_groups.specs.Plan.{plan, groupOf};
 ghost use Rattle.plan_exits.specs.Exits.{keysOf};
 ghost use Rattle.call_listing.specs.Listing.{exitsText, line, blockLine, listing};
-ghost use Rattle.plan_groups.specs.Groups.{HasRoom};
+ghost use Rattle.call_listing.specs.Steps.{HoldsGroups};
+ghost use Rattle.call_frame.specs.Open.{IsOpen};
 
 // The exits of a line.
 fn put_exits(out: &mut [u8], at: usize, exits: Exits) -> usize
@@ -64,18 +64,14 @@ fn put_block(
     put_line(out, at, key_of(block.addr, block.thumb), group, exits)
 }
 
-// The header, and the lines of the n blocks of an accepted file, whose groups are in quarter 1 of
-// the work numbers.
+// The header, and the lines of the n blocks of a file that is open, whose groups are in quarter 1
+// of the work numbers.
 pub(crate) fn put_listing(file: &[u8], work: &[u32], n: usize, out: &mut [u8]) -> usize
-    requires { ⌜ HasRoom (now file) (now work) n ⌝ }
-    requires { ⌜
-        Accepted (now file)
-        × ((i : ℕ) → i < n
-        → getD (now work) (n + i) 0 ≡ groupOf i (plan partLimit (blocksOf (now file))))
-        ⌝ }
+    requires { ⌜ IsOpen (now file) none 4 (length (now work)) n ⌝ }
     ensures { λ r. ⌜
-        Wrote (now (out .entry)) 0 (listing partLimit (blocksOf (now (file .entry))))
-        (now (out .exit)) r
+        ((limit : ℕ) → HoldsGroups (now (file .entry)) n limit (now (work .entry))
+        → Wrote (now (out .entry)) 0 (listing limit (blocksOf (now (file .entry))))
+        (now (out .exit)) r)
         ⌝ }
 {
     let mut at = base_text::put(out, 0, b"key group exits\n");

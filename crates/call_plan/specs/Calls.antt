@@ -16,8 +16,8 @@ planAnswer (PlanAnswer.Blocks n) = value n
 planAnswer (PlanAnswer.Refused n i) = refusal n i
 
 -- what it makes at a group limit: the number of blocks, and two numbers for each
-abbrev pub planning : ℕ → Call ℕ
-planning limit =
+abbrev pub asksPlan : ℕ → Call ℕ
+asksPlan limit =
     record {
       early = none;
       perBlock = 4;
@@ -26,7 +26,7 @@ planning limit =
 
 -- the call for the plan of a file, by the work numbers and the plan that are lent
 abbrev pub planCall : ℕ → Parsed → List ℕ → List ℕ → Outcome ℕ
-planCall limit p work result = callFrame (planning limit) p work (result ∷ [])
+planCall limit p work result = callFrame (asksPlan limit) p work (result ∷ [])
 
 -- what it hands over: after the numbers of every answer the number of blocks
 abbrev pub planNumbers : Outcome ℕ → Handed

@@ -1,4 +1,4 @@
--- The call for the plan on document 01's three blocks, as examples that compute.
+-- Examples: the call for the plan on document 01's three blocks, computed.
 use mathlib.Core.Path.{_≡_, refl}
 use mathlib.Core.List.{[], _∷_}
 use lib.ListN.{replicate}
@@ -8,7 +8,7 @@ use Rattle.plan_exits.specs.Examples.{armBlock, threeBlocks}
 use Rattle.plan_exits.specs.Exits.{exits, instrExits}
 use Rattle.base_forest.specs.Roots.{follow}
 use Rattle.call_frame.specs.Frame.{callOnBlocks, callFrame}
-use Rattle.plan_groups.specs.Calls.{partLimit}
+use Rattle.plan_groups.specs.Limit.{partLimit}
 use Rattle.plan_search.specs.Target.{target}
 use Rattle.plan_groups.specs.Plan.{joinExits, joinBlocks, parents, withRoot, insert}
 use Rattle.plan_groups.specs.Plan.{sortByKey, parts, groupsFrom, groups, rowsFrom, plan}
@@ -40,7 +40,8 @@ plan-10 = refl
 
 -- the plan in the front of seven numbers: block 1 alone, then blocks 0 and 2
 plan-made : planCall partLimit (Parsed.accepted threeBlocks) (replicate 12 5) (replicate 7 7)
-    ≡ record { answer = value 3; work = replicate 12 0; results = (0 ∷ 1 ∷ 1 ∷ 0 ∷ 1 ∷ 2 ∷ 7 ∷ []) ∷ [] }
+    ≡ record
+    { answer = value 3; work = replicate 12 0; results = (0 ∷ 1 ∷ 1 ∷ 0 ∷ 1 ∷ 2 ∷ 7 ∷ []) ∷ [] }
 unfolding callFrame callOnBlocks threeBlocks armBlock plan rowsFrom groups groupsFrom parts
     sortByKey insert withRoot parents joinBlocks joinExits target follow exits instrExits
 plan-made = refl

@@ -1,84 +1,160 @@
 // The public call for a unit. It checks its file and its lent buffers itself.
+use call_frame::Early;
+use call_frame::Opened;
+use call_frame::clear;
+use call_frame::open_file;
 use emit_units::FoundUnit;
 use emit_units::find_unit;
 use emit_units::write_unit;
-use file_blocks::Checked;
-use file_blocks::check;
-use plan_groups::PART_LIMIT;
-use plan_groups::clear;
 use plan_members::prepare;
 ghost use mathlib.Core.Path.{_≡_};
-ghost use mathlib.Core.List.{List};
-ghost use Prim.Native.Nat.{ℕ};
+ghost use mathlib.Core.List.{_∷_, []};
+ghost use mathlib.Core.Option.{none};
+ghost use lib.ListN.{length};
 ghost use Rattle.base_hash.specs.Fnv.{hashMultiplier};
-ghost use Rattle.file_records.specs.Trailer.{blockCount};
-ghost use Rattle.file_blocks.specs.Parse.{Parsed, parse, blocksOf, Accepted};
-ghost use Rattle.plan_groups.specs.Calls.{partLimit, handOver};
-ghost use Rattle.lower_units.specs.Units.{unit};
+ghost use Rattle.file_blocks.specs.Parse.{parse};
 ghost use Rattle.plan_members.specs.Prepared.{HoldsPlan};
-ghost use Rattle.call_unit.specs.Calls.{translatedOf, unitCall};
+ghost use Rattle.claim_units.specs.Claims.{UnitClaims};
+ghost use Rattle.call_frame.specs.Open.{IsOpen};
+ghost use Rattle.call_unit.specs.Calls.{unitAnswer, unitCall, unitNumbers};
+ghost use Rattle.call_unit.specs.Steps.{AnswersUnit};
 
 // The answer of the call for a unit.
-pub enum Translated {
+pub enum UnitAnswer {
     // How many bytes the text has, how many blocks are done with it, and whether it is the last.
     Unit { length: u64, done: u64, last: bool },
     // The number of the refusal, and i or 0.
     Refused { number: u32, at: u64 },
 }
 
-// Unit k of an accepted file with n blocks, by the plan in the work numbers.
-fn answer_unit(file: &[u8], max: u64, k: u64, work: &[u32], out: &mut [u8], n: usize) -> Translated
-    requires { ⌜ HoldsPlan (now file) n partLimit (now work) ⌝ }
-    ensures { λ r. ⌜
-        ((w : List ℕ)
-        → record { answer = translatedOf r; work = w; result = now (out .exit) }
-        ≡ handOver (unit hashMultiplier partLimit max (blocksOf (now (file .entry))) k) w
-        (now (out .entry)))
+// Unit k of an accepted file with n blocks, by the plan at a limit in the work numbers.
+fn answer_unit(
+    file: &[u8],
+    limit: u64,
+    max: u64,
+    k: u64,
+    work: &[u32],
+    text: &mut [u8],
+    n: usize,
+) -> UnitAnswer
+    requires { ⌜ HoldsPlan (now file) n limit (now work) ⌝ }
+    ensures answer { λ r. ⌜
+        AnswersUnit limit max k (now (file .entry)) r (now (text .entry)) (now (text .exit))
         ⌝ }
 {
     let FoundUnit::At(e) = find_unit(file, work, n, max, k) else {
-        return Translated::Refused { number: 9, at: 0 };
+        return UnitAnswer::Refused { number: 9, at: 0 };
     };
-    if out.len() < e.length {
-        return Translated::Refused { number: 10, at: 0 };
+    if text.len() < e.length {
+        return UnitAnswer::Refused { number: 10, at: 0 };
     }
-    write_unit(out, file, work, n, e);
-    Translated::Unit {
-        length: e.length as u64,
-        done: e.end as u64,
-        last: e.last,
-    }
+    write_unit(text, file, work, n, e);
+    let length = e.length as u64;
+    let done = e.end as u64;
+    let last = e.last;
+    UnitAnswer::Unit { length, done, last }
 }
 
-// Unit k of an accepted file with n blocks.
-fn emit_unit(file: &[u8], max: u64, k: u64, work: &mut [u32], out: &mut [u8], n: u32) -> Translated
-    requires { ⌜ Accepted (now file) × (n ≡ blockCount (now file)) ⌝ }
-    ensures { λ r. ⌜
-        record { answer = translatedOf r; work = now (work .exit); result = now (out .exit) }
-        ≡ unitCall max k (Parsed.accepted (blocksOf (now (file .entry)))) (now (work .entry))
-        (now (out .entry))
+// Unit k of a file that is open, with n blocks.
+fn emit_unit(
+    file: &[u8],
+    limit: u64,
+    max: u64,
+    k: u64,
+    work: &mut [u32],
+    text: &mut [u8],
+    n: u32,
+) -> UnitAnswer
+    requires { ⌜ IsOpen (now file) none 4 (length (now work)) n ⌝ }
+    ensures answer { λ r. ⌜
+        record {
+          answer = unitAnswer r;
+          work = now (work .exit);
+          results = now (text .exit) ∷ [];
+        }
+        ≡ unitCall limit max k (parse (now (file .entry))) (now (work .entry))
+        (now (text .entry))
         ⌝ }
 {
     let size = n as usize;
-    if work.len() < 4 * size {
-        return Translated::Refused { number: 8, at: 0 };
-    }
-    prepare(file, work, n, PART_LIMIT);
-    let answer = answer_unit(file, max, k, work, out, size);
+    prepare(file, work, n, limit);
+    let answer = answer_unit(file, limit, max, k, work, text, size);
     clear(work, 4 * size);
     answer
 }
 
-// Unit k of a file, where a unit is handed on once it has max bytes: its text in the front of
-// `out`.
-pub fn unit_of(file: &[u8], max: u64, k: u64, work: &mut [u32], out: &mut [u8]) -> Translated
-    ensures { λ r. ⌜
-        record { answer = translatedOf r; work = now (work .exit); result = now (out .exit) }
-        ≡ unitCall max k (parse (now (file .entry))) (now (work .entry)) (now (out .entry))
+// Unit k of a file, whose blocks are grouped by a limit and whose units are handed on once they
+// have max bytes: its text in the front of `text`. The claims on units hold of them all.
+pub fn unit_of(
+    file: &[u8],
+    limit: u64,
+    max: u64,
+    k: u64,
+    work: &mut [u32],
+    text: &mut [u8],
+) -> UnitAnswer
+    ensures answer { λ r. ⌜
+        record {
+          answer = unitAnswer r;
+          work = now (work .exit);
+          results = now (text .exit) ∷ [];
+        }
+        ≡ unitCall limit max k (parse (now (file .entry))) (now (work .entry))
+        (now (text .entry))
         ⌝ }
+    ensures claims { λ r. ⌜ UnitClaims hashMultiplier limit max (now (file .entry)) ⌝ }
 {
-    match check(file) {
-        Checked::Accepted { blocks, .. } => emit_unit(file, max, k, work, out, blocks as u32),
-        Checked::Refused { number, at } => Translated::Refused { number, at },
+    match open_file(file, Early::Nothing, 4, work.len()) {
+        Opened::Blocks { blocks, .. } => emit_unit(file, limit, max, k, work, text, blocks),
+        Opened::Refused { number, at } => UnitAnswer::Refused { number, at },
+    }
+}
+
+// Unit k of a file, and the numbers of the answer, of which 0 or the number of the refusal is
+// returned.
+pub fn unit_numbers(
+    file: &[u8],
+    limit: u64,
+    max: u64,
+    k: u64,
+    work: &mut [u32],
+    text: &mut [u8],
+    at: &mut u64,
+    length: &mut u64,
+    done: &mut u64,
+    last: &mut u64,
+) -> u32
+    ensures answer { λ r. ⌜
+        record {
+          numbers =
+              r ∷ now (at .exit) ∷ now (length .exit) ∷ now (done .exit) ∷ now (last .exit) ∷ [];
+          work = now (work .exit);
+          results = now (text .exit) ∷ [];
+        }
+        ≡ unitNumbers
+        (unitCall limit max k (parse (now (file .entry))) (now (work .entry))
+        (now (text .entry)))
+        ⌝ }
+    ensures claims { λ r. ⌜ UnitClaims hashMultiplier limit max (now (file .entry)) ⌝ }
+{
+    match unit_of(file, limit, max, k, work, text) {
+        UnitAnswer::Unit {
+            length: n,
+            done: d,
+            last: is_last,
+        } => {
+            *at = 0;
+            *length = n;
+            *done = d;
+            *last = is_last as u64;
+            0
+        }
+        UnitAnswer::Refused { number, at: i } => {
+            *at = i;
+            *length = 0;
+            *done = 0;
+            *last = 0;
+            number
+        }
     }
 }

@@ -1,4 +1,5 @@
 // The section of the check: block files, each with the numbers that the check must answer.
+use call_check::check_numbers;
 use case_io::compare;
 use case_io::input;
 use case_io::input::Filled;
@@ -6,33 +7,30 @@ use case_io::report;
 use case_io::verdict;
 use case_io::verdict::Section;
 use case_io::verdict::Verdict;
-use recomp::Checked;
 ghost use mathlib.Core.Path.{_≡_};
-ghost use Rattle.file_blocks.specs.Parse.{parse, checkAnswer};
+ghost use Rattle.file_blocks.specs.Parse.{parse};
 ghost use Rattle.case_io.specs.Same.{sameNumbers};
-ghost use Rattle.case_answers.specs.CheckCases.{answerNumbers};
+ghost use Rattle.call_check.specs.Calls.{checkCall, checkNumbers};
 
 // The longest file that a vector may hold.
 const LONGEST: usize = 4096;
 
 // What the check answers: the refusal's number or 0, its i, the blocks, the instructions.
 fn answer(file: &[u8]) -> [u64; 4]
-    ensures { λ r. ⌜ r ≡ answerNumbers (checkAnswer (parse (now (file .entry)))) ⌝ }
+    ensures { λ r. ⌜ r ≡ checkNumbers (checkCall (parse (now (file .entry)))) ⌝ }
 {
-    match recomp::check(file) {
-        Checked::Accepted {
-            blocks,
-            instructions,
-        } => [0, 0, blocks, instructions],
-        Checked::Refused { number, at } => [number as u64, at, 0, 0],
-    }
+    let mut at: u64 = 0;
+    let mut blocks: u64 = 0;
+    let mut instructions: u64 = 0;
+    let number = check_numbers(file, &mut at, &mut blocks, &mut instructions);
+    [number as u64, at, blocks, instructions]
 }
 
 // Whether the check answers all the expected numbers. Where it does not, both answers are printed.
 fn is_right(k: u64, expected: &[u64; 4], file: &[u8]) -> bool
     ensures { λ r. ⌜
         r ≡ sameNumbers (now (expected .entry))
-        (answerNumbers (checkAnswer (parse (now (file .entry)))))
+        (checkNumbers (checkCall (parse (now (file .entry)))))
         ⌝ }
 {
     let got = answer(file);

@@ -1,5 +1,6 @@
 // The section of the exits: block files, each with the number of a block and the numbers that the
 // call for its exits must answer.
+use call_exits::exits_numbers;
 use case_io::compare;
 use case_io::input;
 use case_io::input::Filled;
@@ -8,45 +9,31 @@ use case_io::report;
 use case_io::verdict;
 use case_io::verdict::Section;
 use case_io::verdict::Verdict;
-use recomp::Exiting;
-use recomp::Exits;
 ghost use mathlib.Core.Path.{_≡_};
-ghost use Rattle.file_blocks.specs.Answer.{value};
 ghost use Rattle.file_blocks.specs.Parse.{parse};
-ghost use Rattle.plan_exits.specs.Exits.{keysOf};
-ghost use Rattle.plan_exits.specs.Calls.{exitsCall};
+ghost use Rattle.call_exits.specs.Calls.{exitsCall, exitsNumbers};
 ghost use Rattle.case_io.specs.Same.{sameNumbers};
-ghost use Rattle.case_answers.specs.ExitsCases.{exitsAnswer};
 
 // The longest file that a vector may hold.
 const LONGEST: usize = 4096;
 
-// The numbers of an exit list: no refusal, how many keys, and the keys.
-fn listed(exits: Exits) -> [u64; 5]
-    ensures { λ r. ⌜ r ≡ exitsAnswer (value (keysOf exits)) ⌝ }
-{
-    match exits {
-        Exits::None => [0, 0, 0, 0, 0],
-        Exits::One(k) => [0, 0, 1, k as u64, 0],
-        Exits::Two(k, l) => [0, 0, 2, k as u64, l as u64],
-    }
-}
-
 // What the call answers: the refusal's number or 0, its i, how many keys, and the keys.
 fn answer(file: &[u8], block: u64) -> [u64; 5]
-    ensures { λ r. ⌜ r ≡ exitsAnswer (exitsCall (parse (now (file .entry))) block) ⌝ }
+    ensures { λ r. ⌜ r ≡ exitsNumbers (exitsCall block (parse (now (file .entry)))) ⌝ }
 {
-    match recomp::exits_of(file, block) {
-        Exiting::Exits(exits) => listed(exits),
-        Exiting::Refused { number, at } => [number as u64, at, 0, 0, 0],
-    }
+    let mut at: u64 = 0;
+    let mut count: u64 = 0;
+    let mut first: u64 = 0;
+    let mut second: u64 = 0;
+    let number = exits_numbers(file, block, &mut at, &mut count, &mut first, &mut second);
+    [number as u64, at, count, first, second]
 }
 
 // Whether the call answers all the expected numbers. Where it does not, both answers are printed.
 fn is_right(k: u64, expected: &[u64; 5], file: &[u8], block: u64) -> bool
     ensures { λ r. ⌜
         r ≡ sameNumbers (now (expected .entry))
-        (exitsAnswer (exitsCall (parse (now (file .entry))) block))
+        (exitsNumbers (exitsCall block (parse (now (file .entry)))))
         ⌝ }
 {
     let got = answer(file, block);

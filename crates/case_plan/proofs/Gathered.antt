@@ -7,8 +7,10 @@ use mathlib.Core.List.{List, [], _∷_, _++_, append-nil}
 use lib.ListN.{length, take, drop, set, getD}
 use lib.Seq.{take-length, drop-length, sets-eq, length-sets, paste, length-paste, take-paste}
 use Rattle.file_blocks.specs.Answer.{Answer, refusal, value}
-use Rattle.recomp.specs.Answer.{withAnswer}
-use Rattle.case_plan.specs.PlanCases.{outcomeInOrder, planAnswerNumbers}
+use Rattle.call_frame.specs.Frame.{Outcome}
+use Rattle.call_frame.specs.Numbers.{Handed, numbersOf}
+use Rattle.call_plan.specs.Calls.{planNumbers}
+use Rattle.case_plan.specs.PlanCases.{theResult, inOrder}
 
 -- the numbers of a buffer put after a front, up to the end
 ends : (front g w : List ℕ) (at : ℕ) → take at g ≡ front → length g ≡ at + length w
@@ -47,8 +49,16 @@ module _ (a b c : ℕ) (g w r : List ℕ) (long : length g ≡ 3 + (length w + l
   gathered = ends (a ∷ b ∷ c ∷ w) after r (3 + length w) after-front after-length
 
 -- the numbers of an answer, with those lent after them
-pub with-lent : (a : Answer ℕ) (w r : List ℕ)
-    → getD (planAnswerNumbers a) 0 0 ∷ getD (planAnswerNumbers a) 1 0
-    ∷ getD (planAnswerNumbers a) 2 0 ∷ (w ++ r) ≡ outcomeInOrder (withAnswer a w r)
-with-lent (refusal n i) w r = refl
-with-lent (value b) w r = refl
+abbrev pub threeAndLent : Handed → List ℕ
+threeAndLent h = getD (h .numbers) 0 0 ∷ getD (h .numbers) 1 0 ∷ getD (h .numbers) 2 0
+    ∷ (h .work ++ theResult (h .results))
+
+by-answer : (a : Answer ℕ) (l : List ℕ)
+    → getD (numbersOf 1 (λ (n : ℕ). n ∷ []) a) 0 0 ∷ getD (numbersOf 1 (λ (n : ℕ). n ∷ []) a) 1 0
+    ∷ getD (numbersOf 1 (λ (n : ℕ). n ∷ []) a) 2 0 ∷ l
+    ≡ numbersOf 1 (λ (n : ℕ). n ∷ []) a ++ l
+by-answer (refusal n i) l = refl
+by-answer (value b) l = refl
+
+pub with-lent : (o : Outcome ℕ) → threeAndLent (planNumbers o) ≡ inOrder (planNumbers o)
+with-lent o = by-answer (o .answer) (o .work ++ theResult (o .results))

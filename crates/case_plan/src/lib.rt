@@ -1,5 +1,6 @@
 // The section of the plan: block files, each with how many numbers to lend, and the numbers that
 // the call for its plan must answer and leave in what it was lent.
+use call_plan::plan_numbers;
 use case_io::compare;
 use case_io::input;
 use case_io::input::Filled;
@@ -7,15 +8,17 @@ use case_io::report;
 use case_io::verdict;
 use case_io::verdict::Section;
 use case_io::verdict::Verdict;
-use recomp::Planned;
+use plan_groups::PART_LIMIT;
 ghost use mathlib.Core.Path.{_≡_};
+ghost use mathlib.Core.List.{_∷_, []};
 ghost use Prim.Native.Nat.{_+_, _≤_};
 ghost use lib.ListN.{length};
 ghost use lib.Seq.{paste};
 ghost use Rattle.file_blocks.specs.Parse.{parse};
-ghost use Rattle.plan_groups.specs.Calls.{plannedOf, planCall};
+ghost use Rattle.plan_groups.specs.Limit.{partLimit};
+ghost use Rattle.call_plan.specs.Calls.{planCall, planNumbers};
 ghost use Rattle.case_io.specs.Same.{sameNumbers};
-ghost use Rattle.case_plan.specs.PlanCases.{planAnswerNumbers, planAnswer};
+ghost use Rattle.case_plan.specs.PlanCases.{inOrder};
 
 // The longest file that a vector may hold.
 const LONGEST: usize = 4096;
@@ -30,13 +33,22 @@ const MOST_RESULT: usize = 256;
 const MOST: usize = 771;
 
 // The refusal's number or 0, its i, and the blocks.
-fn numbers(planned: Planned) -> [u64; 3]
-    ensures { λ r. ⌜ r ≡ planAnswerNumbers (plannedOf planned) ⌝ }
+fn numbers(file: &[u8], work: &mut [u32], result: &mut [u32]) -> [u64; 3]
+    ensures { λ r. ⌜
+        record {
+          numbers = r;
+          work = now (work .exit);
+          results = now (result .exit) ∷ [];
+        }
+        ≡ planNumbers
+        (planCall partLimit (parse (now (file .entry))) (now (work .entry))
+        (now (result .entry)))
+        ⌝ }
 {
-    match planned {
-        Planned::Blocks(n) => [0, 0, n],
-        Planned::Refused { number, at } => [number as u64, at, 0],
-    }
+    let mut at: u64 = 0;
+    let mut blocks: u64 = 0;
+    let number = plan_numbers(file, PART_LIMIT, work, result, &mut at, &mut blocks);
+    [number as u64, at, blocks]
 }
 
 // Puts lent numbers into a list from place `at` on.
@@ -60,11 +72,13 @@ fn answer(got: &mut [u64], file: &[u8], work: &mut [u32], result: &mut [u32])
     requires { ⌜ length (now got) ≡ 3 + (length (now work) + length (now result)) ⌝ }
     ensures { λ _. ⌜
         now (got .exit)
-        ≡ planAnswer
-        (planCall (parse (now (file .entry))) (now (work .entry)) (now (result .entry)))
+        ≡ inOrder
+        (planNumbers
+        (planCall partLimit (parse (now (file .entry))) (now (work .entry))
+        (now (result .entry))))
         ⌝ }
 {
-    let three = numbers(recomp::plan_of(file, work, result));
+    let three = numbers(file, work, result);
     got[0] = three[0];
     got[1] = three[1];
     got[2] = three[2];
@@ -85,8 +99,10 @@ fn is_right(
     requires { ⌜ length (now got) ≡ 3 + (length (now work) + length (now result)) ⌝ }
     ensures { λ r. ⌜
         r ≡ sameNumbers (now (expected .entry))
-        (planAnswer
-        (planCall (parse (now (file .entry))) (now (work .entry)) (now (result .entry))))
+        (inOrder
+        (planNumbers
+        (planCall partLimit (parse (now (file .entry))) (now (work .entry))
+        (now (result .entry)))))
         ⌝ }
 {
     answer(got, file, work, result);

@@ -1,5 +1,6 @@
 // The section of the units: block files, each with what is asked for and how much to lend, and what
 // the call for a unit must answer and leave in what it was lent.
+use call_unit::unit_numbers;
 use case_io::compare;
 use case_io::input;
 use case_io::input::Filled;
@@ -7,13 +8,16 @@ use case_io::report;
 use case_io::verdict;
 use case_io::verdict::Section;
 use case_io::verdict::Verdict;
-use recomp::Translated;
+use plan_groups::PART_LIMIT;
 ghost use mathlib.Core.Path.{_≡_};
+ghost use mathlib.Core.List.{_∷_, []};
 ghost use Prim.Native.Nat.{_≤_};
 ghost use lib.ListN.{length};
-ghost use Rattle.call_unit.specs.Calls.{translatedOf};
+ghost use Rattle.file_blocks.specs.Parse.{parse};
+ghost use Rattle.plan_groups.specs.Limit.{partLimit};
+ghost use Rattle.call_unit.specs.Calls.{unitCall, unitNumbers};
 ghost use Rattle.case_io.specs.Same.{sameNumbers};
-ghost use Rattle.case_units.specs.UnitCases.{unitAnswerNumbers, unitCallLeaves, sameUnit};
+ghost use Rattle.case_units.specs.UnitCases.{unitCallLeaves, sameUnit};
 
 // The longest file that a vector may hold.
 const LONGEST: usize = 4096;
@@ -38,13 +42,31 @@ struct Asked {
 }
 
 // The refusal's number or 0, its i, the text's length, the blocks done, and 1 for the last unit.
-fn answer(translated: Translated) -> [u64; 5]
-    ensures { λ r. ⌜ r ≡ unitAnswerNumbers (translatedOf translated) ⌝ }
+fn answer(file: &[u8], max: u64, k: u64, work: &mut [u32], text: &mut [u8]) -> [u64; 5]
+    ensures { λ r. ⌜
+        record { numbers = r; work = now (work .exit); results = now (text .exit) ∷ [] }
+        ≡ unitNumbers
+        (unitCall partLimit max k (parse (now (file .entry))) (now (work .entry))
+        (now (text .entry)))
+        ⌝ }
 {
-    match translated {
-        Translated::Unit { length, done, last } => [0, 0, length, done, last as u64],
-        Translated::Refused { number, at } => [number as u64, at, 0, 0, 0],
-    }
+    let mut at: u64 = 0;
+    let mut length: u64 = 0;
+    let mut done: u64 = 0;
+    let mut last: u64 = 0;
+    let number = unit_numbers(
+        file,
+        PART_LIMIT,
+        max,
+        k,
+        work,
+        text,
+        &mut at,
+        &mut length,
+        &mut done,
+        &mut last,
+    );
+    [number as u64, at, length, done, last]
 }
 
 // Whether the work numbers are the expected ones. The first that is not is printed.
@@ -100,13 +122,13 @@ fn is_right(
 {
     let work_length = asked.work;
     let text_length = asked.text;
-    let got = answer(recomp::unit(
+    let got = answer(
         file,
         asked.size,
         asked.unit,
         &mut work[..work_length],
         &mut text[..text_length],
-    ));
+    );
     if !compare::same(expected, &got) {
         report::mismatch(Section::Units, k, expected, &got);
         return false;

@@ -2,7 +2,7 @@
 -- the file's rules refuse. Assumes nothing.
 use Prim.Native.Nat.{ℕ, _+_, _*_, _≤_, _<_}
 use mathlib.Core.Path.{_≡_, refl, sym, ap, ap₂, _∙_}
-use mathlib.Core.List.{List, _++_}
+use mathlib.Core.List.{List, [], _∷_, _++_}
 use native.Mathlib.Omega.{arith}
 use borrow.Author.Tests.{lt-ltb, le-ltb}
 use lib.ListN.{length, take, drop, length-append}
@@ -14,21 +14,29 @@ use Rattle.base_text.specs.Doc.{Doc, text, print}
 use Rattle.base_text.specs.Wrote.{Wrote}
 use Rattle.base_text.proofs.Laws.{whole}
 use Rattle.base_text.proofs.Lengths.{length-most}
-use Rattle.plan_groups.specs.Calls.{partLimit, cleared, CallOutcome, callOnBlocks, callOnFile}
+use Rattle.plan_groups.specs.Limit.{partLimit}
+use Rattle.call_frame.specs.Frame.{Outcome, cleared, callOnBlocks, callFrame}
 use Rattle.call_listing.specs.Calls.{listingCall}
 use Rattle.call_listing.specs.Listing.{listing}
 use Rattle.call_listing.proofs.Lengths.{listing-most}
 use Rattle.list_program.specs.Output.{longest, refusalLine, answerText, output}
 use Rattle.list_program.specs.Room.{room}
 
+-- the text of a call
+abbrev theText : List (List ℕ) → List ℕ
+theText [] = []
+theText (t ∷ results) = t
+
 -- what the call leaves where the buffers suffice
-abbrev listed : Parsed → List ℕ → List ℕ → CallOutcome ℕ
-listed (Parsed.refused n i) work out = record { answer = refusal n i; work = work; result = out }
+abbrev listed : Parsed → List ℕ → List ℕ → Outcome ℕ
+listed (Parsed.refused n i) work out =
+    record { answer = refusal n i; work = work; results = out ∷ [] }
 listed (Parsed.accepted bs) work out =
     record {
       answer = value (length (print (listing partLimit bs)));
       work = cleared (4 * length bs) work;
-      result = print (listing partLimit bs) ++ drop (length (print (listing partLimit bs))) out;
+      results =
+          (print (listing partLimit bs) ++ drop (length (print (listing partLimit bs))) out) ∷ [];
     }
 
 -- a text in the front of a buffer
@@ -53,8 +61,8 @@ module _ (f : List ℕ) (short : length f ≤ longest) (work out : List ℕ)
   few bs is =
       omega (arith, length-of f bs is, sections-of f bs is .touch, sections-of f bs is .instrs)
 
-  call-is : (p : Parsed) → parse f ≡ p → listingCall p work out ≡ listed p work out
-  unfolding callOnFile callOnBlocks
+  call-is : (p : Parsed) → parse f ≡ p → listingCall partLimit p work out ≡ listed p work out
+  unfolding callFrame callOnBlocks
   call-is (Parsed.refused n i) is = refl
   call-is (Parsed.accepted bs) is =
       rw (
@@ -64,40 +72,43 @@ module _ (f : List ℕ) (short : length f ≤ longest) (work out : List ℕ)
       )
 
   pub listing-shown : (p : Parsed) → parse f ≡ p → (n : ℕ) (work′ out′ : List ℕ)
-      → record { answer = value n; work = work′; result = out′ } ≡ listingCall p work out
+      → record { answer = value n; work = work′; results = out′ ∷ [] }
+      ≡ listingCall partLimit p work out
       → (n ≤ length out′) × (take n out′ ≡ print (answerText p))
   unfolding answerText
   listing-shown (Parsed.refused m j) is n work′ out′ e =
       let same : value n ≡ refusal m j =
-      ap (λ (l : CallOutcome ℕ). l .answer) (e ∙ call-is (Parsed.refused m j) is) in
+      ap (λ (l : Outcome ℕ). l .answer) (e ∙ call-is (Parsed.refused m j) is) in
       absurd (let z : _≡_ {A = ℕ} 0 1 = cc in omega arith)
   listing-shown (Parsed.accepted bs) is n work′ out′ e =
       let left = e ∙ call-is (Parsed.accepted bs) is in
       let same : value n ≡ value (length (print (listing partLimit bs))) =
-      ap (λ (l : CallOutcome ℕ). l .answer) left in
+      ap (λ (l : Outcome ℕ). l .answer) left in
       let size : n ≡ length (print (listing partLimit bs)) = cc in
       front (print (listing partLimit bs)) (drop (length (print (listing partLimit bs))) out) n out′
-      size (ap (λ (l : CallOutcome ℕ). l .result) left)
+      size (ap (λ (l : Outcome ℕ). theText (l .results)) left)
 
   line-fits : (n i : ℕ) → length (print (refusalLine n i)) ≤ 53
   line-fits n i = length-most (refusalLine n i)
 
   pub refusal-shown : (p : Parsed) → parse f ≡ p → (n i : ℕ) (work′ out₁ out₂ : List ℕ) (r : ℕ)
-      → record { answer = refusal n i; work = work′; result = out₁ } ≡ listingCall p work out
+      → record { answer = refusal n i; work = work′; results = out₁ ∷ [] }
+      ≡ listingCall partLimit p work out
       → Wrote out₁ 0 (refusalLine n i) out₂ r
       → (r ≤ length out₂) × (take r out₂ ≡ print (answerText p))
   unfolding answerText
   refusal-shown (Parsed.refused m j) is n i work′ out₁ out₂ r e w =
       let left = e ∙ call-is (Parsed.refused m j) is in
-      let same : refusal n i ≡ refusal m j = ap (λ (l : CallOutcome ℕ). l .answer) left in
+      let same : refusal n i ≡ refusal m j = ap (λ (l : Outcome ℕ). l .answer) left in
       let number : n ≡ m = cc in
       let place : i ≡ j = cc in
-      let long : length out₁ ≡ length out = ap (λ (l : CallOutcome ℕ). length (l .result)) left in
+      let long : length out₁ ≡ length out =
+      ap (λ (l : Outcome ℕ). length (theText (l .results))) left in
       let there = line-shown w (omega (arith, line-fits n i, long)) in
       (there .0, there .1 ∙ ap₂ (λ (a b : ℕ). print (refusalLine a b)) number place)
   refusal-shown (Parsed.accepted bs) is n i work′ out₁ out₂ r e w =
       let same : refusal n i ≡ value (length (print (listing partLimit bs))) =
-      ap (λ (l : CallOutcome ℕ). l .answer) (e ∙ call-is (Parsed.accepted bs) is) in
+      ap (λ (l : Outcome ℕ). l .answer) (e ∙ call-is (Parsed.accepted bs) is) in
       absurd (let z : _≡_ {A = ℕ} 0 1 = cc in omega arith)
 
 -- what is printed for a file that is too long

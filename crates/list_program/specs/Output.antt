@@ -7,7 +7,7 @@ use lib.Dec.{ltb}
 use lib.ListN.{length}
 use Rattle.file_blocks.specs.Parse.{Parsed, parse}
 use Rattle.base_text.specs.Doc.{Doc, text, dec, _▸_}
-use Rattle.plan_groups.specs.Calls.{partLimit}
+use Rattle.plan_groups.specs.Limit.{partLimit}
 use Rattle.call_listing.specs.Listing.{listing}
 
 -- the longest file that is listed

@@ -1,7 +1,9 @@
 // Prints the listing of the block file on standard input.
+use call_listing::ListingAnswer;
+use call_listing::listing_of;
 use libc::STDIN_FILENO;
 use libc::STDOUT_FILENO;
-use recomp::Listed;
+use plan_groups::PART_LIMIT;
 ghost use mathlib.Core.Path.{_≡_};
 ghost use Prim.Native.Nat.{_+_, _≤_};
 ghost use lib.ListN.{length, take};
@@ -37,9 +39,9 @@ fn put_answer(file: &[u8], out: &mut [u8]) -> usize
         ⌝ }
 {
     let mut work = [0u32; 16384];
-    match recomp::listing_of(file, &mut work, out) {
-        Listed::Length(n) => n as usize,
-        Listed::Refused { number, at } => put_refusal(out, number, at),
+    match listing_of(file, PART_LIMIT, &mut work, out) {
+        ListingAnswer::Length(n) => n as usize,
+        ListingAnswer::Refused { number, at } => put_refusal(out, number, at),
     }
 }
 

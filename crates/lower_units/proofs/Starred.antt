@@ -14,7 +14,7 @@ use Rattle.armv4t.specs.declared.Op.the-variants.{Bx, Branch, ThumbBlHigh, Thum
 use Rattle.armv4t.specs.Fused.{fuse}
 use Rattle.file_instrs.specs.declared.decode.TimedInstr.{TimedInstr}
 use Rattle.file_blocks.specs.Parse.{Block}
-use Rattle.plan_groups.specs.Calls.{partLimit}
+use Rattle.plan_groups.specs.Limit.{partLimit}
 use Rattle.plan_exits.specs.Exits.{instrExits, exits}
 use Rattle.base_forest.specs.Roots.{follow}
 use Rattle.base_text.specs.Digits.{numeral, lastDigits}

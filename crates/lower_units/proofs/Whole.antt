@@ -19,7 +19,7 @@ use Rattle.file_instrs.specs.declared.decode.TimedInstr.{TimedInstr}
 use Rattle.file_blocks.specs.Parse.{Block}
 use Rattle.base_text.specs.Digits.{numeral, lastDigits}
 use Rattle.base_text.specs.Doc.{text, decimal, hexadecimal, hexadecimal8, hexadecimal16, print}
-use Rattle.plan_groups.specs.Calls.{partLimit}
+use Rattle.plan_groups.specs.Limit.{partLimit}
 use Rattle.plan_exits.specs.Exits.{exits, instrExits}
 use Rattle.base_forest.specs.Roots.{follow}
 use Rattle.plan_search.specs.Target.{target}
@@ -32,8 +32,9 @@ use Rattle.lower_units.specs.Block.{gotoCode, transfer, closing, nativeT
 use Rattle.lower_units.specs.Block.{underGuard, blockCode}
 use Rattle.file_blocks.specs.Address.{outsideRomBios}
 use Rattle.lower_units.specs.Units.{withLocals, emitBlock, labelled, groupCode, forwarders}
-use Rattle.lower_units.specs.Units.{emitGroup, unitHead, lastUnitEnd, madeUnit, textOf, cut}
-use Rattle.lower_units.specs.Units.{bodiesOf, emitCChunked, unitsBy, units}
+use Rattle.lower_units.specs.Units.{emitGroup, unitHead, lastUnitEnd, unitValues, textOf, cut}
+use Rattle.lower_units.specs.Units.{TranslationUnit, UnitValues, bodiesOf, emitCChunked, unitsBy}
+use Rattle.lower_units.specs.Units.{units}
 
 timed : ℕ → Bool → Cond → Op → ℕ → TimedInstr
 timed at thumb k op cost =
@@ -97,14 +98,18 @@ blocks =
     }
     ∷ []
 
-whole : map madeUnit (units hashMultiplier partLimit 1_000_000 blocks)
-    ≡ record {
-      values = record { length = 5074; done = 7; last = true };
-      content = textOf unitHead
+-- what is answered of a unit, and its text
+abbrev told : TranslationUnit → UnitValues × List ℕ
+told u = (unitValues u, textOf (u .tree))
+
+whole : map told (units hashMultiplier partLimit 1_000_000 blocks)
+    ≡ (
+      record { length = 5074; done = 7; last = true },
+      textOf unitHead
           ++ print
           (text
-          "uint32_t b_02000000_a(const RtApi* a, void* m) {\n    uint32_t* c = (uint32_t*)m;\n    uint32_t pc; (void)pc;\n    if (!a->guard(m, 0x02000000u, 8u, 0x9adcbb76ba537e76ull)) { c[15] = 0x02000000u; return a->interp_one(m); }\n    {\n        uint32_t r = c[1];\n        c[0] = r;\n    }\n    a->tick(m, 1u);\n    c[15] = 0x02000004u;\n    return a->interp_one(m);\n}\n\nuint32_t b_02000010_a(const RtApi* a, void* m) {\n    uint32_t* c = (uint32_t*)m;\n    uint32_t pc; (void)pc;\n    c[15] = 0x02000010u; return a->interp_one(m);\n}\n\nstatic uint32_t g_08000100(const RtApi* a, void* m, uint32_t entry) {\n    uint32_t* c = (uint32_t*)m;\n    uint32_t pc; (void)pc;\n    switch (entry) {\n    case 0u: goto L_08000100_a;\n    case 1u: goto L_08000104_a;\n    default: return 0u;\n    }\nL_08000100_a:;\n    a->tick(m, 3u);\n    { uint32_t s_ = c[16]; uint32_t cn = s_ >> 31, cz = (s_ >> 30) & 1u, cc = (s_ >> 29) & 1u, cv = (s_ >> 28) & 1u;\n      if (cz) { c[15] = 0x08000100u;\n        if (a->chain_gate(m)) return 0x08000100u;\n        goto L_08000100_a;\n      } }\n    {\n        uint32_t r = c[1];\n        c[0] = r;\n    }\n    a->tick(m, 4u);\n    c[15] = 0x08000104u;\n    goto L_08000104_a;\n\nL_08000104_a:;\n    c[15] = 0x08000104u;\n    return a->interp_one(m);\n\n}\n\nuint32_t b_08000100_a(const RtApi* a, void* m) { return g_08000100(a, m, 0u); }\nuint32_t b_08000104_a(const RtApi* a, void* m) { return g_08000100(a, m, 1u); }\n\nuint32_t b_08000200_t(const RtApi* a, void* m) {\n    uint32_t* c = (uint32_t*)m;\n    uint32_t pc; (void)pc;\n    {\n        uint32_t r = c[1];\n        c[0] = r;\n    }\n    a->tick(m, 1u);\n    c[15] = 0x08000202u;\n    return a->interp_one(m);\n    c[15] = 0x08000204u;\n    return 0x08000205u;\n}\n\nuint32_t b_08000220_t(const RtApi* a, void* m) {\n    uint32_t* c = (uint32_t*)m;\n    uint32_t pc; (void)pc;\n    a->tick(m, 3u);\n    c[14] = 0x08000225u;\n    c[15] = 0x0800022au;\n    return 0x0800022bu;\n}\n\nuint32_t b_08000300_a(const RtApi* a, void* m) {\n    uint32_t* c = (uint32_t*)m;\n    uint32_t pc; (void)pc;\n    {\n        uint32_t r = c[1];\n        c[0] = r;\n    }\n    a->tick(m, 4u);\n    { uint32_t t = c[14];\n      if (t & 1u) { c[16] |= 0x20u; c[15] = t & ~1u; return (t & ~1u) | 1u; }\n      c[16] &= ~0x20u; c[15] = t & ~3u; return t & ~3u; }\n}\n\nextern uint32_t b_02000000_a(const RtApi* a, void* m);\nextern uint32_t b_02000010_a(const RtApi* a, void* m);\nextern uint32_t b_08000100_a(const RtApi* a, void* m);\nextern uint32_t b_08000104_a(const RtApi* a, void* m);\nextern uint32_t b_08000200_t(const RtApi* a, void* m);\nextern uint32_t b_08000220_t(const RtApi* a, void* m);\nextern uint32_t b_08000300_a(const RtApi* a, void* m);\nRCG_EXPORT const RcgBlock rcg_blocks[] = {\n    { 0x02000000u, b_02000000_a },\n    { 0x02000010u, b_02000010_a },\n    { 0x08000100u, b_08000100_a },\n    { 0x08000104u, b_08000104_a },\n    { 0x08000201u, b_08000200_t },\n    { 0x08000221u, b_08000220_t },\n    { 0x08000300u, b_08000300_a },\n};\nRCG_EXPORT const uint64_t rcg_block_count = 7;\n");
-    }
+          "uint32_t b_02000000_a(const RtApi* a, void* m) {\n    uint32_t* c = (uint32_t*)m;\n    uint32_t pc; (void)pc;\n    if (!a->guard(m, 0x02000000u, 8u, 0x9adcbb76ba537e76ull)) { c[15] = 0x02000000u; return a->interp_one(m); }\n    {\n        uint32_t r = c[1];\n        c[0] = r;\n    }\n    a->tick(m, 1u);\n    c[15] = 0x02000004u;\n    return a->interp_one(m);\n}\n\nuint32_t b_02000010_a(const RtApi* a, void* m) {\n    uint32_t* c = (uint32_t*)m;\n    uint32_t pc; (void)pc;\n    c[15] = 0x02000010u; return a->interp_one(m);\n}\n\nstatic uint32_t g_08000100(const RtApi* a, void* m, uint32_t entry) {\n    uint32_t* c = (uint32_t*)m;\n    uint32_t pc; (void)pc;\n    switch (entry) {\n    case 0u: goto L_08000100_a;\n    case 1u: goto L_08000104_a;\n    default: return 0u;\n    }\nL_08000100_a:;\n    a->tick(m, 3u);\n    { uint32_t s_ = c[16]; uint32_t cn = s_ >> 31, cz = (s_ >> 30) & 1u, cc = (s_ >> 29) & 1u, cv = (s_ >> 28) & 1u;\n      if (cz) { c[15] = 0x08000100u;\n        if (a->chain_gate(m)) return 0x08000100u;\n        goto L_08000100_a;\n      } }\n    {\n        uint32_t r = c[1];\n        c[0] = r;\n    }\n    a->tick(m, 4u);\n    c[15] = 0x08000104u;\n    goto L_08000104_a;\n\nL_08000104_a:;\n    c[15] = 0x08000104u;\n    return a->interp_one(m);\n\n}\n\nuint32_t b_08000100_a(const RtApi* a, void* m) { return g_08000100(a, m, 0u); }\nuint32_t b_08000104_a(const RtApi* a, void* m) { return g_08000100(a, m, 1u); }\n\nuint32_t b_08000200_t(const RtApi* a, void* m) {\n    uint32_t* c = (uint32_t*)m;\n    uint32_t pc; (void)pc;\n    {\n        uint32_t r = c[1];\n        c[0] = r;\n    }\n    a->tick(m, 1u);\n    c[15] = 0x08000202u;\n    return a->interp_one(m);\n    c[15] = 0x08000204u;\n    return 0x08000205u;\n}\n\nuint32_t b_08000220_t(const RtApi* a, void* m) {\n    uint32_t* c = (uint32_t*)m;\n    uint32_t pc; (void)pc;\n    a->tick(m, 3u);\n    c[14] = 0x08000225u;\n    c[15] = 0x0800022au;\n    return 0x0800022bu;\n}\n\nuint32_t b_08000300_a(const RtApi* a, void* m) {\n    uint32_t* c = (uint32_t*)m;\n    uint32_t pc; (void)pc;\n    {\n        uint32_t r = c[1];\n        c[0] = r;\n    }\n    a->tick(m, 4u);\n    { uint32_t t = c[14];\n      if (t & 1u) { c[16] |= 0x20u; c[15] = t & ~1u; return (t & ~1u) | 1u; }\n      c[16] &= ~0x20u; c[15] = t & ~3u; return t & ~3u; }\n}\n\nextern uint32_t b_02000000_a(const RtApi* a, void* m);\nextern uint32_t b_02000010_a(const RtApi* a, void* m);\nextern uint32_t b_08000100_a(const RtApi* a, void* m);\nextern uint32_t b_08000104_a(const RtApi* a, void* m);\nextern uint32_t b_08000200_t(const RtApi* a, void* m);\nextern uint32_t b_08000220_t(const RtApi* a, void* m);\nextern uint32_t b_08000300_a(const RtApi* a, void* m);\nRCG_EXPORT const RcgBlock rcg_blocks[] = {\n    { 0x02000000u, b_02000000_a },\n    { 0x02000010u, b_02000010_a },\n    { 0x08000100u, b_08000100_a },\n    { 0x08000104u, b_08000104_a },\n    { 0x08000201u, b_08000200_t },\n    { 0x08000221u, b_08000220_t },\n    { 0x08000300u, b_08000300_a },\n};\nRCG_EXPORT const uint64_t rcg_block_count = 7;\n"),
+    )
     ∷ []
 unfolding blocks timed fuse fnv64 fnvFrom bodyOf emitInstrs emitInstr inlineBody blockCode
     outsideRomBios underGuard codeFrom nativeText transfer gotoCode closing emitCChunked unitsBy cut

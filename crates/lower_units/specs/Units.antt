@@ -3,9 +3,9 @@
 use Prim.Native.Nat.{ℕ, suc, _+_}
 use mathlib.Core.Bool.{Bool, true, false, cond}
 use mathlib.Core.List.{List, [], _∷_, _++_, map}
-use mathlib.Core.Option.{Option, none}
+use mathlib.Core.Option.{none}
 use lib.Dec.{leb}
-use lib.ListN.{length, getD, getElem?}
+use lib.ListN.{length, getD}
 use Rattle.base_text.specs.Doc.{print}
 use Rattle.c_tree.specs.Expr.{u32, x-pc}
 use Rattle.c_tree.specs.Stmt.{registers, local, discard, common, gap, plain, label, call, switch}
@@ -15,7 +15,6 @@ use Rattle.c_tree.specs.Print.{unitText}
 use Rattle.c_tree.specs.Preamble.{preamble}
 use Rattle.file_blocks.specs.Parse.{Block}
 use Rattle.plan_groups.specs.Plan.{groups}
-use Rattle.plan_groups.specs.Calls.{Made}
 use Rattle.lower_forms.specs.Block.{bodyOf}
 use Rattle.lower_forms.specs.Forms.{Body}
 use Rattle.lower_units.specs.Block.{bodyKey, nl, sp, blockCode}
@@ -114,19 +113,11 @@ units multiplier = unitsBy (bodyOf multiplier)
 
 -- what is answered of a unit: how long its text is, how many blocks are done up to its end, from
 -- the first unit on, and whether it is the last
-pub record UnitAnswer : Type 0 where
+pub record UnitValues : Type 0 where
   pub length : ℕ
   pub done : ℕ
   pub last : Bool
 
--- what the call for a unit makes: the values of its answer, and the text
-abbrev pub madeUnit : TranslationUnit → Made UnitAnswer
-madeUnit u =
-    record {
-      values = record { length = length (textOf (u .tree)); done = u .done; last = u .last };
-      content = textOf (u .tree);
-    }
-
--- what the call for unit k of a file's blocks makes, if there is such a unit
-abbrev pub unit : ℕ → ℕ → ℕ → List Block → ℕ → Option (Made UnitAnswer)
-unit multiplier limit max bs k = getElem? (map madeUnit (units multiplier limit max bs)) k
+-- the same by its tree
+abbrev pub unitValues : TranslationUnit → UnitValues
+unitValues u = record { length = length (textOf (u .tree)); done = u .done; last = u .last }

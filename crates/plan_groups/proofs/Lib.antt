@@ -4,11 +4,9 @@ pub mod Cutting
 pub mod Edges
 pub mod GroupLaws
 mod Grouping
-pub mod HandOver
 mod Joining
 mod Lending
 mod Linking
 mod Numbering
 mod Ordering
 pub mod PlanLength
-mod Rows

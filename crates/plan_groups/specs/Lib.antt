@@ -1,8 +1,7 @@
--- The definitions that the crate's promises name: Plan and Calls say what document 01 says, the
+-- The definitions that the crate's promises name: Plan and Limit say what document 01 says, the
 -- others what the steps of the code do.
-pub mod Calls
-pub mod Examples
 pub mod Groups
+pub mod Limit
 pub mod Links
 pub mod Order
 pub mod Plan

@@ -1,11 +1,11 @@
 // The C form of the check.
-use crate::Checked;
-use crate::check;
 ghost use mathlib.Core.Path.{_≡_};
-ghost use Rattle.file_blocks.specs.Parse.{parse, checkAnswer};
-ghost use Rattle.recomp.specs.Answer.{checkNumbers};
+ghost use mathlib.Core.List.{_∷_, []};
+ghost use Rattle.file_blocks.specs.Parse.{parse};
+ghost use Rattle.call_check.specs.Calls.{checkCall, checkNumbers};
 
-// The check's numbers, as the C interface hands them over.
+// Whether a file is accepted, and how many blocks and instructions it has. The answer is 0, or the
+// number of the refusal.
 #[no_mangle]
 pub extern "C" fn recomp_check(
     file: &[u8],
@@ -13,31 +13,10 @@ pub extern "C" fn recomp_check(
     blocks: &mut u64,
     instructions: &mut u64,
 ) -> u32
-    ensures { λ r. ⌜
-        record {
-          number = r;
-          at = now (at .exit);
-          blocks = now (blocks .exit);
-          instructions =
-              now (instructions .exit);
-        } ≡ checkNumbers (checkAnswer (parse (now (file .entry))))
+    ensures answer { λ r. ⌜
+        r ∷ now (at .exit) ∷ now (blocks .exit) ∷ now (instructions .exit) ∷ []
+        ≡ checkNumbers (checkCall (parse (now (file .entry))))
         ⌝ }
 {
-    match check(file) {
-        Checked::Accepted {
-            blocks: b,
-            instructions: i,
-        } => {
-            *at = 0;
-            *blocks = b;
-            *instructions = i;
-            0
-        }
-        Checked::Refused { number, at: i } => {
-            *at = i;
-            *blocks = 0;
-            *instructions = 0;
-            number
-        }
-    }
+    call_check::check_numbers(file, at, blocks, instructions)
 }

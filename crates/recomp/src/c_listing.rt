@@ -1,10 +1,10 @@
 // The C form of the call for the listing.
-use crate::Listed;
-use crate::listing_of;
+use plan_groups::PART_LIMIT;
 ghost use mathlib.Core.Path.{_≡_};
+ghost use mathlib.Core.List.{_∷_, []};
 ghost use Rattle.file_blocks.specs.Parse.{parse};
-ghost use Rattle.call_listing.specs.Calls.{listingCall};
-ghost use Rattle.recomp.specs.Answer.{outcomeNumbers};
+ghost use Rattle.plan_groups.specs.Limit.{partLimit};
+ghost use Rattle.call_listing.specs.Calls.{listingCall, listingNumbers};
 
 // The bytes of the listing. The answer is 0, or the number of the refusal.
 #[no_mangle]
@@ -15,29 +15,16 @@ pub extern "C" fn recomp_listing(
     at: &mut u64,
     length: &mut u64,
 ) -> u32
-    ensures { λ r. ⌜
+    ensures answer { λ r. ⌜
         record {
-          number = r;
-          at = now (at .exit);
-          count = now (length .exit);
-          work =
-              now (work .exit);
-          result = now (text .exit);
+          numbers = r ∷ now (at .exit) ∷ now (length .exit) ∷ [];
+          work = now (work .exit);
+          results = now (text .exit) ∷ [];
         }
-        ≡ outcomeNumbers
-        (listingCall (parse (now (file .entry))) (now (work .entry)) (now (text .entry)))
+        ≡ listingNumbers
+        (listingCall partLimit (parse (now (file .entry))) (now (work .entry))
+        (now (text .entry)))
         ⌝ }
 {
-    match listing_of(file, work, text) {
-        Listed::Length(n) => {
-            *at = 0;
-            *length = n;
-            0
-        }
-        Listed::Refused { number, at: i } => {
-            *at = i;
-            *length = 0;
-            number
-        }
-    }
+    call_listing::listing_numbers(file, PART_LIMIT, work, text, at, length)
 }

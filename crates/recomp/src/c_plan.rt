@@ -1,10 +1,10 @@
 // The C form of the call for the plan.
-use crate::Planned;
-use crate::plan_of;
+use plan_groups::PART_LIMIT;
 ghost use mathlib.Core.Path.{_≡_};
+ghost use mathlib.Core.List.{_∷_, []};
 ghost use Rattle.file_blocks.specs.Parse.{parse};
-ghost use Rattle.plan_groups.specs.Calls.{planCall};
-ghost use Rattle.recomp.specs.Answer.{outcomeNumbers};
+ghost use Rattle.plan_groups.specs.Limit.{partLimit};
+ghost use Rattle.call_plan.specs.Calls.{planCall, planNumbers};
 
 // The numbers of the plan. The answer is 0, or the number of the refusal.
 #[no_mangle]
@@ -15,29 +15,15 @@ pub extern "C" fn recomp_plan(
     at: &mut u64,
     blocks: &mut u64,
 ) -> u32
-    ensures { λ r. ⌜
+    ensures answer { λ r. ⌜
         record {
-          number = r;
-          at = now (at .exit);
-          count = now (blocks .exit);
-          work =
-              now (work .exit);
-          result = now (plan .exit);
+          numbers = r ∷ now (at .exit) ∷ now (blocks .exit) ∷ [];
+          work = now (work .exit);
+          results = now (plan .exit) ∷ [];
         }
-        ≡ outcomeNumbers
-        (planCall (parse (now (file .entry))) (now (work .entry)) (now (plan .entry)))
+        ≡ planNumbers
+        (planCall partLimit (parse (now (file .entry))) (now (work .entry)) (now (plan .entry)))
         ⌝ }
 {
-    match plan_of(file, work, plan) {
-        Planned::Blocks(b) => {
-            *at = 0;
-            *blocks = b;
-            0
-        }
-        Planned::Refused { number, at: i } => {
-            *at = i;
-            *blocks = 0;
-            number
-        }
-    }
+    call_plan::plan_numbers(file, PART_LIMIT, work, plan, at, blocks)
 }

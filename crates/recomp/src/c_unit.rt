@@ -1,17 +1,17 @@
 // The C form of the call for a unit.
-use crate::Translated;
-use crate::unit;
+use plan_groups::PART_LIMIT;
 ghost use mathlib.Core.Path.{_≡_};
+ghost use mathlib.Core.List.{_∷_, []};
 ghost use Rattle.base_hash.specs.Fnv.{hashMultiplier};
 ghost use Rattle.file_blocks.specs.Parse.{parse};
-ghost use Rattle.plan_groups.specs.Calls.{partLimit};
-ghost use Rattle.call_unit.specs.Calls.{unitCall};
-ghost use Rattle.claim_ways.specs.Demand3.{Demand3Of};
-ghost use Rattle.claim_meaning.specs.Meaning.{MeaningOf};
-ghost use Rattle.recomp.specs.Answer.{unitNumbers};
+ghost use Rattle.plan_groups.specs.Limit.{partLimit};
+ghost use Rattle.claim_units.specs.Claims.{UnitClaims};
+ghost use Rattle.call_unit.specs.Calls.{unitCall, unitNumbers};
 
 // The text of a unit, its length, the blocks done up to its end, and 1 if it is the last. The
-// answer is 0, or the number of the refusal.
+// answer is 0, or the number of the refusal. Every way through the units of that file at that size
+// keeps demand 3, and the text of its blocks, read by C99, does what the manual says of their
+// native records, but for what docs/DIFFERENCES.md excepts.
 #[no_mangle]
 pub extern "C" fn recomp_unit(
     file: &[u8],
@@ -24,43 +24,31 @@ pub extern "C" fn recomp_unit(
     done: &mut u64,
     last: &mut u64,
 ) -> u32
-    ensures { λ r. ⌜
+    ensures answer { λ r. ⌜
         record {
-          number = r;
-          at = now (at .exit);
-          length = now (length .exit);
-          done =
-              now (done .exit);
-          last = now (last .exit);
+          numbers =
+              r ∷ now (at .exit) ∷ now (length .exit) ∷ now (done .exit) ∷ now (last .exit) ∷ [];
           work = now (work .exit);
-          text =
-              now (text .exit);
+          results = now (text .exit) ∷ [];
         }
         ≡ unitNumbers
-        (unitCall «max_bytes» k (parse (now (file .entry))) (now (work .entry))
+        (unitCall partLimit «max_bytes» k (parse (now (file .entry))) (now (work .entry))
         (now (text .entry)))
         ⌝ }
-    ensures { λ r. ⌜ Demand3Of hashMultiplier partLimit «max_bytes» (now (file .entry)) ⌝ }
-    ensures { λ r. ⌜ MeaningOf hashMultiplier (now (file .entry)) ⌝ }
+    ensures claims { λ r. ⌜
+        UnitClaims hashMultiplier partLimit «max_bytes» (now (file .entry))
+        ⌝ }
 {
-    match unit(file, max_bytes, k, work, text) {
-        Translated::Unit {
-            length: n,
-            done: d,
-            last: is_last,
-        } => {
-            *at = 0;
-            *length = n;
-            *done = d;
-            *last = is_last as u64;
-            0
-        }
-        Translated::Refused { number, at: i } => {
-            *at = i;
-            *length = 0;
-            *done = 0;
-            *last = 0;
-            number
-        }
-    }
+    call_unit::unit_numbers(
+        file,
+        PART_LIMIT,
+        max_bytes,
+        k,
+        work,
+        text,
+        at,
+        length,
+        done,
+        last,
+    )
 }

@@ -7,7 +7,7 @@ use borrow.Author.Needs.{needs}
 use Rattle.file_blocks.specs.Answer.{Counts}
 use Rattle.call_frame.specs.Frame.{Outcome}
 use Rattle.call_frame.proofs.Opening.{is-open, instr-number, block-number, refused-call, open-call}
-use Rattle.call_check.specs.Calls.{checking, checkNumbers}
+use Rattle.call_check.specs.Calls.{asksCheck, checkNumbers}
 use Rattle.call_check.proofs.check_numbers.Statement.{statement}
 use Rattle.call_check.proofs.check_numbers.Tie as tie
 
@@ -18,12 +18,12 @@ returns c =
     let o = is-open _ _ _ _ _ told _ _ given in
     ap₂ (λ (b i : ℕ). 0 ∷ 0 ∷ b ∷ i ∷ []) (block-number _ _ _ _ _ o)
     (instr-number _ _ _ _ _ told _ _ given)
-    ∙ ap (λ (l : Outcome Counts). checkNumbers (l .answer)) (open-call checking [] [] _ _ o)
+    ∙ ap (λ (l : Outcome Counts). checkNumbers (l .answer)) (open-call asksCheck [] [] _ _ o)
 
 returns-2 : tie.Need-returns-2
 returns-2 c =
     ap (λ (l : Outcome Counts). checkNumbers (l .answer))
-    (refused-call checking [] [] _ _ (c .before .before .before .open-file .ensures) _ _
+    (refused-call asksCheck [] [] _ _ (c .before .before .before .open-file .ensures) _ _
     (c .before .number .given .1))
 
 pub check-numbers-spec : {M : Type 1} → statement M

@@ -1,16 +1,17 @@
--- `replay_plan::answer` meets its contract: the three numbers are those of the answer, and after
--- them stands what the call left in the lent numbers.
+-- The three numbers are those of the answer, and after them stands what the call left in the lent
+-- numbers.
 use Prim.Native.Nat.{ℕ, _+_}
-use mathlib.Core.List.{List, _∷_, _++_}
+use mathlib.Core.List.{List}
 use mathlib.Core.Path.{_≡_, ap, _∙_}
 use native.Mathlib.Omega.{arith}
 use borrow.Author.Needs.{needs}
 use denote.Ref.{now}
 use lib.ListN.{length, getD, length-set}
 use lib.Seq.{paste}
-use Rattle.plan_groups.specs.Calls.{plannedOf}
-use Rattle.case_plan.specs.PlanCases.{planAnswer}
-use Rattle.case_plan.proofs.Gathered.{gathered, with-lent}
+use Rattle.file_blocks.specs.Parse.{parse}
+use Rattle.plan_groups.specs.Limit.{partLimit}
+use Rattle.call_plan.specs.Calls.{planCall}
+use Rattle.case_plan.proofs.Gathered.{gathered, threeAndLent, with-lent}
 use Rattle.case_plan.proofs.answer.Statement.{statement}
 use Rattle.case_plan.proofs.answer.Tie as tie
 
@@ -33,33 +34,25 @@ same-length c = c .before .before .put2 .kept .0
 
 returns : tie.Need-returns
 returns c =
-    let call =
-    c .before .before .before .before .before .before .before .before .before .before .before
-    .before .before .before .before .plan-of in
-    let three =
-    c .before .before .before .before .before .before .before .before .before .before
-    .numbers in
-    let got =
-    now (c .before .before .before .before .before .before .before .before .before .before
-    .before .before .before .before .before .before .before .before .before .before .before
-    .before .args .got) in
+    let first = c .before .before .before .before .before .before .before in
+    let made = first .before .before .before .before .before .before .before in
+    let call = made .numbers in
+    let args = made .before .before .before .before .before .before .before .args in
+    let got = now (args .got) in
     let work = call .last .1 .0 in
     let result = call .last .1 .1 .0 in
     let long : length got ≡ 3 + (length work + length result) = omega arith in
     c .before .before .put2 .ensures
-    ∙ ap (λ (l : List ℕ). paste l (3 + length work) result (length result))
-    (c .before .before .before .before .before .before .before .put .ensures)
-    ∙ gathered (getD (three .result) 0 0) (getD (three .result) 1 0) (getD (three .result) 2 0) got
+    ∙ ap (λ (l : List ℕ). paste l (3 + length work) result (length result)) (first .put .ensures)
+    ∙ gathered (getD (call .result) 0 0) (getD (call .result) 1 0) (getD (call .result) 2 0) got
     work result long
-    ∙ ap (λ (l : List ℕ). getD l 0 0 ∷ getD l 1 0 ∷ getD l 2 0 ∷ (work ++ result)) (three .ensures)
-    ∙ with-lent (plannedOf (call .result)) work result
-    ∙ ap planAnswer (call .ensures)
+    ∙ ap threeAndLent (call .ensures)
+    ∙ with-lent
+    (planCall partLimit (parse (now (args .file))) (now (args .work)) (now (args .result)))
 
 pub answer-spec : {M : Type 1} → statement M
 answer-spec =
     tie.close
-    (tie.spec (search needs) (search needs) (search needs) (search needs) (search needs)
-    slice-write-got-2
+    (tie.spec (search needs) (search needs) (search needs) (search needs) slice-write-got-2
     (search needs) slice-write-got-3 put-requires (search needs) put-requires-2 same-length
-    (search needs)
-    (search needs) returns)
+    (search needs) (search needs) returns)

@@ -2,16 +2,17 @@
 -- refusal is put there. Assumes nothing.
 use Prim.Native.Nat.{ℕ}
 use Rattle.file_blocks.specs.Answer.{Answer}
-use Rattle.call_listing.specs.Calls.{listedOf}
+use Rattle.call_listing.specs.Calls.{listingAnswer}
 use Rattle.list_program.proofs.Room.{listing-shown, refusal-shown}
 use Rattle.list_program.proofs.put_answer.Statement.{statement}
 use Rattle.list_program.proofs.put_answer.Tie as tie
 use borrow.Author.Needs.{needs}
+use mathlib.Core.List.{[], _∷_}
 use mathlib.Core.Path.{refl, sym, ap, _∙_}
 use native.Mathlib.Omega.{arith}
 
 returns : tie.Need-returns
-unfolding listedOf
+unfolding listingAnswer
 returns c = let pre =
     c .before .before .before .before .before .before .before .before .before .before .before
     .pre in
@@ -19,15 +20,15 @@ returns c = let pre =
     (ap (λ (a : Answer ℕ). record {
       answer = a;
       work =
-          c .before .before .before .before .before .before .listing-of .last .1 .0;
-      result =
           c .before .before .before .before .before .before .listing-of .last .1 .1 .0;
+      results =
+          c .before .before .before .before .before .before .listing-of .last .1 .1 .1 .0 ∷ [];
     })
-    (sym (ap listedOf (c .before .n .given .1)))
+    (sym (ap listingAnswer (c .before .n .given .1)))
     ∙ c .before .before .before .before .before .before .listing-of .ensures)
 
 returns-2 : tie.Need-returns-2
-unfolding listedOf
+unfolding listingAnswer
 returns-2 c = let pre =
     c .before .before .before .before .before .before .before .before .before .before .before
     .before .before .before .before .pre in
@@ -36,12 +37,12 @@ returns-2 c = let pre =
       answer = a;
       work =
           c .before .before .before .before .before .before .before .before .before .before
-          .listing-of .last .1 .0;
-      result =
-          c .before .before .before .before .before .before .before .before .before .before
           .listing-of .last .1 .1 .0;
+      results =
+          c .before .before .before .before .before .before .before .before .before .before
+          .listing-of .last .1 .1 .1 .0 ∷ [];
     })
-    (sym (ap listedOf (c .before .before .before .before .before .number .given .1)))
+    (sym (ap listingAnswer (c .before .before .before .before .before .number .given .1)))
     ∙ c .before .before .before .before .before .before .before .before .before .before
     .listing-of .ensures) (c .before .before .put-refusal .ensures)
 

@@ -8,7 +8,7 @@ use borrow.Author.Needs.{needs}
 use Rattle.plan_exits.specs.Found.{foundKeys}
 use Rattle.call_frame.specs.Frame.{Outcome, makes, settle, ifFound}
 use Rattle.call_frame.proofs.Opening.{is-open, refused-call, open-call}
-use Rattle.call_exits.specs.Calls.{exitsAnswer, askingExits}
+use Rattle.call_exits.specs.Calls.{exitsAnswer, asksExits}
 use Rattle.call_exits.proofs.calls.exits_of.Statement.{statement}
 use Rattle.call_exits.proofs.calls.exits_of.Tie as tie
 
@@ -20,7 +20,7 @@ returns : tie.Need-returns
 unfolding exitsAnswer
 returns c =
     ap (λ (l : Outcome (List ℕ)). l .answer)
-    (refused-call (askingExits _) [] [] _ _ (c .before .before .before .open-file .ensures) _ _
+    (refused-call (asksExits _) [] [] _ _ (c .before .before .before .open-file .ensures) _ _
     (c .before .number .given .1))
 
 returns-2 : tie.Need-returns-2
@@ -33,7 +33,7 @@ returns-2 c =
     (ap (found _)
     (sym (ap foundKeys (c .before .e .given .1))
     ∙ c .before .before .before .block-exits .ensures (o .accepted))
-    ∙ open-call (askingExits _) [] [] _ _ o)
+    ∙ open-call (asksExits _) [] [] _ _ o)
 
 returns-3 : tie.Need-returns-3
 unfolding exitsAnswer
@@ -45,7 +45,7 @@ returns-3 c =
     (ap (found _)
     (sym (ap foundKeys (c .enum-told2 .given .1))
     ∙ c .before .before .block-exits .ensures (o .accepted))
-    ∙ open-call (askingExits _) [] [] _ _ o)
+    ∙ open-call (asksExits _) [] [] _ _ o)
 
 pub exits-of-spec : {M : Type 1} → statement M
 exits-of-spec =

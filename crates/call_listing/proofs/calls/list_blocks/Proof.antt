@@ -1,166 +1,63 @@
--- One law for each of the three answers; the work numbers that grouping and the groups of the
--- blocks changed are all cleared. Assumes nothing.
+-- One law for each of the two answers; the work numbers that grouping and the groups of the blocks
+-- changed are all cleared. Assumes nothing.
 use Prim.Native.Nat.{_≤_}
-use Rattle.plan_groups.specs.Calls.{partLimit}
-use Rattle.file_blocks.proofs.Accepted.{few-blocks}
-use Rattle.plan_members.proofs.Groups.{groups-planned, groups-room, groups-past}
-use Rattle.call_listing.proofs.calls.list_blocks.Statement.{statement}
-use Rattle.call_listing.proofs.calls.list_blocks.Tie as tie
-use Rattle.call_listing.specs.Calls.{listedOf, madeListing}
-use Rattle.call_listing.specs.Listing.{listing}
-use Rattle.plan_groups.proofs.HandOver.{cleared-same, refused-8, refused-10, handed-over}
+use mathlib.Core.Path.{refl, _∙_}
+use native.Mathlib.Omega.{arith}
+use borrow.Author.Needs.{needs}
+use lib.ListN.{length}
 use Rattle.file_blocks.specs.Parse.{blocksOf}
 use Rattle.base_text.proofs.Laws.{whole}
 use Rattle.base_text.specs.Doc.{print}
-use borrow.Author.Needs.{needs}
-use lib.ListN.{length}
-use mathlib.Core.Path.{refl, _∙_}
-use native.Mathlib.Omega.{arith}
+use Rattle.plan_members.proofs.Groups.{groups-planned, groups-room, groups-past}
+use Rattle.call_frame.proofs.Opening.{settled-call}
+use Rattle.call_frame.proofs.Settling.{cleared-same, refused-10, handed-over}
+use Rattle.call_listing.specs.Calls.{listingAnswer, asksListing}
+use Rattle.call_listing.specs.Listing.{listing}
+use Rattle.call_listing.proofs.calls.list_blocks.Statement.{statement}
+use Rattle.call_listing.proofs.calls.list_blocks.Tie as tie
 
 returns : tie.Need-returns
-unfolding listedOf
+unfolding listingAnswer
 returns c =
-    refused-8 (madeListing partLimit) _ (c .before .before .before .before .pre .0) _
-    (c .before .before .before .before .pre .1) _ _ (omega arith)
-
-group-blocks-requires : tie.Need-group-blocks-requires
-group-blocks-requires c κs = (
-  omega arith,
-  omega (
-    arith,
-    few-blocks _ _ (c .before .before .before .before .before .pre .0),
-    c .before .before
-        .before .before .before .pre .1,
-  ),
-  c .before .before .before .before .before .pre .1,
-)
-
-put-groups-requires : tie.Need-put-groups-requires
-put-groups-requires c κs = (
-  omega (arith, c .before .before .before .group-blocks .ensures .same),
-  omega (
-    arith,
-    few-blocks _ _
-        (c .before .before .before .before .before .before .before .before .before .pre .0),
-    c .before
-        .before .before .before .before .before .before .before .before .pre .1,
-  ),
-)
-
-listing-length-requires : tie.Need-listing-length-requires
-listing-length-requires c κs = let grouped =
-    c .before .before .before .before .before .before .before .group-blocks .ensures in
-    let put = c .before .before .before .put-groups .ensures in (
-      (
-        omega (arith, groups-room grouped put),
-        omega (
-          arith,
-          few-blocks _ _
-              (c .before .before .before .before .before .before .before .before .before .before
-              .before
-              .before .before .pre .0),
-          c .before .before .before .before .before .before .before .before
-              .before .before .before .before .before .pre .1,
-        ),
-        c .before .before .before .before .before
-            .before .before .before .before .before .before .before .before .pre .1,
-      ),
-      (
-        c .before .before .before .before .before .before .before .before .before .before .before
-            .before .before .pre .0,
-        groups-planned grouped put
-            (c .before .before .before .before .before .before .before .before .before .before
-            .before
-            .before .before .pre .0),
-      ),
-    )
+    let measure = c .before .before .before .before .before in
+    let put = measure .before .before .before .before in
+    let group = put .before .before .before .before in
+    let start = group .before .before .before .before .before in
+    let a = start .args in
+    let grouped = group .group-blocks .ensures in
+    let groups = put .put-groups .ensures in
+    let long = measure .listing-length .ensures (a .limit)
+    (groups-planned grouped groups (start .pre .accepted)) in
+    settled-call (asksListing (a .limit)) _ _ _ _ (start .pre) _
+    (c .before .before .clear .ensures
+    ∙ cleared-same _ _ _ (groups-room grouped groups) (groups-past grouped groups)) _
+    (refused-10 _ (print (listing (a .limit) (blocksOf (a .file .now)))) refl _ (a .text .now)
+    (omega (arith, long)))
 
 returns-2 : tie.Need-returns-2
-unfolding listedOf
-returns-2 c = let grouped =
-    c .before .before .before .before .before .before .before .before .before .before .before
-    .before .before .group-blocks .ensures in
-    let put =
-    c .before .before .before .before .before .before .before .before .before .put-groups
-    .ensures in
-    refused-10 (madeListing partLimit) _
-    (c .before .before .before .before .before .before .before .before .before .before .before
-    .before .before .before .before .before .before .before .before .pre .0) _
-    (c .before .before .before .before .before .before .before .before .before .before .before
-    .before .before .before .before .before .before .before .before .pre .1) _ _ _ refl
-    (omega arith) _
-    (c .before .before .clear .ensures
-    ∙ cleared-same _ _ _ (groups-room grouped put) (groups-past grouped put))
-    (omega (arith, c .before .before .before .before .before .listing-length .ensures))
-
-put-listing-requires : tie.Need-put-listing-requires
-put-listing-requires c κs = let grouped =
-    c .before .before .before .before .before .before .before .before .before .before .before
-    .group-blocks .ensures in
-    let put = c .before .before .before .before .before .before .before .put-groups .ensures in (
-      (
-        omega (arith, groups-room grouped put),
-        omega (
-          arith,
-          few-blocks _ _
-              (c .before .before .before .before .before .before .before .before .before .before
-              .before
-              .before .before .before .before .before .before .pre .0),
-          c .before .before .before .before
-              .before .before .before .before .before .before .before .before .before .before
-              .before
-              .before .before .pre .1,
-        ),
-        c .before .before .before .before .before .before .before .before
-            .before .before .before .before .before .before .before .before .before .pre .1,
-      ),
-      (
-        c .before .before .before .before .before .before .before .before .before .before .before
-            .before .before .before .before .before .before .pre .0,
-        groups-planned grouped put
-            (c .before .before .before .before .before .before .before .before .before .before
-            .before
-            .before .before .before .before .before .before .pre .0),
-      ),
-    )
-
-returns-3 : tie.Need-returns-3
-unfolding listedOf
-returns-3 c = let grouped =
-    c .before .before .before .before .before .before .before .before .before .before .before
-    .before .before .before .before .before .before .before .group-blocks .ensures in
-    let put =
-    c .before .before .before .before .before .before .before .before .before .before .before
-    .before .before .before .put-groups .ensures in
-    let long =
-    c .before .before .before .before .before .before .before .before .before .before
-    .listing-length .ensures in
-    let fits : length
-    (print (listing partLimit
-    (blocksOf
-    (c .before .before .before .before .before .before .before .before .before .before .before
-    .before .before .before .before .before .before .before .before .before .before .before
-    .before .before .args .file .now))))
-    ≤ length
-    (c .before .before .before .before .before .before .before .before .before .before .before
-    .before .before .before .before .before .before .before .before .before .before .before
-    .before .before .args .out .now) = omega (arith, long) in
-    handed-over (madeListing partLimit) _
-    (c .before .before .before .before .before .before .before .before .before .before .before
-    .before .before .before .before .before .before .before .before .before .before .before
-    .before .before .pre .0) _
-    (c .before .before .before .before .before .before .before .before .before .before .before
-    .before .before .before .before .before .before .before .before .before .before .before
-    .before .before .pre .1) _ _ _ refl (omega arith) _
+unfolding listingAnswer
+returns-2 c =
+    let write = c .before .before .before .before .before .before in
+    let measure = write .before .before .before .before in
+    let put = measure .before .before .before .before in
+    let group = put .before .before .before .before in
+    let start = group .before .before .before .before .before in
+    let a = start .args in
+    let content = print (listing (a .limit) (blocksOf (a .file .now))) in
+    let grouped = group .group-blocks .ensures in
+    let groups = put .put-groups .ensures in
+    let planned = groups-planned grouped groups (start .pre .accepted) in
+    let long = measure .listing-length .ensures (a .limit) planned in
+    let fits : length content ≤ length (a .text .now) = omega (arith, long) in
+    settled-call (asksListing (a .limit)) _ _ _ _ (start .pre) _
     (c .before .before .clear2 .ensures
-    ∙ cleared-same _ _ _ (groups-room grouped put) (groups-past grouped put)) _ _ long fits
-    (whole (c .before .before .before .before .before .before .put-listing .ensures) fits .0)
+    ∙ cleared-same _ _ _ (groups-room grouped groups) (groups-past grouped groups)) _
+    (handed-over _ content refl _ (a .text .now) _ _ long fits
+    (whole (write .put-listing .ensures (a .limit) planned) fits .0))
 
 pub list-blocks-spec : {M : Type 1} → statement M
 list-blocks-spec =
     tie.close
-    (tie.spec (search needs) returns group-blocks-requires put-groups-requires
-    listing-length-requires (search needs)
-    (search needs) (search needs) returns-2 put-listing-requires (search needs) (search needs)
-    (search needs)
-    (search needs) returns-3)
+    (tie.spec (search needs) (search needs) (λ c κs. search needs) (search needs) (search needs)
+    (search needs) returns (λ c κs. search needs) (search needs) (search needs) (search needs)
+    (search needs) returns-2)

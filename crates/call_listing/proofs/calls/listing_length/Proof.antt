@@ -1,30 +1,28 @@
 -- A text that is written to no bytes is measured, and a listing is short enough for its length to
 -- be exact. Assumes nothing.
 use Prim.Native.Nat.{ℕ, _<_, _≤_}
-use Rattle.file_blocks.proofs.Accepted.{length-of}
-use Rattle.call_listing.proofs.Lengths.{listing-short}
-use Rattle.call_listing.proofs.calls.listing_length.Statement.{statement}
-use Rattle.call_listing.proofs.calls.listing_length.Tie as tie
-use Rattle.plan_groups.specs.Calls.{partLimit}
+use mathlib.Core.Path.{sym, subst}
+use native.Mathlib.Omega.{arith}
+use borrow.Author.Needs.{needs}
 use Rattle.file_blocks.specs.Parse.{blocksOf}
 use Rattle.base_text.proofs.Laws.{exact, counted}
 use Rattle.base_text.specs.Wrote.{maxUsize}
-use borrow.Author.Needs.{needs}
-use mathlib.Core.Path.{sym, _∙_, subst}
-use native.Mathlib.Omega.{arith}
+use Rattle.call_frame.proofs.Opening.{block-number}
+use Rattle.call_listing.proofs.Lengths.{listing-short}
+use Rattle.call_listing.proofs.calls.listing_length.Statement.{statement}
+use Rattle.call_listing.proofs.calls.listing_length.Tie as tie
 
 returns : tie.Need-returns
 returns c =
-    exact (c .before .put-listing .ensures)
-    (subst (λ (k : ℕ). k < maxUsize) (sym (counted (c .before .put-listing .ensures)))
+    let start = c .before .before .before .before .before in
+    λ limit groups.
+    let wrote = c .before .put-listing .ensures limit groups in
+    exact wrote
+    (subst (λ (k : ℕ). k < maxUsize) (sym (counted wrote))
     (omega (
       arith,
-      listing-short partLimit
-          (blocksOf (c .before .before .before .before .before .args .file .now))
-          (subst (λ (k : ℕ). k ≤ 65536)
-          (c .before .before .before .before .before .pre .0 .2
-          ∙ sym (length-of _ _ (c .before .before .before .before .before .pre .1 .0)))
-          (c .before .before .before .before .before .pre .0 .1)),
+      listing-short limit (blocksOf (start .args .file .now))
+          (subst (λ (k : ℕ). k ≤ 65536) (block-number _ _ _ _ _ (start .pre)) (start .pre .few)),
     )))
 
 pub listing-length-spec : {M : Type 1} → statement M

@@ -11,7 +11,7 @@ use Rattle.plan_groups.specs.Plan.{plan}
 use Rattle.plan_groups.proofs.PlanLength.{plan-length}
 use Rattle.call_frame.proofs.Opening.{block-number, settled-call}
 use Rattle.call_frame.proofs.Settling.{cleared-same, refused-10, handed-over}
-use Rattle.call_plan.specs.Calls.{planAnswer, planning}
+use Rattle.call_plan.specs.Calls.{planAnswer, asksPlan}
 use Rattle.call_plan.proofs.calls.plan_blocks.Statement.{statement}
 use Rattle.call_plan.proofs.calls.plan_blocks.Tie as tie
 
@@ -21,7 +21,7 @@ returns c =
     let start = c .before .before .before .before .before .before .before .before in
     let a = start .args in
     let size = block-number _ _ _ _ _ (start .pre) in
-    settled-call (planning (a .limit)) _ _ _ _ (start .pre) _ (c .before .before .clear .ensures) _
+    settled-call (asksPlan (a .limit)) _ _ _ _ (start .pre) _ (c .before .before .clear .ensures) _
     (refused-10 _ (plan (a .limit) (blocksOf (a .file .now))) refl _ (a .plan .now)
     (omega (arith, plan-length (blocksOf (a .file .now)) (a .limit), size)))
 
@@ -34,11 +34,12 @@ returns-2 c =
     let a = start .args in
     let size = block-number _ _ _ _ _ (start .pre) in
     let grouped = group .group-blocks .ensures in
-    let long = plan-length (blocksOf (a .file .now)) (a .limit) ∙ ap (λ (n : ℕ). 2 * n) (sym size) in
+    let long =
+    plan-length (blocksOf (a .file .now)) (a .limit) ∙ ap (λ (n : ℕ). 2 * n) (sym size) in
     let rows = put .put-rows .ensures
     ∙ ap₂ (λ (l : List ℕ) (k : ℕ). l ++ drop k (a .plan .now))
     (grouped .rows (start .pre .accepted)) (sym long) in
-    settled-call (planning (a .limit)) _ _ _ _ (start .pre) _
+    settled-call (asksPlan (a .limit)) _ _ _ _ (start .pre) _
     (c .before .before .clear2 .ensures ∙ cleared-same _ _ _ (grouped .same) (grouped .after)) _
     (handed-over _ (plan (a .limit) (blocksOf (a .file .now))) refl _ (a .plan .now) _ _ size
     (omega (arith, long)) rows)

@@ -3,7 +3,7 @@
 use mathlib.Core.List.{[], _∷_}
 use borrow.Author.Needs.{needs}
 use Rattle.call_frame.proofs.Opening.{is-open, refused-call}
-use Rattle.call_plan.specs.Calls.{planAnswer, planning}
+use Rattle.call_plan.specs.Calls.{planAnswer, asksPlan}
 use Rattle.call_plan.proofs.calls.plan_of.Statement.{statement}
 use Rattle.call_plan.proofs.calls.plan_of.Tie as tie
 
@@ -15,7 +15,7 @@ plan-blocks-requires c κs =
 returns-2 : tie.Need-returns-2
 unfolding planAnswer
 returns-2 c =
-    refused-call (planning _) _ (_ ∷ []) _ _ (c .before .before .before .open-file .ensures) _ _
+    refused-call (asksPlan _) _ (_ ∷ []) _ _ (c .before .before .before .open-file .ensures) _ _
     (c .before .number .given .1)
 
 pub plan-of-spec : {M : Type 1} → statement M

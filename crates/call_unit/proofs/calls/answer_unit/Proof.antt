@@ -6,11 +6,9 @@ use lib.ListN.{length}
 use mathlib.Core.Path.{subst}
 use native.Mathlib.Omega.{arith}
 use Rattle.file_blocks.proofs.Accepted.{few-blocks}
-use Rattle.lower_units.specs.Units.{textOf}
-use Rattle.plan_members.proofs.Places.{start-inside}
-use Rattle.plan_groups.specs.Calls.{partLimit}
 use Rattle.base_text.proofs.Laws.{whole}
-use Rattle.call_unit.specs.Calls.{translatedOf}
+use Rattle.plan_members.proofs.Places.{start-inside}
+use Rattle.lower_units.specs.Units.{textOf}
 use Rattle.emit_units.specs.Units.{IsUnit, IsFoundUnit}
 use Rattle.call_unit.proofs.Answers.{unit-none, unit-long, unit-made}
 use Rattle.call_unit.proofs.calls.answer_unit.Statement.{statement}
@@ -20,73 +18,67 @@ find-unit-requires : tie.Need-find-unit-requires
 find-unit-requires c κs =
     let ready = c .before .before .before .pre in (
       (ready .room, omega (arith, few-blocks _ _ (ready .accepted), ready .all), ready .all),
-      ready
-          .accepted,
+      ready .accepted,
     )
 
 returns : tie.Need-returns
-unfolding IsFoundUnit translatedOf
-returns c = λ w.
-    let a = c .before .before .before .before .before .before .args in
+unfolding IsFoundUnit
+returns c =
+    let start = c .before .before .before .before .before .before in
+    let a = start .args in
     let f = a .file .now in
-    unit-none f partLimit (a .max) (a .k) w _
-    (subst (IsFoundUnit f partLimit (a .max) (a .k)) (c .enum-told .given .1)
-    (c .before .before .find-unit .ensures partLimit
-    (c .before .before .before .before .before .before .pre)))
+    unit-none f (a .limit) (a .max) (a .k) _
+    (subst (IsFoundUnit f (a .limit) (a .max) (a .k)) (c .enum-told .given .1)
+    (c .before .before .find-unit .ensures (a .limit) (start .pre)))
 
 returns-2 : tie.Need-returns-2
-unfolding IsFoundUnit translatedOf
-returns-2 c = λ w.
-    let a = c .before .before .before .before .before .before .before .before .before .args in
+unfolding IsFoundUnit
+returns-2 c =
+    let known = c .before .before .before in
+    let start = known .before .before .before .before .before .before in
+    let a = start .args in
     let f = a .file .now in
-    let ready = c .before .before .before .before .before .before .before .before .before .pre in
-    let is : IsUnit f partLimit (a .max) (a .k) _ =
-    subst (IsFoundUnit f partLimit (a .max) (a .k)) (c .before .before .before .e .given .1)
-    (c .before .before .before .before .before .find-unit .ensures partLimit ready) in
-    unit-long f partLimit (a .max) (a .k) w _ is (omega arith)
+    let is : IsUnit f (a .limit) (a .max) (a .k) _ =
+    subst (IsFoundUnit f (a .limit) (a .max) (a .k)) (known .e .given .1)
+    (known .before .before .find-unit .ensures (a .limit) (start .pre)) in
+    unit-long f (a .limit) (a .max) (a .k) _ is (omega arith)
 
 write-unit-requires : tie.Need-write-unit-requires
 unfolding IsFoundUnit
 write-unit-requires c κs =
-    let a =
-    c .before .before .before .before .before .before .before .before .before .before .args in
+    let known = c .before .before .before .before in
+    let start = known .before .before .before .before .before .before in
+    let a = start .args in
     let f = a .file .now in
-    let ready =
-    c .before .before .before .before .before .before .before .before .before .before .pre in
-    let is : IsUnit f partLimit (a .max) (a .k) _ =
-    subst (IsFoundUnit f partLimit (a .max) (a .k))
-    (c .before .before .before .before .e .given .1)
-    (c .before .before .before .before .before .before .find-unit .ensures partLimit ready) in (
+    let ready = start .pre in
+    let is : IsUnit f (a .limit) (a .max) (a .k) _ =
+    subst (IsFoundUnit f (a .limit) (a .max) (a .k)) (known .e .given .1)
+    (known .before .before .find-unit .ensures (a .limit) ready) in (
       (
         (ready .room, omega (arith, few-blocks _ _ (ready .accepted), ready .all), ready .all),
-        omega
-            (arith, is .takes .end, start-inside ready (is .group + is .size)),
+        omega (arith, is .takes .end, start-inside ready (is .group + is .size)),
       ),
       ready .accepted,
     )
 
 returns-3 : tie.Need-returns-3
-unfolding IsFoundUnit translatedOf textOf
-returns-3 c = λ w.
-    let a =
-    c .before .before .before .before .before .before .before .before .before .before .before
-    .before .before .args in
+unfolding IsFoundUnit textOf
+returns-3 c =
+    let known = c .before .before .before .before .before .before .before in
+    let start = known .before .before .before .before .before .before in
+    let a = start .args in
     let f = a .file .now in
-    let ready =
-    c .before .before .before .before .before .before .before .before .before .before .before
-    .before .before .pre in
-    let is : IsUnit f partLimit (a .max) (a .k) _ =
-    subst (IsFoundUnit f partLimit (a .max) (a .k))
-    (c .before .before .before .before .before .before .before .e .given .1)
-    (c .before .before .before .before .before .before .before .before .before .find-unit
-    .ensures partLimit ready) in
-    let fits : length (textOf (is .unit .tree)) ≤ length (a .out .now) = omega (arith, is .bytes) in
-    unit-made f partLimit (a .max) (a .k) w _ is _ (omega arith)
-    (whole (c .before .before .write-unit .ensures partLimit (a .max) (a .k) ready is) fits .0)
+    let ready = start .pre in
+    let is : IsUnit f (a .limit) (a .max) (a .k) _ =
+    subst (IsFoundUnit f (a .limit) (a .max) (a .k)) (known .e .given .1)
+    (known .before .before .find-unit .ensures (a .limit) ready) in
+    let fits : length (textOf (is .unit .tree)) ≤ length (a .text .now) =
+    omega (arith, is .bytes) in
+    unit-made f (a .limit) (a .max) (a .k) _ is _ (omega arith)
+    (whole (c .before .before .write-unit .ensures (a .limit) (a .max) (a .k) ready is) fits .0)
 
 pub answer-unit-spec : {M : Type 1} → statement M
 answer-unit-spec =
     tie.close
-    (tie.spec find-unit-requires (search needs) (search needs) returns returns-2 write-unit-requires
-    (search needs)
-    returns-3)
+    (tie.spec find-unit-requires (search needs) (search needs) returns returns-2
+    write-unit-requires (search needs) returns-3)

@@ -1,3 +1,0 @@
--- The definitions that the crate's promises name.
-pub mod CheckCases
-pub mod ExitsCases

@@ -1,0 +1,2 @@
+-- The theorem that calls which write units cite.
+pub mod Claims

@@ -1,0 +1,2 @@
+-- The claims that every call which writes units carries.
+pub mod Claims

@@ -1,2 +1,0 @@
--- The definitions that the crate's promises name.
-pub mod Answer
