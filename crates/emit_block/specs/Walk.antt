@@ -1,6 +1,6 @@
--- The walk over the records of a block: what is known of the block, and what of its code is still
--- to be written.
-use Prim.Native.Nat.{ℕ, suc, _+_, _*_, _≤_}
+-- Steps: the walk over the records of a block, what is known of the block, and what of its code is
+-- still to be written.
+use Prim.Native.Nat.{ℕ, suc, _+_, _*_, _≤_, _<_}
 use mathlib.Core.Path.{_≡_}
 use mathlib.Core.Bool.{true, false, cond}
 use mathlib.Core.List.{List, [], _∷_}
@@ -12,6 +12,7 @@ use Rattle.file_instrs.specs.declared.decode.TimedInstr.{TimedInstr}
 use Rattle.file_blocks.specs.declared.read.BlockRecord.{BlockRecord}
 use Rattle.file_blocks.specs.Parse.{instrsFrom, blocksOf}
 use Rattle.file_blocks.specs.Read.{IsBlock}
+use Rattle.plan_groups.specs.Groups.{HasRoom}
 use Rattle.plan_members.specs.Members.{membersOf, keysWithin}
 use Rattle.plan_members.specs.Prepared.{HoldsPlan}
 use Rattle.c_tree.specs.Stmt.{end}
@@ -20,6 +21,7 @@ use Rattle.lower_forms.specs.Block.{emitInstrs}
 use Rattle.file_blocks.specs.Address.{region}
 use Rattle.lower_units.specs.Block.{codeFrom}
 use Rattle.emit_block.specs.declared.member.Member.{Member}
+use Rattle.emit_block.specs.declared.member.MemberBlock.{MemberBlock}
 use Rattle.emit_block.specs.declared.instrs.Next.{Next}
 use Rattle.emit_instr.specs.declared.step.Step.{Step}
 use Rattle.emit_instr.specs.Onward.{Onward}
@@ -48,15 +50,19 @@ pub record IsBody (f : List ℕ) (r : BlockRecord) (first : ℕ) (b : Body) : Ty
 pub record IsMember (f work : List ℕ) (m : Member) (ks : List ℕ) : Type 0 where
   pub limit : ℕ
   pub ready : HoldsPlan f (m .blocks) limit work
+  pub inside : m .index < m .blocks
   pub several : m .several ≡ true → 2 ≤ length (membersOf limit (blocksOf f) (m .group))
   pub keys : ks ≡ keysWithin (m .several) limit f (m .group)
 
+-- the work numbers have the row of a block
+abbrev pub HasBlock : List ℕ → List ℕ → Member → Type 0
+HasBlock f work m = HasRoom f work (m .blocks) × (m .index < m .blocks)
+
 -- a block of an accepted file, as the walk has it
-pub record IsMemberBlock (f work : List ℕ) (m : Member) (r : BlockRecord) (first : ℕ) (ks : List ℕ)
-    (b : Body) : Type 0 where
-  pub stands : IsMember f work m ks
-  pub is : IsBlock f (m .index) r first
-  pub body : IsBody f r first b
+pub record IsMemberBlock (f work : List ℕ) (m : MemberBlock) (ks : List ℕ) (b : Body) : Type 0 where
+  pub stands : IsMember f work (m .member) ks
+  pub is : IsBlock f (m .member .index) (m .block) (m .first)
+  pub body : IsBody f (m .block) (m .first) b
 
 -- what two instructions make, the second with a cost
 abbrev pub fusedNext : Fused → ℕ → Next

@@ -1,5 +1,6 @@
 // The code of a block: what stands between its head, or label, and its close.
 use crate::member::Member;
+use crate::member::MemberBlock;
 use crate::region::region_of;
 use crate::walk::emit_records;
 use base_hash::hash;
@@ -14,7 +15,7 @@ use plan_members::first_of;
 ghost use mathlib.Core.Path.{_≡_};
 ghost use mathlib.Core.Bool.{cond};
 ghost use mathlib.Core.List.{List, map};
-ghost use Prim.Native.Nat.{ℕ, _<_};
+ghost use Prim.Native.Nat.{ℕ};
 ghost use lib.ListN.{getD};
 ghost use Rattle.file_blocks.specs.Read.{codeBytes};
 ghost use Rattle.file_records.specs.BlockRecord.{lengthOf};
@@ -27,8 +28,7 @@ ghost use Rattle.file_blocks.specs.Address.{outsideRomBios};
 ghost use Rattle.lower_units.specs.Block.{blockCode};
 ghost use Rattle.lower_units.specs.Units.{defaultBody};
 ghost use Rattle.lower_units.specs.Measured.{hashedIf};
-ghost use Rattle.emit_block.specs.Walk.{IsMember};
-ghost use Rattle.plan_groups.specs.Groups.{HasRoom};
+ghost use Rattle.emit_block.specs.Walk.{IsMember, HasBlock};
 
 // The multiplier of the guards' hash.
 const MULTIPLIER: u64 = 4294967731;
@@ -74,7 +74,7 @@ pub fn emit_block(
     m: Member,
     hashing: bool,
 ) -> usize
-    requires { ⌜ HasRoom (now file) (now work) (m .blocks) × (m .index < m .blocks) ⌝ }
+    requires { ⌜ HasBlock (now file) (now work) m ⌝ }
     ensures { λ r. ⌜
         ((ks : List ℕ) → IsMember (now (file .entry)) (now (work .entry)) m ks
         → Wrote (now (out .entry)) at
@@ -88,14 +88,18 @@ pub fn emit_block(
     let FoundBlock::At(block) = block_at(file, m.index) else {
         return at;
     };
-    let first = first_of(work, m.blocks, m.index);
+    let b = MemberBlock {
+        member: m,
+        block,
+        first: first_of(work, m.blocks, m.index),
+    };
     if !is_guarded(block.addr) {
-        return emit_records(out, at, file, work, m, block, first);
+        return emit_records(out, at, file, work, b);
     }
     if !block.present {
         return emit_defer(out, at, block.addr);
     }
     let h = guard_hash(file, block, hashing);
     let p = emit_guard(out, at, block.addr, length_of(block), h);
-    emit_records(out, p, file, work, m, block, first)
+    emit_records(out, p, file, work, b)
 }

@@ -1,11 +1,11 @@
 // Where a block stands in the plan, and whether a transfer from it stays in its group.
+use file_blocks::BlockRecord;
 use plan_members::in_group;
 ghost use mathlib.Core.Path.{_≡_};
 ghost use mathlib.Core.List.{List};
-ghost use Prim.Native.Nat.{ℕ, _<_};
+ghost use Prim.Native.Nat.{ℕ};
 ghost use Rattle.base_lists.specs.Lists.{among};
-ghost use Rattle.emit_block.specs.Walk.{IsMember};
-ghost use Rattle.plan_groups.specs.Groups.{HasRoom};
+ghost use Rattle.emit_block.specs.Walk.{IsMember, HasBlock};
 
 // A block, as it stands in the plan.
 pub struct Member {
@@ -19,9 +19,17 @@ pub struct Member {
     pub several: bool,
 }
 
+// A block of a group that was found, as the walk over its records has it.
+pub(crate) struct MemberBlock {
+    pub member: Member,
+    pub block: BlockRecord,
+    // The number of its first instruction.
+    pub first: usize,
+}
+
 // Whether a transfer to a key is a goto. A lone block has none.
 pub(crate) fn is_inside(file: &[u8], work: &[u32], m: Member, key: u32) -> bool
-    requires { ⌜ HasRoom (now file) (now work) (m .blocks) × (m .index < m .blocks) ⌝ }
+    requires { ⌜ HasBlock (now file) (now work) m ⌝ }
     ensures { λ r. ⌜
         ((ks : List ℕ) → IsMember (now (file .entry)) (now (work .entry)) m ks → among key ks ≡ r)
         ⌝ }

@@ -1,5 +1,5 @@
--- Steps: parts of a tree's text that no tree prints alone, which stand before and after what another
--- function writes.
+-- Steps: parts of a tree's text that no tree prints alone, which stand before and after what
+-- another function writes.
 use Prim.Native.Nat.{ℕ}
 use mathlib.Core.Bool.{Bool, true, cond}
 use Rattle.base_text.specs.Doc.{Doc, text, _▸_}

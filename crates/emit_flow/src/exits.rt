@@ -1,4 +1,5 @@
 // Branches, fused pairs, and the closing transfer.
+use crate::flow::Exit;
 use crate::flow::set_lr;
 use crate::flow::set_pc;
 use crate::flow::transfer;
@@ -41,28 +42,19 @@ fn put_taken(out: &mut [u8], at: usize, link: bool, ret: u32, target: u32) -> us
 }
 
 // A conditional branch, after its condition.
-pub fn branch_taken(
-    out: &mut [u8],
-    at: usize,
-    link: bool,
-    ret: u32,
-    target: u32,
-    inside: bool,
-    src: u32,
-    key: u32,
-) -> usize
+pub fn branch_taken(out: &mut [u8], at: usize, link: bool, ret: u32, target: u32, e: Exit) -> usize
     ensures { λ r. ⌜
-        ((ks : List ℕ) (o : Owner) → among key ks ≡ inside
+        ((ks : List ℕ) (o : Owner) → among (e .key) ks ≡ e .inside
         → Wrote (now (out .entry)) at
         (afterCondition
         ▸ codeText
         (sp 1 ⨾ line o (branchRegs link ret target)
-        (nl ⨾ Block·transfer ks src o 8 key (sp 6 ⨾ end))) ▸ afterConditional) (now (out .exit))
-        r)
+        (nl ⨾ Block·transfer ks (e .src) o 8 (e .key) (sp 6 ⨾ end))) ▸ afterConditional)
+        (now (out .exit)) r)
         ⌝ }
 {
     let p = put_taken(out, at, link, ret, target);
-    let q = transfer(out, p, inside, src, key, true);
+    let q = transfer(out, p, e, true);
     base_text::put(out, q, b"      } }\n")
 }
 
@@ -84,23 +76,21 @@ pub fn branch_always(
     link: bool,
     ret: u32,
     target: u32,
-    inside: bool,
-    src: u32,
-    key: u32,
+    e: Exit,
 ) -> usize
     ensures { λ r. ⌜
-        ((ks : List ℕ) (o : Owner) (c : Code) → among key ks ≡ inside
+        ((ks : List ℕ) (o : Owner) (c : Code) → among (e .key) ks ≡ e .inside
         → Wrote (now (out .entry)) at
         (codeText
-        (nativeText ks src o
-        (jump (flushTicks cycles ++ eachOnLine (branchRegs link ret target)) key) c))
+        (nativeText ks (e .src) o
+        (jump (flushTicks cycles ++ eachOnLine (branchRegs link ret target)) (e .key)) c))
         (now (out .exit)) r)
         ⌝ }
 {
     let p = flush_ticks(out, at, cycles);
     let q = set_link(out, p, link, ret);
     let s = set_pc(out, q, target);
-    transfer(out, s, inside, src, key, false)
+    transfer(out, s, e, false)
 }
 
 // A fused pair; inside is for the key of its target.
@@ -122,27 +112,24 @@ pub fn emit_pair(
     let p = flush_ticks(out, at, cycles);
     let q = set_lr(out, p, ret);
     let s = set_pc(out, q, clear_bit0(target));
-    transfer(out, s, inside, src, set_bit0(target), false)
+    let e = Exit {
+        src,
+        key: set_bit0(target),
+        inside,
+    };
+    transfer(out, s, e, false)
 }
 
-// The end of a block that goes on at address next, whose key is given too.
-pub fn emit_closing(
-    out: &mut [u8],
-    at: usize,
-    cycles: u64,
-    next: u32,
-    inside: bool,
-    src: u32,
-    key: u32,
-) -> usize
+// The end of a block that goes on at address next, whose key the exit has.
+pub fn emit_closing(out: &mut [u8], at: usize, cycles: u64, next: u32, e: Exit) -> usize
     ensures { λ r. ⌜
-        ((ks : List ℕ) → among key ks ≡ inside
+        ((ks : List ℕ) → among (e .key) ks ≡ e .inside
         → Wrote (now (out .entry)) at
-        (codeText (exitCode ks src common (flushTicks cycles ++ pcLine next) key))
+        (codeText (exitCode ks (e .src) common (flushTicks cycles ++ pcLine next) (e .key)))
         (now (out .exit)) r)
         ⌝ }
 {
     let p = flush_ticks(out, at, cycles);
     let q = set_pc(out, p, next);
-    transfer(out, q, inside, src, key, false)
+    transfer(out, q, e, false)
 }

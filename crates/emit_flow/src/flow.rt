@@ -85,23 +85,32 @@ fn put_return(out: &mut [u8], at: usize, key: u32, deep: bool) -> usize
     base_text::put(out, q, b"u;\n")
 }
 
-// From the block at src to a key: a goto within the group, gated if it does not go up, or else a
-// return.
-pub fn transfer(out: &mut [u8], at: usize, inside: bool, src: u32, key: u32, deep: bool) -> usize
+// Where a block goes.
+pub struct Exit {
+    // The address of the block.
+    pub src: u32,
+    // The key that it goes to.
+    pub key: u32,
+    // Whether that is the key of a block of the same group.
+    pub inside: bool,
+}
+
+// The transfer at an exit: a goto within the group, gated if it does not go up, or else a return.
+pub(crate) fn transfer(out: &mut [u8], at: usize, e: Exit, deep: bool) -> usize
     ensures { λ r. ⌜
-        ((ks : List ℕ) (o : Owner) → among key ks ≡ inside
-        → Wrote (now (out .entry)) at (codeText (transfer ks src o (indent deep) key end))
-        (now (out .exit)) r)
+        ((ks : List ℕ) (o : Owner) → among (e .key) ks ≡ e .inside
+        → Wrote (now (out .entry)) at
+        (codeText (transfer ks (e .src) o (indent deep) (e .key) end)) (now (out .exit)) r)
         ⌝ }
 {
-    if !inside {
-        return put_return(out, at, key, deep);
+    if !e.inside {
+        return put_return(out, at, e.key, deep);
     }
-    let to = clear_bit0(key);
-    if to <= src {
-        let p = put_gate(out, at, key, deep);
-        put_goto(out, p, key, deep)
+    let to = clear_bit0(e.key);
+    if to <= e.src {
+        let p = put_gate(out, at, e.key, deep);
+        put_goto(out, p, e.key, deep)
     } else {
-        put_goto(out, at, key, deep)
+        put_goto(out, at, e.key, deep)
     }
 }

@@ -16,7 +16,7 @@ pub use exits::branch_always;
 pub use exits::branch_taken;
 pub use exits::emit_closing;
 pub use exits::emit_pair;
-pub use flow::transfer;
+pub use flow::Exit;
 pub use guards::emit_defer;
 pub use guards::emit_guard;
 pub use keys::put_label;

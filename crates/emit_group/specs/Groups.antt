@@ -1,4 +1,4 @@
--- The text of a group of a file, by the numbers of its blocks.
+-- Steps: the text of a group of a file, by the numbers of its blocks.
 use Prim.Native.Nat.{ℕ}
 use mathlib.Core.Bool.{Bool}
 use mathlib.Core.List.{List, map}

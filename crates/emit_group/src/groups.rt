@@ -2,6 +2,7 @@
 use emit_block::Member;
 use emit_block::emit_block;
 use emit_flow::put_label;
+use emit_tables::Rows;
 use emit_tables::put_block_head;
 use emit_tables::put_cases;
 use emit_tables::put_forwarders;
@@ -14,77 +15,80 @@ use plan_members::row_block;
 use plan_members::row_group;
 ghost use mathlib.Core.Path.{_≡_};
 ghost use mathlib.Core.Bool.{true};
-ghost use Prim.Native.Nat.{ℕ, _+_, _≤_, _<_};
+ghost use mathlib.Core.List.{List};
+ghost use Prim.Native.Nat.{ℕ, _+_, _*_, _≤_, _<_};
 ghost use lib.ListN.{length, getD};
 ghost use Rattle.base_text.specs.Wrote.{Wrote};
 ghost use Rattle.file_blocks.specs.Parse.{blocksOf};
-ghost use Rattle.plan_groups.specs.Plan.{groups};
-ghost use Rattle.plan_members.specs.Members.{membersOf, startOf, groupKeys, keysWithin};
-ghost use Rattle.plan_members.specs.Prepared.{HoldsPlan};
-ghost use Rattle.emit_tables.specs.Tables.{IsGroup};
+ghost use Rattle.plan_members.specs.Members.{membersOf, groupKeys, keysWithin};
+ghost use Rattle.emit_block.specs.Walk.{IsMember};
+ghost use Rattle.emit_tables.specs.Tables.{HasRows, IsGroup, IsRow};
 ghost use Rattle.emit_group.specs.Groups.{memberText, labelledText, membersText, groupText};
 ghost use Rattle.plan_groups.specs.Groups.{HasRoom};
 
-// The code of the block in row p.
-fn put_code(
-    out: &mut [u8],
-    at: usize,
-    file: &[u8],
-    work: &[u32],
-    n: usize,
-    p: usize,
-    several: bool,
-    hashing: bool,
-) -> usize
-    requires { ⌜ HasRoom (now file) (now work) n × (p < n) ⌝ }
-    ensures { λ r. ⌜
-        ((limit g k : ℕ) → HoldsPlan (now (file .entry)) n limit (now (work .entry))
-        → p ≡ startOf (groups limit (blocksOf (now (file .entry)))) g + k
-        → k < length (membersOf limit (blocksOf (now (file .entry))) g)
-        → (several ≡ true → 2 ≤ length (membersOf limit (blocksOf (now (file .entry))) g))
-        → Wrote (now (out .entry)) at
-        (memberText hashing (now (file .entry)) (keysWithin several limit (now (file .entry)) g)
-        (getD (membersOf limit (blocksOf (now (file .entry))) g) k 0)) (now (out .exit)) r)
+// The block in row p of a plan of n blocks; several: its group has others.
+fn member_at(work: &[u32], n: usize, p: usize, several: bool) -> Member
+    requires { ⌜ (4 * n ≤ length (now work)) × (n ≤ 65536) × (p < n) ⌝ }
+    ensures blocks { λ r. ⌜ r .blocks ≡ n ⌝ }
+    ensures number { λ r. ⌜
+        ((f : List ℕ) (limit g k : ℕ) → IsRow f n limit (now (work .entry)) g k p
+        → r .index ≡ getD (membersOf limit (blocksOf f) g) k 0)
+        ⌝ }
+    ensures stands { λ r. ⌜
+        ((f : List ℕ) (limit g k : ℕ) → IsRow f n limit (now (work .entry)) g k p
+        → (several ≡ true → 2 ≤ length (membersOf limit (blocksOf f) g))
+        → IsMember f (now (work .entry)) r (keysWithin several limit f g))
         ⌝ }
 {
-    let index = row_block(work, p);
-    if index < n {
-        let m = Member {
-            blocks: n,
-            index,
-            group: row_group(work, n, p),
-            several,
-        };
+    Member {
+        blocks: n,
+        index: row_block(work, p),
+        group: row_group(work, n, p),
+        several,
+    }
+}
+
+// The code of a block.
+fn put_code(out: &mut [u8], at: usize, file: &[u8], work: &[u32], m: Member, hashing: bool) -> usize
+    requires { ⌜ HasRoom (now file) (now work) (m .blocks) ⌝ }
+    ensures { λ r. ⌜
+        ((ks : List ℕ) → IsMember (now (file .entry)) (now (work .entry)) m ks
+        → Wrote (now (out .entry)) at (memberText hashing (now (file .entry)) ks (m .index))
+        (now (out .exit)) r)
+        ⌝ }
+{
+    if m.index < m.blocks {
         emit_block(out, at, file, work, m, hashing)
     } else {
         at
     }
 }
 
-// The function of the lone block in row p.
+// The function of the lone block of a group, which has one row.
 fn put_lone(
     out: &mut [u8],
     at: usize,
     file: &[u8],
     work: &[u32],
-    n: usize,
-    p: usize,
+    rows: Rows,
     hashing: bool,
 ) -> usize
-    requires { ⌜ HasRoom (now file) (now work) n × (p < n) ⌝ }
+    requires { ⌜ HasRows (now file) (now work) rows ⌝ }
     ensures { λ r. ⌜
-        ((limit g : ℕ) → IsGroup (now (file .entry)) n limit (now (work .entry)) g p (p + 1)
+        ((limit g : ℕ) → IsGroup (now (file .entry)) limit (now (work .entry)) g rows
+        → rows .end ≡ rows .first + 1
         → Wrote (now (out .entry)) at
         (groupText hashing (now (file .entry))
         (membersOf limit (blocksOf (now (file .entry))) g)) (now (out .exit)) r)
         ⌝ }
 {
-    let a = put_block_head(out, at, row_key(file, work, p));
-    let b = put_code(out, a, file, work, n, p, false, hashing);
+    let a = put_block_head(out, at, row_key(file, work, rows.first));
+    let m = member_at(work, rows.blocks, rows.first, false);
+    let b = put_code(out, a, file, work, m, hashing);
     put_function_end(out, b)
 }
 
-// The label and the code of the block in row p, one of several in its group.
+// The label and the code of the block in row p of a plan of n blocks, one of several in its group.
 fn put_member(
     out: &mut [u8],
     at: usize,
@@ -96,9 +100,7 @@ fn put_member(
 ) -> usize
     requires { ⌜ HasRoom (now file) (now work) n × (p < n) ⌝ }
     ensures { λ r. ⌜
-        ((limit g k : ℕ) → HoldsPlan (now (file .entry)) n limit (now (work .entry))
-        → p ≡ startOf (groups limit (blocksOf (now (file .entry)))) g + k
-        → k < length (membersOf limit (blocksOf (now (file .entry))) g)
+        ((limit g k : ℕ) → IsRow (now (file .entry)) n limit (now (work .entry)) g k p
         → 2 ≤ length (membersOf limit (blocksOf (now (file .entry))) g)
         → Wrote (now (out .entry)) at
         (labelledText hashing (now (file .entry)) (groupKeys limit (now (file .entry)) g)
@@ -106,91 +108,85 @@ fn put_member(
         ⌝ }
 {
     let a = put_label(out, at, row_key(file, work, p));
-    let b = put_code(out, a, file, work, n, p, true, hashing);
+    let m = member_at(work, n, p, true);
+    let b = put_code(out, a, file, work, m, hashing);
     put_member_end(out, b)
 }
 
-// The labels and the code of the group of several in the rows from p to the one before end.
+// The labels and the code of the group of several in some rows.
 fn put_members(
     out: &mut [u8],
     at: usize,
     file: &[u8],
     work: &[u32],
-    n: usize,
-    p: usize,
-    end: usize,
+    rows: Rows,
     hashing: bool,
 ) -> usize
-    requires { ⌜ HasRoom (now file) (now work) n × (p < end) × (end ≤ n) ⌝ }
+    requires { ⌜ HasRows (now file) (now work) rows ⌝ }
     ensures { λ r. ⌜
-        ((limit g : ℕ) → IsGroup (now (file .entry)) n limit (now (work .entry)) g p end
+        ((limit g : ℕ) → IsGroup (now (file .entry)) limit (now (work .entry)) g rows
         → 2 ≤ length (membersOf limit (blocksOf (now (file .entry))) g)
         → Wrote (now (out .entry)) at
         (membersText hashing (now (file .entry)) (groupKeys limit (now (file .entry)) g)
         (membersOf limit (blocksOf (now (file .entry))) g)) (now (out .exit)) r)
         ⌝ }
 {
-    let size = end - p;
+    let size = rows.end - rows.first;
     let mut q = at;
     let mut k = 0;
     while k < size {
-        q = put_member(out, q, file, work, n, p + k, hashing);
+        q = put_member(out, q, file, work, rows.blocks, rows.first + k, hashing);
         k += 1;
     }
     q
 }
 
-// The functions of the group of several in the rows from p to the one before end.
+// The functions of the group of several in some rows.
 fn put_several(
     out: &mut [u8],
     at: usize,
     file: &[u8],
     work: &[u32],
-    n: usize,
-    p: usize,
-    end: usize,
+    rows: Rows,
     hashing: bool,
 ) -> usize
-    requires { ⌜ HasRoom (now file) (now work) n × (p < end) × (end ≤ n) ⌝ }
+    requires { ⌜ HasRows (now file) (now work) rows ⌝ }
     ensures { λ r. ⌜
-        ((limit g : ℕ) → IsGroup (now (file .entry)) n limit (now (work .entry)) g p end
+        ((limit g : ℕ) → IsGroup (now (file .entry)) limit (now (work .entry)) g rows
         → 2 ≤ length (membersOf limit (blocksOf (now (file .entry))) g)
         → Wrote (now (out .entry)) at
         (groupText hashing (now (file .entry))
         (membersOf limit (blocksOf (now (file .entry))) g)) (now (out .exit)) r)
         ⌝ }
 {
-    let a = put_group_head(out, at, row_key(file, work, p));
-    let b = put_cases(out, a, file, work, n, p, end);
+    let a = put_group_head(out, at, row_key(file, work, rows.first));
+    let b = put_cases(out, a, file, work, rows);
     let c = put_switch_end(out, b);
-    let d = put_members(out, c, file, work, n, p, end, hashing);
+    let d = put_members(out, c, file, work, rows, hashing);
     let e = put_function_end(out, d);
-    put_forwarders(out, e, file, work, n, p, end)
+    put_forwarders(out, e, file, work, rows)
 }
 
-// The functions of the group in the rows from p to the one before end, with its hashes or with 0 in
-// their place.
+// The functions of the group in some rows, with its hashes or with 0 in their place.
 pub fn emit_group(
     out: &mut [u8],
     at: usize,
     file: &[u8],
     work: &[u32],
-    n: usize,
-    p: usize,
-    end: usize,
+    rows: Rows,
     hashing: bool,
 ) -> usize
-    requires { ⌜ HasRoom (now file) (now work) n × (p < end) × (end ≤ n) ⌝ }
+    requires { ⌜ HasRows (now file) (now work) rows ⌝ }
     ensures { λ r. ⌜
-        ((limit g : ℕ) → IsGroup (now (file .entry)) n limit (now (work .entry)) g p end
+        ((limit g : ℕ) → IsGroup (now (file .entry)) limit (now (work .entry)) g rows
         → Wrote (now (out .entry)) at
         (groupText hashing (now (file .entry))
         (membersOf limit (blocksOf (now (file .entry))) g)) (now (out .exit)) r)
         ⌝ }
 {
-    if end - p == 1 {
-        put_lone(out, at, file, work, n, p, hashing)
+    if rows.end - rows.first == 1 {
+        put_lone(out, at, file, work, rows, hashing)
     } else {
-        put_several(out, at, file, work, n, p, end, hashing)
+        put_several(out, at, file, work, rows, hashing)
     }
 }

@@ -41,17 +41,11 @@ pub finish : {o o′ : List ℕ} {at r : ℕ} {c : Code} → Onward o at c end o
     → Wrote o at (codeText c) o′ r
 finish v = wrote-as (v .wrote) (sym (v .text _))
 
--- codes of the same text
+-- a code of the same text
 pub same-from : {o o′ : List ℕ} {at r : ℕ} {b c : Code} (a : Code)
     → ((k : List ℕ) → flat (codeText a) k ≡ flat (codeText b) k)
     → Onward o at b c o′ r → Onward o at a c o′ r
 same-from a e v = record { doc = v .doc; wrote = v .wrote; text = λ k. e k ∙ v .text k }
-
-pub same-to : {o o′ : List ℕ} {at r : ℕ} {a b : Code} (c : Code)
-    → ((k : List ℕ) → flat (codeText b) k ≡ flat (codeText c) k)
-    → Onward o at a b o′ r → Onward o at a c o′ r
-same-to c e v =
-    record { doc = v .doc; wrote = v .wrote; text = λ k. v .text k ∙ ap (flat (v .doc)) (e k) }
 
 -- the buffer keeps its length, and the index is a `usize`
 pub kept : {o o′ : List ℕ} {at r : ℕ} {a b : Code} → Onward o at a b o′ r → length o′ ≡ length o

@@ -1,5 +1,5 @@
--- What was written of a block's text, between the code that was to be written before and the code
--- that still is.
+-- Steps: what was written of a block's text, between the code that was to be written before and the
+-- code that still is.
 use mathlib.Core.Path.{_≡_}
 use Prim.Native.Nat.{ℕ}
 use mathlib.Core.List.{List}

@@ -1,5 +1,5 @@
--- What the contract of a function says that writes one form of a block: the text, the cycles
--- pending after it, and what it asks of a branch's target.
+-- Steps: what the contract of a function says that writes one form of a block (the text, the cycles
+-- pending after it), and what it asks of a branch's target.
 use mathlib.Core.Path.{_≡_}
 use Prim.Native.Nat.{ℕ, _+_}
 use mathlib.Core.Bool.{Bool, true, false, cond}

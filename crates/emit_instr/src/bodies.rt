@@ -24,7 +24,7 @@ ghost use Rattle.lower_units.specs.Lines.{linesText};
 ghost use Rattle.emit_operands.specs.Operands.{isSome};
 
 // Whether an instruction is lowered to lines, or left to the interpreter.
-pub fn is_inlined(thumb: bool, i: Instr) -> bool
+pub(crate) fn is_inlined(thumb: bool, i: Instr) -> bool
     ensures { λ r. ⌜ r ≡ isSome (inlineBody thumb i) ⌝ }
 {
     let op = i.op;
@@ -45,7 +45,7 @@ pub fn is_inlined(thumb: bool, i: Instr) -> bool
 }
 
 // The lines of an instruction that has such.
-pub fn put_body(out: &mut [u8], at: usize, thumb: bool, i: Instr) -> usize
+pub(crate) fn put_body(out: &mut [u8], at: usize, thumb: bool, i: Instr) -> usize
     ensures { λ r. ⌜
         ((body : Lines) → inlineBody thumb i ≡ some body
         → Wrote (now (out .entry)) at (linesText 8 body) (now (out .exit)) r)

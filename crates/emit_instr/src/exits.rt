@@ -2,6 +2,7 @@
 use crate::step::Step;
 use armv4t::Cond;
 use armv4t::Instr;
+use emit_flow::Exit;
 use emit_flow::branch_always;
 use emit_flow::branch_taken;
 use emit_flow::open_conditional;
@@ -9,8 +10,8 @@ use emit_mem::put_pop;
 use emit_operands::put_cond_expr;
 use emit_operands::put_reg;
 use emit_writer::flush_ticks;
-use file_blocks::key_of;
 ghost use mathlib.Core.Path.{_≡_};
+ghost use mathlib.Core.Bool.{Bool};
 ghost use mathlib.Core.List.{List};
 ghost use Prim.Native.Nat.{ℕ};
 ghost use Rattle.base_text.specs.Doc.{_▸_};
@@ -41,31 +42,27 @@ fn put_condition(out: &mut [u8], at: usize, cycles: u64, cond: Cond) -> usize
     put_cond_expr(out, q, cond)
 }
 
-// A branch; the cycles are those pending with its own. inside: the key of its target is among those
-// of its group. src: the address of its block.
+// A branch to a target whose key the exit has; the cycles are those pending with its own.
 pub(crate) fn emit_branch(
     out: &mut [u8],
     at: usize,
-    thumb: bool,
     cycles: u64,
     i: Instr,
     link: bool,
     target: u32,
-    inside: bool,
-    src: u32,
+    e: Exit,
 ) -> Step
     ensures { λ r. ⌜
-        ((ks : List ℕ) (b : Body) (j : ℕ) (fs : List Form) → among (keyOf target thumb) ks ≡ inside
-        → b .addr ≡ src
+        ((thumb : Bool) (ks : List ℕ) (b : Body) (j : ℕ) (fs : List Form)
+        → e .key ≡ keyOf target thumb → among (e .key) ks ≡ e .inside → b .addr ≡ e .src
         → FormWritten (now (out .entry)) at ks b j
         (native (emitBranch thumb cycles i link target), 0) fs (now (out .exit)) r)
         ⌝ }
 {
     let ret = std::num::wrapping_add_u32(i.addr, 4);
-    let key = key_of(target, thumb);
     let condition = i.cond;
     if condition.is_al() {
-        let p = branch_always(out, at, cycles, link, ret, target, inside, src, key);
+        let p = branch_always(out, at, cycles, link, ret, target, e);
         return Step {
             at: p,
             cycles: 0,
@@ -73,7 +70,7 @@ pub(crate) fn emit_branch(
         };
     }
     let q = put_condition(out, at, cycles, condition);
-    let s = branch_taken(out, q, link, ret, target, inside, src, key);
+    let s = branch_taken(out, q, link, ret, target, e);
     Step {
         at: s,
         cycles: 0,

@@ -4,13 +4,16 @@ use crate::exits::emit_branch;
 use crate::exits::is_native_exit;
 use crate::exits::leave_by_bx;
 use crate::exits::leave_by_pop;
+use crate::setting::Setting;
 use crate::shells::emit_half;
 use crate::step::Step;
 use crate::straight::emit_straight;
 use armv4t::Op;
+use emit_flow::Exit;
 use emit_mem::BlockTransfer;
 use emit_mem::is_pop;
 use file_blocks::TimedInstr;
+use file_blocks::key_of;
 ghost use mathlib.Core.Path.{_≡_};
 ghost use mathlib.Core.List.{List};
 ghost use Prim.Native.Nat.{ℕ, _+_, _^_, _<_};
@@ -24,8 +27,7 @@ ghost use Rattle.base_lists.specs.Lists.{isEmpty};
 fn emit_any_bx(
     out: &mut [u8],
     at: usize,
-    thumb: bool,
-    region: u32,
+    s: Setting,
     cycles: u64,
     x: TimedInstr,
     rm: u8,
@@ -34,15 +36,15 @@ fn emit_any_bx(
     ensures { λ r. ⌜
         ((ks : List ℕ) (b : Body) (j : ℕ) (fs : List Form) → last ≡ isEmpty fs
         → cycles + x .cost < 2 ^ 64
-        → FormWritten (now (out .entry)) at ks b j (emitOp thumb region cycles x (Bx rm)) fs
-        (now (out .exit)) r)
+        → FormWritten (now (out .entry)) at ks b j
+        (emitOp (s .thumb) (s .region) cycles x (Bx rm)) fs (now (out .exit)) r)
         ⌝ }
 {
     let i = x.instr;
-    if is_native_exit(region, i) {
+    if is_native_exit(s.region, i) {
         leave_by_bx(out, at, with_cost(cycles, x.cost), i, rm)
     } else {
-        emit_straight(out, at, thumb, false, cycles, x, last)
+        emit_straight(out, at, s.thumb, false, cycles, x, last)
     }
 }
 
@@ -50,8 +52,7 @@ fn emit_any_bx(
 fn emit_block_mem(
     out: &mut [u8],
     at: usize,
-    thumb: bool,
-    region: u32,
+    s: Setting,
     cycles: u64,
     x: TimedInstr,
     m: BlockTransfer,
@@ -61,7 +62,7 @@ fn emit_block_mem(
         ((ks : List ℕ) (b : Body) (j : ℕ) (fs : List Form) → last ≡ isEmpty fs
         → cycles + x .cost < 2 ^ 64
         → FormWritten (now (out .entry)) at ks b j
-        (emitOp thumb region cycles x
+        (emitOp (s .thumb) (s .region) cycles x
         (BlockMem (m .load) (m .rn) (m .rlist) (m .pre) (m .up) (m .«s_bit») (m .writeback)))
         fs (now (out .exit)) r)
         ⌝ }
@@ -69,51 +70,51 @@ fn emit_block_mem(
     let i = x.instr;
     let condition = i.cond;
     let al = condition.is_al();
-    if is_pop(region, al, m) {
-        leave_by_pop(out, at, thumb, with_cost(cycles, x.cost), m.rn, m.rlist)
+    if is_pop(s.region, al, m) {
+        leave_by_pop(out, at, s.thumb, with_cost(cycles, x.cost), m.rn, m.rlist)
     } else {
-        emit_straight(out, at, thumb, true, cycles, x, last)
+        emit_straight(out, at, s.thumb, true, cycles, x, last)
     }
 }
 
-// An instruction that is not fused. region: of its block; cycles: those pending before it; last: it
-// is the block's last; inside: the key of its target, if it is a branch, is among those of the
-// group; src: the address of its block.
+// An instruction that is not fused. cycles: those pending before it; last: it is the block's last;
+// inside: the key of its target, if it is a branch, is among those of the group.
 pub fn emit_instr(
     out: &mut [u8],
     at: usize,
-    thumb: bool,
-    region: u32,
+    s: Setting,
     cycles: u64,
     x: TimedInstr,
     last: bool,
     inside: bool,
-    src: u32,
 ) -> Step
     ensures { λ r. ⌜
-        ((ks : List ℕ) (b : Body) (j : ℕ) (fs : List Form) → last ≡ isEmpty fs → b .addr ≡ src
-        → cycles + x .cost < 2 ^ 64 → BranchInside ks thumb inside (x .instr .op)
-        → FormWritten (now (out .entry)) at ks b j (emitInstr thumb region cycles x) fs
-        (now (out .exit)) r)
+        ((ks : List ℕ) (b : Body) (j : ℕ) (fs : List Form) → last ≡ isEmpty fs
+        → b .addr ≡ s .addr → cycles + x .cost < 2 ^ 64
+        → BranchInside ks (s .thumb) inside (x .instr .op)
+        → FormWritten (now (out .entry)) at ks b j
+        (emitInstr (s .thumb) (s .region) cycles x) fs (now (out .exit)) r)
         ⌝ }
 {
     let i = x.instr;
     let op = i.op;
     match op {
-        Op::Bx { rm } => emit_any_bx(out, at, thumb, region, cycles, x, rm, last),
+        Op::Bx { rm } => emit_any_bx(out, at, s, cycles, x, rm, last),
         Op::Branch { link, target } => emit_branch(
             out,
             at,
-            thumb,
             with_cost(cycles, x.cost),
             i,
             link,
             target,
-            inside,
-            src,
+            Exit {
+                src: s.addr,
+                key: key_of(target, s.thumb),
+                inside,
+            },
         ),
-        Op::ThumbBlHigh { .. } => emit_half(out, at, thumb, cycles, i, last),
-        Op::Mem { .. } => emit_straight(out, at, thumb, true, cycles, x, last),
+        Op::ThumbBlHigh { .. } => emit_half(out, at, s.thumb, cycles, i, last),
+        Op::Mem { .. } => emit_straight(out, at, s.thumb, true, cycles, x, last),
         Op::BlockMem {
             load,
             rn,
@@ -125,8 +126,7 @@ pub fn emit_instr(
         } => emit_block_mem(
             out,
             at,
-            thumb,
-            region,
+            s,
             cycles,
             x,
             BlockTransfer {
@@ -140,6 +140,6 @@ pub fn emit_instr(
             },
             last,
         ),
-        _ => emit_straight(out, at, thumb, false, cycles, x, last),
+        _ => emit_straight(out, at, s.thumb, false, cycles, x, last),
     }
 }

@@ -4,11 +4,11 @@ mod bodies;
 mod cycles;
 mod exits;
 mod instr;
+mod setting;
 mod shells;
 mod step;
 mod straight;
 
-pub use bodies::is_inlined;
-pub use bodies::put_body;
 pub use instr::emit_instr;
+pub use setting::Setting;
 pub use step::Step;

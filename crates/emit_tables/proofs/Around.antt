@@ -47,11 +47,6 @@ member-keys multiplier bs (i ∷ is) =
     at (c ∷ cs) (suc j) = at cs j
 
 -- the same of bodies that are written or measured
-pub hashed-body-keys : (written : Bool) (multiplier : ℕ) (bs : List Block)
-    → HaveKeys (map (hashedIf written) (map (bodyOf multiplier) bs)) (map blockKey bs)
-hashed-body-keys written multiplier bs =
-    hashed-keys written (map (bodyOf multiplier) bs) ∙ body-keys multiplier bs
-
 pub hashed-member-keys : (written : Bool) (multiplier : ℕ) (bs : List Block) (is : List ℕ)
     → HaveKeys (map (hashedIf written) (bodiesOf (map (bodyOf multiplier) bs) is))
     (memberKeys bs is)

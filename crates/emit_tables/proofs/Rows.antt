@@ -19,7 +19,8 @@ use Rattle.file_blocks.proofs.Keys.{block-key}
 use Rattle.base_lists.proofs.Places.{map-at}
 use Rattle.plan_members.specs.Members.{membersOf, groupKeys}
 use Rattle.plan_members.proofs.Places.{start-next}
-use Rattle.emit_tables.specs.Tables.{fileKeys, IsGroup}
+use Rattle.emit_tables.specs.declared.group_rows.Rows.{Rows}
+use Rattle.emit_tables.specs.Tables.{fileKeys, IsGroup, IsRow}
 
 -- as many as blocks
 pub file-length : (f : List ℕ) → Accepted f → length (fileKeys f) ≡ blockCount f
@@ -57,11 +58,25 @@ key-member limit f g k i key e is inside =
     ∙ sym (map-at (λ (j : ℕ). getD (fileKeys f) j 0) (membersOf limit (blocksOf f) g) k 0 0
     inside)
 
-module _ {f : List ℕ} {n limit : ℕ} {work : List ℕ} {g p end : ℕ}
-    (is : IsGroup f n limit work g p end) where
+module _ {f : List ℕ} {limit : ℕ} {work : List ℕ} {g : ℕ} {r : Rows}
+    (is : IsGroup f limit work g r) where
   -- a row for each member
-  pub group-size : end ≡ p + length (membersOf limit (blocksOf f) g)
+  pub group-size : r .end ≡ r .first + length (membersOf limit (blocksOf f) g)
   group-size = omega (arith, is .first, is .next, start-next (groups limit (blocksOf f)) g)
 
   pub keys-size : length (groupKeys limit f g) ≡ length (membersOf limit (blocksOf f) g)
   keys-size = length-map (membersOf limit (blocksOf f) g) (λ (j : ℕ). getD (fileKeys f) j 0)
+
+  -- the row of the first member, where there is one, and that of member k
+  pub row-first : r .first < r .end → IsRow f (r .blocks) limit work g 0 (r .first)
+  row-first some =
+      record {
+        ready = is .ready;
+        place = omega (arith, is .first);
+        inside = omega (arith, group-size, some);
+      }
+
+  pub row-of : (k : ℕ) → k < length (membersOf limit (blocksOf f) g)
+      → IsRow f (r .blocks) limit work g k (r .first + k)
+  row-of k inside =
+      record { ready = is .ready; place = omega (arith, is .first); inside = inside }

@@ -4,13 +4,11 @@ use file_blocks::block_at;
 use file_blocks::key_of;
 use plan_members::row_block;
 ghost use mathlib.Core.Path.{_≡_};
-ghost use Prim.Native.Nat.{ℕ, _+_, _<_};
+ghost use Prim.Native.Nat.{ℕ, _<_};
 ghost use lib.ListN.{length, getD};
-ghost use Rattle.file_blocks.specs.Parse.{blocksOf, Accepted};
-ghost use Rattle.plan_groups.specs.Plan.{groups};
-ghost use Rattle.plan_members.specs.Members.{membersOf, startOf, groupKeys};
-ghost use Rattle.plan_members.specs.Prepared.{HoldsPlan};
-ghost use Rattle.emit_tables.specs.Tables.{fileKeys};
+ghost use Rattle.file_blocks.specs.Parse.{Accepted};
+ghost use Rattle.plan_members.specs.Members.{groupKeys};
+ghost use Rattle.emit_tables.specs.Tables.{fileKeys, IsRow};
 
 // The key of block i, or 0 where there is none.
 pub(crate) fn block_key(file: &[u8], i: usize) -> u32
@@ -28,9 +26,7 @@ pub(crate) fn block_key(file: &[u8], i: usize) -> u32
 pub fn row_key(file: &[u8], work: &[u32], p: usize) -> u32
     requires { ⌜ p < length (now work) ⌝ }
     ensures { λ r. ⌜
-        ((n limit g k : ℕ) → HoldsPlan (now (file .entry)) n limit (now (work .entry))
-        → p ≡ startOf (groups limit (blocksOf (now (file .entry)))) g + k
-        → k < length (membersOf limit (blocksOf (now (file .entry))) g)
+        ((n limit g k : ℕ) → IsRow (now (file .entry)) n limit (now (work .entry)) g k p
         → r ≡ getD (groupKeys limit (now (file .entry)) g) k 0)
         ⌝ }
 {

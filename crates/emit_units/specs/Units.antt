@@ -1,4 +1,4 @@
--- The units of a file, by the groups and the rows that each takes.
+-- Steps: the units of a file, by the groups and the rows that each takes.
 use Prim.Native.Nat.{ℕ, _+_, _≤_, min}
 use mathlib.Core.Path.{_≡_}
 use mathlib.Core.Bool.{Bool, cond}

@@ -2,6 +2,7 @@
 use crate::lengths::after_group;
 use crate::lengths::after_preamble;
 use crate::lengths::after_tail;
+use emit_tables::Rows;
 use plan_members::group_end;
 ghost use mathlib.Core.Path.{_≡_};
 ghost use Prim.Native.Nat.{ℕ, _≤_};
@@ -32,8 +33,8 @@ pub enum FoundUnit {
 fn measure_unit(file: &[u8], work: &[u32], n: usize, max: u64, p: usize) -> Extent
     requires { ⌜ HasRoom (now file) (now work) n × (p ≤ n) ⌝ }
     requires { ⌜ Accepted (now file) ⌝ }
-    ensures { λ r. ⌜ r .end ≤ n ⌝ }
-    ensures { λ r. ⌜
+    ensures within { λ r. ⌜ r .end ≤ n ⌝ }
+    ensures unit { λ r. ⌜
         ((limit g : ℕ) → HoldsPlan (now (file .entry)) n limit (now (work .entry))
         → g ≤ length (groups limit (blocksOf (now (file .entry))))
         → p ≡ startOf (groups limit (blocksOf (now (file .entry)))) g
@@ -43,9 +44,13 @@ fn measure_unit(file: &[u8], work: &[u32], n: usize, max: u64, p: usize) -> Exte
     let mut at = after_preamble();
     let mut q = p;
     while q < n {
-        let end = group_end(work, n, q);
-        at = after_group(at, file, work, n, q, end);
-        q = end;
+        let rows = Rows {
+            blocks: n,
+            first: q,
+            end: group_end(work, n, q),
+        };
+        at = after_group(at, file, work, rows);
+        q = rows.end;
         if max <= at as u64 {
             return Extent {
                 start: p,

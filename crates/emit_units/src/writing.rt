@@ -1,6 +1,7 @@
 // A unit, written to a lent buffer.
 use crate::extents::Extent;
 use emit_group::emit_group;
+use emit_tables::Rows;
 use emit_tables::put_preamble;
 use emit_tables::put_tail;
 use plan_members::group_end;
@@ -31,9 +32,13 @@ fn put_groups(out: &mut [u8], at: usize, file: &[u8], work: &[u32], n: usize, e:
     let mut q = at;
     let mut p = e.start;
     while p < e.end {
-        let end = group_end(work, n, p);
-        q = emit_group(out, q, file, work, n, p, end, true);
-        p = end;
+        let rows = Rows {
+            blocks: n,
+            first: p,
+            end: group_end(work, n, p),
+        };
+        q = emit_group(out, q, file, work, rows, true);
+        p = rows.end;
     }
     q
 }

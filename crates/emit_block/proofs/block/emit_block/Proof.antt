@@ -17,93 +17,82 @@ use Rattle.emit_block.proofs.block.emit_block.Tie as tie
 
 returns : tie.Need-returns
 returns c =
+    let found = c .before .before in
+    let at-start = found .before .before .before .before in
     λ ks s. absurd
     (omega (
       arith,
-      missing _ (s .ready .accepted) _
-          (sym (c .before .before .block-at .ensures) ∙ c .enum-told .given .1),
-      c .before .before .before
-          .before .before .before .pre .1,
-      c .before .before .before .before .before .before .pre .0 .2,
+      missing _ (s .ready .accepted) _ (sym (found .block-at .ensures) ∙ c .enum-told .given .1),
+      at-start .pre .1,
+      at-start .pre .0 .2,
     ))
 
 returns-2 : tie.Need-returns-2
-returns-2 c = let v =
-    c .before .before .before .before .before .before .before .before .before .before .before
-    .before .before .before .args in
+returns-2 c =
+    let put = c .before .before in
+    let bare = put .before .before in
+    let first = bare .before .before in
+    let record′ = first .before .before in
+    let found = record′ .before .before in
+    let v = found .before .before .before .before .args in
     λ ks s.
-    let is : IsBlock (now (v .file)) (v .m .index) _
-    (c .before .before .before .before .before .before .first-of .result) =
-    block-here _ s
-    (c .before .before .before .before .before .before .before .before .before .before .block-at
-    .ensures)
-    (c .before .before .before .before .before .before .before .before .block .given .1)
-    (c .before .before .before .before .before .before .first-of .ensures) in
+    let is : IsBlock (now (v .file)) (v .m .index) _ (first .first-of .result) =
+    block-here _ s (found .block-at .ensures) (record′ .block .given .1) (first .first-of .ensures)
+    in
     let body = is-body is (v .hashing) in
     let b = bodyHere is (v .hashing) in
     code-bare ks b
     (guarded-by body false
-    (sym (not-true _ (c .before .before .before .before .if1 .taken))
-    ∙ c .before .before .before .before .before .is-guarded .ensures))
-    (c .before .before .emit-records .ensures ks b
-    (record { stands = s; is = is; body = body }))
+    (sym (not-true _ (bare .if1 .taken)) ∙ bare .before .is-guarded .ensures))
+    (put .emit-records .ensures ks b (record { stands = s; is = is; body = body }))
 
 returns-3 : tie.Need-returns-3
-returns-3 c = let v =
-    c .before .before .before .before .before .before .before .before .before .before .before
-    .before .before .before .before .before .args in
+returns-3 c =
+    let put = c .before .before in
+    let absent = put .before .before in
+    let guarded = absent .before .before in
+    let first = guarded .before .before in
+    let record′ = first .before .before in
+    let found = record′ .before .before in
+    let v = found .before .before .before .before .args in
     λ ks s.
-    let is : IsBlock (now (v .file)) (v .m .index) _
-    (c .before .before .before .before .before .before .before .before .first-of .result) =
-    block-here _ s
-    (c .before .before .before .before .before .before .before .before .before .before .before
-    .before .block-at .ensures)
-    (c .before .before .before .before .before .before .before .before .before .before .block
-    .given .1)
-    (c .before .before .before .before .before .before .before .before .first-of .ensures) in
+    let is : IsBlock (now (v .file)) (v .m .index) _ (first .first-of .result) =
+    block-here _ s (found .block-at .ensures) (record′ .block .given .1) (first .first-of .ensures)
+    in
     let body = is-body is (v .hashing) in
     let b = bodyHere is (v .hashing) in
     code-deferred ks b
     (guarded-by body true
-    (sym (not-false _ (c .before .before .before .before .before .before .if1 .left))
-    ∙ c .before .before .before .before .before .before .before .is-guarded .ensures))
-    (hash-absent is (v .hashing) (not-true _ (c .before .before .before .before .if2 .taken)))
-    (c .before .before .emit-defer .ensures ks b (body .addr))
+    (sym (not-false _ (guarded .if1 .left)) ∙ guarded .before .is-guarded .ensures))
+    (hash-absent is (v .hashing) (not-true _ (absent .if2 .taken)))
+    (put .emit-defer .ensures ks b (body .addr))
 
 returns-4 : tie.Need-returns-4
-returns-4 c = let v =
-    c .before .before .before .before .before .before .before .before .before .before .before
-    .before .before .before .before .before .before .before .before .before .before .before .args in
+returns-4 c =
+    let put = c .before .before in
+    let guard = put .before .before .before .before in
+    let long = guard .before in
+    let hash = long .before .before in
+    let there = hash .before in
+    let guarded = there .before .before in
+    let first = guarded .before .before in
+    let record′ = first .before .before in
+    let found = record′ .before .before in
+    let v = found .before .before .before .before .args in
     λ ks s.
-    let is : IsBlock (now (v .file)) (v .m .index) _
-    (c .before .before .before .before .before .before .before .before .before .before .before
-    .before .before .before .first-of .result) =
-    block-here _ s
-    (c .before .before .before .before .before .before .before .before .before .before .before
-    .before .before .before .before .before .before .before .block-at .ensures)
-    (c .before .before .before .before .before .before .before .before .before .before .before
-    .before .before .before .before .before .block .given .1)
-    (c .before .before .before .before .before .before .before .before .before .before .before
-    .before .before .before .first-of .ensures) in
+    let is : IsBlock (now (v .file)) (v .m .index) _ (first .first-of .result) =
+    block-here _ s (found .block-at .ensures) (record′ .block .given .1) (first .first-of .ensures)
+    in
     let body = is-body is (v .hashing) in
     let b = bodyHere is (v .hashing) in
     code-guarded ks b _ _
     (guarded-by body true
-    (sym (not-false _
-    (c .before .before .before .before .before .before .before .before .before .before .before
-    .before .if1 .left))
-    ∙ c .before .before .before .before .before .before .before .before .before .before .before
-    .before .before .is-guarded .ensures))
-    (length-by body _
-    (c .before .before .before .before .before .before .before .length-of .ensures))
-    (hash-there is (v .hashing)
-    (not-false _
-    (c .before .before .before .before .before .before .before .before .before .before .if2
-    .left)) ∙ ap some
-    (sym (c .before .before .before .before .before .before .before .before .before .guard-hash
-    .ensures)))
-    (c .before .before .before .before .before .before .emit-guard .ensures b (body .addr))
-    (c .before .before .emit-records2 .ensures ks b (record { stands = s; is = is; body = body }))
+    (sym (not-false _ (guarded .if1 .left)) ∙ guarded .before .is-guarded .ensures))
+    (length-by body _ (long .length-of .ensures))
+    (hash-there is (v .hashing) (not-false _ (there .if2 .left))
+    ∙ ap some (sym (hash .guard-hash .ensures)))
+    (guard .emit-guard .ensures b (body .addr))
+    (put .emit-records2 .ensures ks b (record { stands = s; is = is; body = body }))
 
 pub emit-block-spec : {M : Type 1} → statement M
 emit-block-spec =

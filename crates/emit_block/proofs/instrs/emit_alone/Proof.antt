@@ -18,25 +18,23 @@ use Rattle.emit_block.proofs.instrs.emit_alone.Tie as tie
 
 returns : tie.Need-returns
 returns c =
-    let c2 = c .before .before in
-    let c1 = c2 .before .before in
-    let c0 = c1 .before .before in
-    let at-start = c0 .before .before .before .before .before in
+    let put = c .before .before in
+    let set = put .before .before .before in
+    let at-start = set .before .before in
     let v = at-start .args in
-    let s = c2 .emit-instr .result in
-    λ ks b first here at alone small few.
-    let fs : List Form = formsFrom (now (v .file)) (v .block) first (suc (v .j)) (s .cycles) .0 in
+    let s = put .emit-instr .result in
+    λ f ks b first body inside at alone small few.
+    let fs : List Form = formsFrom f (v .block) first (suc (v .j)) (s .cycles) .0 in
     let step =
     same-form _ (emitInstr (v .block .thumb) (region (v .block .addr)) (v .cycles) (v .x))
-    (ap (λ (n : ℕ). emitInstr (v .block .thumb) n (v .cycles) (v .x)) (c1 .region-of .ensures))
-    (c2 .emit-instr .ensures ks b (v .j) fs
-    (empty-after (now (v .file)) (v .block .thumb) (v .block .count) first (v .block .addr)
-    (v .j) (region (v .block .addr)) (s .cycles) (at-start .pre .2)) (here .body .addr)
-    (omega arith) (c0 .branch-inside .ensures ks (here .stands))) in
-    alone-recorded (now (v .file)) (v .block) first ks b (v .j) (v .cycles) (v .x) (now (v .out))
-    (v .at) (c2 .emit-instr .last .0) s at alone small (step .cycles) (step .onward)
+    (ap (λ (n : ℕ). emitInstr (v .block .thumb) n (v .cycles) (v .x)) (set .region-of .ensures))
+    (put .emit-instr .ensures ks b (v .j) fs
+    (empty-after f (v .block .thumb) (v .block .count) first (v .block .addr)
+    (v .j) (region (v .block .addr)) (s .cycles) (at-start .pre)) (body .addr)
+    (omega arith) inside) in
+    alone-recorded f (v .block) first ks b (v .j) (v .cycles) (v .x) (now (v .out))
+    (v .at) (put .emit-instr .last .0) s at alone small (step .cycles) (step .onward)
 
 pub emit-alone-spec : {M : Type 1} → statement M
 emit-alone-spec =
-    tie.close
-    (tie.spec (search needs) (search needs) (search needs) (search needs) (search needs) returns)
+    tie.close (tie.spec (search needs) (search needs) (search needs) (search needs) returns)

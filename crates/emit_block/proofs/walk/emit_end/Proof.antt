@@ -7,18 +7,18 @@ use Rattle.emit_block.proofs.walk.emit_end.Statement.{statement}
 use Rattle.emit_block.proofs.walk.emit_end.Tie as tie
 
 returns : tie.Need-returns
-returns c = let v =
-    c .before .before .before .before .before .before .before .before .before .before .args in
-    λ ks b first j here pending.
-    closing-step ks b j (v .cycles) _ _ (v .block .addr)
-    (end-lines (here .is) (here .body) (v .cycles) _ pending
-    (c .before .before .before .before .before .before .instr-addr .ensures))
-    (end-key (here .is) (here .body) _ _
-    (c .before .before .before .before .before .before .instr-addr .ensures)
-    (c .before .before .before .before .before .key-of .ensures))
+returns c =
+    let put = c .before .before in
+    let inside = put .before .before in
+    let key = inside .before in
+    let next = key .before in
+    let v = next .before .before .before .before .before .args in
+    λ ks b j here pending.
+    closing-step ks b j (v .cycles) _ _ (v .m .block .addr)
+    (end-lines (here .is) (here .body) (v .cycles) _ pending (next .instr-addr .ensures))
+    (end-key (here .is) (here .body) _ _ (next .instr-addr .ensures) (key .key-of .ensures))
     (here .body .addr)
-    (c .before .before .emit-closing .ensures ks
-    (c .before .before .before .before .is-inside .ensures ks (here .stands)))
+    (put .emit-closing .ensures ks (inside .is-inside .ensures ks (here .stands)))
 
 pub emit-end-spec : {M : Type 1} → statement M
 emit-end-spec =

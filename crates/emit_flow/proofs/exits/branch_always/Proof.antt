@@ -16,7 +16,7 @@ returns c =
     λ ks o d h. wrote-as
     (seq (c1 .flush-ticks .ensures)
     (seq (c2 .set-link .ensures) (seq (c3 .set-pc .ensures) (c4 .transfer .ensures ks o h))))
-    (jumped ks (v .src) o (v .cycles) (v .link) (v .ret) (v .target) (v .key) d)
+    (jumped ks (v .e .src) o (v .cycles) (v .link) (v .ret) (v .target) (v .e .key) d)
 
 pub branch-always-spec : {M : Type 1} → statement M
 branch-always-spec =

@@ -15,7 +15,7 @@ returns c =
     let v = c1 .before .before .before .args in
     λ ks o h. wrote-as
     (seq (c1 .put-taken .ensures) (seq (c2 .transfer .ensures ks o h) (c3 .put .ensures)))
-    (taken ks (v .src) o (branchRegs (v .link) (v .ret) (v .target)) (v .key))
+    (taken ks (v .e .src) o (branchRegs (v .link) (v .ret) (v .target)) (v .e .key))
 
 pub branch-taken-spec : {M : Type 1} → statement M
 branch-taken-spec =

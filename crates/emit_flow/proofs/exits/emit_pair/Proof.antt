@@ -12,8 +12,8 @@ use Rattle.emit_flow.proofs.exits.emit_pair.Tie as tie
 returns : tie.Need-returns
 returns c =
     let c6 = c .before .before in
-    let c5 = c6 .before in
-    let c4 = c5 .before .before .before .before in
+    let c5 = c6 .before .before in
+    let c4 = c5 .before .before .before in
     let c3 = c4 .before in
     let c2 = c3 .before .before .before .before in
     let c1 = c2 .before .before .before .before in

@@ -24,25 +24,25 @@ returns-2 c =
     let c5 = c .before .before in
     let c4 = c5 .before .before .before .before in
     let c3 = c4 .before .before in
-    let c2 = c3 .before in
+    let c2 = c3 .before .before in
     let c1 = c2 .before in
-    let v = c1 .before .before .args in
+    let v = c1 .before .before .before .args in
     λ ks o h. wrote-as (seq (c4 .put-gate .ensures) (c5 .put-goto .ensures))
-    (gated ks (v .src) o (indent (v .deep)) (v .key) (h ∙ not-false _ (c1 .if1 .left))
-    (ap (λ (n : ℕ). leb n (v .src)) (sym (c2 .clear-bit0 .ensures))
-    ∙ le-leb (c2 .clear-bit0 .result) (v .src) (omega (arith, c3 .if2 .taken))))
+    (gated ks (v .e .src) o (indent (v .deep)) (v .e .key) (h ∙ not-false _ (c1 .if1 .left))
+    (ap (λ (n : ℕ). leb n (v .e .src)) (sym (c2 .clear-bit0 .ensures))
+    ∙ le-leb (c2 .clear-bit0 .result) (v .e .src) (omega (arith, c3 .if2 .taken))))
 
 returns-3 : tie.Need-returns-3
 returns-3 c =
     let c4 = c .before .before in
     let c3 = c4 .before .before in
-    let c2 = c3 .before in
+    let c2 = c3 .before .before in
     let c1 = c2 .before in
-    let v = c1 .before .before .args in
+    let v = c1 .before .before .before .args in
     λ ks o h. wrote-as (c4 .put-goto2 .ensures)
-    (ungated ks (v .src) o (indent (v .deep)) (v .key) (h ∙ not-false _ (c1 .if1 .left))
-    (ap (λ (n : ℕ). leb n (v .src)) (sym (c2 .clear-bit0 .ensures))
-    ∙ lt-leb (c2 .clear-bit0 .result) (v .src) (omega (arith, c3 .if2 .left))))
+    (ungated ks (v .e .src) o (indent (v .deep)) (v .e .key) (h ∙ not-false _ (c1 .if1 .left))
+    (ap (λ (n : ℕ). leb n (v .e .src)) (sym (c2 .clear-bit0 .ensures))
+    ∙ lt-leb (c2 .clear-bit0 .result) (v .e .src) (omega (arith, c3 .if2 .left))))
 
 pub transfer-spec : {M : Type 1} → statement M
 transfer-spec =

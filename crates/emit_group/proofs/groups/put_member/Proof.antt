@@ -9,26 +9,33 @@ use Rattle.c_tree.specs.Stmt.{label, end, _⨾_}
 use Rattle.lower_units.specs.Block.{nl}
 use Rattle.base_text.proofs.Laws.{seq, wrote-as}
 use Rattle.base_text.specs.Flat.{flat}
+use Rattle.plan_members.specs.Members.{groupKeys}
+use Rattle.emit_group.specs.Groups.{memberText}
 use Rattle.emit_group.proofs.Functions.{member-key}
 use Rattle.emit_group.proofs.groups.put_member.Statement.{statement}
 use Rattle.emit_group.proofs.groups.put_member.Tie as tie
 
 returns : tie.Need-returns
-returns c = λ limit g k ready is inside some.
+returns c = λ limit g k row some.
     let close = c .before .before in
     let code = close .before .before .before .before in
-    let head = code .before .before .before .before in
-    let f =
-    c .before .before .before .before .before .before .before .before .before .before .before
-    .before .before .before .before .before .args .file .now in
-    let key = head .before .row-key .ensures _ limit g k ready is inside
-    ∙ member-key limit f g k inside in
+    let member = code .before .before in
+    let head = member .before .before .before in
+    let a = head .before .before .before .before .before .before .args in
+    let f = a .file .now in
+    let ks = groupKeys limit f g in
+    let key = head .before .row-key .ensures _ limit g k row ∙ member-key limit f g k (row .inside)
+    in
     seq (wrote-as (head .put-label .ensures)
     (ap (λ (j : ℕ). flat (codeText (label j ⨾ nl ⨾ end)) []) key))
-    (seq (code .put-code .ensures limit g k ready is inside (λ _. some))
+    (seq (wrote-as
+    (code .put-code .ensures ks (member .member-at .ensures .1 .1 f limit g k row (λ _. some)))
+    (ap (λ (i : ℕ). flat (memberText (a .hashing) f ks i) [])
+    (member .member-at .ensures .1 .0 f limit g k row)))
     (close .put-member-end .ensures))
 
 pub put-member-spec : {M : Type 1} → statement M
 put-member-spec =
     tie.close
-    (tie.spec (search needs) (search needs) (search needs) (search needs) (search needs) returns)
+    (tie.spec (search needs) (search needs) (search needs) (search needs) (search needs)
+    (search needs) returns)

@@ -6,7 +6,7 @@ use lib.ListN.{length, take}
 use mathlib.Core.List.{[]}
 use mathlib.Core.Path.{_≡_, refl, _∙_}
 use native.Mathlib.Omega.{arith}
-use Rattle.emit_tables.proofs.Rows.{group-size}
+use Rattle.emit_tables.proofs.Rows.{group-size, row-of}
 use Rattle.emit_tables.specs.Tables.{IsGroup}
 use Rattle.plan_members.specs.Members.{membersOf, groupKeys}
 use Rattle.file_blocks.specs.Parse.{blocksOf}
@@ -19,17 +19,17 @@ use Rattle.emit_group.proofs.groups.put_members.Statement.{statement}
 use Rattle.emit_group.proofs.groups.put_members.Tie as tie
 
 abbrev Inv-loop : tie.InvT-loop
-Inv-loop out₀ at file work n p end hashing size q₀ k₀ out q k =
+Inv-loop out₀ at file work rows hashing size q₀ k₀ out q k =
     (k ≤ size)
     × (length out ≡ length out₀)
-    × ((limit g : ℕ) → IsGroup file n limit work g p end
+    × ((limit g : ℕ) → IsGroup file limit work g rows
     → 2 ≤ length (membersOf limit (blocksOf file) g)
     → Wrote out₀ at
     (each (labelledText hashing file (groupKeys limit file g))
     (take k (membersOf limit (blocksOf file) g))) out q)
 
 abbrev μ-loop : tie.MeasureT-loop
-μ-loop out₀ at file work n p end hashing size q₀ k₀ out q k = size - k
+μ-loop out₀ at file work rows hashing size q₀ k₀ out q k = size - k
 
 loop-holds : tie.Need-loop-holds Inv-loop μ-loop
 loop-holds c = (omega arith, refl, λ limit g is some. none (search needs) (search needs))
@@ -37,9 +37,9 @@ loop-holds c = (omega arith, refl, λ limit g is some. none (search needs) (sear
 loop-again : tie.Need-loop-again Inv-loop μ-loop
 loop-again c =
     let put = c .before .before in
-    let turn = put .before .before .before in
+    let turn = put .before .before .before .before in
     let k = turn .loop .k in
-    let a = turn .before .before .before .before .args in
+    let a = turn .before .before .before .before .before .args in
     let f = a .file .now in
     let inv = turn .loop .inv in (
       omega arith,
@@ -48,7 +48,7 @@ loop-again c =
           let inside : k < length (membersOf limit (blocksOf f) g) = omega (arith, group-size is) in
           each-more (labelledText (a .hashing) f (groupKeys limit f g))
           (membersOf limit (blocksOf f) g) 0 k inside (inv .2 limit g is some)
-          (put .put-member .ensures limit g k (is .ready) (omega (arith, is .first)) inside some),
+          (put .put-member .ensures limit g k (row-of is k inside) some),
     )
 
 same-length : tie.Need-same-length Inv-loop μ-loop
@@ -56,7 +56,7 @@ same-length c = c .before .loop .inv .1
 
 returns : tie.Need-returns Inv-loop μ-loop
 returns c = λ limit g is some.
-    let a = c .before .before .before .before .before .args in
+    let a = c .before .before .before .before .before .before .args in
     let f = a .file .now in
     let ms = membersOf limit (blocksOf f) g in
     wrote-as (each-all (labelledText (a .hashing) f (groupKeys limit f g)) ms (c .before .loop .k)

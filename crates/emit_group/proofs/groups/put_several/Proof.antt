@@ -4,6 +4,7 @@ use borrow.Author.Needs.{needs}
 use mathlib.Core.List.{map}
 use native.Mathlib.Omega.{arith}
 use Rattle.emit_tables.proofs.Around.{hashed-member-keys}
+use Rattle.emit_tables.proofs.Rows.{row-first}
 use Rattle.base_hash.specs.Fnv.{hashMultiplier}
 use Rattle.lower_units.specs.Measured.{hashedIf}
 use Rattle.lower_units.specs.Units.{bodiesOf}
@@ -22,13 +23,14 @@ returns c = λ limit g is some.
     let c3 = c4 .before .before .before .before in
     let c2 = c3 .before .before .before .before in
     let c1 = c2 .before .before .before .before in
-    let a = c1 .before .before .before .before .before .before .args in
+    let at-start = c1 .before .before .before .before .before .before in
+    let a = at-start .args in
     let f = a .file .now in
     let is′ = membersOf limit (blocksOf f) g in
     let ms = map (hashedIf (a .hashing)) (bodiesOf (fileBodies f) is′) in
     let keys = hashed-member-keys (a .hashing) hashMultiplier (blocksOf f) is′ in
     several-wrote ms (groupKeys limit f g) _ (omega (arith, members-count (a .hashing) f is′)) keys
-    (c1 .before .row-key .ensures _ limit g 0 (is .ready) (omega (arith, is .first)) (omega arith))
+    (c1 .before .row-key .ensures _ limit g 0 (row-first is (at-start .pre .1)))
     (c1 .put-group-head .ensures)
     (c2 .put-cases .ensures limit g is ms keys) (c3 .put-switch-end .ensures)
     (c4 .put-members .ensures limit g is some) (c5 .put-function-end .ensures)

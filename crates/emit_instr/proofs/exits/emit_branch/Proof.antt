@@ -1,6 +1,6 @@
 -- `exits::emit_branch` meets its contract: its calls write the text of a branch, by its condition.
 -- Assumes nothing.
-use Prim.Native.Nat.{ℕ, _+_}
+use Prim.Native.Nat.{_+_}
 use mathlib.Core.Path.{refl, sym, ap, _∙_}
 use mathlib.Core.List.{_++_}
 use Rattle.c_tree.specs.Stmt.{Owner}
@@ -11,7 +11,6 @@ use Rattle.lower_forms.specs.InlineBody.{eachOnLine}
 use Rattle.lower_forms.specs.Block.{flushTicks, branchRegs}
 use Rattle.armv4t.specs.Cond.{isAl}
 use Rattle.lower_units.specs.Block.{bodyKey, codeFrom}
-use Rattle.base_lists.specs.Lists.{among}
 use Rattle.emit_instr.proofs.Texts.{jump-step, branch-step, branch-form}
 use Rattle.emit_instr.proofs.Steps.{same-form}
 use borrow.Author.Needs.{needs}
@@ -22,23 +21,22 @@ returns : tie.Need-returns
 returns c =
     let c2 = c .before .before in
     let c1 = c2 .before .before in
-    let key = c1 .before .before in
-    let back = key .before in
+    let back = c1 .before .before in
     let a = back .before .before .args in
     let regs = branchRegs (a .link) (back .wrapping-add-u32 .result) (a .target) in
-    λ ks b j fs h e.
+    λ thumb ks b j fs k h e.
     same-form _ _
     (ap (λ n. (Form.native n, 0))
-    (branch-form (a .thumb) (a .cycles) (a .i) (a .link) (a .target) _ _
-    (back .wrapping-add-u32 .ensures) (key .key-of .ensures)))
+    (branch-form thumb (a .cycles) (a .i) (a .link) (a .target) _ _
+    (back .wrapping-add-u32 .ensures) k))
     (record {
       onward =
           jump-step ks b j (isAl (a .i .cond)) (flushTicks (a .cycles) ++ eachOnLine regs)
           (flushTicks (a .cycles)) (condExpr (a .i .cond)) regs
-          (key .key-of .result) (a .src) fs
+          (a .e .key) (a .e .src) fs
           (sym (c1 .before .is-al .ensures) ∙ c1 .if1 .taken) e
           (c2 .branch-always .ensures ks (Owner.nativeOf (bodyKey b)) (codeFrom ks b (j + 1) fs)
-          (ap (λ (n : ℕ). among n ks) (key .key-of .ensures) ∙ h));
+          h);
       cycles = refl;
     })
 
@@ -47,30 +45,27 @@ returns-2 c =
     let c3 = c .before .before in
     let c2 = c3 .before .before .before .before in
     let c1 = c2 .before .before in
-    let key = c1 .before .before in
-    let back = key .before in
+    let back = c1 .before .before in
     let a = back .before .before .args in
     let regs = branchRegs (a .link) (back .wrapping-add-u32 .result) (a .target) in
-    λ ks b j fs h e.
+    λ thumb ks b j fs k h e.
     same-form _ _
     (ap (λ n. (Form.native n, 0))
-    (branch-form (a .thumb) (a .cycles) (a .i) (a .link) (a .target) _ _
-    (back .wrapping-add-u32 .ensures) (key .key-of .ensures)))
+    (branch-form thumb (a .cycles) (a .i) (a .link) (a .target) _ _
+    (back .wrapping-add-u32 .ensures) k))
     (record {
       onward =
           branch-step ks b j (isAl (a .i .cond)) (flushTicks (a .cycles) ++ eachOnLine regs)
           (flushTicks (a .cycles)) (condExpr (a .i .cond)) regs
-          (key .key-of .result) (a .src) fs
+          (a .e .key) (a .e .src) fs
           (sym (c1 .before .is-al .ensures) ∙ c1 .if1 .left) e
           (seq (c2 .put-condition .ensures)
-          (c3 .branch-taken .ensures ks (Owner.nativeOf (bodyKey b))
-          (ap (λ (n : ℕ). among n ks) (key .key-of .ensures) ∙ h)));
+          (c3 .branch-taken .ensures ks (Owner.nativeOf (bodyKey b)) h));
       cycles = refl;
     })
 
 pub emit-branch-spec : {M : Type 1} → statement M
 emit-branch-spec =
     tie.close
-    (tie.spec (search needs) (search needs) (search needs) (search needs) (search needs) returns
-    (search needs)
+    (tie.spec (search needs) (search needs) (search needs) (search needs) returns (search needs)
     (search needs) (search needs) returns-2)

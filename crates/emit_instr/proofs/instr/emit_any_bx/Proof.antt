@@ -20,8 +20,8 @@ returns c =
     same-form _ _
     (ap (λ (n : ℕ). (Form.native (bx (flushTicks n) (regExpr (a .x .instr) (a .rm))), 0))
     (c2 .before .with-cost .ensures g)
-    ∙ chosen (nativeExit (a .region) (a .x .instr)) _
-    (emitStraight (a .thumb) false (a .cycles) (a .x))
+    ∙ chosen (nativeExit (a .s .region) (a .x .instr)) _
+    (emitStraight (a .s .thumb) false (a .cycles) (a .x))
     (sym (c1 .before .is-native-exit .ensures) ∙ c1 .if1 .taken))
     (c2 .leave-by-bx .ensures ks b j fs)
 
@@ -32,8 +32,8 @@ returns-2 c =
     let a = c1 .before .before .before .before .args in
     λ ks b j fs h g.
     same-form _ _
-    (refused (nativeExit (a .region) (a .x .instr)) _
-    (emitStraight (a .thumb) false (a .cycles) (a .x))
+    (refused (nativeExit (a .s .region) (a .x .instr)) _
+    (emitStraight (a .s .thumb) false (a .cycles) (a .x))
     (sym (c1 .before .is-native-exit .ensures) ∙ c1 .if1 .left))
     (c2 .emit-straight .ensures ks b j fs h g)
 

@@ -19,11 +19,11 @@ returns c =
     let m = a .m in
     λ ks b j fs h g.
     same-form _ _
-    (ap (λ (n : ℕ). (Form.native (emitPop (a .thumb) n (m .rn) (listed (m .rlist) 15)), 0))
+    (ap (λ (n : ℕ). (Form.native (emitPop (a .s .thumb) n (m .rn) (listed (m .rlist) 15)), 0))
     (c2 .before .with-cost .ensures g)
     ∙ chosen
-    (isPop (a .region) (a .x .instr) (m .load) (m .rn) (m .rlist) (m .pre) (m .up) (m .«s_bit»)
-    (m .writeback)) _ (emitStraight (a .thumb) true (a .cycles) (a .x))
+    (isPop (a .s .region) (a .x .instr) (m .load) (m .rn) (m .rlist) (m .pre) (m .up) (m .«s_bit»)
+    (m .writeback)) _ (emitStraight (a .s .thumb) true (a .cycles) (a .x))
     (sym (c1 .before .is-pop .ensures (a .x .instr) (c1 .before .before .is-al .ensures))
     ∙ c1 .if1 .taken))
     (c2 .leave-by-pop .ensures ks b j fs)
@@ -37,8 +37,8 @@ returns-2 c =
     λ ks b j fs h g.
     same-form _ _
     (refused
-    (isPop (a .region) (a .x .instr) (m .load) (m .rn) (m .rlist) (m .pre) (m .up) (m .«s_bit»)
-    (m .writeback)) _ (emitStraight (a .thumb) true (a .cycles) (a .x))
+    (isPop (a .s .region) (a .x .instr) (m .load) (m .rn) (m .rlist) (m .pre) (m .up) (m .«s_bit»)
+    (m .writeback)) _ (emitStraight (a .s .thumb) true (a .cycles) (a .x))
     (sym (c1 .before .is-pop .ensures (a .x .instr) (c1 .before .before .is-al .ensures))
     ∙ c1 .if1 .left))
     (c2 .emit-straight .ensures ks b j fs h g)

@@ -4,6 +4,7 @@ use Prim.Native.Nat.{ℕ}
 use mathlib.Core.Path.{sym, ap, subst, _∙_}
 use Rattle.lower_forms.specs.Forms.{Form}
 use Rattle.lower_forms.specs.Block.{emitBranch, emitOp, emitInstr}
+use Rattle.base_lists.specs.Lists.{among}
 use Rattle.emit_instr.specs.Steps.{BranchInside}
 use Rattle.emit_instr.proofs.Steps.{same-form}
 use Rattle.emit_instr.proofs.Operations.{straight-on}
@@ -19,23 +20,25 @@ returns c =
     let a = known .before .before .before .before .args in
     λ ks b j fs h e g reach.
     same-form _ _
-    (ap (emitOp (a .thumb) (a .region) (a .cycles) (a .x)) (sym (known .op .given .1)))
+    (ap (emitOp (a .s .thumb) (a .s .region) (a .cycles) (a .x)) (sym (known .op .given .1)))
     (done .emit-any-bx .ensures ks b j fs h g)
 
 returns-2 : tie.Need-returns-2
 unfolding emitInstr
 returns-2 c =
     let done = c .before .before in
-    let known = done .before .before .before .before in
+    let key = done .before in
+    let known = done .before .before .before .before .before in
     let a = known .before .before .before .before .args in
     let v = known .op2 .given .0 in
     λ ks b j fs h e g reach.
     same-form _ _
-    (ap (λ (n : ℕ). (Form.native (emitBranch (a .thumb) n (a .x .instr) (v .0) (v .1 .0)), 0))
-    (done .before .with-cost .ensures g)
-    ∙ ap (emitOp (a .thumb) (a .region) (a .cycles) (a .x)) (sym (known .op2 .given .1)))
-    (done .emit-branch .ensures ks b j fs
-    (subst (BranchInside ks (a .thumb) (a .inside)) (known .op2 .given .1) reach) e)
+    (ap (λ (n : ℕ). (Form.native (emitBranch (a .s .thumb) n (a .x .instr) (v .0) (v .1 .0)), 0))
+    (key .before .with-cost .ensures g)
+    ∙ ap (emitOp (a .s .thumb) (a .s .region) (a .cycles) (a .x)) (sym (known .op2 .given .1)))
+    (done .emit-branch .ensures (a .s .thumb) ks b j fs (key .key-of .ensures)
+    (ap (λ (n : ℕ). among n ks) (key .key-of .ensures)
+    ∙ subst (BranchInside ks (a .s .thumb) (a .inside)) (known .op2 .given .1) reach) e)
 
 returns-3 : tie.Need-returns-3
 unfolding emitInstr
@@ -45,7 +48,7 @@ returns-3 c =
     let a = known .before .before .before .before .args in
     λ ks b j fs h e g reach.
     same-form _ _
-    (ap (emitOp (a .thumb) (a .region) (a .cycles) (a .x)) (sym (known .enum-told .given .1)))
+    (ap (emitOp (a .s .thumb) (a .s .region) (a .cycles) (a .x)) (sym (known .enum-told .given .1)))
     (done .emit-half .ensures ks b j fs h)
 
 returns-4 : tie.Need-returns-4
@@ -56,7 +59,7 @@ returns-4 c =
     let a = known .before .before .before .before .args in
     λ ks b j fs h e g reach.
     same-form _ _
-    (ap (emitOp (a .thumb) (a .region) (a .cycles) (a .x)) (sym (known .enum-told2 .given .1)))
+    (ap (emitOp (a .s .thumb) (a .s .region) (a .cycles) (a .x)) (sym (known .enum-told2 .given .1)))
     (done .emit-straight .ensures ks b j fs h g)
 
 returns-5 : tie.Need-returns-5
@@ -67,7 +70,7 @@ returns-5 c =
     let a = known .before .before .before .before .args in
     λ ks b j fs h e g reach.
     same-form _ _
-    (ap (emitOp (a .thumb) (a .region) (a .cycles) (a .x)) (sym (known .op3 .given .1)))
+    (ap (emitOp (a .s .thumb) (a .s .region) (a .cycles) (a .x)) (sym (known .op3 .given .1)))
     (done .emit-block-mem .ensures ks b j fs h g)
 
 returns-6 : tie.Need-returns-6
@@ -78,13 +81,13 @@ returns-6 c =
     let a = known .before .before .before .args in
     λ ks b j fs h e g reach.
     same-form _ _
-    (sym (straight-on (a .thumb) (a .region) (a .cycles) (a .x) (a .x .instr .op)
+    (sym (straight-on (a .s .thumb) (a .s .region) (a .cycles) (a .x) (a .x .instr .op)
     (known .match .keys6))) (done .emit-straight2 .ensures ks b j fs h g)
 
 pub emit-instr-spec : {M : Type 1} → statement M
 emit-instr-spec =
     tie.close
-    (tie.spec (search needs) (search needs) (search needs) (search needs) (search needs)
+    (tie.spec (search needs) (search needs) (search needs) (search needs) (search needs) (search needs)
     (search needs) (search needs)
     (search needs) (search needs) (search needs) (search needs) (search needs) (search needs)
     returns (search needs)

@@ -13,7 +13,7 @@ use Rattle.base_text.proofs.Laws.{none, wrote-as, kept}
 use Rattle.base_text.specs.Doc.{Doc}
 use Rattle.base_text.specs.Wrote.{Wrote}
 use Rattle.emit_tables.proofs.Around.{numbered, numbered-more, cases-keys}
-use Rattle.emit_tables.proofs.Rows.{group-size, keys-size}
+use Rattle.emit_tables.proofs.Rows.{group-size, keys-size, row-of}
 use Rattle.emit_tables.proofs.entries.put_cases.Statement.{statement}
 use Rattle.emit_tables.proofs.entries.put_cases.Tie as tie
 use Rattle.emit_tables.specs.Tables.{IsGroup}
@@ -22,14 +22,14 @@ abbrev case : ℕ → ℕ → Doc
 case n key = casesText n (key ∷ [])
 
 abbrev Inv-loop : tie.InvT-loop
-Inv-loop out₀ at file work n p end size q₀ k₀ out q k =
+Inv-loop out₀ at file work rows size q₀ k₀ out q k =
     (k ≤ size)
     × (length out ≡ length out₀)
-    × ((limit g : ℕ) → IsGroup file n limit work g p end
+    × ((limit g : ℕ) → IsGroup file limit work g rows
     → Wrote out₀ at (numbered case 0 (take k (groupKeys limit file g))) out q)
 
 abbrev μ-loop : tie.MeasureT-loop
-μ-loop out₀ at file work n p end size q₀ k₀ out q k = size - k
+μ-loop out₀ at file work rows size q₀ k₀ out q k = size - k
 
 loop-holds : tie.Need-loop-holds Inv-loop μ-loop
 loop-holds c = (omega arith, refl, λ limit g is. none (search needs) (search needs))
@@ -38,9 +38,9 @@ loop-again : tie.Need-loop-again Inv-loop μ-loop
 loop-again c =
     let put = c .before .before in
     let key = put .before in
-    let turn = key .before .before .before in
+    let turn = key .before .before .before .before in
     let k = turn .loop .k in
-    let file = turn .before .before .before .before .args .file .now in
+    let file = turn .before .before .before .before .before .args .file .now in
     let inv = turn .loop .inv in (
       omega arith,
       kept (put .put-case .ensures) ∙ inv .1,
@@ -48,7 +48,7 @@ loop-again c =
           let inside : k < length (membersOf limit (blocksOf file) g) =
           omega (arith, group-size is) in
           numbered-more case (groupKeys limit file g) k _ (omega (arith, keys-size is))
-          (key .row-key .ensures _ limit g k (is .ready) (omega (arith, is .first)) inside)
+          (key .row-key .ensures _ limit g k (row-of is k inside))
           (inv .2 limit g is) (put .put-case .ensures),
     )
 
@@ -57,7 +57,7 @@ same-length c = c .before .loop .inv .1
 
 returns : tie.Need-returns Inv-loop μ-loop
 returns c = λ limit g is bs keys.
-    let file = c .before .before .before .before .before .args .file .now in
+    let file = c .before .before .before .before .before .before .args .file .now in
     wrote-as (c .before .loop .inv .2 limit g is)
     (cases-keys bs (groupKeys limit file g) (c .before .loop .k) [] keys
     (omega (arith, keys-size is, group-size is)))

@@ -11,20 +11,20 @@ use Rattle.file_blocks.specs.Parse.{blocksOf}
 use Rattle.base_text.proofs.Laws.{none, seq, wrote-as, kept}
 use Rattle.base_text.specs.Wrote.{Wrote}
 use Rattle.emit_tables.proofs.Around.{numbered, numbered-more, entry, forwarders-keys}
-use Rattle.emit_tables.proofs.Rows.{group-size, keys-size}
+use Rattle.emit_tables.proofs.Rows.{group-size, keys-size, row-first, row-of}
 use Rattle.emit_tables.proofs.entries.put_forwarders.Statement.{statement}
 use Rattle.emit_tables.proofs.entries.put_forwarders.Tie as tie
 use Rattle.emit_tables.specs.Tables.{IsGroup}
 
 abbrev Inv-loop : tie.InvT-loop
-Inv-loop out₀ at file work n p end group size q₀ k₀ t12 out q k =
+Inv-loop out₀ at file work rows group size q₀ k₀ t12 out q k =
     (k ≤ size)
     × (length out ≡ length out₀)
-    × ((limit g : ℕ) → IsGroup file n limit work g p end
+    × ((limit g : ℕ) → IsGroup file limit work g rows
     → Wrote out₀ at (numbered (entry group) 0 (take k (groupKeys limit file g))) out q)
 
 abbrev μ-loop : tie.MeasureT-loop
-μ-loop out₀ at file work n p end group size q₀ k₀ t12 out q k = size - k
+μ-loop out₀ at file work rows group size q₀ k₀ t12 out q k = size - k
 
 loop-holds : tie.Need-loop-holds Inv-loop μ-loop
 loop-holds c = (omega arith, refl, λ limit g is. none (search needs) (search needs))
@@ -33,8 +33,8 @@ loop-again : tie.Need-loop-again Inv-loop μ-loop
 loop-again c =
     let put = c .before .before in
     let key = put .before in
-    let turn = key .before .before .before in
-    let group = turn .before in
+    let turn = key .before .before .before .before in
+    let group = turn .before .before in
     let k = turn .loop .k in
     let file = group .before .before .before .before .args .file .now in
     let inv = turn .loop .inv in (
@@ -45,7 +45,7 @@ loop-again c =
           omega (arith, group-size is) in
           numbered-more (entry (group .row-key .result)) (groupKeys limit file g) k _
           (omega (arith, keys-size is))
-          (key .row-key2 .ensures _ limit g k (is .ready) (omega (arith, is .first)) inside)
+          (key .row-key2 .ensures _ limit g k (row-of is k inside))
           (inv .2 limit g is) (put .put-forwarder .ensures),
     )
 
@@ -58,12 +58,11 @@ returns : tie.Need-returns Inv-loop μ-loop
 returns c = λ limit g is b bs keys.
     let put = c .before .before in
     let turn = put .before .before .before .before in
-    let group = turn .before in
+    let group = turn .before .before in
     let file = group .before .before .before .before .args .file .now in
-    let inside : 0 < length (membersOf limit (blocksOf file) g) = omega (arith, group-size is) in
     wrote-as (seq (turn .loop .inv .2 limit g is) (put .put .ensures))
     (forwarders-keys b bs (groupKeys limit file g) (group .row-key .result) (turn .loop .k) [] keys
-    (group .row-key .ensures _ limit g 0 (is .ready) (omega (arith, is .first)) inside)
+    (group .row-key .ensures _ limit g 0 (row-first is (group .before .before .before .before .pre .1)))
     (omega (arith, keys-size is, group-size is)))
 
 pub put-forwarders-spec : {M : Type 1} → statement M
