@@ -1,4 +1,4 @@
--- The lines of an instruction by its fields, and whose they are.
+-- The lines of an instruction by its fields, and whether it has any.
 use mathlib.Core.Path.{_≡_, refl, ap, _∙_}
 use Prim.Native.Nat.{ℕ}
 use mathlib.Core.Bool.{Bool, true, false, not, cond}
