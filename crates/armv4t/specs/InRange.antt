@@ -1,6 +1,6 @@
--- Steps: the ranges of an operation's fields, as document 01 has them for instruction records, which
--- the proofs of its meaning need; the rotation of a value, which shows in the flag C alone, may be
--- any.
+-- Steps: the ranges of an operation's fields, as document 01 has them for instruction records,
+-- which the proofs of its meaning need; the rotation of a value, which shows in the flag C alone,
+-- may be any.
 use Prim.Native.Nat.{_%_, _≤_, _<_, _^_}
 use mathlib.Core.Path.{_≡_}
 use Rattle.armv4t.specs.declared.Shift.{Shift}

@@ -13,12 +13,6 @@ ghost use Rattle.armv4t.specs.Shift.{shiftKindOf, noShift};
 // Register index, 0 to 15.
 pub type Reg = u8;
 
-// The stack pointer.
-pub const SP: Reg = 13;
-
-// The link register.
-pub const LR: Reg = 14;
-
 // The program counter.
 pub const PC: Reg = 15;
 

@@ -10,7 +10,7 @@ use Rattle.base_forest.specs.Forest.{Forest, Flatter}
 use Rattle.base_forest.specs.Roots.{parent, follow, root, hang}
 use Rattle.base_lists.specs.Lists.{range}
 use Rattle.base_lists.proofs.Range.{length-range, range-own}
-use Rattle.base_forest.specs.Forest.{RootFound, SameRoots}
+use Rattle.base_forest.specs.Forest.{SameRoots}
 use Rattle.base_forest.proofs.Ways.{Leads, longer, end-inside, end-own, follow-own}
 use Rattle.base_forest.proofs.Ways.{follow-of, way, forest, moved, hung}
 
@@ -28,9 +28,6 @@ module _ {p : List ℕ} (full : Forest (2 * length p) p) {i : ℕ} (inside : i <
 
   pub root-own : parent p (root p i) ≡ root p i
   root-own = end-own (way full i inside)
-
-  pub root-root : root p (root p i) ≡ root p i
-  root-root = follow-own (2 * length p) p (root p i) root-own
 
 -- at first each number is its own root
 
@@ -72,16 +69,6 @@ flatter-trans first second =
       roots = λ k h. second .roots k (rw (first .lengths) h) ∙ first .roots k h;
       depth = λ d f. second .depth d (first .depth d f);
     }
-
-module _ {p : List ℕ} (full : Forest (2 * length p) p) {i r : ℕ} {p′ : List ℕ}
-    (inside : i < length p) (found : RootFound p i r p′) where
-  -- the root that was found is the root now
-  pub found-root : r ≡ root p′ i
-  found-root = found .is ∙ sym (found .kept .roots i inside)
-
-  pub found-own : parent p′ r ≡ r
-  found-own =
-      rw found-root (root-own (flatter-full (found .kept) full) (rw (found .kept .lengths) inside))
 
 -- parents with the same roots
 

@@ -1,16 +1,15 @@
 -- How often a number stands in a list, and in one of several lists.
 -- Assumes nothing.
-use Prim.Native.Nat.{ℕ, zero, suc, _+_, _≤_}
+use Prim.Native.Nat.{ℕ, _+_, _≤_}
 use mathlib.Core.Path.{_≡_, refl, sym, ap, _∙_, subst}
 use mathlib.Core.Bool.{cond}
 use mathlib.Core.List.{List, [], _∷_, _++_, append-assoc, flatten, List·Memᴰ, List·Memᴰ·head}
-use mathlib.Core.List.{List·Memᴰ·tail, List·Memᴰ·not-nil, List·Memᴰ·cases-cons}
+use mathlib.Core.List.{List·Memᴰ·tail, List·Memᴰ·cases-cons}
 use mathlib.Core.Logic.{_⊎_, inl, inr}
-use native.Mathlib.Nat.{zero-add, add-assoc, le-refl}
+use native.Mathlib.Nat.{zero-add, add-assoc}
 use native.Mathlib.Decide.{ℕ-discrete, decLe}
 use native.Mathlib.Omega.{arith}
 use borrow.Author.Tests.{eq-eqb, ne-eqb}
-use lib.ListN.{getD}
 use lib.Dec.{eqb}
 
 -- how often a number stands in a list
@@ -122,27 +121,6 @@ one-list i {g} {h} few (List·Memᴰ·tail {x = x} {xs = gs} m) n a b =
               i m,
         ))
     go ih (inr n′) = ih n′ a b
-
-count-place : (i : ℕ) (gs : List (List ℕ)) (a : ℕ) → count i (getD gs a []) ≤ count i (flatten gs)
-unfolding flatten
-count-place i [] a = le-refl _
-count-place i (g ∷ gs) zero = omega (arith, count-append i g (flatten gs))
-count-place i (g ∷ gs) (suc a) = omega (arith, count-append i g (flatten gs), count-place i gs a)
-
--- the same by places in the list of lists
-pub one-place : (i : ℕ) (gs : List (List ℕ)) → count i (flatten gs) ≤ 1 → (a b : ℕ)
-    → List·Memᴰ i (getD gs a []) → List·Memᴰ i (getD gs b []) → a ≡ b
-unfolding flatten
-one-place i [] few a b m n = absurd (List·Memᴰ·not-nil m)
-one-place i (g ∷ gs) few zero zero m n = refl
-one-place i (g ∷ gs) few zero (suc b) m n =
-    absurd (omega
-    (arith, few, count-append i g (flatten gs), counted m, counted n, count-place i gs b))
-one-place i (g ∷ gs) few (suc a) zero m n =
-    absurd (omega
-    (arith, few, count-append i g (flatten gs), counted m, counted n, count-place i gs a))
-one-place i (g ∷ gs) few (suc a) (suc b) m n =
-    ap suc (one-place i gs (omega (arith, few, count-append i g (flatten gs))) a b m n)
 
 -- a number that stands in several lists stands in one of them
 pub some-list : (i : ℕ) (gs : List (List ℕ)) → 1 ≤ count i (flatten gs)

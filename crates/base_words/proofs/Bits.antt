@@ -50,10 +50,6 @@ pub or-zero-r : (x : ℕ) → OR x zero ≡ x
 unfolding OR
 or-zero-r = B.or-zero-r
 
-pub or-zero-l : (x : ℕ) → OR zero x ≡ x
-unfolding OR
-or-zero-l x = refl
-
 pub or-shifted : (a k b : ℕ) → b < 2 ^ k → OR (a * 2 ^ k) b ≡ a * 2 ^ k + b
 unfolding OR
 or-shifted = B.or-shifted

@@ -1,5 +1,5 @@
--- To be believed: operations on the bits of numbers, by names that do not unfold by themselves, since
--- lib.Bits writes its first argument twice wherever it unfolds.
+-- To be believed: operations on the bits of numbers, by names that do not unfold by themselves,
+-- since lib.Bits writes its first argument twice wherever it unfolds.
 use Prim.Native.Nat.{ℕ, _/_, _%_, _^_}
 use mathlib.Core.Path.{_≡_, refl}
 use mathlib.Core.Bool.{Bool, true, false}

@@ -24,7 +24,8 @@ use Rattle.file_records.specs.BlockRecord.{lengthAt, aligned, countSum, codeRig
 use Rattle.file_records.specs.BlockRecord.{keyRises}
 use Rattle.file_instrs.specs.InstrRecord.{instrRight}
 use Rattle.file_instrs.specs.Decode.{timedAt}
-use Rattle.file_blocks.specs.Refusal.{Rule, broken, firstBroken, blockRules, instrRules, rules}
+use Rattle.file_blocks.specs.Refusal.{Rule, broken, firstBroken, blockRules, instrRules}
+use Rattle.file_blocks.specs.Refusal.{rules}
 use Rattle.file_blocks.specs.Parse.{Block, Parsed, instrsFrom, codeAt, blockAt, blocksFrom}
 use Rattle.file_blocks.specs.Parse.{parsed, parse, instrTotal}
 use Rattle.file_blocks.specs.Read.{recordAt, foundBlock, foundInstr, codeBytes}
@@ -64,10 +65,12 @@ block-of f (suc n) i k (suc j) d h e =
     (ap (λ (m : ℕ). m + countAt f (blockStart f i)) e)
     ∙ ap (λ (m : ℕ). blockAt f (blockStart f m) (countSum f m)) (shift i j)
 
-in-blocks : (f : List ℕ) {r : Rule} → List·Memᴰ r (blockRules (blockCount f) 0) → List·Memᴰ r (rules f)
+in-blocks : (f : List ℕ) {r : Rule} → List·Memᴰ r (blockRules (blockCount f) 0)
+    → List·Memᴰ r (rules f)
 in-blocks f m = List·Memᴰ·tail (List·Memᴰ·tail (List·Memᴰ·tail (Memᴰ·append-left _ m)))
 
-in-instrs : (f : List ℕ) {r : Rule} → List·Memᴰ r (instrRules (instrCount f) 0) → List·Memᴰ r (rules f)
+in-instrs : (f : List ℕ) {r : Rule} → List·Memᴰ r (instrRules (instrCount f) 0)
+    → List·Memᴰ r (rules f)
 in-instrs f m =
     List·Memᴰ·tail
     (List·Memᴰ·tail
@@ -142,7 +145,8 @@ module _ (f : List ℕ) (bs : List Block) (accepted : parse f ≡ Parsed.accepte
   instr-right i h =
       not-false _
       (kept (Rule.instr i)
-      (in-instrs f (Memᴰ·cast (ap Rule.instr (sym (zero-add i))) (instr-rules (instrCount f) 0 i h))))
+      (in-instrs f
+      (Memᴰ·cast (ap Rule.instr (sym (zero-add i))) (instr-rules (instrCount f) 0 i h))))
 
   -- the readers find each record
   pub block-found : (i : ℕ) → i < length bs

@@ -6,7 +6,7 @@ use mathlib.Core.List.{List, [], _∷_, _++_, List·Memᴰ, List·Memᴰ·head, 
 use mathlib.Core.List.{List·Memᴰ·not-nil, List·Memᴰ·cases-cons}
 use mathlib.Core.Logic.{⊎-elim, _↔_}
 use mathlib.Core.Option.{Option, none, some}
-use Prim.Native.Nat.{ℕ, _-_, _≤_}
+use Prim.Native.Nat.{ℕ, _-_}
 use native.Mathlib.Omega.{arith}
 use lib.ListN.{getD}
 use Rattle.file_records.specs.Trailer.{blockCount}
@@ -55,7 +55,8 @@ first-found f (x ∷ xs) r e = go (broken f x) refl (first-found f xs) e
 -- the rule that a number and a place name
 ruleOf : ℕ → ℕ → Rule
 ruleOf n i =
-    getD (Rule.short ∷ Rule.limits ∷ Rule.trailer ∷ Rule.block i ∷ Rule.order i ∷ Rule.sum ∷ Rule.instr i
+    getD (Rule.short ∷ Rule.limits ∷ Rule.trailer ∷ Rule.block i ∷ Rule.order i ∷ Rule.sum
+    ∷ Rule.instr i
     ∷ []) (n - 1) Rule.short
 
 rule-of : (r : Rule) → ruleOf (number r) (place r) ≡ r
@@ -91,8 +92,11 @@ module _ (f : List ℕ) where
   -- a rule's refusal is given exactly if the rule applies
   pub refused-exactly : (r : Rule) → (parse f ≡ Parsed.refused (number r) (place r)) ↔ Applies f r
   unfolding parse
-  refused-exactly r =
-      (λ e. applies r (refused-rule (firstBroken f (rules f)) r e), λ a. ap (parsed f) (applied r a))
+  refused-exactly r = (
+    λ e. applies r (refused-rule (firstBroken f (rules f)) r e),
+    λ a. ap (parsed f)
+        (applied r a),
+  )
 
   -- a file is accepted exactly if no rule applies
   pub accepted-exactly : (parse f ≡ Parsed.accepted (blocksFrom f (blockCount f) 0 0)) ↔
@@ -128,13 +132,3 @@ module _ (f : List ℕ) where
           let same-place : j ≡ i = cc in
           ap₂ Parsed.refused same-number same-place
       unanswer (Parsed.accepted bs) e = absurd (let z : _≡_ {A = ℕ} 0 1 = cc in omega arith)
-
--- a refusal's number is 1 to 7, so 0 means accepted
-pub number-range : (r : Rule) → (1 ≤ number r) × (number r ≤ 7)
-number-range Rule.short = omega arith
-number-range Rule.limits = omega arith
-number-range Rule.trailer = omega arith
-number-range (Rule.block i) = omega arith
-number-range (Rule.order i) = omega arith
-number-range Rule.sum = omega arith
-number-range (Rule.instr i) = omega arith

@@ -71,14 +71,15 @@ module _ {f : List ℕ} {i : ℕ} {b : BlockRecord} {first : ℕ} (is : IsBlock 
   unfolding recordAt
   ends = rw block-record (ends-inside f (blocksOf f) (is .accepted) i block-inside)
 
-  pub among : first + b .count ≤ instrCount f
+  pub instrs-counted : first + b .count ≤ instrCount f
   unfolding recordAt
-  among = rw (block-record, is .starts) (instrs-inside f (blocksOf f) (is .accepted) i block-inside)
+  instrs-counted =
+      rw (block-record, is .starts) (instrs-inside f (blocksOf f) (is .accepted) i block-inside)
 
   -- the sum of the counts before the next block, which does not wrap
   pub sum-next : (first + b .count) % 2 ^ 64 ≡ countSum f (i + 1)
   unfolding countSum recordAt
   sum-next =
       let small : first + b .count < 2 ^ 64 =
-      omega (arith, among, few-instrs f (blocksOf f) (is .accepted)) in
+      omega (arith, instrs-counted, few-instrs f (blocksOf f) (is .accepted)) in
       mod-eq-of-lt small ∙ rw (is .starts, block-record, add-one i)

@@ -122,7 +122,8 @@ module _ (f : List ℕ) (start n i : ℕ) (starts : start ≡ length f - instrsB
     instr-kept e = rw (next-instrs n i inside, ← starts, e)
 
 module _ (f : List ℕ) (n : ℕ) (all : n ≡ instrCount f) where
-  pub instrs-none : firstBroken f (instrRules (instrCount f) 0) ≡ firstBroken f (instrRules (n - 0) 0)
+  pub instrs-none : firstBroken f (instrRules (instrCount f) 0)
+      ≡ firstBroken f (instrRules (n - 0) 0)
   instrs-none = rw (sub-zero, all)
 
   pub instrs-all : (i : ℕ) → i ≡ n → firstBroken f (instrRules (n - i) i) ≡ none

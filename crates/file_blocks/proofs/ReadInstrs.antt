@@ -16,7 +16,7 @@ use Rattle.file_blocks.specs.declared.read.FoundInstr.{FoundInstr}
 use Rattle.file_blocks.specs.Parse.{blocksOf}
 use Rattle.file_blocks.specs.Read.{readInstr, IsBlock}
 use Rattle.file_blocks.proofs.Accepted.{shift, next-addr, instr-found, few-instrs}
-use Rattle.file_blocks.proofs.IsBlock.{ends, among}
+use Rattle.file_blocks.proofs.IsBlock.{ends, instrs-counted}
 
 -- instruction j of consecutive ones from record k on
 abbrev pub instrAt : List ℕ → ℕ → ℕ → Bool → ℕ → TimedInstr
@@ -47,12 +47,12 @@ module _ {f : List ℕ} {i : ℕ} {b : BlockRecord} {first : ℕ} (is : IsBlock 
       → readInstr f b first j ≡ FoundInstr.At (instrAt f first (b .addr) (b .thumb) j)
   instr-there j h =
       let place : first + j < 2 ^ 64 =
-      omega (arith, among is, few-instrs f (blocksOf f) (is .accepted)) in
+      omega (arith, instrs-counted is, few-instrs f (blocksOf f) (is .accepted)) in
       let address : b .addr + sizeOf (b .thumb) * j < 2 ^ 32 =
       addr-below (b .addr) (b .count) j (b .thumb) h (ends is) in
       rw (mod-eq-of-lt place, mod-eq-of-lt address)
       (instr-found f (blocksOf f) (is .accepted) (first + j) _ (b .thumb)
-      (omega (arith, among is)))
+      (omega (arith, instrs-counted is)))
 
   -- so what is read is that instruction
   pub read-as : (j : ℕ) (r : FoundInstr) (x : TimedInstr) → j < b .count → r ≡ readInstr f b first j

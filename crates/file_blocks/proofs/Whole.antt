@@ -98,7 +98,8 @@ each-kept f (x ∷ xs) r e m =
 
 -- each block and each instruction has its rules
 pub block-rules : (n i j : ℕ) → j < n
-    → List·Memᴰ (Rule.block (i + j)) (blockRules n i) × List·Memᴰ (Rule.order (i + j)) (blockRules n i)
+    → List·Memᴰ (Rule.block (i + j)) (blockRules n i)
+    × List·Memᴰ (Rule.order (i + j)) (blockRules n i)
 block-rules zero i j h = absurd (not-suc-le-zero h)
 block-rules (suc n) i zero h = (
   List·Memᴰ·head (ap Rule.block (add-zero i)),
@@ -188,7 +189,8 @@ module _ (f : List ℕ) where
 
     module _ (e : r ≡ Found.Nothing) (q : Found)
         (instrs : q ≡ found (firstBroken f (instrRules (instrCount f) 0))) where
-      pub instrs-refused : (n i : ℕ) → q ≡ Found.Broken n i → Checked.Refused n i ≡ checked (parse f)
+      pub instrs-refused : (n i : ℕ) → q ≡ Found.Broken n i
+          → Checked.Refused n i ≡ checked (parse f)
       instrs-refused n i g = rw (← blocks, e, ← instrs, g) at (in-passes long few right)
 
       pub all-kept : q ≡ Found.Nothing

@@ -1,5 +1,5 @@
--- To be believed: what an address says by itself, its page and region; its key, and the key after an
--- instruction.
+-- To be believed: what an address says by itself, its page and region; its key, and the key after
+-- an instruction.
 use Prim.Native.Nat.{ℕ, _/_, _%_, _^_}
 use mathlib.Core.Bool.{Bool, true, false, not, _||_}
 use lib.Dec.{eqb}

@@ -63,7 +63,8 @@ instrRules (suc n) i = instr i ∷ instrRules n (suc i)
 
 -- all rules in the table's order
 abbrev pub rules : List ℕ → List Rule
-rules f = short ∷ limits ∷ trailer ∷ blockRules (blockCount f) 0 ++ (sum ∷ instrRules (instrCount f) 0)
+rules f =
+    short ∷ limits ∷ trailer ∷ blockRules (blockCount f) 0 ++ (sum ∷ instrRules (instrCount f) 0)
 
 -- a rule where it is broken, or else what the later ones give
 abbrev pub pick : Bool → Rule → Option Rule → Option Rule

@@ -71,7 +71,8 @@ within-more f [] at k h = absurd (not-suc-le-zero h)
 within-more f (m ∷ limits) at zero h = rw add-zero (and-true _)
 within-more f (m ∷ limits) at (suc k) h =
     let shift : at + 1 + k ≡ at + suc k = omega arith in
-    ap (λ (b : Bool). leb (byteAt f at) m && b) (within-more f limits (at + 1) k (le-of-suc-le-suc h))
+    ap (λ (b : Bool). leb (byteAt f at) m && b)
+    (within-more f limits (at + 1) k (le-of-suc-le-suc h))
     ∙ sym (and-assoc (leb (byteAt f at) m) (within f (at + 1) (take k limits))
     (leb (byteAt f (at + 1 + k)) (getD limits k 0)))
     ∙ ap (λ (n : ℕ). (leb (byteAt f at) m && within f (at + 1) (take k limits))
@@ -135,7 +136,8 @@ all-long = refl
 pub limits-of : (all : List ℕ) (n kind form : ℕ) → all ≡ limitsTo 30 → n < 30
     → largest (n % 10) (n / 10) ≡ largest kind form
     → take 16 (drop (16 * n) all) ≡ largest kind form
-limits-of all n kind form e h g = ap (λ (r : List ℕ). take 16 (drop (16 * n) r)) e ∙ limits-there n h ∙ g
+limits-of all n kind form e h g =
+    ap (λ (r : List ℕ). take 16 (drop (16 * n) r)) e ∙ limits-there n h ∙ g
 
 -- two tests that do not both hold, and what is asked where one does
 ask-one : (p q a b : Bool) → (p ≡ true → q ≡ false)

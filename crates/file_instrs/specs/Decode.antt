@@ -1,5 +1,5 @@
--- To be believed: an instruction record as an instruction and its cost, by the fields of document 01,
--- kind by kind.
+-- To be believed: an instruction record as an instruction and its cost, by the fields of document
+-- 01, kind by kind.
 use Prim.Native.Nat.{ℕ, _+_, _/_, _%_, _^_}
 use mathlib.Core.Bool.{Bool, false, not, cond}
 use mathlib.Core.List.{List, [], _∷_}

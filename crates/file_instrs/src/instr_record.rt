@@ -5,7 +5,8 @@ ghost use lib.ListN.{length, take, drop};
 ghost use lib.Seq.{paste};
 ghost use Rattle.file_instrs.specs.InstrRecord.{fields, largest};
 ghost use Rattle.file_instrs.specs.Limits.{limitsTo};
-ghost use Rattle.file_instrs.specs.InstrRecord.{within as limits-within, evenFields, instrRight};
+ghost use Rattle.file_instrs.specs.InstrRecord.{within as limits-within, evenFields};
+ghost use Rattle.file_instrs.specs.InstrRecord.{instrRight};
 
 // The kind whose limits a kind has: those from 10 on leave all fields free, as Swap (3) does.
 fn limits_kind(kind: u8) -> u8

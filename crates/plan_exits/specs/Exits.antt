@@ -1,5 +1,5 @@
--- To be believed: the exit list of a block (document 01), by its last instruction, or by its last two
--- where they fuse.
+-- To be believed: the exit list of a block (document 01), by its last instruction, or by its last
+-- two where they fuse.
 use Prim.Native.Nat.{ℕ}
 use mathlib.Core.Bool.{Bool, cond, _&&_}
 use mathlib.Core.List.{List, [], _∷_}

@@ -16,18 +16,14 @@ use file_blocks::instr_of;
 use file_blocks::key_of;
 ghost use mathlib.Core.Path.{_≡_};
 ghost use mathlib.Core.Bool.{false, cond};
-ghost use mathlib.Core.List.{[], _∷_, map};
-ghost use Prim.Native.Nat.{ℕ, _+_};
-ghost use lib.ListN.{getElem?};
+ghost use mathlib.Core.List.{[], _∷_};
+ghost use Prim.Native.Nat.{_+_};
 ghost use Rattle.armv4t.specs.declared.Fused.{Fused};
 ghost use Rattle.armv4t.specs.declared.Instr.{Instr};
 ghost use Rattle.armv4t.specs.Fused.{fuse};
-ghost use Rattle.file_records.specs.Trailer.{blockStart};
-ghost use Rattle.file_blocks.specs.Parse.{blockAt, blocksOf, Accepted};
-ghost use Rattle.file_blocks.specs.Read.{IsBlock};
 ghost use Rattle.plan_exits.specs.Exits.{branchExits, lastExits};
-ghost use Rattle.plan_exits.specs.Exits.{closingExits, exits, keysOf};
-ghost use Rattle.plan_exits.specs.Found.{foundKeys};
+ghost use Rattle.plan_exits.specs.Exits.{closingExits, keysOf};
+ghost use Rattle.plan_exits.specs.Found.{EndsNoPair, AreExits, AreFoundExits};
 
 // The keys of an exit list, the target before the fall-through.
 pub enum Exits {
@@ -95,7 +91,7 @@ pub(crate) fn closing_exits(thumb: bool, before: Instr, last: Instr) -> Exits
 // Whether an instruction is the second half of a Thumb BL; any other makes no pair with the one
 // before it.
 fn ends_bl(instr: Instr) -> bool
-    ensures { λ r. ⌜ (r ≡ false → (before : Instr) → fuse before instr ≡ Fused.Nothing) ⌝ }
+    ensures { λ r. ⌜ (r ≡ false → EndsNoPair instr) ⌝ }
 {
     let op = instr.op;
     match op {
@@ -106,11 +102,7 @@ fn ends_bl(instr: Instr) -> bool
 
 // The exits of the block with a record, whose instructions are those from record `first` on.
 pub fn exits_at(file: &[u8], block: BlockRecord, first: usize) -> Exits
-    ensures { λ r. ⌜
-        ((i : ℕ) → IsBlock (now (file .entry)) i block first
-        → keysOf r
-        ≡ exits (blockAt (now (file .entry)) (blockStart (now (file .entry)) i) first))
-        ⌝ }
+    ensures { λ r. ⌜ AreExits (now (file .entry)) block first r ⌝ }
 {
     let count = block.count;
     if count == 0 {
@@ -134,10 +126,7 @@ pub fn exits_at(file: &[u8], block: BlockRecord, first: usize) -> Exits
 // The exits of block i, or Nothing. `first` sums the counts of the blocks before block k; in an
 // accepted file it does not wrap.
 pub fn block_exits(file: &[u8], i: usize) -> FoundExits
-    ensures { λ r. ⌜
-        (Accepted (now (file .entry))
-        → foundKeys r ≡ getElem? (map exits (blocksOf (now (file .entry)))) i)
-        ⌝ }
+    ensures { λ r. ⌜ AreFoundExits (now (file .entry)) i r ⌝ }
 {
     let mut first: usize = 0;
     let mut k = 0;

@@ -1,35 +1,28 @@
 -- What every group of a plan has: a limit of instructions, one page, each block once, key order,
 -- one root. Assumes nothing of the blocks but what a law takes as an argument.
-use Prim.Native.Nat.{ℕ, suc, _≤_, _<_}
+use Prim.Native.Nat.{ℕ, _≤_, _<_}
 use mathlib.Core.Path.{_≡_, refl, sym, ap, _∙_}
 use mathlib.Core.Bool.{Bool, true, false}
 use mathlib.Core.List.{List, [], map, flatten, List·Memᴰ}
-use native.Mathlib.Decide.{decLe, decLt}
+use native.Mathlib.Decide.{decLe}
 use native.Mathlib.Omega.{arith}
-use borrow.Author.Tests.{eqb-true}
 use lib.ListN.{length, getD}
 use Rattle.file_blocks.specs.Parse.{Block, blockKey}
 use Rattle.base_forest.specs.Roots.{root}
 use Rattle.base_lists.specs.Lists.{range}
 use Rattle.plan_search.specs.Target.{joinable}
-use Rattle.file_blocks.specs.Address.{page}
 use Rattle.plan_groups.specs.Plan.{parents, groupsFrom, groups}
 use Rattle.plan_groups.proofs.Components.{component, countsOf, component-member}
 use Rattle.plan_groups.proofs.Components.{component-rises, components-once, groups-flat}
 use Rattle.plan_groups.proofs.Components.{groups-part}
-use Rattle.plan_groups.proofs.Cutting.{NoFall, sort-order, instructions, instructions-within}
+use Rattle.plan_groups.proofs.Cutting.{NoFall, sort-order, instructions}
 use Rattle.plan_groups.proofs.Cutting.{part-fits, part-piece}
 use Rattle.plan_groups.proofs.Edges.{joinsAt, root-self, root-alone}
-use Rattle.base_lists.proofs.Counts.{count, counted, stands, count-in, one-list, one-place}
+use Rattle.base_lists.proofs.Counts.{count, stands, count-in, one-list}
 use Rattle.base_lists.proofs.Counts.{some-list}
 use Rattle.base_lists.proofs.Places.{map-at, member-at}
-use Rattle.base_lists.proofs.Order.{InOrder, order-at, order-once, order-steps, once-apart}
+use Rattle.base_lists.proofs.Order.{InOrder, order-at, once-apart}
 use Rattle.base_lists.proofs.Pieces.{Piece, piece-member, piece-order}
-
--- the address of one block is below that of another
-abbrev pub Below : List Block → ℕ → ℕ → Type 0
-Below bs i j =
-    getD (map (λ (b : Block). b .addr) bs) i 0 < getD (map (λ (b : Block). b .addr) bs) j 0
 
 module _ (limit : ℕ) (bs : List Block) where
   -- no blocks, no groups
@@ -79,11 +72,6 @@ module _ (limit : ℕ) (bs : List Block) where
     group-sorted =
         piece-order (group-piece .2) (NoFall (map blockKey bs)) (sort-order (map blockKey bs) _)
 
-    -- the same by places in the group
-    pub group-keys : (a b : ℕ) → a < b → b < length g
-        → getD (map blockKey bs) (getD g a 0) 0 ≤ getD (map blockKey bs) (getD g b 0) 0
-    group-keys = order-at (NoFall (map blockKey bs)) g group-sorted
-
     -- a group lists no block twice
     pub group-once : (i : ℕ) → count i g ≤ 1
     group-once i =
@@ -114,35 +102,6 @@ module _ (limit : ℕ) (bs : List Block) where
     group-joinable several i h d = sym (map-at joinable bs i d false (group-inside i h))
         ∙ joins-of several i h (joinsAt bs i) refl
 
-    -- so their page is 8
-    pub group-page : 2 ≤ length g → (i : ℕ) → List·Memᴰ i g → (d : Block)
-        → page (getD bs i d .addr) ≡ 8
-    group-page several i h d = eqb-true _ _ (group-joinable several i h d)
-
-    -- a way through a group of several that comes to no block twice has at most `limit`
-    -- instructions
-    pub group-way : 2 ≤ length g → (way : List ℕ) → ((i : ℕ) → List·Memᴰ i way → List·Memᴰ i g)
-        → ((i : ℕ) → count i way ≤ 1)
-        → instructions (countsOf bs) way ≤ limit
-    group-way several way within once =
-        omega (arith, group-limit several, instructions-within (countsOf bs) way g few)
-      where
-        few : (i : ℕ) → count i way ≤ count i g
-        few i =
-            elim (decLe 1 (count i way)) [
-              | yes l ↦ omega (arith, once i, counted (within i (stands i way l)))
-              | no n ↦ omega arith
-            ]
-
-    -- so has one that goes to a higher address at each step
-    pub group-forward : 2 ≤ length g → (way : List ℕ) → ((i : ℕ) → List·Memᴰ i way → List·Memᴰ i g)
-        → ((a : ℕ) → suc a < length way → Below bs (getD way a 0) (getD way (suc a) 0))
-        → instructions (countsOf bs) way ≤ limit
-    group-forward several way within steps =
-        group-way several way within
-        (order-once (Below bs) (λ i h. omega arith) way
-        (order-steps (Below bs) (λ i j k a b. omega arith) way steps))
-
     -- where keys rise with the blocks
     module _
         (rising : (i j : ℕ) → i < j → j < length bs
@@ -151,16 +110,6 @@ module _ (limit : ℕ) (bs : List Block) where
       pub group-rises : InOrder (λ i j. i < j) g
       group-rises =
           piece-order (group-piece .2) (λ i j. i < j) (component-rises bs rising (group-piece .0))
-
-      -- the same by places in the group
-      pub group-numbers-rise : (a b : ℕ) → a < b → b < length g → getD g a 0 < getD g b 0
-      group-numbers-rise = order-at (λ i j. i < j) g group-rises
-
-      -- and their keys rise along the group
-      pub group-keys-rise : (a b : ℕ) → a < b → b < length g
-          → getD (map blockKey bs) (getD g a 0) 0 < getD (map blockKey bs) (getD g b 0) 0
-      group-keys-rise a b l h =
-          rising _ _ (group-numbers-rise a b l h) (group-inside _ (member-at g b 0 h))
 
   -- no other number stands in the groups
   pub groups-only : (i : ℕ) → length bs ≤ i → count i (flatten (groups limit bs)) ≡ 0
@@ -182,15 +131,3 @@ module _ (limit : ℕ) (bs : List Block) where
       → (i : ℕ) → List·Memᴰ i g → List·Memᴰ i h → g ≡ h
   group-same g h m n i a b =
       one-list i (omega (arith, groups-once i (group-inside g m i a))) m n a b
-
-  -- a block stands in one place among the groups
-  pub group-number : (a b i : ℕ) → List·Memᴰ i (getD (groups limit bs) a [])
-      → List·Memᴰ i (getD (groups limit bs) b []) → a ≡ b
-  group-number a b i m n = one-place i (groups limit bs) few a b m n
-    where
-      few : count i (flatten (groups limit bs)) ≤ 1
-      few =
-          elim (decLt i (length bs)) [
-            | yes h ↦ omega (arith, groups-once i h)
-            | no out ↦ omega (arith, groups-only i (omega arith))
-          ]

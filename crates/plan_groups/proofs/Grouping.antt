@@ -19,7 +19,7 @@ use Rattle.base_forest.specs.Forest.{Forest, SameRoots}
 use Rattle.base_forest.specs.Roots.{root}
 use Rattle.base_lists.specs.Lists.{range}
 use Rattle.plan_groups.specs.Plan.{joinBlocks, parents, plan}
-use Rattle.plan_groups.specs.Groups.{quarter1, Joined, HasFirsts, Firsts}
+use Rattle.plan_groups.specs.Groups.{quarter1, Joined, HasFirsts, FirstsInQuarter0}
 use Rattle.base_lists.specs.Interleave.{interleave}
 use Rattle.plan_groups.specs.Groups.{joinRecord, AllJoined, AllRooted, Grouped}
 use Rattle.plan_groups.specs.Links.{HasRoots, Linked, Outside}
@@ -93,7 +93,7 @@ counting-more f n w sum m w′ count room h fits counted c =
         getD-set-same w′ m _ 0 (omega (arith, c .same)) ∙ mod-eq-of-lt fits′ ∙ c .sums a e
 
 pub counted-all : (f : List ℕ) (n : ℕ) (w : List ℕ) (sum : ℕ) (w′ : List ℕ)
-    → Counting f n w sum n w′ → Firsts f n w w′
+    → Counting f n w sum n w′ → FirstsInQuarter0 f n w w′
 counted-all f n w sum w′ c =
     record { same = c .same; after = c .after; firsts = λ a e j h. c .firsts a e j h }
 
@@ -293,7 +293,7 @@ module _ (f : List ℕ) (n limit : ℕ) (w w₂ w₃ w₄ : List ℕ) (few : n �
           ∙ sym (rw size at is)
 
 -- from the numbers before the first step
-pub grouped-from : (f : List ℕ) (n limit : ℕ) (w w₁ w₅ : List ℕ) → Firsts f n w w₁
+pub grouped-from : (f : List ℕ) (n limit : ℕ) (w w₁ w₅ : List ℕ) → FirstsInQuarter0 f n w w₁
     → Grouped f n limit w₁ w₅ → Grouped f n limit w w₅
 grouped-from f n limit w w₁ w₅ e g =
     record {

@@ -20,16 +20,6 @@ use Rattle.plan_groups.specs.Order.{withRootIn, membersFrom, orderFrom, 
 use Rattle.plan_groups.specs.Order.{numbersFrom, HasCounts, Placed}
 use Rattle.base_lists.proofs.Bools.{right-true}
 
--- a search stays within its range
-pub seek-low : (roots : List ℕ) (r left k : ℕ) → k ≤ seek roots r left k
-unfolding seek
-seek-low roots r zero k = le-refl k
-seek-low roots r (suc left) k = go (eqb (getD roots k 0) r) (seek-low roots r left (suc k))
-  where
-    go : (b : Bool) → suc k ≤ seek roots r left (suc k) → k ≤ cond b k (seek roots r left (suc k))
-    go true h = le-refl k
-    go false h = omega arith
-
 -- what is left of a component at the member that a search finds is what the search went over
 pub from-seek : (roots : List ℕ) (r n left k : ℕ) → k + left ≡ n
     → membersFrom roots r n (seek roots r left k) ≡ withRootIn roots r left k

@@ -15,6 +15,10 @@ use Rattle.base_forest.specs.Roots.{root}
 abbrev pub HasRoom : List ℕ → List ℕ → ℕ → Type 0
 HasRoom f work n = (4 * n ≤ length work) × (n ≤ 65536) × (n ≡ blockCount f)
 
+-- the same, and block i is one of them
+abbrev pub HasRoomAt : List ℕ → List ℕ → ℕ → ℕ → Type 0
+HasRoomAt f work n i = (4 * n ≤ length work) × (n ≤ 65536) × (i < n) × (n ≡ blockCount f)
+
 -- the rows of n blocks in the work numbers: group numbers in quarter 2, blocks in quarter 0
 abbrev pub rowsIn : ℕ → List ℕ → List ℕ
 rowsIn n work = interleave (take n (drop (2 * n) work)) (take n work)
@@ -56,8 +60,8 @@ pub record Joined (edges n : ℕ) (work work′ : List ℕ) (joins : List ℕ �
 abbrev pub HasFirsts : List ℕ → ℕ → List ℕ → Type 0
 HasFirsts f n work = (i : ℕ) → i < n → getD work i 0 ≡ countSum f i
 
--- quarter 0 was filled, and no other number changed
-pub record Firsts (f : List ℕ) (n : ℕ) (work work′ : List ℕ) : Type 0 where
+-- quarter 0 was filled so, and no other number changed
+pub record FirstsInQuarter0 (f : List ℕ) (n : ℕ) (work work′ : List ℕ) : Type 0 where
   pub same : length work′ ≡ length work
   pub after : (k : ℕ) → n ≤ k → getD work′ k 0 ≡ getD work k 0
   pub firsts : Accepted f → n ≡ blockCount f → HasFirsts f n work′

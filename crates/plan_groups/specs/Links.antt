@@ -29,6 +29,10 @@ linkOne n i work =
 abbrev pub HasRoots : ℕ → List ℕ → List ℕ → Type 0
 HasRoots n roots work = (i : ℕ) → i < n → getD work (2 * n + i) 0 ≡ getD roots i 0
 
+-- the roots in quarter 2 are numbers of blocks
+abbrev pub RootsInside : ℕ → List ℕ → Type 0
+RootsInside n work = (i : ℕ) → i < n → getD work (2 * n + i) 0 < n
+
 -- for the blocks from block i on, quarter 1 has each one's next member and quarter 3 each
 -- component's first
 pub record Linked (roots : List ℕ) (n i : ℕ) (work : List ℕ) : Type 0 where
@@ -42,3 +46,7 @@ pub record Outside (n : ℕ) (work work′ : List ℕ) : Type 0 where
   pub before : (k : ℕ) → k < n → getD work′ k 0 ≡ getD work k 0
   pub middle : (k : ℕ) → 2 * n ≤ k → k < 3 * n → getD work′ k 0 ≡ getD work k 0
   pub after : (k : ℕ) → 4 * n ≤ k → getD work′ k 0 ≡ getD work k 0
+
+-- all members are linked, by whichever roots quarter 2 had
+abbrev pub AllLinked : ℕ → List ℕ → List ℕ → Type 0
+AllLinked n work work′ = (roots : List ℕ) → HasRoots n roots work → Linked roots n 0 work′

@@ -9,6 +9,7 @@ use lib.Dec.{ltb}
 use Rattle.file_records.specs.Trailer.{blockCount, blockStart}
 use Rattle.file_records.specs.BlockRecord.{countAt}
 use Rattle.file_blocks.specs.Parse.{Accepted}
+use Rattle.plan_groups.specs.declared.order.Part.{Part}
 use Rattle.plan_groups.specs.Plan.{withRoot, closes}
 
 -- of `left` blocks from block k on those whose root is r, by a list of all roots
@@ -48,6 +49,17 @@ numbersFrom limit counts roots n g (suc left) r =
     numbersOf limit counts g 0 false (withRootIn roots r n 0)
     ++ numbersFrom limit counts roots n (nextGroup limit counts g 0 false (withRootIn roots r n 0))
     left (suc r)
+
+-- r is the instruction count of block i of an accepted file
+abbrev pub IsCount : List ℕ → ℕ → ℕ → Type 0
+IsCount f i r = Accepted f → i < blockCount f → r ≡ countAt f (blockStart f i)
+
+-- the part that takes a block with so many instructions: a new one where the one reached closes
+abbrev pub partWith : ℕ → Part → Bool → ℕ → Part
+partWith limit part isOpen count =
+    cond (closes limit (part .total) isOpen count)
+    (record { group = part .group + 1; total = count })
+    (record { group = part .group; total = part .total + count })
 
 -- counts has the instruction count of each block of a file
 abbrev pub HasCounts : List ℕ → List ℕ → Type 0

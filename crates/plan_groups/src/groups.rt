@@ -1,4 +1,18 @@
-// The groups of an accepted file in the work numbers, four quarters of n numbers each.
+// The groups of an accepted file in the work numbers, four quarters of n numbers each. What each
+// step leaves there; of `-` nothing is read again:
+//
+//     step           quarter 0           quarter 1         quarter 2          quarter 3
+//     first_instrs   first instruction   -                 -                  -
+//     join_blocks    first instruction   parent            -                  -
+//     put_roots      -                   parent            root               -
+//     link_members   -                   next member       root               first member
+//     place_blocks   block of each row   next member       group of each row  first member
+//
+// First instructions, parents, roots and next members are by block, first members by root.
+// `prepare` of `plan_members` goes on from here:
+//
+//     put_groups     block of each row   group of a block  group of each row  -
+//     put_firsts     block of each row   group of a block  group of each row  first instruction
 use crate::links::as_index;
 use crate::links::link_members;
 use crate::order::count_of;
@@ -13,23 +27,21 @@ use plan_exits::exits_at;
 use plan_search::Target;
 use plan_search::find_target;
 use plan_search::on_page_8;
-ghost use mathlib.Core.Path.{_≡_};
 ghost use Prim.Native.Nat.{_*_, _≤_, _<_};
 ghost use lib.ListN.{length};
-ghost use Rattle.file_records.specs.Trailer.{blockCount};
 ghost use Rattle.file_blocks.specs.Parse.{Accepted, blocksOf};
 ghost use Rattle.plan_exits.specs.Exits.{keysOf};
 ghost use Rattle.base_forest.specs.Forest.{Forest};
 ghost use Rattle.plan_groups.specs.Plan.{joinTo, joinExits};
 ghost use Rattle.plan_search.specs.Target.{target};
-ghost use Rattle.plan_groups.specs.Groups.{quarter1, Joined, HasFirsts, Firsts, joinRecord};
+ghost use Rattle.plan_groups.specs.Groups.{quarter1, Joined, HasFirsts, FirstsInQuarter0};
+ghost use Rattle.plan_groups.specs.Groups.{joinRecord};
 ghost use Rattle.plan_groups.specs.Groups.{AllJoined, Rooted, AllRooted, Grouped, HasRoom};
+ghost use Rattle.plan_groups.specs.Groups.{HasRoomAt};
 
 // The edge from block i to a key, if there is a block of page 8 with that key.
 fn join_key(file: &[u8], work: &mut [u32], n: usize, i: usize, key: u32)
-    requires { ⌜
-        (4 * n ≤ length (now work)) × (n ≤ 65536) × (i < n) × (n ≡ blockCount (now file))
-        ⌝ }
+    requires { ⌜ HasRoomAt (now file) (now work) n i ⌝ }
     requires { ⌜ Forest (2 * n) (quarter1 n (now work)) ⌝ }
     ensures { λ _. ⌜
         Joined 1 n (now (work .entry)) (now (work .exit))
@@ -46,9 +58,7 @@ fn join_key(file: &[u8], work: &mut [u32], n: usize, i: usize, key: u32)
 
 // The edges from block i, in the order of its exits.
 fn join_exits(file: &[u8], work: &mut [u32], n: usize, i: usize, exits: Exits)
-    requires { ⌜
-        (4 * n ≤ length (now work)) × (n ≤ 65536) × (i < n) × (n ≡ blockCount (now file))
-        ⌝ }
+    requires { ⌜ HasRoomAt (now file) (now work) n i ⌝ }
     requires { ⌜ Forest (2 * i) (quarter1 n (now work)) ⌝ }
     ensures { λ _. ⌜
         Joined 2 n (now (work .entry)) (now (work .exit))
@@ -68,9 +78,7 @@ fn join_exits(file: &[u8], work: &mut [u32], n: usize, i: usize, exits: Exits)
 
 // The edges from block i, if it is one of page 8.
 fn join_block(file: &[u8], work: &mut [u32], n: usize, i: usize)
-    requires { ⌜
-        (4 * n ≤ length (now work)) × (n ≤ 65536) × (i < n) × (n ≡ blockCount (now file))
-        ⌝ }
+    requires { ⌜ HasRoomAt (now file) (now work) n i ⌝ }
     requires { ⌜ Forest (2 * i) (quarter1 n (now work)) ⌝ }
     requires { ⌜ (Accepted (now file) → HasFirsts (now file) n (now work)) ⌝ }
     ensures { λ _. ⌜
@@ -107,7 +115,7 @@ fn join_blocks(file: &[u8], work: &mut [u32], n: usize)
 // Puts the number of each block's first instruction into quarter 0. In an accepted file it fits.
 fn first_instrs(file: &[u8], work: &mut [u32], n: usize)
     requires { ⌜ (4 * n ≤ length (now work)) × (n ≤ 65536) ⌝ }
-    ensures { λ _. ⌜ Firsts (now (file .entry)) n (now (work .entry)) (now (work .exit)) ⌝ }
+    ensures { λ _. ⌜ FirstsInQuarter0 (now (file .entry)) n (now (work .entry)) (now (work .exit)) ⌝ }
 {
     let mut sum: u64 = 0;
     let mut i = 0;

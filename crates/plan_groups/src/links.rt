@@ -1,10 +1,10 @@
 // Lists of members in the work numbers. Of four quarters of n numbers each, quarter 2 has the
 // roots; quarter 1 gets each block's next member, quarter 3 each component's first.
 ghost use mathlib.Core.Path.{_≡_};
-ghost use Prim.Native.Nat.{ℕ, _+_, _*_, _≤_, _<_};
+ghost use Prim.Native.Nat.{_+_, _*_, _≤_, _<_};
 ghost use lib.ListN.{length, getD};
-ghost use mathlib.Core.List.{List};
-ghost use Rattle.plan_groups.specs.Links.{Filled, linkOne, HasRoots, Linked, Outside};
+ghost use Rattle.plan_groups.specs.Links.{Filled, linkOne, RootsInside, AllLinked};
+ghost use Rattle.plan_groups.specs.Links.{Outside};
 
 // Quarter 3 with n in each place: no component has a member yet.
 fn no_members(work: &mut [u32], n: u32)
@@ -41,12 +41,9 @@ pub(crate) fn as_index(x: u32) -> usize
 // Links the members of each component, from the last block to the first.
 pub(crate) fn link_members(work: &mut [u32], n: u32)
     requires { ⌜ 4 * n ≤ length (now work) ⌝ }
-    requires { ⌜ ((i : ℕ) → i < n → getD (now work) (2 * n + i) 0 < n) ⌝ }
-    ensures { λ _. ⌜ Outside n (now (work .entry)) (now (work .exit)) ⌝ }
-    ensures { λ _. ⌜
-        ((roots : List ℕ) → HasRoots n roots (now (work .entry))
-        → Linked roots n 0 (now (work .exit)))
-        ⌝ }
+    requires { ⌜ RootsInside n (now work) ⌝ }
+    ensures kept { λ _. ⌜ Outside n (now (work .entry)) (now (work .exit)) ⌝ }
+    ensures links { λ _. ⌜ AllLinked n (now (work .entry)) (now (work .exit)) ⌝ }
 {
     no_members(work, n);
     let mut left = n;

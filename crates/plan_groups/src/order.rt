@@ -6,12 +6,8 @@ ghost use mathlib.Core.Path.{_≡_};
 ghost use mathlib.Core.Bool.{cond};
 ghost use Prim.Native.Nat.{_+_, _*_, _≤_, _<_, _^_};
 ghost use lib.ListN.{length, set, drop};
-ghost use Rattle.file_records.specs.Trailer.{blockCount, blockStart};
-ghost use Rattle.file_records.specs.BlockRecord.{countAt};
-ghost use Rattle.file_blocks.specs.Parse.{Accepted};
 ghost use Rattle.plan_groups.specs.Links.{Linked};
-ghost use Rattle.plan_groups.specs.Order.{Placed};
-ghost use Rattle.plan_groups.specs.Plan.{closes};
+ghost use Rattle.plan_groups.specs.Order.{IsCount, partWith, Placed};
 
 // The part of a component that is being filled: the number of its group, and its instructions.
 pub(crate) struct Part {
@@ -21,11 +17,8 @@ pub(crate) struct Part {
 
 // How many instructions a block has.
 pub(crate) fn count_of(file: &[u8], i: usize) -> u64
-    ensures { λ r. ⌜ r < 2 ^ 32 ⌝ }
-    ensures { λ r. ⌜
-        (Accepted (now (file .entry)) → i < blockCount (now (file .entry))
-        → r ≡ countAt (now (file .entry)) (blockStart (now (file .entry)) i))
-        ⌝ }
+    ensures small { λ r. ⌜ r < 2 ^ 32 ⌝ }
+    ensures count { λ r. ⌜ IsCount (now (file .entry)) i r ⌝ }
 {
     let FoundBlock::At(block) = block_at(file, i) else {
         return 0;
@@ -37,11 +30,7 @@ pub(crate) fn count_of(file: &[u8], i: usize) -> u64
 // is not empty.
 fn take_block(limit: u64, part: Part, open: bool, count: u64) -> Part
     requires { ⌜ (part .group < 65536) × (part .total < 2 ^ 49) × (count < 2 ^ 32) ⌝ }
-    ensures { λ r. ⌜
-        r ≡ cond (closes limit (part .total) «open» count)
-        (record { group = part .group + 1; total = count })
-        (record { group = part .group; total = part .total + count })
-        ⌝ }
+    ensures { λ r. ⌜ r ≡ partWith limit part «open» count ⌝ }
 {
     let total = part.total + count;
     if limit < total {

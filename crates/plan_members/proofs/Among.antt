@@ -31,40 +31,40 @@ or-right true c e = refl
 or-right false c e = e
 
 -- the key of a block, by its number
-abbrev keyOf : List Block → ℕ → ℕ
-keyOf bs i = getD (map blockKey bs) i 0
+abbrev numberKey : List Block → ℕ → ℕ
+numberKey bs i = getD (map blockKey bs) i 0
 
 among-member : (bs : List Block) (i : ℕ) {is : List ℕ} → List·Memᴰ i is
-    → among (keyOf bs i) (memberKeys bs is) ≡ true
+    → among (numberKey bs i) (memberKeys bs is) ≡ true
 among-member bs i (List·Memᴰ·head {x = x} e) =
-    rw (eq-eqb (keyOf bs i) (keyOf bs x) (ap (keyOf bs) e))
+    rw (eq-eqb (numberKey bs i) (numberKey bs x) (ap (numberKey bs) e))
 among-member bs i (List·Memᴰ·tail {x = x} m) =
-    or-right (eqb (keyOf bs i) (keyOf bs x)) _ (among-member bs i m)
+    or-right (eqb (numberKey bs i) (numberKey bs x)) _ (among-member bs i m)
 
 among-none : (bs : List Block) (key : ℕ) (is : List ℕ)
-    → ((i : ℕ) → List·Memᴰ i is → keyOf bs i ≡ key → ⊥) → among key (memberKeys bs is) ≡ false
+    → ((i : ℕ) → List·Memᴰ i is → numberKey bs i ≡ key → ⊥) → among key (memberKeys bs is) ≡ false
 among-none bs key [] no-such = refl
 among-none bs key (i ∷ is) no-such =
-    rw (ne-eqb key (keyOf bs i) (λ e. no-such i (List·Memᴰ·head refl) (sym e)))
+    rw (ne-eqb key (numberKey bs i) (λ e. no-such i (List·Memᴰ·head refl) (sym e)))
     (among-none bs key is (λ j m. no-such j (List·Memᴰ·tail m)))
 
 -- the block that was found for a key has it
 target-key : (key : ℕ) (bs : List Block) (i j : ℕ) → target key bs i ≡ some j
-    → (m : ℕ) × (j ≡ i + m) × (m < length bs) × (keyOf bs m ≡ key)
+    → (m : ℕ) × (j ≡ i + m) × (m < length bs) × (numberKey bs m ≡ key)
 unfolding target
 target-key key [] i j e = absurd (let z : _≡_ {A = ℕ} 0 1 = cc in omega arith)
 target-key key (b ∷ bs) i j e =
     go (eqb (blockKey b) key) (joinable b) refl (target-key key bs (suc i) j) e
   where
-    later : (m : ℕ) × (j ≡ suc i + m) × (m < length bs) × (keyOf bs m ≡ key)
-        → (m : ℕ) × (j ≡ i + m) × (m < length (b ∷ bs)) × (keyOf (b ∷ bs) m ≡ key)
+    later : (m : ℕ) × (j ≡ suc i + m) × (m < length bs) × (numberKey bs m ≡ key)
+        → (m : ℕ) × (j ≡ i + m) × (m < length (b ∷ bs)) × (numberKey (b ∷ bs) m ≡ key)
     later (m, is, inside, same) = (suc m, omega arith, omega arith, same)
 
     go : (x y : Bool) → eqb (blockKey b) key ≡ x
         → (target key bs (suc i) ≡ some j
-        → (m : ℕ) × (j ≡ suc i + m) × (m < length bs) × (keyOf bs m ≡ key))
+        → (m : ℕ) × (j ≡ suc i + m) × (m < length bs) × (numberKey bs m ≡ key))
         → cond (x && y) (some i) (target key bs (suc i)) ≡ some j
-        → (m : ℕ) × (j ≡ i + m) × (m < length (b ∷ bs)) × (keyOf (b ∷ bs) m ≡ key)
+        → (m : ℕ) × (j ≡ i + m) × (m < length (b ∷ bs)) × (numberKey (b ∷ bs) m ≡ key)
     go true true h ih e′ = (let same : i ≡ j = cc in (0, omega arith, omega arith, eqb-true _ _ h))
     go true false h ih e′ = later (ih e′)
     go false y h ih e′ = later (ih e′)
@@ -76,12 +76,13 @@ module _ {f : List ℕ} {n limit : ℕ} {work : List ℕ} (ready : HoldsPlan f n
   inside-of : (i : ℕ) → i < length (blocksOf f) → i < blockCount f
   inside-of i h = omega (arith, blocks-all ready, ready .all)
 
-  key-is : (i : ℕ) → i < length (blocksOf f) → keyOf bs i ≡ keyAt f (blockStart f i)
+  key-is : (i : ℕ) → i < length (blocksOf f) → numberKey bs i ≡ keyAt f (blockStart f i)
   key-is i h = map-at blockKey bs i nowhere 0 h
       ∙ block-key f (blocksOf f) (ready .accepted) i nowhere (inside-of i h)
 
   -- blocks with the same key are one
-  key-once : (i j : ℕ) → i < length (blocksOf f) → j < length (blocksOf f) → keyOf bs i ≡ keyOf bs j
+  key-once : (i j : ℕ) → i < length (blocksOf f) → j < length (blocksOf f)
+      → numberKey bs i ≡ numberKey bs j
       → i ≡ j
   key-once i j h k e =
       let same : keyAt f (blockStart f i) ≡ keyAt f (blockStart f j) =
@@ -115,7 +116,7 @@ module _ {f : List ℕ} {n limit : ℕ} {work : List ℕ} (ready : HoldsPlan f n
         → false ≡ among key (memberKeys (blocksOf f) (membersOf limit (blocksOf f) g))
     among-missing e = sym (among-none bs key (membersOf limit bs g) no-such)
       where
-        no-such : (i : ℕ) → List·Memᴰ i (membersOf limit (blocksOf f) g) → keyOf bs i ≡ key → ⊥
+        no-such : (i : ℕ) → List·Memᴰ i (membersOf limit (blocksOf f) g) → numberKey bs i ≡ key → ⊥
         no-such i m same =
             let h = member-inside i m in
             let found : target key bs 0 ≡ some (0 + i) = target-some key bs 0 i nowhere h
@@ -138,7 +139,7 @@ module _ {f : List ℕ} {n limit : ℕ} {work : List ℕ} (ready : HoldsPlan f n
         let there = target-key key bs 0 j e in
         let same : there .0 ≡ j = omega (arith, there .1) in
         let h : j < length bs = omega (arith, there .2) in
-        let key-of : keyOf bs j ≡ key = ap (keyOf bs) (sym same) ∙ there .3 in
+        let key-of : numberKey bs j ≡ key = ap (numberKey bs) (sym same) ∙ there .3 in
         elim (ℕ-discrete (getD work (n + j) 0) g) [
           | yes at ↦ eq-eqb _ _ at
               ∙ sym (ap (λ (k : ℕ). among k (memberKeys bs (membersOf limit bs g))) (sym key-of)

@@ -15,14 +15,14 @@ use Rattle.base_lists.proofs.Counts.{count, count-append, count-here, count-oth
 
 module _ (i : ℕ) where
   -- the rows of a group that has the block
-  among : (g : ℕ) (is rest : List ℕ) → 1 ≤ count i is → groupOf i (groupRows g is ++ rest) ≡ g
+  group-here : (g : ℕ) (is rest : List ℕ) → 1 ≤ count i is → groupOf i (groupRows g is ++ rest) ≡ g
   unfolding groupOf count
-  among g [] rest h = absurd (omega arith)
-  among g (j ∷ is) rest h =
+  group-here g [] rest h = absurd (omega arith)
+  group-here g (j ∷ is) rest h =
       elim (ℕ-discrete j i) [
         | yes e ↦ rw (eq-eqb j i e)
         | no d ↦ rw (ne-eqb j i d)
-            (among g is rest (omega (arith, count-other i j is (λ e. d (sym e)))))
+            (group-here g is rest (omega (arith, count-other i j is (λ e. d (sym e)))))
       ]
 
   -- the rows of a group that has it not
@@ -41,7 +41,7 @@ module _ (i : ℕ) where
       → 1 ≤ count i (getD gs k []) → groupOf i (rowsFrom g gs) ≡ g + k
   unfolding rowsFrom flatten count
   in-rows g [] k once h = absurd (omega arith)
-  in-rows g (is ∷ gs) zero once h = among g is (rowsFrom (suc g) gs) h ∙ sym (add-zero g)
+  in-rows g (is ∷ gs) zero once h = group-here g is (rowsFrom (suc g) gs) h ∙ sym (add-zero g)
   in-rows g (is ∷ gs) (suc k) once h =
       let both = count-append i is (flatten gs) in
       let later : 1 ≤ count i (flatten gs) = some-in gs k h in

@@ -14,10 +14,10 @@ use Rattle.file_blocks.specs.Parse.{blocksOf, Accepted}
 use Rattle.plan_groups.specs.Groups.{Grouped}
 use Rattle.base_lists.specs.Interleave.{interleave}
 use Rattle.plan_groups.specs.Plan.{plan, groupOf}
-use Rattle.plan_members.specs.Numbers.{rowsAt, GroupsFrom}
+use Rattle.plan_members.specs.Numbers.{rowsInFrom, GroupsFrom}
 
 -- past the last row there is none
-rows-end : (n : ℕ) (work : List ℕ) → rowsAt n work n ≡ []
+rows-end : (n : ℕ) (work : List ℕ) → rowsInFrom n work n ≡ []
 unfolding interleave
 rows-end n work =
     let few : length (take n (drop (2 * n) work)) ≤ n =
@@ -26,7 +26,7 @@ rows-end n work =
 
 -- row p, and the rows after it
 rows-next : (n : ℕ) (work : List ℕ) (p : ℕ) → p < n → 4 * n ≤ length work
-    → rowsAt n work p ≡ getD work (2 * n + p) 0 ∷ getD work p 0 ∷ rowsAt n work (p + 1)
+    → rowsInFrom n work p ≡ getD work (2 * n + p) 0 ∷ getD work p 0 ∷ rowsInFrom n work (p + 1)
 unfolding interleave
 rows-next n work p h room =
     let long : n ≤ length (drop (2 * n) work) = omega (arith, length-drop (2 * n) work) in
@@ -91,17 +91,17 @@ groups-none n i work work′ h z =
 
 module _ (n p i : ℕ) (work₀ work : List ℕ) (h : p < n) (room : 4 * n ≤ length work)
     (is : i ≡ getD work p 0) (from : GroupsFrom n (p + 1) work₀ work) where
-  row : rowsAt n work₀ p ≡ getD work (2 * n + p) 0 ∷ i ∷ rowsAt n work₀ (p + 1)
+  row : rowsInFrom n work₀ p ≡ getD work (2 * n + p) 0 ∷ i ∷ rowsInFrom n work₀ (p + 1)
   row =
       rows-next n work₀ p h (omega (arith, from .same))
-      ∙ ap₂ (λ (g j : ℕ). g ∷ j ∷ rowsAt n work₀ (p + 1))
+      ∙ ap₂ (λ (g j : ℕ). g ∷ j ∷ rowsInFrom n work₀ (p + 1))
       (sym (from .after (2 * n + p) (omega arith))) (sym (from .before p h) ∙ sym is)
 
-  other : (j : ℕ) → j < n → (i ≡ j → ⊥) → getD work (n + j) 0 ≡ groupOf j (rowsAt n work₀ p)
+  other : (j : ℕ) → j < n → (i ≡ j → ⊥) → getD work (n + j) 0 ≡ groupOf j (rowsInFrom n work₀ p)
   unfolding groupOf
   other j b d = from .groups j b ∙ sym (ap (groupOf j) row ∙ rw (ne-eqb i j d))
 
-  here : groupOf i (rowsAt n work₀ p) ≡ getD work (2 * n + p) 0
+  here : groupOf i (rowsInFrom n work₀ p) ≡ getD work (2 * n + p) 0
   unfolding groupOf
   here = ap (groupOf i) row ∙ rw (eq-eqb i i refl)
 
@@ -117,12 +117,12 @@ module _ (n p i : ℕ) (work₀ work : List ℕ) (h : p < n) (room : 4 * n ≤ l
     where
       group-at : (j : ℕ) → j < n
           → getD (set work (n + i) (getD work (2 * n + p) 0)) (n + j) 0
-          ≡ groupOf j (rowsAt n work₀ p)
+          ≡ groupOf j (rowsInFrom n work₀ p)
       group-at j c =
           elim (ℕ-discrete i j) [
             | yes e ↦ ap (λ (m : ℕ). getD (set work (n + i) (getD work (2 * n + p) 0)) (n + m) 0)
                 (sym e) ∙ getD-set-same work (n + i) _ 0 (omega arith)
-                ∙ sym here ∙ ap (λ (m : ℕ). groupOf m (rowsAt n work₀ p)) e
+                ∙ sym here ∙ ap (λ (m : ℕ). groupOf m (rowsInFrom n work₀ p)) e
             | no d ↦ getD-set-other work (n + i) (n + j) _ 0 (λ e. d (omega arith)) ∙ other j c d
           ]
 

@@ -69,11 +69,6 @@ row-from g (is ∷ gs) (suc j) k p e h =
     ∙ row-from (suc g) gs j k (startOf gs j + k) refl h
     ∙ ap (λ (m : ℕ). (m, getD (getD gs j []) k 0)) next
 
--- the groups' first rows
-pub start-none : (gs : List (List ℕ)) → startOf gs 0 ≡ 0
-unfolding startOf
-start-none gs = refl
-
 pub start-next : (gs : List (List ℕ)) (g : ℕ)
     → startOf gs (suc g) ≡ startOf gs g + length (getD gs g [])
 unfolding startOf
@@ -128,9 +123,6 @@ module _ {f : List ℕ} {n limit : ℕ} {work : List ℕ} (ready : HoldsPlan f n
   -- the first row of every group, and that after the last one
   pub start-inside : (g : ℕ) → startOf (groups limit (blocksOf f)) g ≤ n
   start-inside g = omega (arith, start-within gs g, members-all)
-
-  pub start-all : startOf (groups limit (blocksOf f)) (length (groups limit (blocksOf f))) ≡ n
-  start-all = start-past gs (length gs) (omega arith) ∙ members-all
 
   -- where a row is left there is a group left
   pub group-left : (g : ℕ) → startOf (groups limit (blocksOf f)) g < n

@@ -14,10 +14,10 @@ use Rattle.file_blocks.specs.Parse.{Accepted}
 use Rattle.plan_groups.specs.Groups.{Grouped}
 use Rattle.base_lists.specs.Interleave.{interleave}
 use Rattle.plan_members.specs.Numbers.{GroupsFrom}
-use Rattle.plan_members.specs.Prepared.{FirstsTo, Prepared}
+use Rattle.plan_members.specs.Prepared.{FirstsInQuarter3, Prepared}
 use Rattle.plan_members.proofs.Groups.{groups-planned, groups-room, groups-past}
 
-pub firsts-none : (f : List ℕ) (n : ℕ) (work : List ℕ) → FirstsTo f n 0 work work
+pub firsts-none : (f : List ℕ) (n : ℕ) (work : List ℕ) → FirstsInQuarter3 f n 0 work work
 firsts-none f n work =
     record {
       same = refl;
@@ -28,8 +28,8 @@ firsts-none f n work =
     }
 
 pub firsts-more : (f : List ℕ) (n m : ℕ) (work work′ : List ℕ) (first : ℕ) → m < n
-    → 4 * n ≤ length work → first ≡ countSum f m → FirstsTo f n m work work′
-    → FirstsTo f n (m + 1) work (set work′ (3 * n + m) first)
+    → 4 * n ≤ length work → first ≡ countSum f m → FirstsInQuarter3 f n m work work′
+    → FirstsInQuarter3 f n (m + 1) work (set work′ (3 * n + m) first)
 firsts-more f n m work work′ first h room is from =
     record {
       same = length-set work′ (3 * n + m) first ∙ from .same;
@@ -50,9 +50,10 @@ firsts-more f n m work work′ first h room is from =
               ∙ from .firsts i (omega arith)
         ]
 
-pub firsts-all : (f : List ℕ) (n m : ℕ) (work work′ : List ℕ) → m ≡ n → FirstsTo f n m work work′
-    → FirstsTo f n n work work′
-firsts-all f n m work work′ e = subst (λ (k : ℕ). FirstsTo f n k work work′) e
+pub firsts-all : (f : List ℕ) (n m : ℕ) (work work′ : List ℕ) → m ≡ n
+    → FirstsInQuarter3 f n m work work′
+    → FirstsInQuarter3 f n n work work′
+firsts-all f n m work work′ e = subst (λ (k : ℕ). FirstsInQuarter3 f n k work work′) e
 
 -- fronts with the same numbers
 front-same : (n : ℕ) (v w : List ℕ) → n ≤ length v → length w ≡ length v
@@ -76,7 +77,7 @@ quarter-same n at v w room e same =
 module _ {f : List ℕ} {n limit : ℕ} {work work₁ work₂ work₃ : List ℕ} (ok : Accepted f)
     (all : n ≡ blockCount f) (room : 4 * n ≤ length work)
     (grouped : Grouped f n limit work work₁) (put : GroupsFrom n 0 work₁ work₂)
-    (numbered : FirstsTo f n n work₂ work₃) where
+    (numbered : FirstsInQuarter3 f n n work₂ work₃) where
   kept : (k : ℕ) → k < n ⊎ ((2 * n ≤ k) × (k < 3 * n)) → getD work₃ k 0 ≡ getD work₁ k 0
   kept k (inl h) = numbered .before k (omega arith) ∙ put .before k h
   kept k (inr h) = numbered .before k (h .1) ∙ put .after k (h .0)

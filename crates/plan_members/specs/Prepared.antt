@@ -1,5 +1,5 @@
--- Steps: what the work numbers hold for the passes over blocks and groups, four quarters of n numbers
--- each.
+-- Steps: what the work numbers hold for the passes over blocks and groups, four quarters of n
+-- numbers each.
 use Prim.Native.Nat.{ℕ, _+_, _*_, _≤_, _<_}
 use mathlib.Core.Path.{_≡_}
 use mathlib.Core.List.{List}
@@ -12,7 +12,7 @@ use Rattle.plan_groups.specs.Plan.{plan, groupOf}
 
 -- quarter 3 has the number of the first instruction of the blocks before block m, and no other
 -- number changed
-pub record FirstsTo (f : List ℕ) (n m : ℕ) (work work′ : List ℕ) : Type 0 where
+pub record FirstsInQuarter3 (f : List ℕ) (n m : ℕ) (work work′ : List ℕ) : Type 0 where
   pub same : length work′ ≡ length work
   pub before : (k : ℕ) → k < 3 * n → getD work′ k 0 ≡ getD work k 0
   pub after : (k : ℕ) → 3 * n + m ≤ k → getD work′ k 0 ≡ getD work k 0

@@ -1,8 +1,7 @@
 // The group of each block, by its number, from the rows of a plan in the work numbers.
-ghost use Prim.Native.Nat.{_+_, _*_, _≤_, _<_};
-ghost use Prim.Native.Nat.{ℕ};
-ghost use mathlib.Core.List.{List};
+ghost use Prim.Native.Nat.{_*_, _≤_, _<_};
 ghost use lib.ListN.{length};
+ghost use Rattle.plan_members.specs.Answers.{OneRowMore};
 ghost use Rattle.plan_members.specs.Numbers.{GroupsFrom};
 
 // Quarter 1 of n numbers becomes 0.
@@ -20,10 +19,7 @@ fn no_groups(work: &mut [u32], n: usize)
 // The group of the block in row p.
 fn put_group(work: &mut [u32], n: usize, p: usize)
     requires { ⌜ (4 * n ≤ length (now work)) × (n ≤ 65536) × (p < n) ⌝ }
-    ensures { λ _. ⌜
-        ((work₀ : List ℕ) → GroupsFrom n (p + 1) work₀ (now (work .entry))
-        → GroupsFrom n p work₀ (now (work .exit)))
-        ⌝ }
+    ensures { λ _. ⌜ OneRowMore n p (now (work .entry)) (now (work .exit)) ⌝ }
 {
     let i = work[p] as usize;
     if i < n {

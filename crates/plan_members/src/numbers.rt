@@ -5,14 +5,14 @@ use file_blocks::block_at;
 use plan_groups::group_blocks;
 ghost use Prim.Native.Nat.{_*_};
 ghost use Rattle.file_blocks.specs.Parse.{Accepted};
-ghost use Rattle.plan_members.specs.Prepared.{FirstsTo, Prepared};
+ghost use Rattle.plan_members.specs.Prepared.{FirstsInQuarter3, Prepared};
 ghost use Rattle.plan_groups.specs.Groups.{HasRoom};
 
 // Puts the number of each block's first instruction into quarter 3. In an accepted file nothing
 // wraps.
 fn put_firsts(file: &[u8], work: &mut [u32], n: usize)
     requires { ⌜ HasRoom (now file) (now work) n × Accepted (now file) ⌝ }
-    ensures { λ _. ⌜ FirstsTo (now (file .entry)) n n (now (work .entry)) (now (work .exit)) ⌝ }
+    ensures { λ _. ⌜ FirstsInQuarter3 (now (file .entry)) n n (now (work .entry)) (now (work .exit)) ⌝ }
 {
     let mut first: usize = 0;
     let mut i = 0;

@@ -1,12 +1,14 @@
 -- Steps: where a key stands among the rising keys of an accepted file, and what the search for a
 -- block answers.
 use Prim.Native.Nat.{ℕ, _≤_, _<_, _^_}
+use mathlib.Core.Path.{_≡_}
 use mathlib.Core.List.{List}
 use mathlib.Core.Option.{Option, none, some}
 use Rattle.file_records.specs.Trailer.{blockCount, blockStart}
 use Rattle.file_records.specs.BlockRecord.{keyAt}
 use Rattle.plan_search.specs.declared.Target.{Target}
-use Rattle.file_blocks.specs.Parse.{Accepted}
+use Rattle.file_blocks.specs.Parse.{Accepted, blocksOf}
+use Rattle.plan_search.specs.Target.{target}
 
 -- r is the number of the first block whose key is not below a key, or the number of blocks
 pub record FirstFrom (f : List ℕ) (key r : ℕ) : Type 0 where
@@ -31,3 +33,7 @@ targetOf Target.Nothing = none
 abbrev pub TargetInside : List ℕ → Target → Type 0
 TargetInside f (Target.At i) = i < blockCount f
 TargetInside f Target.Nothing = Unit {0}
+
+-- in an accepted file it is the one that the definition finds for a key
+abbrev pub TargetFound : List ℕ → ℕ → Target → Type 0
+TargetFound f key t = Accepted f → targetOf t ≡ target key (blocksOf f) 0

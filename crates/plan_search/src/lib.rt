@@ -6,9 +6,9 @@ use file_records::block_record::key_plus;
 ghost use mathlib.Core.Path.{_≡_};
 ghost use Prim.Native.Nat.{_<_};
 ghost use Rattle.file_records.specs.Trailer.{blockCount};
-ghost use Rattle.file_blocks.specs.Parse.{Accepted, blocksOf};
-ghost use Rattle.plan_search.specs.Target.{onPage8, target};
-ghost use Rattle.plan_search.specs.Search.{targetOf, TargetInside, Between, FirstFrom};
+ghost use Rattle.file_blocks.specs.Parse.{Accepted};
+ghost use Rattle.plan_search.specs.Target.{onPage8};
+ghost use Rattle.plan_search.specs.Search.{TargetInside, TargetFound, Between, FirstFrom};
 
 // The number of a block, if there is one.
 pub enum Target {
@@ -84,10 +84,8 @@ fn first_from(file: &[u8], key: u64, i: usize) -> usize
 // The block of page 8 with a key, an exit of block i.
 pub fn find_target(file: &[u8], key: u32, i: usize) -> Target
     requires { ⌜ i < blockCount (now file) ⌝ }
-    ensures { λ r. ⌜ TargetInside (now (file .entry)) r ⌝ }
-    ensures { λ r. ⌜
-        (Accepted (now (file .entry)) → targetOf r ≡ target key (blocksOf (now (file .entry))) 0)
-        ⌝ }
+    ensures inside { λ r. ⌜ TargetInside (now (file .entry)) r ⌝ }
+    ensures found { λ r. ⌜ TargetFound (now (file .entry)) key r ⌝ }
 {
     let j = first_from(file, key as u64, i);
     let FoundBlock::At(block) = block_at(file, j) else {

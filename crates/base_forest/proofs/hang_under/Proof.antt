@@ -52,18 +52,20 @@ module _ {p p₁ p₂ : List ℕ} {i j source target : ℕ} (full : Forest (2 * 
 
 find-requires-2 : tie.Need-find-requires-2
 find-requires-2 c κs =
+    let start = c .before .before .before .before .before .before in
     let flat = c .before .before .before .find .ensures .kept in (
-      flatter-full flat (c .before .before .before .before .before .before .pre .0),
+      flatter-full flat (start .pre .0),
       rw
-          (flat .lengths) (c .before .before .before .before .before .before .pre .1 .1),
+          (flat .lengths) (start .pre .1 .1),
     )
 
 -- both roots are elements of the parents, so they fit
 set-parent-requires : tie.Need-set-parent-requires
 set-parent-requires c κs =
-    let pre =
-    c .before .before .before .before .before .before .before .before .before .before .pre in
-    let first = c .before .before .before .before .before .before .before .find in
+    let at-find = c .before .before .before .before .before .before .before in
+    let start = at-find .before .before .before in
+    let pre = start .pre in
+    let first = at-find .find in
     let second = c .before .before .before .find2 in
     let known = c .before .slice-known3 .given in
     let owned = own-roots (pre .0) (pre .1 .0) (pre .1 .1) (first .ensures) (second .ensures) in
@@ -78,13 +80,13 @@ set-parent-requires c κs =
 
 returns : tie.Need-returns
 returns c =
-    let pre =
-    c .before .before .before .before .before .before .before .before .before .before .before
-    .before .before .pre in
+    let at-find2 = c .before .before .before .before .before .before in
+    let at-find = at-find2 .before .before .before .before in
+    let start = at-find .before .before .before in
+    let pre = start .pre in
     rw (c .before .before .set-parent .ensures)
     (joins (pre .0) (pre .1 .0) (pre .1 .1)
-    (c .before .before .before .before .before .before .before .before .before .before .find
-    .ensures) (c .before .before .before .before .before .before .find2 .ensures))
+    (at-find .find .ensures) (at-find2 .find2 .ensures))
 
 same-length : tie.Need-same-length
 same-length c = returns c .lengths

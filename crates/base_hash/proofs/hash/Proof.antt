@@ -29,16 +29,18 @@ cast-wrapping-mul c = omega (arith, c .shared-slice-known2 .given (c .before .be
 
 loop-again : tie.Need-loop-again Inv-loop μ-loop
 unfolding fnvFrom
-loop-again c = let i = c .before .before .before .loop .i in
-    let bytes = c .before .before .before .before .before .args .bytes .now in
+loop-again c =
+    let start = c .before .before .before .before .before in
+    let i = c .before .before .before .loop .i in
+    let bytes = start .args .bytes .now in
     let inv = c .before .before .before .loop .inv in (
       omega arith,
       ap₂
           (λ (h : ℕ) (l : List ℕ). fnvFrom
-          (c .before .before .before .before .before .args .multiplier) h l)
+          (start .args .multiplier) h l)
           (c .wrapping-mul .ensures) (ap (λ (k : ℕ). drop k bytes) (add-one i))
           ∙ sym (ap
-          (fnvFrom (c .before .before .before .before .before .args .multiplier)
+          (fnvFrom (start .args .multiplier)
           (c .before .before .before .loop .h)) (drop-cons bytes i 0 (omega arith))) ∙ inv .1,
     )
 

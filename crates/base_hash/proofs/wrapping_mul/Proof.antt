@@ -33,12 +33,17 @@ mul-wrapping-add-u64-3 c =
     )
 
 returns : tie.Need-returns
-returns c = let mixed = c .before .before .before .before .wrapping-add-u64 .ensures
+returns c =
+    let at-wrapping-add-u64 = c .before .before .before .before in
+    let at-low2 = at-wrapping-add-u64 .before in
+    let at-low = at-low2 .before in
+    let start = at-low .before in
+    let mixed = at-wrapping-add-u64 .wrapping-add-u64 .ensures
     ∙ ap₂ (λ (x y : ℕ).
-    (c .before .before .before .before .before .before .before .args .a / K * x + y
-    * (c .before .before .before .before .before .before .before .args .b / K)) %
-    18446744073709551616) (c .before .before .before .before .before .before .low .ensures)
-    (c .before .before .before .before .before .low2 .ensures) in
+    (start .args .a / K * x + y
+    * (start .args .b / K)) %
+    18446744073709551616) (at-low .low .ensures)
+    (at-low2 .low2 .ensures) in
     let lows =
     ap₂ (λ (x y : ℕ). x * y) (c .before .before .before .low3 .ensures)
     (c .before .before .low4 .ensures) in
@@ -48,9 +53,9 @@ returns c = let mixed = c .before .before .before .before .wrapping-add-u64 .ens
       lows,
       c .before .low5 .ensures,
       product
-          (c .before .before .before .before .before .before .before .args .a)
-          (c .before .before .before .before .before .before .before .args .b)
-          (c .before .before .before .before .wrapping-add-u64 .result) mixed,
+          (start .args .a)
+          (start .args .b)
+          (at-wrapping-add-u64 .wrapping-add-u64 .result) mixed,
     )
 
 pub wrapping-mul-spec : {M : Type 1} → statement M

@@ -15,14 +15,16 @@ returns c = (
 )
 
 returns-2 : tie.Need-returns-2
-returns-2 c = (
-  tt,
-  λ a. searching.search-other _ _ _ a
-      (c .before .before .before .before .before .before .first-from .ensures a) _
-      (sym (c .before .before .before .before .before .block-at .ensures)
-      ∙ c .before .before .before .block .given .1)
-      (λ e. c .if1 .taken (c .before .key-plus .ensures .0 ∙ e)),
-)
+returns-2 c =
+    let at-block-at = c .before .before .before .before .before in
+    let at-first-from = at-block-at .before in (
+      tt,
+      λ a. searching.search-other _ _ _ a
+          (at-first-from .first-from .ensures a) _
+          (sym (at-block-at .block-at .ensures)
+          ∙ c .before .before .before .block .given .1)
+          (λ e. c .if1 .taken (c .before .key-plus .ensures .0 ∙ e)),
+    )
 
 returns-3 : tie.Need-returns-3
 returns-3 c =

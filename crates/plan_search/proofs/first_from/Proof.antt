@@ -1,5 +1,5 @@
--- `search::first_from` meets its contract: what is between low and high halves, and what the search
--- keeps at the end is the answer. Assumes nothing.
+-- `plan_search::first_from` meets its contract: what is between low and high halves, and what the
+-- search keeps at the end is the answer. Assumes nothing.
 use Prim.Native.Nat.{_+_, _-_, _/_}
 use Rattle.file_blocks.proofs.IsBlock.{missing}
 use Rattle.plan_search.proofs.Searching as searching
@@ -26,18 +26,24 @@ returns c = λ a.
     absurd (omega (arith, missing _ a (at .low + (at .high - at .low) / 2) nothing))
 
 loop-again : tie.Need-loop-again Inv-loop μ-loop
-loop-again c = let at = c .before .before .before .before .before .before .before .loop in
+loop-again c =
+    let at-block-at = c .before .before .before .before .before in
+    let at-loop = at-block-at .before .before in
+    let at = at-loop .loop in
     searching.between-after _ _ _ _ _ (at .inv) (omega arith) (omega arith)
     (λ _. searching.key-below _ (at .low + (at .high - at .low) / 2) _ _ _
-    (c .before .before .before .before .before .block-at .ensures)
+    (at-block-at .block-at .ensures)
     (c .before .before .before .block .given .1) (c .before .key-plus .ensures .0) _
     (c .if1 .taken))
 
 loop-again-2 : tie.Need-loop-again-2 Inv-loop μ-loop
-loop-again-2 c = let at = c .before .before .before .before .before .before .before .loop in
+loop-again-2 c =
+    let at-block-at = c .before .before .before .before .before in
+    let at-loop = at-block-at .before .before in
+    let at = at-loop .loop in
     searching.between-before _ _ _ _ _ (at .inv) (omega arith) (omega arith)
     (λ _. searching.key-not-below _ (at .low + (at .high - at .low) / 2) _ _ _
-    (c .before .before .before .before .before .block-at .ensures)
+    (at-block-at .block-at .ensures)
     (c .before .before .before .block .given .1) (c .before .key-plus .ensures .0) _
     (c .if1 .left))
 

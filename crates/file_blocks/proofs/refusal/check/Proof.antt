@@ -30,13 +30,18 @@ check-blocks-requires c κs = sym (c .before .trailer-right .ensures) ∙ not-fa
 
 returns-4 : tie.Need-returns-4
 returns-4 c =
+    let at-if3 = c .before .before .before .before in
+    let at-trailer-right = at-if3 .before in
+    let at-if2 = at-trailer-right .before in
+    let at-within-limits = at-if2 .before in
+    let at-if1 = at-within-limits .before in
     whole.answered _ _
     (whole.blocks-refused _
-    (c .before .before .before .before .before .before .before .before .if1 .left)
-    (sym (c .before .before .before .before .before .before .before .within-limits .ensures)
-    ∙ not-false _ (c .before .before .before .before .before .before .if2 .left))
-    (sym (c .before .before .before .before .before .trailer-right .ensures)
-    ∙ not-false _ (c .before .before .before .before .if3 .left)) _
+    (at-if1 .if1 .left)
+    (sym (at-within-limits .within-limits .ensures)
+    ∙ not-false _ (at-if2 .if2 .left))
+    (sym (at-trailer-right .trailer-right .ensures)
+    ∙ not-false _ (at-if3 .if3 .left)) _
     (c .before .before .before .check-blocks .ensures) _ _ (c .before .number .given .1))
 
 check-instrs-requires : tie.Need-check-instrs-requires
@@ -45,39 +50,48 @@ check-instrs-requires c κs = sym (c .before .before .before .before .trailer-ri
 
 returns-5 : tie.Need-returns-5
 returns-5 c =
+    let at-enum-told = c .before .before .before .before in
+    let at-check-blocks = at-enum-told .before .before in
+    let at-if3 = at-check-blocks .before in
+    let at-trailer-right = at-if3 .before in
+    let at-if2 = at-trailer-right .before in
+    let at-within-limits = at-if2 .before in
+    let at-if1 = at-within-limits .before in
     whole.answered _ _
     (whole.instrs-refused _
-    (c .before .before .before .before .before .before .before .before .before .before .before .if1
-    .left) (sym
-    (c .before .before .before .before .before .before .before .before .before .before
-    .within-limits .ensures)
+    (at-if1 .if1 .left) (sym
+    (at-within-limits .within-limits .ensures)
     ∙ not-false _
-    (c .before .before .before .before .before .before .before .before .before .if2 .left))
-    (sym (c .before .before .before .before .before .before .before .before .trailer-right .ensures)
-    ∙ not-false _ (c .before .before .before .before .before .before .before .if3 .left)) _
-    (c .before .before .before .before .before .before .check-blocks .ensures)
-    (c .before .before .before .before .enum-told .given .1) _
+    (at-if2 .if2 .left))
+    (sym (at-trailer-right .trailer-right .ensures)
+    ∙ not-false _ (at-if3 .if3 .left)) _
+    (at-check-blocks .check-blocks .ensures)
+    (at-enum-told .enum-told .given .1) _
     (c .before .before .before .check-instrs .ensures) _ _ (c .before .number2 .given .1))
 
 returns-6 : tie.Need-returns-6
 returns-6 c =
+    let at-check-instrs = c .before .before .before .before in
+    let at-enum-told = at-check-instrs .before in
+    let at-check-blocks = at-enum-told .before .before in
+    let at-if3 = at-check-blocks .before in
+    let at-trailer-right = at-if3 .before in
+    let at-if2 = at-trailer-right .before in
+    let at-within-limits = at-if2 .before in
+    let at-if1 = at-within-limits .before in
     whole.answered _ _
     (ap₂ Checked.Accepted (c .before .trailer-word .ensures) (c .trailer-word2 .ensures)
     ∙ whole.all-kept _
-    (c .before .before .before .before .before .before .before .before .before .before .before
-    .before .if1 .left)
-    (sym (c .before .before .before .before .before .before .before .before .before .before
-    .before .within-limits .ensures)
+    (at-if1 .if1 .left)
+    (sym (at-within-limits .within-limits .ensures)
     ∙ not-false _
-    (c .before .before .before .before .before .before .before .before .before .before .if2
-    .left)) (sym
-    (c .before .before .before .before .before .before .before .before .before .trailer-right
-    .ensures)
+    (at-if2 .if2 .left)) (sym
+    (at-trailer-right .trailer-right .ensures)
     ∙ not-false _
-    (c .before .before .before .before .before .before .before .before .if3 .left)) _
-    (c .before .before .before .before .before .before .before .check-blocks .ensures)
-    (c .before .before .before .before .before .enum-told .given .1) _
-    (c .before .before .before .before .check-instrs .ensures)
+    (at-if3 .if3 .left)) _
+    (at-check-blocks .check-blocks .ensures)
+    (at-enum-told .enum-told .given .1) _
+    (at-check-instrs .check-instrs .ensures)
     (c .before .before .enum-told2 .given .1))
 
 pub check-spec : {M : Type 1} → statement M

@@ -41,12 +41,16 @@ key-requires c κs =
     omega (arith, sections _ (c .before .before .before .before .before .before .before .pre))
 
 returns-2 : tie.Need-returns-2 Inv-loop μ-loop
-returns-2 c = ap found
+returns-2 c =
+    let at-loop-test = c .before .before .before .before in
+    let at-loop = at-loop-test .before in
+    let at-section-start = at-loop .before .before in
+    ap found
     (sym
-    (c .before .before .before .before .before .loop .inv .kept
+    (at-loop .loop .inv .kept
     ∙ passes.order-broken _ _ _ _ _
-    (c .before .before .before .before .before .before .before .section-start .ensures)
-    (c .before .before .before .before .loop-test .taken)
+    (at-section-start .section-start .ensures)
+    (at-loop-test .loop-test .taken)
     (sym (c .before .before .before .block-right .ensures)
     ∙ not-false _ (c .before .before .if1 .left)) (omega arith)))
 
@@ -59,9 +63,13 @@ count-requires c κs =
     )
 
 loop-again : tie.Need-loop-again Inv-loop μ-loop
-loop-again c = let starts =
-    c .before .before .before .before .before .before .before .before .section-start .ensures in
-    let right = sym (c .before .before .before .before .block-right .ensures)
+loop-again c =
+    let at-block-right = c .before .before .before .before in
+    let at-loop-test = at-block-right .before in
+    let at-loop = at-loop-test .before in
+    let at-section-start = at-loop .before .before in
+    let starts = at-section-start .section-start .ensures in
+    let right = sym (at-block-right .block-right .ensures)
     ∙ not-false _ (c .before .before .before .if1 .left) in
     record {
       inside = omega arith;
@@ -69,12 +77,12 @@ loop-again c = let starts =
           ∙ passes.least-next _ _ _ starts;
       counts =
           ap₂ (λ (s n : ℕ). s + n)
-          (c .before .before .before .before .before .before .loop .inv .counts) (c .count .ensures)
+          (at-loop .loop .inv .counts) (c .count .ensures)
           ∙ passes.sum-next _ _ _ starts;
       small = omega (arith, passes.count-small _ _ right);
-      kept = c .before .before .before .before .before .before .loop .inv .kept
+      kept = at-loop .loop .inv .kept
           ∙ passes.block-kept _ _ _ _ _ starts
-          (c .before .before .before .before .before .loop-test .taken) right (omega arith);
+          (at-loop-test .loop-test .taken) right (omega arith);
     }
 
 returns-3 : tie.Need-returns-3 Inv-loop μ-loop

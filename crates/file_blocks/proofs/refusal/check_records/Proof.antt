@@ -1,4 +1,4 @@
--- `block_file::refusal::check_records` meets its contract: the first broken rule is that of the
+-- `file_blocks::refusal::check_records` meets its contract: the first broken rule is that of the
 -- records still to come. Assumes nothing.
 use Rattle.file_records.specs.Trailer.{instrCount}
 use Rattle.file_blocks.specs.Refusal.{firstBroken, instrRules}

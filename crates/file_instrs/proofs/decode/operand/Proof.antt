@@ -7,7 +7,11 @@ use Rattle.file_instrs.proofs.decode.operand.Tie as tie
 
 returns : tie.Need-returns
 returns c =
-    simp (eq-eqb _ _ (c .before .before .before .if1 .taken), c .before .before .word .ensures, c .value .ensures)
+    simp (
+      eq-eqb _ _ (c .before .before .before .if1 .taken),
+      c .before .before .word .ensures,
+      c .value .ensures,
+    )
 
 returns-2 : tie.Need-returns-2
 returns-2 c = simp (ne-eqb _ _ (c .before .if1 .left), c .register .ensures)

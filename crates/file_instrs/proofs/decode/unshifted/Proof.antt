@@ -17,8 +17,9 @@ returns-2 c e = absurd (true≢false (sym e))
 
 returns-3 : tie.Need-returns-3
 returns-3 c e =
-    let f = now (c .before .before .before .before .before .args .file) in
-    let at = c .before .before .before .before .before .args .at in
+    let start = c .before .before .before .before .before in
+    let f = now (start .args .file) in
+    let at = start .args .at in
     rw (
       eq-eqb _ _ (c .before .before .before .if1 .left),
       c .before .if2 .left,

@@ -6,7 +6,8 @@ use Rattle.file_instrs.proofs.decode.value.Statement.{statement}
 use Rattle.file_instrs.proofs.decode.value.Tie as tie
 
 returns : tie.Need-returns
-returns c = c .imm .ensures ∙ ap (Operand2.Imm (c .before .before .args .value)) (sym (c .before .if1 .taken))
+returns c = c .imm .ensures
+    ∙ ap (Operand2.Imm (c .before .before .args .value)) (sym (c .before .if1 .taken))
 
 pub value-spec : {M : Type 1} → statement M
 value-spec = tie.close (tie.spec (search needs) returns (search needs))

@@ -25,10 +25,12 @@ loop-holds c = (omega arith, search needs, refl)
 
 loop-again : tie.Need-loop-again Inv-loop μ-loop
 loop-again c =
-    let at =
-    c .before .before .before .before .before .before .before .before .before .before .loop in
-    let limits = c .before .before .before .before .before .before .before .before .limits in
-    let first = c .before .before .before .before .before .put in (
+    let at-put = c .before .before .before .before .before in
+    let at-limits = at-put .before .before .before in
+    let at-loop = at-limits .before .before in
+    let at = at-loop .loop in
+    let limits = at-limits .limits in
+    let first = at-put .put in (
       omega arith,
       search needs,
       ap (take (16 * (at .number + 1)))

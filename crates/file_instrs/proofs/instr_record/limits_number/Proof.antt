@@ -1,5 +1,5 @@
--- `file_instrs::instr_record::limits_number` meets its contract: kind and form are the digits of the
--- number. Assumes nothing.
+-- `file_instrs::instr_record::limits_number` meets its contract: kind and form are the digits of
+-- the number. Assumes nothing.
 use borrow.Author.Needs.{needs}
 use Rattle.file_instrs.proofs.Limits.{numbered}
 use Rattle.file_instrs.proofs.instr_record.limits_number.Statement.{statement}
@@ -8,7 +8,8 @@ use Rattle.file_instrs.proofs.instr_record.limits_number.Tie as tie
 returns : tie.Need-returns
 returns c = (
   search needs,
-  numbered _ _ (c .limits-kind .result) (c .before .limits-form .result) (c .limits-kind .ensures .0)
+  numbered _ _ (c .limits-kind .result) (c .before .limits-form .result)
+      (c .limits-kind .ensures .0)
       (c .limits-kind .ensures .1) (c .before .limits-form .ensures .1),
 )
 

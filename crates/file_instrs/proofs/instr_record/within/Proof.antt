@@ -1,4 +1,5 @@
--- `file_instrs::instr_record::within` meets its contract: each turn takes one byte more. Assumes nothing.
+-- `file_instrs::instr_record::within` meets its contract: each turn takes one byte more. Assumes
+-- nothing.
 use mathlib.Core.Path.{_≡_, refl, ap, _∙_}
 use mathlib.Core.Bool.{Bool, _&&_}
 use Prim.Native.Nat.{_+_, _-_, _≤_}

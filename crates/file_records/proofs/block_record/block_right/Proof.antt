@@ -24,10 +24,13 @@ returns-5 : tie.Need-returns-5
 returns-5 c = rules.end-past _ _ (omega arith)
 
 returns-6 : tie.Need-returns-6
-returns-6 c = c .code-right .ensures
+returns-6 c =
+    let at-if4 = c .before .before .before .before in
+    let at-aligned = at-if4 .before in
+    c .code-right .ensures
     ∙ rules.right-but-code _ _ (omega arith) (omega arith) (omega arith)
-    (sym (c .before .before .before .before .before .aligned .ensures)
-    ∙ not-false _ (c .before .before .before .before .if4 .left)) (omega arith)
+    (sym (at-aligned .aligned .ensures)
+    ∙ not-false _ (at-if4 .if4 .left)) (omega arith)
 
 pub block-right-spec : {M : Type 1} → statement M
 block-right-spec =

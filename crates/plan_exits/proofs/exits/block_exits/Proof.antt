@@ -1,4 +1,4 @@
--- `block_exits::exits::block_exits` meets its contract. The loop's invariant: `first` is the sum of
+-- `plan_exits::exits::block_exits` meets its contract. The loop's invariant: `first` is the sum of
 -- the counts passed; the measure is the number of blocks left. Assumes nothing.
 use Prim.Native.Nat.{_-_, _≤_}
 use mathlib.Core.Path.{_≡_, refl, sym, ap, _∙_}

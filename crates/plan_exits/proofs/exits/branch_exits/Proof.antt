@@ -1,4 +1,4 @@
--- `block_exits::exits::branch_exits` meets its contract: `_` answers for each condition but Al,
+-- `plan_exits::exits::branch_exits` meets its contract: `_` answers for each condition but Al,
 -- number 14. Assumes nothing.
 use mathlib.Core.Bool.{false}
 use mathlib.Core.List.{[], _∷_}

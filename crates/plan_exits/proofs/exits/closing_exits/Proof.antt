@@ -1,4 +1,4 @@
--- `block_exits::exits::closing_exits` meets its contract: each arm is told what the two
+-- `plan_exits::exits::closing_exits` meets its contract: each arm is told what the two
 -- instructions make. Assumes nothing.
 use Prim.Native.Nat.{ℕ}
 use mathlib.Core.List.{[], _∷_}

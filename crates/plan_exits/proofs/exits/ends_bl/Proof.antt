@@ -1,4 +1,4 @@
--- `block_exits::exits::ends_bl` meets its contract: `_` answers for each operation but ThumbBlLow,
+-- `plan_exits::exits::ends_bl` meets its contract: `_` answers for each operation but ThumbBlLow,
 -- number 7. Assumes nothing.
 use Prim.Native.Nat.{ℕ}
 use mathlib.Core.List.{[], _∷_}

@@ -1,4 +1,4 @@
--- `block_exits::exits::exits_at` meets its contract. Of a block of an accepted file each
+-- `plan_exits::exits::exits_at` meets its contract. Of a block of an accepted file each
 -- instruction is found, so the answers with nothing are for other files. Assumes nothing.
 use mathlib.Core.Path.{_∙_}
 use native.Mathlib.Omega.{arith}

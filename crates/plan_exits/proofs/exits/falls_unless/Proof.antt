@@ -1,4 +1,4 @@
--- `block_exits::exits::falls_unless` meets its contract: each arm is told the test.
+-- `plan_exits::exits::falls_unless` meets its contract: each arm is told the test.
 -- Assumes nothing.
 use borrow.Author.Needs.{needs}
 use Rattle.plan_exits.proofs.exits.falls_unless.Statement.{statement}

@@ -1,4 +1,4 @@
--- `block_exits::exits::last_exits` meets its contract. An arm of one operation is given its fields;
+-- `plan_exits::exits::last_exits` meets its contract. An arm of one operation is given its fields;
 -- the two arms that several share answer for each. Assumes nothing.
 use Prim.Native.Nat.{ℕ}
 use mathlib.Core.Bool.{Bool}

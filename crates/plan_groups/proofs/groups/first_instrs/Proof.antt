@@ -29,11 +29,12 @@ same-length c = c .before .loop .inv .same
 
 returns : tie.Need-returns Inv-loop μ-loop
 returns c =
-    let done : c .before .loop .i ≡ c .before .before .before .before .args .n = omega arith in
+    let start = c .before .before .before .before in
+    let done : c .before .loop .i ≡ start .args .n = omega arith in
     grouping.counted-all _ _ _ _ _
-    (subst (λ (m : ℕ). grouping.Counting (now (c .before .before .before .before .args .file))
-    (c .before .before .before .before .args .n)
-    (now (c .before .before .before .before .args .work)) (c .before .loop .sum) m
+    (subst (λ (m : ℕ). grouping.Counting (now (start .args .file))
+    (start .args .n)
+    (now (start .args .work)) (c .before .loop .sum) m
     (c .before .loop .work)) done (c .before .loop .inv))
 
 pub first-instrs-spec : {M : Type 1} → statement M

@@ -16,50 +16,40 @@ join-blocks-requires c κs =
     ((omega (arith, firsts .same, pre .0), pre .1, pre .2), λ a i h. firsts .firsts a (pre .2) i h)
 
 place-blocks-requires : tie.Need-place-blocks-requires
-place-blocks-requires c κs = let pre =
-    c .before .before .before .before .before .before .before .before .before .before .before
-    .before .before .before .before .before .before .before .before .pre in
-    let firsts =
-    c .before .before .before .before .before .before .before .before .before .before .before
-    .before .before .before .before .first-instrs .ensures in
-    let joined =
-    c .before .before .before .before .before .before .before .before .before .before .before
-    .join-blocks .ensures in
-    let rooted = c .before .before .before .before .before .before .before .put-roots .ensures in
+place-blocks-requires c κs =
+    let at-put-roots = c .before .before .before .before .before .before .before in
+    let at-join-blocks = at-put-roots .before .before .before .before in
+    let at-first-instrs = at-join-blocks .before .before .before .before in
+    let start = at-first-instrs .before .before .before .before in
+    let pre = start .pre in
+    let firsts = at-first-instrs .first-instrs .ensures in
+    let joined = at-join-blocks .join-blocks .ensures in
+    let rooted = at-put-roots .put-roots .ensures in
     let linked = c .before .before .before .link-members .ensures in
-    let room : 4 * c .before .before .before .before .before .before .before .before .before .before
-    .before .before .before .before .before .before .before .before .before .args .n
+    let room : 4 * start .args .n
     ≤ length
-    (c .before .before .before .before .before .before .before .before .before .before .before
-    .before .before .before .before .first-instrs .last .1 .0) =
+    (at-first-instrs .first-instrs .last .1 .0) =
     omega (arith, firsts .same, pre .0) in
     grouping.place-asks
-    (now (c .before .before .before .before .before .before .before .before .before .before
-    .before .before .before .before .before .before .before .before .before .args .file)) _
-    (c .before .before .before .before .before .before .before .before .before .before .before
-    .before .before .before .before .before .before .before .before .args .limit) _ _ _ _
+    (now (start .args .file)) _
+    (start .args .limit) _ _ _ _
     (pre .1) (pre .2) room joined rooted (linked .0) (linked .1)
 
 returns : tie.Need-returns
-returns c = let pre =
-    c .before .before .before .before .before .before .before .before .before .before .before
-    .before .before .before .before .before .before .before .before .before .before .before .pre in
-    let firsts =
-    c .before .before .before .before .before .before .before .before .before .before .before
-    .before .before .before .before .before .before .before .first-instrs .ensures in
-    let joined =
-    c .before .before .before .before .before .before .before .before .before .before .before
-    .before .before .before .join-blocks .ensures in
-    let rooted =
-    c .before .before .before .before .before .before .before .before .before .before .put-roots
-    .ensures in
-    let linked = c .before .before .before .before .before .before .link-members .ensures in
-    let room : 4 * c .before .before .before .before .before .before .before .before .before .before
-    .before .before .before .before .before .before .before .before .before .before .before
-    .before .args .n
+returns c =
+    let at-link-members = c .before .before .before .before .before .before in
+    let at-put-roots = at-link-members .before .before .before .before in
+    let at-join-blocks = at-put-roots .before .before .before .before in
+    let at-first-instrs = at-join-blocks .before .before .before .before in
+    let start = at-first-instrs .before .before .before .before in
+    let pre = start .pre in
+    let firsts = at-first-instrs .first-instrs .ensures in
+    let joined = at-join-blocks .join-blocks .ensures in
+    let rooted = at-put-roots .put-roots .ensures in
+    let linked = at-link-members .link-members .ensures in
+    let room : 4 * start .args .n
     ≤ length
-    (c .before .before .before .before .before .before .before .before .before .before .before
-    .before .before .before .before .before .before .before .first-instrs .last .1 .0) =
+    (at-first-instrs .first-instrs .last .1 .0) =
     omega (arith, firsts .same, pre .0) in
     grouping.grouped-from _ _ _ _ _ _ firsts
     (grouping.grouped _ _ _ _ _ _ _ (pre .1) (pre .2) room joined rooted (linked .0) (linked .1)

@@ -14,9 +14,10 @@ use Rattle.plan_groups.proofs.groups.join_block.Tie as tie
 
 returns : tie.Need-returns
 returns c =
+    let start = c .before .before .before .before .before in
     joining.block-missing _ _ _ _ _ (c .before .before .block-at .ensures)
-    (c .before .before .before .before .before .pre .0 .2)
-    (c .before .before .before .before .before .pre .0 .3) (c .enum-told .given .1)
+    (start .pre .0 .2)
+    (start .pre .0 .3) (c .enum-told .given .1)
 
 returns-2 : tie.Need-returns-2
 returns-2 c =
@@ -27,26 +28,25 @@ returns-2 c =
     (sym (c .before .on-page-8 .ensures) ∙ not-true _ (c .if1 .taken))
 
 returns-3 : tie.Need-returns-3
-returns-3 c = let args =
-    c .before .before .before .before .before .before .before .before .before .before .before
-    .before .before .before .before .args in
-    let pre =
-    c .before .before .before .before .before .before .before .before .before .before .before
-    .before .before .before .before .pre in
-    let found =
-    c .before .before .before .before .before .before .before .before .before .before .block
-    .given .1 in
-    let reads =
-    c .before .before .before .before .before .before .before .before .before .before .before
-    .before .block-at .ensures in
+returns-3 c =
+    let at-exits-at = c .before .before .before .before in
+    let at-as-index = at-exits-at .before in
+    let at-if1 = at-as-index .before .before in
+    let at-on-page-8 = at-if1 .before in
+    let at-block = at-on-page-8 .before .before in
+    let at-block-at = at-block .before .before in
+    let start = at-block-at .before .before .before in
+    let args = start .args in
+    let pre = start .pre in
+    let found = at-block .block .given .1 in
+    let reads = at-block-at .block-at .ensures in
     joining.block-joins _ _ _ _ _ reads (pre .0 .2) (pre .0 .3) _ found
-    (sym (c .before .before .before .before .before .before .before .before .on-page-8 .ensures)
-    ∙ not-false _ (c .before .before .before .before .before .before .before .if1 .left))
-    (c .before .before .before .before .exits-at .result) _
+    (sym (at-on-page-8 .on-page-8 .ensures)
+    ∙ not-false _ (at-if1 .if1 .left))
+    (at-exits-at .exits-at .result) _
     (λ a.
-    let starts =
-    c .before .before .before .before .before .as-index .ensures ∙ pre .1 .1 a _ (pre .0 .2) in
-    c .before .before .before .before .exits-at .ensures _
+    let starts = at-as-index .as-index .ensures ∙ pre .1 .1 a _ (pre .0 .2) in
+    at-exits-at .exits-at .ensures _
     (record { accepted = a; found = sym reads ∙ found; starts = starts })
     ∙ ap (λ (k : ℕ). exits (blockAt (now (args .file)) (blockStart (now (args .file)) (args .i)) k))
     starts)

@@ -24,45 +24,55 @@ own-roots-requires c κs = let w = now (c .before .before .before .args .work) i
 
 loop-holds : tie.Need-loop-holds Inv-loop μ-loop
 loop-holds c =
-    grouping.edges-none _ _ _ _ (c .before .before .before .before .before .before .pre .0 .0)
+    let start = c .before .before .before .before .before .before in
+    grouping.edges-none _ _ _ _ (start .pre .0 .0)
     (rw lending.lent-is at (c .before .before .own-roots .ensures))
-    (c .before .before .before .before .before .before .pre .0 .2)
+    (start .pre .0 .2)
 
 join-block-requires : tie.Need-join-block-requires Inv-loop μ-loop
 join-block-requires c κs =
-    let pre = c .before .before .before .before .before .before .before .before .before .pre in
-    let own =
-    (rw lending.lent-is at (c .before .before .before .before .before .own-roots .ensures)) in
+    let at-own-roots = c .before .before .before .before .before in
+    let start = at-own-roots .before .before .before .before in
+    let pre = start .pre in
+    let own = (rw lending.lent-is at (at-own-roots .own-roots .ensures)) in
     let inv = c .before .before .loop .inv in
     let asks =
     grouping.edges-asks _ _ _ _ _
     (grouping.own-room
-    (now (c .before .before .before .before .before .before .before .before .before .args
+    (now (start .args
     .file)) _ _ _ (pre .0 .0) own) (λ a. grouping.own-firsts _ _ _ _ (pre .0 .0) own (pre .1 a))
     inv in
     ((asks .0, pre .0 .1, c .before .loop-test .taken, pre .0 .2), (inv .forest, asks .1))
 
 loop-again : tie.Need-loop-again Inv-loop μ-loop
 loop-again c =
-    grouping.edges-more _ _ _ _ _ _ (c .before .before .before .before .loop-test .taken)
-    (c .before .before .before .before .before .before .before .before .before .before .before
-    .before .pre .0 .2) (c .before .before .before .before .before .loop .inv)
+    let at-loop-test = c .before .before .before .before in
+    let at-loop = at-loop-test .before in
+    let start = at-loop .before .before .before .before .before .before .before in
+    grouping.edges-more _ _ _ _ _ _ (at-loop-test .loop-test .taken)
+    (start .pre .0 .2) (at-loop .loop .inv)
     (c .before .before .join-block .ensures)
 
 same-length : tie.Need-same-length Inv-loop μ-loop
-same-length c = c .before .loop .inv .same
+same-length c =
+    let at-own-roots = c .before .before .before .before in
+    let start = at-own-roots .before .before .before .before in
+    c .before .loop .inv .same
     ∙ grouping.own-length
-    (now (c .before .before .before .before .before .before .before .before .args .file)) _ _ _
-    (c .before .before .before .before .before .before .before .before .pre .0 .0)
-    (rw lending.lent-is at (c .before .before .before .before .own-roots .ensures))
+    (now (start .args .file)) _ _ _
+    (start .pre .0 .0)
+    (rw lending.lent-is at (at-own-roots .own-roots .ensures))
 
 returns : tie.Need-returns Inv-loop μ-loop
-returns c = let pre = c .before .before .before .before .before .before .before .before .pre in
-    let own = (rw lending.lent-is at (c .before .before .before .before .own-roots .ensures)) in
+returns c =
+    let at-own-roots = c .before .before .before .before in
+    let start = at-own-roots .before .before .before .before in
+    let pre = start .pre in
+    let own = (rw lending.lent-is at (at-own-roots .own-roots .ensures)) in
     grouping.edges-from _ _ _ _ (pre .0 .0) own _
     (grouping.edges-done _ _ _ _ _
     (grouping.own-room
-    (now (c .before .before .before .before .before .before .before .before .args .file)) _ _ _
+    (now (start .args .file)) _ _ _
     (pre .0 .0) own) (pre .0 .2) (omega arith) (c .before .loop .inv))
 
 pub join-blocks-spec : {M : Type 1} → statement M

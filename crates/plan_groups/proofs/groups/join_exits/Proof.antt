@@ -34,9 +34,11 @@ returns-2 c =
 
 returns-3 : tie.Need-returns-3
 returns-3 c =
+    let at-join-key2 = c .before .before .before .before .before .before in
+    let at-exits2 = at-join-key2 .before .before .before in
     joining.exits-two _ _ _ _ _ _ _ _ _
-    (c .before .before .before .before .before .before .before .before .before .exits2 .given .1)
-    (c .before .before .before .before .before .before .join-key2 .ensures)
+    (at-exits2 .exits2 .given .1)
+    (at-join-key2 .join-key2 .ensures)
     (c .before .before .join-key3 .ensures)
 
 pub join-exits-spec : {M : Type 1} → statement M

@@ -14,25 +14,30 @@ returns c =
 
 hang-under-requires : tie.Need-hang-under-requires
 hang-under-requires c κs =
-    let w = now (c .before .before .before .before .before .before .before .args .work) in
-    let n = c .before .before .before .before .before .before .before .args .n in
-    let pre = c .before .before .before .before .before .before .before .pre .0 in
+    let at-find-target = c .before .before .before .before in
+    let start = at-find-target .before .before .before in
+    let w = now (start .args .work) in
+    let n = start .args .n in
+    let pre = start .pre .0 in
     rw (lending.lent-is n w, lending.quarter-length n w (pre .0)) (
-      c .before .before .before .before .before .before .before .pre .1,
+      start .pre .1,
       (
         pre .2,
         joining.target-inside _ _ _ _
-            (c .before .before .before .before .find-target .ensures .0)
+            (at-find-target .find-target .ensures .0)
             (c .before .before .j .given .1) (pre .3),
       ),
     )
 
 returns-2 : tie.Need-returns-2
 returns-2 c =
+    let at-j = c .before .before .before .before .before in
+    let at-find-target = at-j .before .before in
+    let start = at-find-target .before .before .before in
     joining.join-at _ _ _ _ _ _
-    (c .before .before .before .before .before .before .before .find-target .ensures .1) _ _
-    (c .before .before .before .before .before .before .before .before .before .before .pre .0 .0)
-    (c .before .before .before .before .before .j .given .1)
+    (at-find-target .find-target .ensures .1) _ _
+    (start .pre .0 .0)
+    (at-j .j .given .1)
     (rw lending.lent-is at (c .before .before .hang-under .ensures))
 
 pub join-key-spec : {M : Type 1} → statement M

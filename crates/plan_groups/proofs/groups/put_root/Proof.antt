@@ -14,8 +14,9 @@ find-requires c κs = let w = now (c .before .before .args .work) in
 
 returns : tie.Need-returns
 returns c =
-    lending.rooted _ _ _ _ _ (c .before .before .before .before .before .pre .0 .0)
-    (c .before .before .before .before .before .pre .0 .2)
+    let start = c .before .before .before .before .before in
+    lending.rooted _ _ _ _ _ (start .pre .0 .0)
+    (start .pre .0 .2)
     (rw lending.lent-is at (c .before .before .find .ensures))
 
 pub put-root-spec : {M : Type 1} → statement M

@@ -35,15 +35,18 @@ put-root-requires c κs = let inv = c .before .before .loop .inv in
     ((room, inv .2, c .before .loop-test .taken), lending.rooted-forest _ _ _ _ (inv .4) (inv .3))
 
 loop-again : tie.Need-loop-again Inv-loop μ-loop
-loop-again c = let inv = c .before .before .before .before .before .loop .inv in (
-  omega arith,
-  inv .1,
-  inv .2,
-  inv .3,
-  lending.rooted-more _ _ _ _ _ (inv .1)
-      (c .before .before .before .before .loop-test .taken) (inv .4)
-      (c .before .before .put-root .ensures),
-)
+loop-again c =
+    let at-loop-test = c .before .before .before .before in
+    let at-loop = at-loop-test .before in
+    let inv = at-loop .loop .inv in (
+      omega arith,
+      inv .1,
+      inv .2,
+      inv .3,
+      lending.rooted-more _ _ _ _ _ (inv .1)
+          (at-loop-test .loop-test .taken) (inv .4)
+          (c .before .before .put-root .ensures),
+    )
 
 same-length : tie.Need-same-length Inv-loop μ-loop
 same-length c = c .before .loop .inv .4 .same

@@ -17,8 +17,9 @@ abbrev μ-loop : tie.MeasureT-loop
 
 loop-holds : tie.Need-loop-holds Inv-loop μ-loop
 loop-holds c =
-    linking.linking-none _ _ _ (c .before .before .before .before .before .pre .0)
-    (c .before .before .before .before .before .pre .1) (c .before .before .no-members .ensures)
+    let start = c .before .before .before .before .before in
+    linking.linking-none _ _ _ (start .pre .0)
+    (start .pre .1) (c .before .before .no-members .ensures)
 
 link-one-requires : tie.Need-link-one-requires Inv-loop μ-loop
 link-one-requires c κs =
@@ -26,22 +27,26 @@ link-one-requires c κs =
 
 loop-again : tie.Need-loop-again Inv-loop μ-loop
 loop-again c =
+    let at-loop-test = c .before .before .before .before in
+    let at-loop = at-loop-test .before in
     rw (c .before .before .link-one .ensures)
-    (linking.linking-more _ _ _ _ (c .before .before .before .before .loop-test .taken)
-    (c .before .before .before .before .before .loop .inv))
+    (linking.linking-more _ _ _ _ (at-loop-test .loop-test .taken)
+    (at-loop .loop .inv))
 
 same-length : tie.Need-same-length Inv-loop μ-loop
 same-length c = c .before .loop .inv .outside .same
     ∙ c .before .before .before .before .no-members .ensures .same
 
 returns : tie.Need-returns Inv-loop μ-loop
-returns c = let filled =
-    linking.outside-fill _ _ _ (c .before .before .before .before .no-members .ensures) in
+returns c =
+    let at-no-members = c .before .before .before .before in
+    let start = at-no-members .before .before .before in
+    let filled = linking.outside-fill _ _ _ (at-no-members .no-members .ensures) in
     let done : c .before .loop .left ≡ 0 = omega arith in (
       linking.outside-trans _ _ _ _ filled (c .before .loop .inv .outside),
       λ roots h. subst
           (λ (i : ℕ). Linked roots
-          (c .before .before .before .before .before .before .before .args .n) i
+          (start .args .n) i
           (c .before .loop .work)) done
           (c .before .loop .inv .linked roots (linking.has-roots _ roots _ _ filled h)),
     )

@@ -24,14 +24,19 @@ loop-holds c =
 
 loop-again : tie.Need-loop-again Inv-loop μ-loop
 loop-again c =
+    let at-take-block = c .before .before .before .before .before in
+    let at-count-of = at-take-block .before in
+    let at-if1 = at-count-of .before in
+    let at-loop-test = at-if1 .before in
+    let at-loop = at-loop-test .before in
     ordering.placing-next _ _ _ _ _ _ _ _ _ _ _
-    (c .before .before .before .before .before .before .before .before .before .loop .inv)
-    (c .before .before .before .before .before .before .before .before .loop-test .taken)
-    (c .before .before .before .before .before .before .before .if1 .taken) _
-    (c .before .before .before .before .before .before .count-of .ensures .0)
+    (at-loop .loop .inv)
+    (at-loop-test .loop-test .taken)
+    (at-if1 .if1 .taken) _
+    (at-count-of .count-of .ensures .0)
     (λ a l counts has. has _ l
-    ∙ sym (c .before .before .before .before .before .before .count-of .ensures .1 a l)) _
-    (c .before .before .before .before .before .take-block .ensures) _
+    ∙ sym (at-count-of .count-of .ensures .1 a l)) _
+    (at-take-block .take-block .ensures) _
     (c .before .before .before .put-row .ensures)
 
 same-length : tie.Need-same-length Inv-loop μ-loop

@@ -31,16 +31,18 @@ put-group-requires : tie.Need-put-group-requires Inv-loop μ-loop
 put-group-requires c κs = (omega arith, omega arith, omega arith)
 
 loop-again : tie.Need-loop-again Inv-loop μ-loop
-loop-again c = let inv = c .before .before .before .before .before .loop .inv in (
-  omega arith,
-  omega arith,
-  omega arith,
-  λ w from. c .before .before .put-group .ensures w
-      (subst (λ (m : ℕ). GroupsFrom
-      (c .before .before .before .before .before .before .before .before .before .before .before
-      .args .n) m w (c .before .before .before .before .before .loop .work)) (omega arith)
-      (inv .3 w from)),
-)
+loop-again c =
+    let at-loop = c .before .before .before .before .before in
+    let start = at-loop .before .before .before .before .before .before in
+    let inv = at-loop .loop .inv in (
+      omega arith,
+      omega arith,
+      omega arith,
+      λ w from. c .before .before .put-group .ensures w
+          (subst (λ (m : ℕ). GroupsFrom
+          (start .args .n) m w (at-loop .loop .work)) (omega arith)
+          (inv .3 w from)),
+    )
 
 same-length : tie.Need-same-length Inv-loop μ-loop
 same-length c =
@@ -48,11 +50,13 @@ same-length c =
 
 returns : tie.Need-returns Inv-loop μ-loop
 returns c =
+    let at-no-groups = c .before .before .before .before in
+    let start = at-no-groups .before .before .before in
     subst (λ (m : ℕ). GroupsFrom
-    (c .before .before .before .before .before .before .before .args .n) m
-    (now (c .before .before .before .before .before .before .before .args .work))
+    (start .args .n) m
+    (now (start .args .work))
     (c .before .loop .work)) (omega arith)
-    (c .before .loop .inv .3 _ (c .before .before .before .before .no-groups .ensures))
+    (c .before .loop .inv .3 _ (at-no-groups .no-groups .ensures))
 
 pub put-groups-spec : {M : Type 1} → statement M
 put-groups-spec =

@@ -13,45 +13,44 @@ group-blocks-requires c κs = c .before .before .before .pre .0
 put-groups-requires : tie.Need-put-groups-requires
 put-groups-requires c κs = (
   omega (arith, c .before .before .before .group-blocks .ensures .same),
-  c .before .before
-      .before .before .before .before .before .pre .0 .1,
+  c .before .before .before .before .before .before .before .pre .0 .1,
 )
 
 put-firsts-requires : tie.Need-put-firsts-requires
-put-firsts-requires c κs = (
-  (
-    omega (
-      arith,
-      groups-room
-          (c .before .before .before .before .before .before .before .group-blocks .ensures)
-          (c .before .before .before .put-groups .ensures),
-    ),
-    c .before .before .before .before .before
-        .before .before .before .before .before .before .pre .0 .1,
-    c .before .before .before .before
-        .before .before .before .before .before .before .before .pre .0 .2,
-  ),
-  c .before .before .before
-      .before .before .before .before .before .before .before .before .pre .1,
-)
+put-firsts-requires c κs =
+    let at-group-blocks = c .before .before .before .before .before .before .before in
+    let start = at-group-blocks .before .before .before .before in (
+      (
+        omega (
+          arith,
+          groups-room
+              (at-group-blocks .group-blocks .ensures)
+              (c .before .before .before .put-groups .ensures),
+        ),
+        start .pre .0 .1,
+        start .pre .0 .2,
+      ),
+      start .pre .1,
+    )
 
 same-length : tie.Need-same-length
-same-length c = c .before .before .put-firsts .ensures .same
+same-length c =
+    let at-put-groups = c .before .before .before .before .before .before in
+    let at-group-blocks = at-put-groups .before .before .before .before in
+    c .before .before .put-firsts .ensures .same
     ∙ groups-room
-    (c .before .before .before .before .before .before .before .before .before .before .group-blocks
-    .ensures) (c .before .before .before .before .before .before .put-groups .ensures)
+    (at-group-blocks .group-blocks .ensures) (at-put-groups .put-groups .ensures)
 
 returns : tie.Need-returns
 returns c =
+    let at-put-groups = c .before .before .before .before .before .before in
+    let at-group-blocks = at-put-groups .before .before .before .before in
+    let start = at-group-blocks .before .before .before .before in
     prepared
-    (c .before .before .before .before .before .before .before .before .before .before .before
-    .before .before .before .pre .1)
-    (c .before .before .before .before .before .before .before .before .before .before .before
-    .before .before .before .pre .0 .2)
-    (c .before .before .before .before .before .before .before .before .before .before .before
-    .before .before .before .pre .0 .0)
-    (c .before .before .before .before .before .before .before .before .before .before .group-blocks
-    .ensures) (c .before .before .before .before .before .before .put-groups .ensures)
+    (start .pre .1)
+    (start .pre .0 .2)
+    (start .pre .0 .0)
+    (at-group-blocks .group-blocks .ensures) (at-put-groups .put-groups .ensures)
     (c .before .before .put-firsts .ensures)
 
 pub prepare-spec : {M : Type 1} → statement M

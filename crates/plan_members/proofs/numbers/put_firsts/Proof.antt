@@ -11,13 +11,14 @@ use Rattle.file_records.specs.BlockRecord.{countSum}
 use Rattle.plan_members.proofs.Preparing.{firsts-none, firsts-more, firsts-all}
 use Rattle.plan_members.proofs.numbers.put_firsts.Statement.{statement}
 use Rattle.plan_members.proofs.numbers.put_firsts.Tie as tie
-use Rattle.plan_members.specs.Prepared.{FirstsTo}
-use Rattle.file_blocks.proofs.IsBlock.{missing, among, sum-next}
+use Rattle.plan_members.specs.Prepared.{FirstsInQuarter3}
+use Rattle.file_blocks.proofs.IsBlock.{missing, instrs-counted, sum-next}
 use Rattle.file_blocks.specs.Read.{IsBlock}
 
 abbrev Inv-loop : tie.InvT-loop
 Inv-loop file work₀ n first₀ i₀ work first i =
-    (i ≤ n) × (4 * n ≤ length work₀) × (first ≡ countSum file i) × FirstsTo file n i work₀ work
+    (i ≤ n) × (4 * n ≤ length work₀) × (first ≡ countSum file i)
+    × FirstsInQuarter3 file n i work₀ work
 
 abbrev μ-loop : tie.MeasureT-loop
 μ-loop file work₀ n first₀ i₀ work first i = n - i
@@ -31,54 +32,60 @@ same-length c = c .before .before .before .before .loop .inv .3 .same
 
 returns : tie.Need-returns Inv-loop μ-loop
 returns c =
+    let start = c .before .before .before .before .before .before .before in
     absurd (omega (
       arith,
-      missing _ (c .before .before .before .before .before .before .before .pre .1) _
+      missing _ (start .pre .1) _
           (sym (c .before .before .block-at .ensures) ∙ c .enum-told .given .1),
-      c .before .before .before
-          .before .before .before .before .pre .0 .2,
+      start .pre .0 .2,
     ))
 
 cast-work : tie.Need-cast-work Inv-loop μ-loop
-cast-work c = let is : IsBlock _ _ _ _ =
+cast-work c =
+    let at-loop = c .before .before .before .before .before in
+    let start = at-loop .before .before .before in
+    let is : IsBlock _ _ _ _ =
     record {
       accepted =
-          c .before .before .before .before .before .before .before .before .pre .1;
+          start .pre .1;
       found =
           sym (c .before .before .before .block-at .ensures)
           ∙ c .before .block .given .1;
       starts =
-          c .before .before .before .before .before .loop .inv .2;
+          at-loop .loop .inv .2;
     } in
     omega (
       arith,
-      among is,
+      instrs-counted is,
       few-instrs _ _
-          (c .before .before .before .before .before .before .before .before .pre .1),
+          (start .pre .1),
     )
 
 slice-write-work : tie.Need-slice-write-work Inv-loop μ-loop
 slice-write-work c = omega (arith, c .before .before .before .before .before .loop .inv .3 .same)
 
 loop-again : tie.Need-loop-again Inv-loop μ-loop
-loop-again c = let is : IsBlock _ _ _ _ =
+loop-again c =
+    let at-block-at = c .before .before .before .before .before in
+    let at-loop = at-block-at .before .before in
+    let start = at-loop .before .before .before in
+    let is : IsBlock _ _ _ _ =
     record {
       accepted =
-          c .before .before .before .before .before .before .before .before .before .before .pre .1;
-      found = sym (c .before .before .before .before .before .block-at .ensures)
+          start .pre .1;
+      found = sym (at-block-at .block-at .ensures)
           ∙ c .before .before .before .block .given .1;
       starts =
-          c .before .before .before .before .before .before .before .loop .inv .2;
+          at-loop .loop .inv .2;
     } in (
       omega arith,
-      c .before .before .before .before .before .before .before .loop .inv .1,
-      c
-          .wrapping-add-usize .ensures
+      at-loop .loop .inv .1,
+      c .wrapping-add-usize .ensures
           ∙ sum-next is,
       firsts-more _ _ _ _ _ _ (omega arith)
-          (c .before .before .before .before .before .before .before .loop .inv .1)
-          (c .before .before .before .before .before .before .before .loop .inv .2)
-          (c .before .before .before .before .before .before .before .loop .inv .3),
+          (at-loop .loop .inv .1)
+          (at-loop .loop .inv .2)
+          (at-loop .loop .inv .3),
     )
 
 same-length-2 : tie.Need-same-length-2 Inv-loop μ-loop

@@ -45,15 +45,17 @@ returns c = let inv = c .before .before .before .loop .inv in (
 )
 
 loop-again : tie.Need-loop-again Inv-loop μ-loop
-loop-again c = let inv = c .before .before .before .loop .inv in (
-  omega arith,
-  omega arith,
-  inv .2,
-  same-more
-      (c .before .before .before .before .before .args .work .now)
-      (c .before .before .before .before .before .args .n)
-      (c .before .before .before .before .before .args .p) _ (inv .3) (c .if1 .left),
-)
+loop-again c =
+    let start = c .before .before .before .before .before in
+    let inv = c .before .before .before .loop .inv in (
+      omega arith,
+      omega arith,
+      inv .2,
+      same-more
+          (start .args .work .now)
+          (start .args .n)
+          (start .args .p) _ (inv .3) (c .if1 .left),
+    )
 
 returns-2 : tie.Need-returns-2 Inv-loop μ-loop
 returns-2 c = let inv = c .before .loop .inv in (
