@@ -46,7 +46,8 @@ pub enum FoundInstr {
 
 // How many blocks the trailer says that the file has.
 pub fn block_count(file: &[u8]) -> usize
-    ensures { λ r. ⌜ (r ≡ blockCount (now (file .entry))) × (r < 2 ^ 32) ⌝ }
+    ensures count { λ r. ⌜ r ≡ blockCount (now (file .entry)) ⌝ }
+    ensures small { λ r. ⌜ r < 2 ^ 32 ⌝ }
 {
     trailer_word(file, 2) as usize
 }

@@ -10,14 +10,16 @@ ghost use Rattle.file_instrs.specs.InstrRecord.{instrRight};
 
 // The kind whose limits a kind has: those from 10 on leave all fields free, as Swap (3) does.
 fn limits_kind(kind: u8) -> u8
-    ensures { λ r. ⌜ (r < 10) × ((form : ℕ) → fields r form ≡ fields kind form) ⌝ }
+    ensures small { λ r. ⌜ r < 10 ⌝ }
+    ensures same { λ r. ⌜ ((form : ℕ) → fields r form ≡ fields kind form) ⌝ }
 {
     if kind < 10 { kind } else { 3 }
 }
 
 // The form whose limits a form has: one that does not exist is over those of form 0.
 fn limits_form(form: u8) -> u8
-    ensures { λ r. ⌜ (r < 3) × ((kind : ℕ) → fields kind r ≡ fields kind form) ⌝ }
+    ensures small { λ r. ⌜ r < 3 ⌝ }
+    ensures same { λ r. ⌜ ((kind : ℕ) → fields kind r ≡ fields kind form) ⌝ }
 {
     if form < 3 { form } else { 0 }
 }
@@ -94,7 +96,8 @@ pub fn all_limits() -> [u8; 480]
 
 // The number whose limits are those of a kind and a form.
 fn limits_number(kind: u8, form: u8) -> usize
-    ensures { λ r. ⌜ (r < 30) × (largest (r % 10) (r / 10) ≡ largest kind form) ⌝ }
+    ensures small { λ r. ⌜ r < 30 ⌝ }
+    ensures same { λ r. ⌜ largest (r % 10) (r / 10) ≡ largest kind form ⌝ }
 {
     (10 * limits_form(form) + limits_kind(kind)) as usize
 }

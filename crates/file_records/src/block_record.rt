@@ -59,7 +59,8 @@ pub fn present(file: &[u8], at: usize) -> bool
 
 // What n instructions take in bytes. The bound is what sums with it need.
 pub fn instrs_length(n: u32, is_thumb: bool) -> usize
-    ensures { λ r. ⌜ (r ≡ lengthOf n «is_thumb») × (r < 2 ^ 35) ⌝ }
+    ensures length { λ r. ⌜ r ≡ lengthOf n «is_thumb» ⌝ }
+    ensures small { λ r. ⌜ r < 2 ^ 35 ⌝ }
 {
     let wide = n as usize;
     if is_thumb { wide * 2 } else { wide * 4 }
@@ -68,7 +69,8 @@ pub fn instrs_length(n: u32, is_thumb: bool) -> usize
 // The block's length in bytes.
 fn byte_length(file: &[u8], at: usize) -> usize
     requires { ⌜ at + 16 ≤ length (now file) ⌝ }
-    ensures { λ r. ⌜ (r ≡ lengthAt (now (file .entry)) at) × (r < 2 ^ 35) ⌝ }
+    ensures length { λ r. ⌜ r ≡ lengthAt (now (file .entry)) at ⌝ }
+    ensures small { λ r. ⌜ r < 2 ^ 35 ⌝ }
 {
     instrs_length(count(file, at), thumb(file, at))
 }
@@ -76,7 +78,8 @@ fn byte_length(file: &[u8], at: usize) -> usize
 // The key of a block: its address plus the Thumb bit. The bound is what the check of the next key
 // needs.
 pub fn key_plus(address: u32, is_thumb: bool) -> u64
-    ensures { λ r. ⌜ (r ≡ keyPlus address «is_thumb») × (r ≤ 2 ^ 32) ⌝ }
+    ensures key { λ r. ⌜ r ≡ keyPlus address «is_thumb» ⌝ }
+    ensures small { λ r. ⌜ r ≤ 2 ^ 32 ⌝ }
 {
     let wide = address as u64;
     if is_thumb { wide + 1 } else { wide }
@@ -85,7 +88,8 @@ pub fn key_plus(address: u32, is_thumb: bool) -> u64
 // The key of the block.
 pub fn key(file: &[u8], at: usize) -> u64
     requires { ⌜ at + 16 ≤ length (now file) ⌝ }
-    ensures { λ r. ⌜ (r ≡ keyAt (now (file .entry)) at) × (r ≤ 2 ^ 32) ⌝ }
+    ensures key { λ r. ⌜ r ≡ keyAt (now (file .entry)) at ⌝ }
+    ensures small { λ r. ⌜ r ≤ 2 ^ 32 ⌝ }
 {
     key_plus(addr(file, at), thumb(file, at))
 }

@@ -6,7 +6,8 @@ ghost use Rattle.file_records.specs.Bytes.{halfAt, wordAt};
 
 // A byte as a word. The bound is what the sums below need of it.
 fn byte_word(b: u8) -> u32
-    ensures { λ r. ⌜ (r ≡ b) × (r < 256) ⌝ }
+    ensures same { λ r. ⌜ r ≡ b ⌝ }
+    ensures small { λ r. ⌜ r < 256 ⌝ }
 {
     b as u32
 }
