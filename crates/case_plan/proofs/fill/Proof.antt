@@ -1,4 +1,4 @@
--- `replay_plan::fill` is safe and ends. The measure is what is left of the list, whose length a
+-- `fill` is safe and ends. The measure is what is left of the list, whose length a
 -- turn keeps.
 use Prim.Native.Nat.{_≤_, _-_}
 use mathlib.Core.Path.{_≡_}

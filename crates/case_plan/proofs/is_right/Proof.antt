@@ -1,4 +1,4 @@
--- `replay_plan::is_right` meets its contract: what the comparison says of the list, and what the
+-- `is_right` meets its contract: what the comparison says of the list, and what the
 -- list is.
 use borrow.Author.Needs.{needs}
 use Rattle.case_plan.proofs.is_right.Statement.{statement}

@@ -1,4 +1,4 @@
--- `replay_plan::lend` is safe and ends. The measure is what is left of the numbers lent, whose
+-- `lend` is safe and ends. The measure is what is left of the numbers lent, whose
 -- length a turn keeps.
 use Prim.Native.Nat.{_+_, _≤_, _-_}
 use mathlib.Core.Path.{_≡_}

@@ -1,4 +1,4 @@
--- `replay_plan::put` meets its contract. The loop's invariant: the first i lent numbers stand from
+-- `put` meets its contract. The loop's invariant: the first i lent numbers stand from
 -- place at on, and the rest of the list is as it was.
 use Prim.Native.Nat.{ℕ, _+_, _≤_, _<_, _-_}
 use native.Mathlib.Numerals.{add-one}

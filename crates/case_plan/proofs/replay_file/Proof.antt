@@ -1,4 +1,4 @@
--- `replay_plan::replay_file` is safe and ends. The part of the buffer that it lends is what the
+-- `replay_file` is safe and ends. The part of the buffer that it lends is what the
 -- reading of the file says it filled.
 use Prim.Native.Nat.{_≤_}
 use mathlib.Core.Path.{sym}

@@ -1,4 +1,4 @@
--- `replay_plan::replay_one` is safe and ends. As many numbers are lent as the vector says, if the
+-- `replay_one` is safe and ends. As many numbers are lent as the vector says, if the
 -- buffers have them.
 use mathlib.Core.Path.{sym}
 use native.Mathlib.Omega.{arith}

@@ -1,4 +1,4 @@
--- `replay_plan::replay_plan` is safe and ends. The expected plan is read only where it is within
+-- `replay_plan` is safe and ends. The expected plan is read only where it is within
 -- the expected result.
 use mathlib.Core.Path.{sym, _∙_}
 use lib.Seq.{length-take-le}

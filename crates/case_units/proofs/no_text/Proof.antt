@@ -1,4 +1,4 @@
--- `replay_units::no_text` is safe and ends. The measure is what is left of the list.
+-- `no_text` is safe and ends. The measure is what is left of the list.
 use Prim.Native.Nat.{_≤_, _-_}
 use mathlib.Core.Path.{_≡_}
 use borrow.Author.Needs.{needs}

@@ -1,4 +1,4 @@
--- `replay_units::replay_text` is safe and ends. The expected text is read only where it is within
+-- `replay_text` is safe and ends. The expected text is read only where it is within
 -- the expected bytes.
 use mathlib.Core.Path.{sym}
 use lib.Seq.{length-take-le}

@@ -1,4 +1,4 @@
--- `replay_units::same_text` meets its contract. The places passed had equal numbers, so whether the
+-- `same_text` meets its contract. The places passed had equal numbers, so whether the
 -- lists are the same is whether they are from `i` on.
 use Prim.Native.Nat.{_≤_, _-_}
 use mathlib.Core.Path.{_≡_, refl, _∙_, sym}

@@ -1,4 +1,4 @@
--- `replay_units::work_numbers` is safe and ends. The measure is what is left of the list.
+-- `work_numbers` is safe and ends. The measure is what is left of the list.
 use Prim.Native.Nat.{_-_}
 use mathlib.Core.Path.{_≡_}
 use borrow.Author.Needs.{needs}

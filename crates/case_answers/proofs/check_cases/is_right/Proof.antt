@@ -1,4 +1,4 @@
--- `replay_answers::check_cases::is_right` meets its contract: what the comparison says of the
+-- `check_cases::is_right` meets its contract: what the comparison says of the
 -- answer, and what the answer is.
 use borrow.Author.Needs.{needs}
 use Rattle.case_answers.proofs.check_cases.is_right.Statement.{statement}

@@ -1,4 +1,4 @@
--- `replay_answers::exits_cases::is_right` meets its contract: what the comparison says of the
+-- `exits_cases::is_right` meets its contract: what the comparison says of the
 -- answer, and what the answer is.
 use borrow.Author.Needs.{needs}
 use Rattle.case_answers.proofs.exits_cases.is_right.Statement.{statement}

@@ -1,4 +1,4 @@
--- `replay_answers::exits_cases::replay_file` is safe and ends. The part of the buffer that it lends
+-- `exits_cases::replay_file` is safe and ends. The part of the buffer that it lends
 -- is what the reading of the file says it filled.
 use mathlib.Core.Path.{sym}
 use lib.Seq.{length-take-le}
