@@ -1,5 +1,5 @@
--- The answers of public calls in the paper's terms, and what each case of an answer's enum stands
--- for.
+-- To be believed: the answers of public calls in the paper's terms, and what each case of the
+-- check's enum stands for.
 use Prim.Native.Nat.{ℕ}
 use Rattle.file_blocks.specs.declared.refusal.Checked.{Checked}
 
