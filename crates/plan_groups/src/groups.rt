@@ -115,7 +115,9 @@ fn join_blocks(file: &[u8], work: &mut [u32], n: usize)
 // Puts the number of each block's first instruction into quarter 0. In an accepted file it fits.
 fn first_instrs(file: &[u8], work: &mut [u32], n: usize)
     requires { ⌜ (4 * n ≤ length (now work)) × (n ≤ 65536) ⌝ }
-    ensures { λ _. ⌜ FirstsInQuarter0 (now (file .entry)) n (now (work .entry)) (now (work .exit)) ⌝ }
+    ensures { λ _. ⌜
+        FirstsInQuarter0 (now (file .entry)) n (now (work .entry)) (now (work .exit))
+        ⌝ }
 {
     let mut sum: u64 = 0;
     let mut i = 0;

@@ -12,7 +12,9 @@ ghost use Rattle.plan_groups.specs.Groups.{HasRoom};
 // wraps.
 fn put_firsts(file: &[u8], work: &mut [u32], n: usize)
     requires { ⌜ HasRoom (now file) (now work) n × Accepted (now file) ⌝ }
-    ensures { λ _. ⌜ FirstsInQuarter3 (now (file .entry)) n n (now (work .entry)) (now (work .exit)) ⌝ }
+    ensures { λ _. ⌜
+        FirstsInQuarter3 (now (file .entry)) n n (now (work .entry)) (now (work .exit))
+        ⌝ }
 {
     let mut first: usize = 0;
     let mut i = 0;
