@@ -30,8 +30,7 @@ begin =
       c = false;
       v = false;
       otherBits = 0;
-      mem =
-          λ a. a % 16;
+      mem = λ a. a % 16;
     }
 
 -- an ARM instruction at 0x08000000

@@ -46,8 +46,7 @@ setReg rd x m =
       z = m .z;
       c = m .c;
       v = m .v;
-      otherBits =
-          m .otherBits;
+      otherBits = m .otherBits;
       mem = m .mem;
     }
 
@@ -79,8 +78,7 @@ setT t m =
       z = m .z;
       c = m .c;
       v = m .v;
-      otherBits =
-          m .otherBits / 64 * 64 + oneIf t * 32 + m .otherBits % 32;
+      otherBits = m .otherBits / 64 * 64 + oneIf t * 32 + m .otherBits % 32;
       mem = m .mem;
     }
 

@@ -25,8 +25,7 @@ begin c =
       c = c;
       v = false;
       otherBits = 0x30;
-      mem =
-          λ a. a % 16;
+      mem = λ a. a % 16;
     }
 
 -- register k after an instruction, the status register, and the key where it goes on

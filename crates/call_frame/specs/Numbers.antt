@@ -20,8 +20,4 @@ pub record Handed : Type 0 where
 -- the same of what a call leaves
 abbrev pub handed : {A : Type 0} → ℕ → (A → List ℕ) → Outcome A → Handed
 handed count values o =
-    record {
-      numbers = numbersOf count values (o .answer);
-      work = o .work;
-      results = o .results;
-    }
+    record { numbers = numbersOf count values (o .answer); work = o .work; results = o .results }

@@ -30,8 +30,7 @@ plan-8 = refl
 plan-10 : planCall partLimit (Parsed.accepted threeBlocks) (replicate 13 5) (replicate 5 7)
     ≡ record {
       answer = refusal 10 0;
-      work =
-          0 ∷ 0 ∷ 0 ∷ 0 ∷ 0 ∷ 0 ∷ 0 ∷ 0 ∷ 0 ∷ 0 ∷ 0 ∷ 0 ∷ 5 ∷ [];
+      work = 0 ∷ 0 ∷ 0 ∷ 0 ∷ 0 ∷ 0 ∷ 0 ∷ 0 ∷ 0 ∷ 0 ∷ 0 ∷ 0 ∷ 5 ∷ [];
       results = replicate 5 7 ∷ [];
     }
 unfolding callFrame callOnBlocks threeBlocks armBlock plan rowsFrom groups groupsFrom parts

@@ -10,11 +10,7 @@ use Rattle.call_unit.specs.Calls.{unitCall, unitNumbers}
 
 -- the numbers handed over on refusal
 unit-refused : unitNumbers (unitCall 8192 0 0 (Parsed.refused 4 2) (5 ∷ []) (7 ∷ []))
-    ≡ record {
-      numbers = 4 ∷ 2 ∷ 0 ∷ 0 ∷ 0 ∷ [];
-      work = 5 ∷ [];
-      results = (7 ∷ []) ∷ [];
-    }
+    ≡ record { numbers = 4 ∷ 2 ∷ 0 ∷ 0 ∷ 0 ∷ []; work = 5 ∷ []; results = (7 ∷ []) ∷ [] }
 unfolding callFrame
 unit-refused = refl
 

@@ -179,7 +179,8 @@ module _ (multiplier : ℕ) (ks : List ℕ) (b : Block) (step : ℕ → ℕ → 
         go (continues t to-next c) =
             inl (
               c .end,
-              ready-after q (k .sound m next (q .sound) x′) (native-quiet ks (b .addr) owner r end tt)
+              ready-after q (k .sound m next (q .sound) x′)
+                  (native-quiet ks (b .addr) owner r end tt)
                   c,
               rw natively t,
               to-next,

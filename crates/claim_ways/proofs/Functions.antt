@@ -191,7 +191,8 @@ block-stands k c (a ∷ d ∷ g) (List·Memᴰ·tail (List·Memᴰ·tail m)) =
     let r = forwards (bodyKey a) k c (a ∷ d ∷ g) 0 m in
     inr (tt, (r .0, r .1, r .2), (bodyKey a, r .3 .0, r .3 .1))
 
-pub no-group : (a n : ℕ) (bs : List Body) (t : Top) → OfGroup t → List·Memᴰ t (forwarders a n bs) → ⊥
+pub no-group : (a n : ℕ) (bs : List Body) (t : Top) → OfGroup t → List·Memᴰ t (forwarders a n bs)
+    → ⊥
 unfolding forwarders
 no-group a n [] t h (List·Memᴰ·head e) = subst OfGroup e h
 no-group a n [] t h (List·Memᴰ·tail m) = List·Memᴰ·not-nil m

@@ -90,10 +90,8 @@ module _ (f : List ℕ) (limit max : ℕ) where
       ++ emitGroup (bodiesOf (fileBodies f) (getD (groups limit (blocksOf f)) j []))))
       → unitsWith f limit max ts j
       ≡ record {
-        tree =
-            ts ++ emitGroup (bodiesOf (fileBodies f) (getD (groups limit (blocksOf f)) j []));
-        done =
-            startOf (groups limit (blocksOf f)) (suc j);
+        tree = ts ++ emitGroup (bodiesOf (fileBodies f) (getD (groups limit (blocksOf f)) j []));
+        done = startOf (groups limit (blocksOf f)) (suc j);
         last = false;
       }
       ∷ unitsFrom f limit max (suc j)
@@ -120,8 +118,7 @@ module _ (f : List ℕ) (limit max : ℕ) where
       → unitsWith f limit max ts j
       ≡ record {
         tree = ts ++ lastUnitEnd (fileBodies f);
-        done =
-            startOf (groups limit (blocksOf f)) j;
+        done = startOf (groups limit (blocksOf f)) j;
         last = true;
       } ∷ []
   unfolding cut
@@ -291,8 +288,7 @@ module _ {f : List ℕ} {limit max i p : ℕ} (r : Reached f limit max i p) {e :
       record {
         tree = unitTree f limit (r .group) (u .size) (e .last);
         done = e .end;
-        last =
-            e .last;
+        last = e .last;
       }
 
   abbrev later : List TranslationUnit

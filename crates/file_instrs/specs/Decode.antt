@@ -117,8 +117,7 @@ timedAt f at addr thumb =
             addr = addr;
             cond = condOf (byteAt f (at + 1) % 16);
             op = opAt f at;
-            thumb =
-                thumb;
+            thumb = thumb;
           };
       cost = halfAt f (at + 2);
     }

@@ -33,7 +33,8 @@ use Rattle.lower_units.specs.Block.{underGuard, blockCode}
 use Rattle.file_blocks.specs.Address.{outsideRomBios}
 use Rattle.lower_units.specs.Units.{withLocals, emitBlock, labelled, groupCode, forwarders}
 use Rattle.lower_units.specs.Units.{emitGroup, unitHead, lastUnitEnd, unitValues, textOf, cut}
-use Rattle.lower_units.specs.Units.{TranslationUnit, UnitValues, bodiesOf, emitCChunked, unitsBy}
+use Rattle.lower_units.specs.Units.{TranslationUnit, UnitValues, bodiesOf, emitCChunked}
+use Rattle.lower_units.specs.Units.{unitsBy}
 use Rattle.lower_units.specs.Units.{units}
 
 timed : ℕ → Bool → Cond → Op → ℕ → TimedInstr

@@ -18,8 +18,7 @@ filled-none n w =
       same = refl;
       full = λ r h. absurd (not-suc-le-zero h);
       before = λ k h. refl;
-      after =
-          λ k h. refl;
+      after = λ k h. refl;
     }
 
 pub filled-more : (n m : ℕ) (w w′ : List ℕ) → 4 * n ≤ length w → m < n → Filled n m w w′

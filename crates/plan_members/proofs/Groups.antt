@@ -54,8 +54,7 @@ zeroed-none n work =
       same = refl;
       before = λ k h. refl;
       after = λ k h. refl;
-      zeros =
-          λ j h. absurd (omega arith);
+      zeros = λ j h. absurd (omega arith);
     }
 
 pub zeroed-more : (n i : ℕ) (work work′ : List ℕ) → i < n → 4 * n ≤ length work
@@ -85,8 +84,7 @@ groups-none n i work work′ h z =
       same = z .same;
       before = z .before;
       after = z .after;
-      groups =
-          λ j b. z .zeros j (omega arith) ∙ ap (groupOf j) (sym (rows-end n work));
+      groups = λ j b. z .zeros j (omega arith) ∙ ap (groupOf j) (sym (rows-end n work));
     }
 
 module _ (n p i : ℕ) (work₀ work : List ℕ) (h : p < n) (room : 4 * n ≤ length work)
@@ -133,8 +131,7 @@ module _ (n p i : ℕ) (work₀ work : List ℕ) (h : p < n) (room : 4 * n ≤ l
         same = from .same;
         before = from .before;
         after = from .after;
-        groups =
-            λ j c. other j c (λ e. omega arith);
+        groups = λ j c. other j c (λ e. omega arith);
       }
 
 -- the groups of all rows, where the rows are a plan

@@ -23,8 +23,7 @@ firsts-none f n work =
       same = refl;
       before = λ k h. refl;
       after = λ k h. refl;
-      firsts =
-          λ i h. absurd (omega arith);
+      firsts = λ i h. absurd (omega arith);
     }
 
 pub firsts-more : (f : List ℕ) (n m : ℕ) (work work′ : List ℕ) (first : ℕ) → m < n

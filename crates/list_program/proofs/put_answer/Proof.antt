@@ -19,8 +19,7 @@ returns c = let pre =
     listing-shown _ (pre .0) _ _ (omega arith) (pre .1) _ refl _ _ _
     (ap (λ (a : Answer ℕ). record {
       answer = a;
-      work =
-          c .before .before .before .before .before .before .listing-of .last .1 .1 .0;
+      work = c .before .before .before .before .before .before .listing-of .last .1 .1 .0;
       results =
           c .before .before .before .before .before .before .listing-of .last .1 .1 .1 .0 ∷ [];
     })

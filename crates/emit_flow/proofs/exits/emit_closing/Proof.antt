@@ -18,7 +18,8 @@ returns c =
     λ ks h. wrote-as
     (seq (c1 .flush-ticks .ensures)
     (seq (c2 .set-pc .ensures) (c3 .transfer .ensures ks common h)))
-    (ticked common (v .cycles) (pcLine (v .next)) (transfer ks (v .e .src) common 4 (v .e .key) end))
+    (ticked common (v .cycles) (pcLine (v .next))
+    (transfer ks (v .e .src) common 4 (v .e .key) end))
 
 pub emit-closing-spec : {M : Type 1} → statement M
 emit-closing-spec =

@@ -11,7 +11,8 @@ returns c =
     let put = c .before .before in
     let one = put .before .before in
     let at-start = one .before .before .before .before .before in
-    λ limit g is. put .put-lone .ensures limit g is (omega (arith, one .if1 .taken, at-start .pre .1))
+    λ limit g is. put .put-lone .ensures limit g is
+    (omega (arith, one .if1 .taken, at-start .pre .1))
 
 returns-2 : tie.Need-returns-2
 returns-2 c =

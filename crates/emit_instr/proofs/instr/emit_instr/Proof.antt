@@ -59,7 +59,8 @@ returns-4 c =
     let a = known .before .before .before .before .args in
     λ ks b j fs h e g reach.
     same-form _ _
-    (ap (emitOp (a .s .thumb) (a .s .region) (a .cycles) (a .x)) (sym (known .enum-told2 .given .1)))
+    (ap (emitOp (a .s .thumb) (a .s .region) (a .cycles) (a .x))
+    (sym (known .enum-told2 .given .1)))
     (done .emit-straight .ensures ks b j fs h g)
 
 returns-5 : tie.Need-returns-5
@@ -87,7 +88,8 @@ returns-6 c =
 pub emit-instr-spec : {M : Type 1} → statement M
 emit-instr-spec =
     tie.close
-    (tie.spec (search needs) (search needs) (search needs) (search needs) (search needs) (search needs)
+    (tie.spec (search needs) (search needs) (search needs) (search needs) (search needs)
+    (search needs)
     (search needs) (search needs)
     (search needs) (search needs) (search needs) (search needs) (search needs) (search needs)
     returns (search needs)

@@ -62,7 +62,8 @@ returns c = λ limit g is b bs keys.
     let file = group .before .before .before .before .args .file .now in
     wrote-as (seq (turn .loop .inv .2 limit g is) (put .put .ensures))
     (forwarders-keys b bs (groupKeys limit file g) (group .row-key .result) (turn .loop .k) [] keys
-    (group .row-key .ensures _ limit g 0 (row-first is (group .before .before .before .before .pre .1)))
+    (group .row-key .ensures _ limit g 0
+    (row-first is (group .before .before .before .before .pre .1)))
     (omega (arith, keys-size is, group-size is)))
 
 pub put-forwarders-spec : {M : Type 1} → statement M

@@ -1,5 +1,5 @@
--- `emit_tables::heads::put_function_end` meets its contract: what its calls write, one after another.
--- Assumes nothing.
+-- `emit_tables::heads::put_function_end` meets its contract: what its calls write, one after
+-- another. Assumes nothing.
 use mathlib.Core.Path.{refl}
 use borrow.Author.Needs.{needs}
 use Rattle.base_text.proofs.Laws.{wrote-as, kept}

@@ -46,13 +46,11 @@ cast-work c =
     let start = at-loop .before .before .before in
     let is : IsBlock _ _ _ _ =
     record {
-      accepted =
-          start .pre .1;
+      accepted = start .pre .1;
       found =
           sym (c .before .before .before .block-at .ensures)
           ∙ c .before .block .given .1;
-      starts =
-          at-loop .loop .inv .2;
+      starts = at-loop .loop .inv .2;
     } in
     omega (
       arith,
@@ -71,12 +69,10 @@ loop-again c =
     let start = at-loop .before .before .before in
     let is : IsBlock _ _ _ _ =
     record {
-      accepted =
-          start .pre .1;
+      accepted = start .pre .1;
       found = sym (at-block-at .block-at .ensures)
           ∙ c .before .before .before .block .given .1;
-      starts =
-          at-loop .loop .inv .2;
+      starts = at-loop .loop .inv .2;
     } in (
       omega arith,
       at-loop .loop .inv .1,
