@@ -82,8 +82,9 @@ uint32_t recomp_listing(const uint8_t *file, size_t file_len, uint32_t *work, si
  * to C, and what interp_one does for the others (supposed to be a step of the machine that leaves in
  * c[15] the address of the key which it answers), but for the records that docs/DIFFERENCES.md names
  * and, as a whole, the blocks that hold one: `MeaningOf` in crates/claim_meaning/specs/Meaning.antt;
- * and that every execution of a block's function by C99 is such a way, and carries out blocks of its
- * group one after the other as their text means. crates/claim_units/specs/Claims.antt lists all. */
+ * and that every execution of a block's function by C99 is such a way, and, where no block of its
+ * group holds such a record, carries out blocks of the group one after the other as their text
+ * means. crates/claim_units/specs/Claims.antt lists all. */
 uint32_t recomp_unit(const uint8_t *file, size_t file_len, uint64_t max_bytes, uint64_t unit,
                      uint32_t *work, size_t work_len, uint8_t *text, size_t text_len,
                      uint64_t *at, uint64_t *length, uint64_t *done, uint64_t *last);

@@ -1,4 +1,4 @@
--- The listing of a file: a header, and one line for each block in file order.
+-- To be believed: the listing of a file: a header, and one line for each block in file order.
 use Prim.Native.Nat.{ℕ, suc}
 use mathlib.Core.List.{List, [], _∷_}
 use Rattle.file_blocks.specs.Parse.{Block, blockKey}

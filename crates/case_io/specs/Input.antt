@@ -1,4 +1,4 @@
--- What the reading of files promises.
+-- Steps: what the reading of files promises.
 use Prim.Native.Nat.{ℕ, _≤_}
 use mathlib.Core.List.{List}
 use lib.ListN.{length}

@@ -1,4 +1,4 @@
--- When two answers are the same.
+-- Steps: when two answers are the same.
 use Prim.Native.Nat.{ℕ}
 use mathlib.Core.Bool.{Bool, true, false, _&&_}
 use mathlib.Core.List.{List, [], _∷_}

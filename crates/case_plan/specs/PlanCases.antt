@@ -1,4 +1,4 @@
--- The numbers that a call for the plan leaves, as they are compared with a vector's.
+-- Steps: the numbers that a call for the plan leaves, as they are compared with a vector's.
 use Prim.Native.Nat.{ℕ}
 use mathlib.Core.List.{List, [], _∷_, _++_}
 use Rattle.call_frame.specs.Numbers.{Handed}

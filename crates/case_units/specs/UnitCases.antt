@@ -1,4 +1,4 @@
--- What a call for a unit answers and leaves, as it is compared with a vector.
+-- Steps: what a call for a unit answers and leaves, as it is compared with a vector.
 use Prim.Native.Nat.{ℕ}
 use mathlib.Core.Bool.{Bool, _&&_}
 use mathlib.Core.List.{List, [], _∷_, _++_}

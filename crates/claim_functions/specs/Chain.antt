@@ -1,4 +1,5 @@
--- What an execution that returns carries out: blocks of a group, one after the other.
+-- To be believed: what an execution that returns carries out: blocks of a group, one after the
+-- other.
 use Prim.Native.Nat.{ℕ, _+_}
 use mathlib.Core.Path.{_≡_}
 use mathlib.Core.List.{List, List·Memᴰ}

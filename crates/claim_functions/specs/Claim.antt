@@ -1,4 +1,4 @@
--- Demand 3 of executions.
+-- To be believed: demand 3 of executions.
 use Prim.Native.Nat.{ℕ}
 use mathlib.Core.Path.{_≡_}
 use mathlib.Core.Bool.{Bool}

@@ -1,5 +1,5 @@
--- What demand 3 counts in the events of an execution, and the same read off what its blocks carry
--- out.
+-- To be believed: what demand 3 counts in the events of an execution, and the same read off what
+-- its blocks carry out.
 use Prim.Native.Nat.{ℕ, _+_}
 use mathlib.Core.List.{List, [], _∷_, _++_}
 use Rattle.file_instrs.specs.declared.decode.TimedInstr.{TimedInstr}

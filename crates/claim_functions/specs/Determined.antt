@@ -1,4 +1,5 @@
--- That C's reading is one: an execution that returns is the only one from its state that does.
+-- To be believed: that C's reading is one: an execution that returns is the only one from its state
+-- that does.
 use Prim.Native.Nat.{ℕ}
 use mathlib.Core.Path.{_≡_}
 use mathlib.Core.Bool.{Bool}

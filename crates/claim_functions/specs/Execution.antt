@@ -1,5 +1,6 @@
--- How the functions of a unit are executed by C99: a statement by c_meaning's `step` and `asks`;
--- and what these leave out: a goto to its label, the switch of a group, the call of its function.
+-- To be believed: how the functions of a unit are executed by C99: a statement by c_meaning's
+-- `step` and `asks`; and what these leave out: a goto to its label, the switch of a group, the call
+-- of its function.
 use Prim.Native.Nat.{ℕ, _%_, _^_}
 use mathlib.Core.Path.{_≡_}
 use mathlib.Core.Bool.{Bool, true, false, cond, Bool·beq}

@@ -1,5 +1,5 @@
--- That a goto leads where LabelIn says: in the functions of the units a label stands once, and
--- inside no braces.
+-- To be believed: that a goto leads where LabelIn says: in the functions of the units a label
+-- stands once, and inside no braces.
 use Prim.Native.Nat.{ℕ}
 use mathlib.Core.Path.{_≡_}
 use mathlib.Core.Logic.{_⊎_}

@@ -1,4 +1,4 @@
--- What an execution means, and that there is one.
+-- To be believed: what an execution means, and that there is one.
 use Prim.Native.Nat.{ℕ, _≤_}
 use mathlib.Core.Path.{_≡_}
 use mathlib.Core.Logic.{_⊎_}

@@ -14,18 +14,20 @@ use Rattle.claim_functions.specs.Means.{ExecutionMeans, ExecutionBegins, Execut
 pub record UnitClaims (multiplier limit max : ℕ) (f : List ℕ) : Type 0 where
   -- gate and guard, on every way through the units
   pub demand3 : Demand3Of multiplier limit max f
-  -- each block has one function, and a way from it to each record that it prints
+  -- each block has one function, and a way from it that carries out each record that it prints
   pub applies : Demand3AppliesOf multiplier limit max f
   -- what the text of the blocks means, held against the manual
   pub meaning : MeaningOf multiplier f
   -- each execution of a block's function by C99 is a way, so that demand 3 holds of it
   pub executionsAreWays : ExecutionsAreWays multiplier limit max f
   pub executions : ExecutionClaim multiplier limit max f
-  -- a goto leads to the one place with its label, and an execution that returns is the only one
+  -- a label stands in one place at most, inside no braces, and an execution that returns is the
+  -- only one from its state that does
   pub labels : LabelsPlain multiplier limit max f
   pub determined : ExecutionDetermined multiplier limit max f
-  -- an execution carries out blocks of the group one after the other, as their meaning says, and
-  -- comes to no stop before it returns
+  -- where all records of a group are covered: an execution carries out blocks of the group one
+  -- after the other, as their meaning says, and there is one that returns, or one that carries out
+  -- as many instructions as is wished
   pub carriesOut : ExecutionMeans multiplier limit max f
   pub begins : ExecutionBegins multiplier limit max f
   pub getsOn : ExecutionGetsOn multiplier limit max f

@@ -77,7 +77,7 @@ module _ (toHash : Block → Option ℕ) where
       (h : ℕ) × (toHash b ≡ some h)
       × List·Memᴰ (said (guard (b .addr) (lengthOf (length (b .instrs)) (b .thumb)) h) true) es
 
-  -- Demand 3 (docs/ARCHITECTURE.md) of the events of a way from the function of block i: each part
+  -- Demand 3 (docs/SPECIFICATION.md) of the events of a way from the function of block i: each part
   -- without a consultation of the chain gate carries out at most so many instructions as the limit
   -- says in a group of several blocks; a lone block carries out no instruction twice; native
   -- statements of a block outside ROM and BIOS are reached only after the guard said yes to that

@@ -1,4 +1,4 @@
--- To be believed: that demand 3 is about something, and both of every file: each block has one
+-- To be believed: that demand 3 is about something: each block has one
 -- function, in the unit where its group is, and a way from it to each record that it prints.
 use Prim.Native.Nat.{ℕ, _+_, _≤_}
 use mathlib.Core.Path.{_≡_, refl}

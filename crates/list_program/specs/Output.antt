@@ -1,4 +1,4 @@
--- What the program prints.
+-- To be believed: what the program prints.
 use Prim.Native.Nat.{ℕ}
 use mathlib.Core.Path.{_≡_}
 use mathlib.Core.Bool.{cond}

@@ -1,4 +1,4 @@
--- How large a text buffer the program's steps ask for.
+-- Steps: how large a text buffer the program's steps ask for.
 use Prim.Native.Nat.{ℕ}
 
 -- a first line of 16 bytes and 4,094 lines of at most 48 take no more
