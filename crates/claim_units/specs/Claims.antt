@@ -14,7 +14,8 @@ use Rattle.claim_functions.specs.Means.{ExecutionMeans, ExecutionBegins, Execut
 pub record UnitClaims (multiplier limit max : ℕ) (f : List ℕ) : Type 0 where
   -- gate and guard, on every way through the units
   pub demand3 : Demand3Of multiplier limit max f
-  -- each block has one function, and a way from it that carries out each record that it prints
+  -- each block has one function, and a way from it that carries out each record that it prints, by
+  -- the record's own text
   pub applies : Demand3AppliesOf multiplier limit max f
   -- what the text of the blocks means, held against the manual
   pub meaning : MeaningOf multiplier f

@@ -1,5 +1,5 @@
 -- Each block of an accepted file has one function, in the unit where its group is, and a way from
--- it to each record that it prints.
+-- it through the text of the records that it prints.
 use Prim.Native.Nat.{ℕ, _+_, _≤_, _<_}
 use mathlib.Core.Path.{_≡_, refl, sym, ap, ap₂, _∙_, subst}
 use mathlib.Core.List.{List, [], _∷_, map, flatten, List·Memᴰ, List·Memᴰ·head, List·Memᴰ·tail}
@@ -21,10 +21,10 @@ use Rattle.lower_units.specs.Units.{emitGroup, unitHead, lastUnitEnd, defaultBo
 use Rattle.lower_units.specs.Units.{emitCChunked, unitsBy}
 use Rattle.claim_ways.proofs.Faithful.{Faithful}
 use Rattle.claim_ways.specs.Claim.{timesCarried, allUnits}
-use Rattle.claim_ways.specs.Complete.{functionCount, printedRecords, BlockHasWay}
-use Rattle.claim_ways.specs.Complete.{CompleteOf}
+use Rattle.claim_ways.specs.Complete.{functionCount, bodyEvents}
+use Rattle.claim_ways.specs.Complete.{BlockHasWay, CompleteOf}
 use Rattle.claim_ways.proofs.Members.{File, bodies, key-of, is-member, same-place}
-use Rattle.claim_ways.proofs.Entered.{first-printed, entered}
+use Rattle.claim_ways.proofs.Entered.{first-carried, entered}
 use Rattle.claim_ways.proofs.Pieces.{Part, group-part, in-part, inGroups, no-end}
 use Rattle.claim_ways.proofs.Pieces.{functions-cut, group-count}
 use Rattle.file_blocks.proofs.Nowhere.{nowhere}
@@ -142,13 +142,13 @@ module _ (F : File) (i : ℕ) (h : i < length (F .bs)) where
           stands =
               subst (λ n. List·Memᴰ (function (block n) (w .0))
               (emitGroup (bodiesOf (bodies F) mine))) k (w .1);
+          answers = w .2 .0;
+          events = w .2 .1;
+          way = w .2 .2;
+          through = w .2 .3 ∙ ap (λ d. bodyEvents (bodyOf d)) e;
           first =
-              subst (λ d. List·Memᴰ 0 (printedRecords (bodyOf d))) e
-              (first-printed (bodyOf (getD bs i nowhere)) filled);
-          ways = λ j m.
-              let r =
-              w .2 j (subst (λ d. List·Memᴰ j (printedRecords (bodyOf d))) (sym e) m) in
-              (r .0, r .1, r .2, subst (λ n. 1 ≤ timesCarried n j (r .1)) k (r .3));
+              subst (λ n. 1 ≤ timesCarried n 0 (w .2 .1)) k
+              (first-carried (bodyOf (getD bs i nowhere)) (w .2 .1) filled (w .2 .3));
         }
 
 pub complete : (hashOf : Block → Option ℕ) (bodyOf : Block → Body) → Faithful hashOf bodyOf

@@ -1,11 +1,12 @@
 -- Ways: round a loop twice, up to where the chain gate says so, at any wished size; through a
--- shell; after the guard's yes and its no; to a goto without its label, and to a condition without
--- an answer.
+-- shell; after the guard's yes and its no, of which the yes alone leads through the text of the
+-- block's records; to a goto without its label, and to a condition without an answer.
 use Prim.Native.Nat.{ℕ}
 use mathlib.Core.Path.{_≡_, refl}
 use mathlib.Core.Bool.{Bool, true, false}
 use mathlib.Core.List.{List, [], _∷_, _++_, map, List·Memᴰ, List·Memᴰ·head}
 use mathlib.Core.Option.{none, some}
+use native.Mathlib.Omega.{arith}
 use Rattle.c_tree.specs.Expr.{word, x-cz, reg, lit}
 use Rattle.c_tree.specs.Stmt.{is, set, tick, gate, other, Owner, goto, retIf, Code, end, _⨾_, when}
 use Rattle.c_tree.specs.Stmt.{_⧺_, group, Top, function, Test, guard}
@@ -21,6 +22,7 @@ use Rattle.claim_ways.specs.Ways.{interpreted, Way, w-gap, w-record, w-p
 use Rattle.claim_ways.specs.Ways.{w-leave, w-stay, w-unsaid, w-call, w-retInterp, w-entry}
 use Rattle.claim_ways.specs.Ways.{w-when, w-unanswered, w-braces, stop}
 use Rattle.claim_ways.specs.Claim.{carried, timesCarried}
+use Rattle.claim_ways.specs.Complete.{formEvents, bodyEvents, answersAndRecords}
 use Rattle.claim_ways.proofs.Functions.{trees, forwarder}
 use Rattle.claim_ways.proofs.Pieces.{group-part, in-part}
 
@@ -208,3 +210,38 @@ guard-no ts =
     w-gap (w-plain
     (w-gap (w-plain
     (w-gap (w-plain (w-gap (w-gap (w-when (w-gap (w-plain (w-gap w-retInterp)))))))))))
+
+-- the yes leads through the text of the record
+pub yes-through :
+    answersAndRecords (asking ++ (said asked true ∷ nativeStart 0x02000000 0 1
+    ∷ reach (Owner.nativeOf 0x02000000) ∷ [])) ≡ bodyEvents ram
+unfolding bodyEvents outsideRomBios formEvents
+yes-through = refl
+
+-- the no does not, though the interpreter carries out the record
+pub no-elsewhere :
+    answersAndRecords (asking ++ (said asked false ∷ reach Owner.common ∷ interpreted 0x02000000 0
+    ∷ [])) ≡ bodyEvents ram → ⊥
+unfolding bodyEvents outsideRomBios formEvents
+no-elsewhere e = let z : _≡_ {A = ℕ} 0 1 = cc in omega arith
+
+-- nor does it where the first record has a shell, which the interpreter carries out too
+abbrev ram-shell : Body
+ram-shell =
+    record {
+      addr = 0x02000000;
+      thumb = false;
+      count = 1;
+      hash = some 7;
+      forms = shell false ((set (reg 15) is (lit word 0x02000000) ∷ []) ∷ []) 0x02000004 ∷ [];
+      pending = 0;
+    }
+
+pub shell-through : bodyEvents ram-shell ≡ said asked true ∷ interpreted 0x02000000 0 ∷ []
+unfolding bodyEvents outsideRomBios formEvents
+shell-through = refl
+
+pub shell-elsewhere :
+    said asked false ∷ interpreted 0x02000000 0 ∷ [] ≡ bodyEvents ram-shell → ⊥
+unfolding bodyEvents outsideRomBios formEvents
+shell-elsewhere e = let z : _≡_ {A = ℕ} 0 1 = cc in omega arith

@@ -1,5 +1,5 @@
--- To be believed: that demand 3 is about something: each block has one
--- function, in the unit where its group is, and a way from it to each record that it prints.
+-- To be believed: that demand 3 is about something: each block has one function, in the unit where
+-- its group is, and a way from it through the text of the records that it prints.
 use Prim.Native.Nat.{ℕ, _+_, _≤_}
 use mathlib.Core.Path.{_≡_, refl}
 use mathlib.Core.Bool.{Bool, true, false, cond}
@@ -7,17 +7,18 @@ use mathlib.Core.List.{List, [], _∷_, _++_, map, List·Memᴰ}
 use mathlib.Core.Option.{Option, none, some}
 use lib.Dec.{eqb}
 use lib.ListN.{getElem?}
-use Rattle.base_lists.specs.Lists.{range}
 use Rattle.file_blocks.specs.Parse.{Block, Parsed, parse, blockKey}
 use Rattle.file_blocks.specs.Address.{outsideRomBios}
 use Rattle.plan_groups.specs.Plan.{groups}
-use Rattle.c_tree.specs.Stmt.{Code, helper, block, group, Top, opening, function, blank, extern}
-use Rattle.c_tree.specs.Stmt.{table, count}
+use Rattle.c_tree.specs.Expr.{Expr}
+use Rattle.c_tree.specs.Stmt.{guard, gate, other, Owner, Code, helper, block, group, Top, opening}
+use Rattle.c_tree.specs.Stmt.{function, blank, extern, table, count}
 use Rattle.lower_forms.specs.Forms.{Native, straight, straightIf, branchIf, jump, pair, bx, pop}
 use Rattle.lower_forms.specs.Forms.{Form, shell, recordsIn, Body}
 use Rattle.lower_forms.specs.Block.{bodyOf}
+use Rattle.lower_units.specs.Block.{bodyKey, bodyLength}
 use Rattle.lower_units.specs.Units.{TranslationUnit, emitGroup, bodiesOf, unitsBy}
-use Rattle.claim_ways.specs.Ways.{Event, Way}
+use Rattle.claim_ways.specs.Ways.{Event, reach, said, nativeStart, interpreted, Way}
 use Rattle.claim_ways.specs.Claim.{timesCarried, allUnits}
 use Rattle.claim_ways.specs.Demand3.{Demand3Of}
 
@@ -48,30 +49,53 @@ leaves (pair t k) = true
 leaves (bx t e) = true
 leaves (pop t p l q e) = true
 
--- the records that forms print, by their indices; the first has the index i
-unfoldable pub printed : ℕ → List Form → List ℕ
-printed i [] = []
-printed i (Form.native r ∷ rs) =
-    range (recordsIn r) i ++ cond (leaves r) [] (printed (i + recordsIn r) rs)
-printed i (shell h t k ∷ rs) = i ∷ printed (i + 1) rs
+-- what is carried out on a way through the text of some forms, each record by its own text: a
+-- native one, or a fused pair, where its text starts, one that has a shell by the call of
+-- interp_one in the shell. The block has the key k, the first record the index i
+unfoldable pub formEvents : ℕ → ℕ → List Form → List Event
+formEvents k i [] = []
+formEvents k i (Form.native r ∷ rs) =
+    nativeStart k i (recordsIn r) ∷ cond (leaves r) [] (formEvents k (i + recordsIn r) rs)
+formEvents k i (shell h t e ∷ rs) = interpreted k i ∷ formEvents k (i + 1) rs
 
--- a pair prints two, and a record after it is dropped
-pair-last : printed 0
-    (Form.native (straight [] []) ∷ shell false [] 0 ∷ Form.native (pair [] 0)
-    ∷ Form.native (straight [] []) ∷ []) ≡ 0 ∷ 1 ∷ 2 ∷ 3 ∷ []
-unfolding printed
-pair-last = refl
+-- every form but the last goes on to the next; the pair is two, and a record after it is dropped
+all-forms : (e : Expr) → formEvents 8 0
+    (Form.native (straight [] []) ∷ shell false [] 0 ∷ Form.native (straightIf [] e [])
+    ∷ Form.native (branchIf [] e [] 0) ∷ Form.native (pair [] 0) ∷ Form.native (straight [] [])
+    ∷ [])
+    ≡ nativeStart 8 0 1 ∷ interpreted 8 1 ∷ nativeStart 8 2 1 ∷ nativeStart 8 3 1
+    ∷ nativeStart 8 4 2 ∷ []
+unfolding formEvents
+all-forms e = refl
 
--- those of a block outside ROM and BIOS: without code bytes the first alone, which the interpreter
--- carries out
-abbrev pub printedGuarded : Body → Option ℕ → List ℕ
-printedGuarded b none = 0 ∷ []
-printedGuarded b (some h) = printed 0 (b .forms)
+-- the same outside ROM and BIOS: after the guard said yes; a block without code bytes has neither a
+-- guard nor text of records, and the interpreter carries out its first record in its place
+abbrev pub guardedEvents : Body → Option ℕ → List Event
+guardedEvents b none = interpreted (bodyKey b) 0 ∷ []
+guardedEvents b (some h) =
+    said (guard (b .addr) (bodyLength b) h) true ∷ formEvents (bodyKey b) 0 (b .forms)
 
--- those of a block
-unfoldable pub printedRecords : Body → List ℕ
-printedRecords b =
-    cond (outsideRomBios (b .addr)) (printedGuarded b (b .hash)) (printed 0 (b .forms))
+-- what the guard says and what is carried out on a way through the text of a block
+unfoldable pub bodyEvents : Body → List Event
+bodyEvents b =
+    cond (outsideRomBios (b .addr)) (guardedEvents b (b .hash))
+    (formEvents (bodyKey b) 0 (b .forms))
+
+-- of some events what guard and gate said and what is carried out, in their order
+abbrev pub answersAndRecords : List Event → List Event
+answersAndRecords [] = []
+answersAndRecords (reach o ∷ es) = answersAndRecords es
+answersAndRecords (said (guard a l h) x ∷ es) = said (guard a l h) x ∷ answersAndRecords es
+answersAndRecords (said gate x ∷ es) = said gate x ∷ answersAndRecords es
+answersAndRecords (said (other e) x ∷ es) = answersAndRecords es
+answersAndRecords (nativeStart k i n ∷ es) = nativeStart k i n ∷ answersAndRecords es
+answersAndRecords (interpreted k i ∷ es) = interpreted k i ∷ answersAndRecords es
+
+-- a consultation of the gate is one of them
+gate-seen : (o : Owner) (e : Expr) → answersAndRecords
+    (nativeStart 8 0 1 ∷ reach o ∷ said (other e) true ∷ said gate false ∷ interpreted 8 1 ∷ [])
+    ≡ nativeStart 8 0 1 ∷ said gate false ∷ interpreted 8 1 ∷ []
+gate-seen o e = refl
 
 module _ (toBody : Block → Body) where
   -- what there is of block i, which is b
@@ -90,12 +114,14 @@ module _ (toBody : Block → Body) where
     pub code : Code
     pub stands : List·Memᴰ (function (block (blockKey b)) code)
         (emitGroup (bodiesOf (map toBody bs) members))
-    -- a way from it carries out each record that the block prints, the first among them
-    pub first : List·Memᴰ 0 (printedRecords (toBody b))
-    pub ways : (j : ℕ) → List·Memᴰ j (printedRecords (toBody b))
-        → (xs : List Bool) × (es : List Event)
-        × Way (allUnits toBody limit max bs) code code xs es
-        × (1 ≤ timesCarried (blockKey b) j es)
+    -- a way from it goes through the block's text to its last record: where there is a guard it
+    -- says yes; each record that the block prints is carried out by its own text, one after the
+    -- other, the first among them; and nothing else is, nor is the gate consulted
+    pub answers : List Bool
+    pub events : List Event
+    pub way : Way (allUnits toBody limit max bs) code code answers events
+    pub through : answersAndRecords events ≡ bodyEvents (toBody b)
+    pub first : 1 ≤ timesCarried (blockKey b) 0 events
 
   -- each block of a file, if it is accepted, at a limit and a wished size
   unfoldable pub CompleteOf : ℕ → ℕ → List ℕ → Type 0
