@@ -3,7 +3,7 @@ use Prim.Native.Nat.{ℕ}
 use mathlib.Core.List.{List}
 use Rattle.claim_meaning.specs.Meaning.{MeaningOf}
 use Rattle.claim_ways.specs.Demand3.{Demand3Of}
-use Rattle.claim_ways.specs.Complete.{Demand3AppliesOf}
+use Rattle.claim_ways.specs.Applies.{Demand3AppliesOf}
 use Rattle.claim_functions.specs.Labels.{LabelsPlain}
 use Rattle.claim_functions.specs.Determined.{ExecutionDetermined}
 use Rattle.claim_functions.specs.Claim.{ExecutionsAreWays, ExecutionClaim}

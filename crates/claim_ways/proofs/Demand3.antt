@@ -6,9 +6,9 @@ use Rattle.lower_forms.specs.Block.{bodyOf, hashOf}
 use Rattle.lower_forms.proofs.RecordCount.{body-count}
 use Rattle.claim_ways.proofs.Faithful.{Faithful}
 use Rattle.claim_ways.specs.Demand3.{Demand3Of}
-use Rattle.claim_ways.specs.Complete.{Demand3, Demand3AppliesOf, Demand3Applies}
+use Rattle.claim_ways.specs.Applies.{Demand3, Demand3AppliesOf, Demand3Applies}
 use Rattle.claim_ways.proofs.EveryWay.{every-way}
-use Rattle.claim_ways.proofs.Complete.{complete}
+use Rattle.claim_ways.proofs.Applies.{applies-of}
 
 -- a body is faithful to its block
 pub faithful : (multiplier : ℕ) → Faithful (hashOf multiplier) (bodyOf multiplier)
@@ -31,12 +31,12 @@ pub demand-3 : Demand3
 unfolding Demand3
 demand-3 = demand-3-of
 
--- and it is about something
+-- and it applies
 pub demand-3-applies-of : (multiplier limit max : ℕ) (f : List ℕ)
     → Demand3AppliesOf multiplier limit max f
 unfolding Demand3AppliesOf
 demand-3-applies-of multiplier =
-    complete (hashOf multiplier) (bodyOf multiplier) (faithful multiplier)
+    applies-of (hashOf multiplier) (bodyOf multiplier) (faithful multiplier)
 
 pub demand-3-applies : Demand3Applies
 unfolding Demand3Applies

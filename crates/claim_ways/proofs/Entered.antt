@@ -27,8 +27,8 @@ use Rattle.claim_ways.specs.Ways.{w-record, w-plain, w-label, w-goto, w-
 use Rattle.claim_ways.specs.Ways.{w-stay, w-unsaid, w-call, w-interp, w-retInterp, w-entry}
 use Rattle.claim_ways.specs.Ways.{w-default, w-past, w-when, w-unanswered, w-braces}
 use Rattle.claim_ways.specs.Claim.{timesCarried}
-use Rattle.claim_ways.specs.Complete.{leaves, formEvents, guardedEvents, bodyEvents}
-use Rattle.claim_ways.specs.Complete.{answersAndRecords}
+use Rattle.claim_ways.specs.Applies.{leaves, formEvents, guardedEvents, bodyEvents}
+use Rattle.claim_ways.specs.Applies.{answersAndRecords}
 use Rattle.claim_ways.proofs.Functions.{forwarder}
 use Rattle.c_tree.proofs.Laws.{append-assoc}
 

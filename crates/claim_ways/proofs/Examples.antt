@@ -22,7 +22,7 @@ use Rattle.claim_ways.specs.Ways.{interpreted, Way, w-gap, w-record, w-p
 use Rattle.claim_ways.specs.Ways.{w-leave, w-stay, w-unsaid, w-call, w-retInterp, w-entry}
 use Rattle.claim_ways.specs.Ways.{w-when, w-unanswered, w-braces, stop}
 use Rattle.claim_ways.specs.Claim.{carried, timesCarried}
-use Rattle.claim_ways.specs.Complete.{formEvents, bodyEvents, answersAndRecords}
+use Rattle.claim_ways.specs.Applies.{formEvents, bodyEvents, answersAndRecords}
 use Rattle.claim_ways.proofs.Functions.{trees, forwarder}
 use Rattle.claim_ways.proofs.Pieces.{group-part, in-part}
 

@@ -13,7 +13,7 @@ pub mod Members
 pub mod EveryWay
 pub mod Entered
 pub mod Pieces
-pub mod Complete
+pub mod Applies
 pub mod Broken
 pub mod Examples
 pub mod Demand3

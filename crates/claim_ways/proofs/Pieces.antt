@@ -14,7 +14,7 @@ use Rattle.lower_units.specs.Block.{bodyKey}
 use Rattle.lower_units.specs.Units.{TranslationUnit, emitBlock, forwarders, emitGroup, unitHead}
 use Rattle.lower_units.specs.Units.{lastUnitEnd, textOf, cut}
 use Rattle.base_lists.proofs.Counts.{count as countOf}
-use Rattle.claim_ways.specs.Complete.{functionCount}
+use Rattle.claim_ways.specs.Applies.{functionCount}
 use Rattle.claim_ways.proofs.Functions.{trees}
 
 -- a tree stands in one piece in some unit

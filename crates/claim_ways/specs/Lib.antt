@@ -2,4 +2,4 @@
 pub mod Ways
 pub mod Claim
 pub mod Demand3
-pub mod Complete
+pub mod Applies

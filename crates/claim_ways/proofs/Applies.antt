@@ -21,8 +21,7 @@ use Rattle.lower_units.specs.Units.{emitGroup, unitHead, lastUnitEnd, defaultBo
 use Rattle.lower_units.specs.Units.{emitCChunked, unitsBy}
 use Rattle.claim_ways.proofs.Faithful.{Faithful}
 use Rattle.claim_ways.specs.Claim.{timesCarried, allUnits}
-use Rattle.claim_ways.specs.Complete.{functionCount, bodyEvents}
-use Rattle.claim_ways.specs.Complete.{BlockHasWay, CompleteOf}
+use Rattle.claim_ways.specs.Applies.{functionCount, bodyEvents, AppliesToBlock, AppliesOf}
 use Rattle.claim_ways.proofs.Members.{File, bodies, key-of, is-member, same-place}
 use Rattle.claim_ways.proofs.Entered.{first-carried, entered}
 use Rattle.claim_ways.proofs.Pieces.{Part, group-part, in-part, inGroups, no-end}
@@ -119,9 +118,9 @@ module _ (F : File) (i : ℕ) (h : i < length (F .bs)) where
     filled : 1 ≤ recordCounts (bodyOf (getD bs i nowhere) .forms)
     filled = let m = is-member F i h in omega (arith, m .filled, m .whole)
 
-    pub found : (b : Block) → getD bs i nowhere ≡ b → BlockHasWay bodyOf limit max bs i b
+    pub applies-to : (b : Block) → getD bs i nowhere ≡ b → AppliesToBlock bodyOf limit max bs i b
     unfolding allUnits
-    found b e =
+    applies-to b e =
         let w =
         entered (allUnits bodyOf limit max bs) (bodyOf (getD bs i nowhere))
         (bodiesOf (bodies F) mine) here
@@ -151,10 +150,10 @@ module _ (F : File) (i : ℕ) (h : i < length (F .bs)) where
               (first-carried (bodyOf (getD bs i nowhere)) (w .2 .1) filled (w .2 .3));
         }
 
-pub complete : (hashOf : Block → Option ℕ) (bodyOf : Block → Body) → Faithful hashOf bodyOf
-    → (limit max : ℕ) (f : List ℕ) → CompleteOf bodyOf limit max f
-unfolding CompleteOf
-complete hashOf bodyOf faithful limit max f bs accepted i b e =
+pub applies-of : (hashOf : Block → Option ℕ) (bodyOf : Block → Body) → Faithful hashOf bodyOf
+    → (limit max : ℕ) (f : List ℕ) → AppliesOf bodyOf limit max f
+unfolding AppliesOf
+applies-of hashOf bodyOf faithful limit max f bs accepted i b e =
     let F : File =
     record {
       hashOf = hashOf;
@@ -166,4 +165,4 @@ complete hashOf bodyOf faithful limit max f bs accepted i b e =
       limit = limit;
     } in
     let at = found-at bs i nowhere b e in
-    found F i (at .0) max b (at .1)
+    applies-to F i (at .0) max b (at .1)

@@ -1,5 +1,5 @@
--- To be believed: that demand 3 is about something: each block has one function, in the unit where
--- its group is, and a way from it through the text of the records that it prints.
+-- To be believed: that demand 3 applies: each block has one function, in the unit where its group
+-- is, and a way from it through the text of the records that it prints.
 use Prim.Native.Nat.{ℕ, _+_, _≤_}
 use mathlib.Core.Path.{_≡_, refl}
 use mathlib.Core.Bool.{Bool, true, false, cond}
@@ -98,8 +98,8 @@ gate-seen : (o : Owner) (e : Expr) → answersAndRecords
 gate-seen o e = refl
 
 module _ (toBody : Block → Body) where
-  -- what there is of block i, which is b
-  pub record BlockHasWay (limit max : ℕ) (bs : List Block) (i : ℕ) (b : Block) : Type 0 where
+  -- what demand 3 applies to in block i, which is b
+  pub record AppliesToBlock (limit max : ℕ) (bs : List Block) (i : ℕ) (b : Block) : Type 0 where
     -- over all units it has one function
     pub single : functionCount (blockKey b) (allUnits toBody limit max bs) ≡ 1
     -- its group stands in one piece in a unit, and the function in that piece
@@ -124,18 +124,18 @@ module _ (toBody : Block → Body) where
     pub first : 1 ≤ timesCarried (blockKey b) 0 events
 
   -- each block of a file, if it is accepted, at a limit and a wished size
-  unfoldable pub CompleteOf : ℕ → ℕ → List ℕ → Type 0
-  CompleteOf limit max f =
+  unfoldable pub AppliesOf : ℕ → ℕ → List ℕ → Type 0
+  AppliesOf limit max f =
       (bs : List Block) → parse f ≡ Parsed.accepted bs → (i : ℕ) (b : Block)
-      → getElem? bs i ≡ some b → BlockHasWay limit max bs i b
+      → getElem? bs i ≡ some b → AppliesToBlock limit max bs i b
 
 -- demand 3 of every file
 unfoldable pub Demand3 : Type 0
 Demand3 = (multiplier limit max : ℕ) (f : List ℕ) → Demand3Of multiplier limit max f
 
--- demand 3 of a file is about something: each block has its function, and ways from it
+-- demand 3 of a file applies: each block has its function, and a way from it
 unfoldable pub Demand3AppliesOf : ℕ → ℕ → ℕ → List ℕ → Type 0
-Demand3AppliesOf multiplier = CompleteOf (bodyOf multiplier)
+Demand3AppliesOf multiplier = AppliesOf (bodyOf multiplier)
 
 -- so it is of every file
 unfoldable pub Demand3Applies : Type 0
