@@ -6,7 +6,7 @@ use Rattle.lower_forms.specs.Block.{bodyOf, hashOf}
 use Rattle.lower_forms.proofs.RecordCount.{body-count}
 use Rattle.claim_ways.proofs.Faithful.{Faithful}
 use Rattle.claim_ways.specs.Demand3.{Demand3Of}
-use Rattle.claim_ways.specs.Applies.{Demand3, Demand3AppliesOf, Demand3Applies}
+use Rattle.claim_ways.specs.Applies.{Demand3AppliesOf}
 use Rattle.claim_ways.proofs.EveryWay.{every-way}
 use Rattle.claim_ways.proofs.Applies.{applies-of}
 
@@ -27,17 +27,9 @@ pub demand-3-of : (multiplier limit max : ℕ) (f : List ℕ) → Demand3Of mult
 unfolding Demand3Of
 demand-3-of multiplier = every-way (hashOf multiplier) (bodyOf multiplier) (faithful multiplier)
 
-pub demand-3 : Demand3
-unfolding Demand3
-demand-3 = demand-3-of
-
 -- and it applies
 pub demand-3-applies-of : (multiplier limit max : ℕ) (f : List ℕ)
     → Demand3AppliesOf multiplier limit max f
 unfolding Demand3AppliesOf
 demand-3-applies-of multiplier =
     applies-of (hashOf multiplier) (bodyOf multiplier) (faithful multiplier)
-
-pub demand-3-applies : Demand3Applies
-unfolding Demand3Applies
-demand-3-applies = demand-3-applies-of

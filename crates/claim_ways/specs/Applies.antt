@@ -20,7 +20,6 @@ use Rattle.lower_units.specs.Block.{bodyKey, bodyLength}
 use Rattle.lower_units.specs.Units.{TranslationUnit, emitGroup, bodiesOf, unitsBy}
 use Rattle.claim_ways.specs.Ways.{Event, reach, said, nativeStart, interpreted, Way}
 use Rattle.claim_ways.specs.Claim.{timesCarried, allUnits}
-use Rattle.claim_ways.specs.Demand3.{Demand3Of}
 
 -- 1 for the function of the block with the key k, else 0
 abbrev pub functionTimes : ℕ → Top → ℕ
@@ -129,14 +128,6 @@ module _ (toBody : Block → Body) where
       (bs : List Block) → parse f ≡ Parsed.accepted bs → (i : ℕ) (b : Block)
       → getElem? bs i ≡ some b → AppliesToBlock limit max bs i b
 
--- demand 3 of every file
-unfoldable pub Demand3 : Type 0
-Demand3 = (multiplier limit max : ℕ) (f : List ℕ) → Demand3Of multiplier limit max f
-
 -- demand 3 of a file applies: each block has its function, and a way from it
 unfoldable pub Demand3AppliesOf : ℕ → ℕ → ℕ → List ℕ → Type 0
 Demand3AppliesOf multiplier = AppliesOf (bodyOf multiplier)
-
--- so it is of every file
-unfoldable pub Demand3Applies : Type 0
-Demand3Applies = (multiplier limit max : ℕ) (f : List ℕ) → Demand3AppliesOf multiplier limit max f
