@@ -26,12 +26,12 @@ use Rattle.claim_ways.specs.Ways.{w-ret, w-interp, w-default, w-past}
 use Rattle.claim_ways.specs.Claim.{carried, timesCarried, Gateless, Several, Lone, Passed}
 use Rattle.claim_ways.specs.Claim.{WayClaim}
 
--- a round through guards and conditions, whatever they answer, without a consultation of the gate:
--- so many native records, and one by the interpreter
+-- a round through statements, guards and conditions, whatever they answer, without a consultation
+-- of the gate: so many native records, and one by the interpreter
 abbrev round : ℕ → Expr → ℕ → List Event
 round k e n =
-    nativeStart k 0 n ∷ said (guard 1 2 3) true ∷ said (other e) false ∷ said (guard 1 2 3) false
-    ∷ said (other e) true ∷ interpreted k n ∷ []
+    reach Owner.common ∷ nativeStart k 0 n ∷ reach (Owner.nativeOf k) ∷ said (guard 1 2 3) true
+    ∷ said (other e) false ∷ said (guard 1 2 3) false ∷ said (other e) true ∷ interpreted k n ∷ []
 
 -- it is gateless, and carries out one more
 pub round-gateless : (k : ℕ) (e : Expr) (n : ℕ)
@@ -77,37 +77,56 @@ module _ (toHash : Block → Option ℕ) (limit : ℕ) (bs : List Block) (i : �
   over-the-limit s k e c =
       omega (arith, c .bounded s [] (round k e limit) [] refl (round-gateless k e limit .0))
 
+  -- the same after the gate's no, so that the run is not the way's beginning, and before its yes
+  pub between-gates : Several limit bs i → (k : ℕ) (e : Expr)
+      → WayClaim toHash limit bs i (said gate false ∷ (round k e limit ++ (said gate true ∷ [])))
+      → ⊥
+  between-gates s k e c =
+      omega (
+        arith,
+        c .bounded s (said gate false ∷ []) (round k e limit) (said gate true ∷ []) refl
+            (round-gateless k e limit .0),
+      )
+
   -- the second of a pair carried out once more by the interpreter, in a lone block
   pub twice-in-a-lone-block : Lone limit bs i
       → WayClaim toHash limit bs i (nativeStart 8 0 2 ∷ interpreted 8 1 ∷ []) → ⊥
   twice-in-a-lone-block l c = omega (arith, c .once l 8 1)
 
-  -- native records of a block outside ROM and BIOS after the guard said no to it, and yes to
-  -- another address, to another length and to another hash
-  pub unguarded : (b : Block) (h : ℕ) → List·Memᴰ b bs → T (outsideRomBios (b .addr))
-      → toHash b ≡ some h
-      → let l = lengthOf (length (b .instrs)) (b .thumb) in
-      let us = said (guard (b .addr) l h) false ∷ said (guard (suc (b .addr)) l h) true
-      ∷ said (guard (b .addr) (suc l) h) true ∷ said (guard (b .addr) l (suc h)) true ∷ [] in
-      WayClaim toHash limit bs i (us ++ (nativeStart (blockKey b) 0 1 ∷ [])) → ⊥
-  unguarded b h m o e c =
-      passed (c .guarded _ [] (nativeStart (blockKey b) 0 1) refl b m refl o)
-    where
-      l : ℕ
-      l = lengthOf (length (b .instrs)) (b .thumb)
+  module _ (b : Block) (h : ℕ) (m : List·Memᴰ b bs) (o : T (outsideRomBios (b .addr)))
+      (e : toHash b ≡ some h) where
+    abbrev len : ℕ
+    len = lengthOf (length (b .instrs)) (b .thumb)
 
-      passed : Passed toHash b (said (guard (b .addr) l h) false
-          ∷ said (guard (suc (b .addr)) l h) true ∷ said (guard (b .addr) (suc l) h) true
-          ∷ said (guard (b .addr) l (suc h)) true ∷ []) → ⊥
-      passed (g, f, List·Memᴰ·head p) = let z : _≡_ {A = ℕ} 0 1 = cc in omega arith
-      passed (g, f, List·Memᴰ·tail (List·Memᴰ·head p)) =
-          let z : b .addr ≡ suc (b .addr) = cc in omega arith
-      passed (g, f, List·Memᴰ·tail (List·Memᴰ·tail (List·Memᴰ·head p))) =
-          let z : l ≡ suc l = cc in omega arith
-      passed (g, f, List·Memᴰ·tail (List·Memᴰ·tail (List·Memᴰ·tail (List·Memᴰ·head p)))) =
-          let y : g ≡ h = cc in let z : g ≡ suc h = cc in omega arith
-      passed (g, f, List·Memᴰ·tail (List·Memᴰ·tail (List·Memᴰ·tail (List·Memᴰ·tail n)))) =
-          List·Memᴰ·not-nil n
+    -- the guard says no to a block, and yes to another address, to another length and to another
+    -- hash
+    abbrev refusals : List Event
+    refusals =
+        said (guard (b .addr) len h) false ∷ said (guard (suc (b .addr)) len h) true
+        ∷ said (guard (b .addr) (suc len) h) true ∷ said (guard (b .addr) len (suc h)) true ∷ []
+
+    not-passed : Passed toHash b refusals → ⊥
+    not-passed (g, f, List·Memᴰ·head p) = let z : _≡_ {A = ℕ} 0 1 = cc in omega arith
+    not-passed (g, f, List·Memᴰ·tail (List·Memᴰ·head p)) =
+        let z : b .addr ≡ suc (b .addr) = cc in omega arith
+    not-passed (g, f, List·Memᴰ·tail (List·Memᴰ·tail (List·Memᴰ·head p))) =
+        let z : len ≡ suc len = cc in omega arith
+    not-passed (g, f, List·Memᴰ·tail (List·Memᴰ·tail (List·Memᴰ·tail (List·Memᴰ·head p)))) =
+        let y : g ≡ h = cc in let z : g ≡ suc h = cc in omega arith
+    not-passed (g, f, List·Memᴰ·tail (List·Memᴰ·tail (List·Memᴰ·tail (List·Memᴰ·tail n)))) =
+        List·Memᴰ·not-nil n
+
+    -- so neither the start of a native record of that block may follow, where it is outside ROM and
+    -- BIOS, nor a native statement of it
+    pub unguarded-record : WayClaim toHash limit bs i
+        (refusals ++ (nativeStart (blockKey b) 0 1 ∷ [])) → ⊥
+    unguarded-record c =
+        not-passed (c .guarded refusals [] (nativeStart (blockKey b) 0 1) refl b m refl o)
+
+    pub unguarded-statement : WayClaim toHash limit bs i
+        (refusals ++ (reach (Owner.nativeOf (blockKey b)) ∷ [])) → ⊥
+    unguarded-statement c =
+        not-passed (c .guarded refusals [] (reach (Owner.nativeOf (blockKey b))) refl b m refl o)
 
 module _ (ts : List Top) (f : Code) (o : Owner) (e : Expr) where
   -- a way goes on after a label, and after the interpreter's answer

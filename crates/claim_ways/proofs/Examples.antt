@@ -9,7 +9,7 @@ use mathlib.Core.Option.{none, some}
 use native.Mathlib.Omega.{arith}
 use Rattle.c_tree.specs.Expr.{word, x-cz, reg, lit}
 use Rattle.c_tree.specs.Stmt.{is, set, tick, gate, other, Owner, goto, retIf, Code, end, _⨾_, when}
-use Rattle.c_tree.specs.Stmt.{_⧺_, group, Top, function, Test, guard}
+use Rattle.c_tree.specs.Stmt.{_⧺_, group, Top, function, Test, guard, label, braces}
 use Rattle.c_tree.specs.Preamble.{v32}
 use Rattle.lower_forms.specs.Forms.{branchIf, Form, shell, Body, straight}
 use Rattle.lower_units.specs.Block.{bodyKey, nl, gotoCode, transfer, nativeText, codeFrom}
@@ -17,7 +17,7 @@ use Rattle.lower_units.specs.Block.{blockCode, underGuard}
 use Rattle.file_blocks.specs.Address.{outsideRomBios}
 use Rattle.lower_units.specs.Units.{withLocals, labelled, groupCode, emitGroup, unitHead}
 use Rattle.lower_units.specs.Units.{lastUnitEnd, bodiesOf, emitCChunked}
-use Rattle.claim_ways.specs.Ways.{LabelAt, here, later, Event, reach, said, nativeStart}
+use Rattle.claim_ways.specs.Ways.{LabelAt, here, later, in-when, in-braces, Event, reach, said, nativeStart}
 use Rattle.claim_ways.specs.Ways.{interpreted, Way, w-gap, w-record, w-plain, w-goto, w-lost}
 use Rattle.claim_ways.specs.Ways.{w-leave, w-stay, w-unsaid, w-call, w-retInterp, w-entry}
 use Rattle.claim_ways.specs.Ways.{w-when, w-unanswered, w-braces, stop}
@@ -137,6 +137,11 @@ twice max =
 -- bound that
 pub two : (carried events ≡ 2) × (timesCarried 0x08000100 0 events ≡ 2)
 two = (refl, refl)
+
+-- a label inside an if, or inside braces, is found, and the code from there on goes on after them
+pub inside : (o : Owner) (n : Bool) (t : Test) (c : Code)
+    → LabelAt 8 (when o n t (label 8 ⨾ end) c) c × LabelAt 8 (braces (label 8 ⨾ end) c) c
+inside o n t c = (in-when here, in-braces here)
 
 -- a goto whose function has no such label ends the way
 pub lost : (ts : List Top)
