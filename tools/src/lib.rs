@@ -1,6 +1,6 @@
 //! Block files in plain Rust: a builder, a check, exits, plan, listing and the answers for units, a
-//! generator, damage and the stored vectors; and what is read off the sources: the list of crates, and
-//! the definitions to be believed.
+//! generator, damage and the stored vectors; and what is read off the sources: the list of crates, the
+//! definitions to be believed, and weakenings of them.
 
 pub mod believed;
 pub mod check;
@@ -19,3 +19,4 @@ pub mod timing;
 pub mod trials;
 pub mod units;
 pub mod vectors;
+pub mod weakenings;
