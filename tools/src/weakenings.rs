@@ -1,5 +1,5 @@
-//! Weakenings of definitions: the lists that hold them, how one is applied to a copy of the sources,
-//! and what the prover's output says of it.
+//! Weakenings of definitions: the lists that hold them, how one is applied to a copy of the
+//! sources, and what the prover's output says of it.
 
 use crate::floors::Listed;
 use std::collections::BTreeSet;
@@ -10,8 +10,8 @@ use std::path::Path;
 pub enum Change {
     /// A text that is there once gives way to another.
     Replace { old: String, new: String },
-    /// The line with a text that is there once goes, and with it the lines after it that are indented
-    /// deeper: a clause, a rule, a declaration's signature.
+    /// The line with a text that is there once goes, and with it the lines after it that are
+    /// indented deeper: a clause, a rule, a declaration's signature.
     Drop(String),
 }
 
@@ -35,8 +35,8 @@ pub struct Weakening {
     pub edits: Vec<Edit>,
 }
 
-/// Reads a list. Before its first weakening a list names the file and the crates that hold for all
-/// of them; a weakening may name others.
+/// Reads a list. Before its first weakening a list names the file and the crates that hold for
+/// all of them; a weakening may name others.
 pub fn parse(list: &str, text: &str) -> Result<Vec<Weakening>, String> {
     let mut reader = Reader::default();
     for (line, key, value) in fields(text).map_err(|e| format!("{list}: {e}"))? {

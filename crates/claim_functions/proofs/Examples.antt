@@ -1,5 +1,5 @@
--- Executions that no other proof needs, though C99 has them: looked at inside a statement, or inside
--- a test, whether or not it has a value; the default of a switch; the parameter of a group's
+-- Executions that no other proof needs, though C99 has them: looked at inside a statement, or
+-- inside a test, whether or not it has a value; the default of a switch; the parameter of a group's
 -- function, which is a 32-bit number.
 use Prim.Native.Nat.{ℕ}
 use mathlib.Core.Path.{_≡_, refl, subst}
@@ -8,27 +8,29 @@ use mathlib.Core.List.{List, [], _∷_}
 use mathlib.Core.Option.{Option, none, some}
 use lib.ListN.{getElem?}
 use Rattle.c_tree.specs.Expr.{Expr}
-use Rattle.c_tree.specs.Stmt.{Plain, Test, Owner, common, plain, goto, retIf, interp, switch, Code}
-use Rattle.c_tree.specs.Stmt.{_⨾_, when, Top}
+use Rattle.c_tree.specs.Stmt.{Plain, Test, Owner, common, plain, goto, ret, retIf, interp, switch}
+use Rattle.c_tree.specs.Stmt.{Code, _⨾_, when, Top}
 use Rattle.c_meaning.specs.State.{State}
 use Rattle.claim_ways.specs.Ways.{reach, interpreted}
-use Rattle.claim_functions.specs.Execution.{underway, returned, heard, ask, leaveAll, parameter}
-use Rattle.claim_functions.specs.Execution.{Execution, x-in, x-asking, x-default}
+use Rattle.claim_functions.specs.Execution.{underway, returned, heard, ask, leaveAll}
+use Rattle.claim_functions.specs.Execution.{parameter, Execution, x-in, x-asking, x-default}
 
 module _ (ts : List Top) (f : Code) (n : Option ℕ) (c : Code) (ds : List Code) (z : State) where
-  -- inside a plain statement, a goto, or a call of interp_one
-  pub inside : (o : Owner) (p : Plain) (k i : ℕ)
+  -- inside a plain statement, a goto, a return, or a call of interp_one
+  pub inside : (o : Owner) (p : Plain) (e : Expr) (k i : ℕ)
       → Execution ts f n (plain o p ⨾ c) ds z [] (reach o ∷ []) underway
       × Execution ts f n (goto o k ⨾ c) ds z [] (reach o ∷ []) underway
+      × Execution ts f n (ret o e ⨾ c) ds z [] (reach o ∷ []) underway
       × Execution ts f n (interp k i ⨾ c) ds z [] (interpreted k i ∷ []) underway
-  inside o p k i = (x-in, x-in, x-in)
+  inside o p e k i = (x-in, x-in, x-in, x-in)
 
   -- inside a test that has no value
   pub undefined-test : (o : Owner) (t : Test) (e : Expr) → ask t z ≡ none
       → Execution ts f n (retIf o t e ⨾ c) ds z [] (reach o ∷ []) underway
   undefined-test o t e h =
-      subst (λ q. Execution ts f n (retIf o t e ⨾ c) ds z (heard o t q .0) (heard o t q .1) underway)
-      h x-in
+      subst
+      (λ q. Execution ts f n (retIf o t e ⨾ c) ds z (heard o t q .0) (heard o t q .1) underway) h
+      x-in
 
   -- inside the test of an if
   pub asking : (o : Owner) (x : Bool) (t : Test) (b : Code)

@@ -17,7 +17,8 @@ use Rattle.lower_units.specs.Block.{blockCode, underGuard}
 use Rattle.file_blocks.specs.Address.{outsideRomBios}
 use Rattle.lower_units.specs.Units.{withLocals, labelled, groupCode, emitGroup, unitHead}
 use Rattle.lower_units.specs.Units.{lastUnitEnd, bodiesOf, emitCChunked}
-use Rattle.claim_ways.specs.Ways.{LabelAt, here, later, in-when, in-braces, Event, reach, said, nativeStart}
+use Rattle.claim_ways.specs.Ways.{LabelAt, here, later, in-when, in-braces, Event, reach}
+use Rattle.claim_ways.specs.Ways.{said, nativeStart}
 use Rattle.claim_ways.specs.Ways.{interpreted, Way, w-gap, w-record, w-plain, w-goto, w-lost}
 use Rattle.claim_ways.specs.Ways.{w-leave, w-stay, w-unsaid, w-call, w-retInterp, w-entry}
 use Rattle.claim_ways.specs.Ways.{w-when, w-unanswered, w-braces, stop}
