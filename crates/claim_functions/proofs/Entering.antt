@@ -20,8 +20,8 @@ use Rattle.claim_functions.proofs.Outcomes.{stateOf, goesOf, on-not-to,
 use Rattle.lower_forms.proofs.Body.{not-none}
 use Rattle.claim_functions.specs.Execution.{Result, underway, LabelIn, act, parameter}
 use Rattle.claim_functions.specs.Execution.{atStart}
-use Rattle.claim_functions.specs.Execution.{Execution, x-stop, x-in, x-on, x-to, x-back}
-use Rattle.claim_functions.specs.Execution.{x-call, x-case, x-default}
+use Rattle.claim_functions.specs.Execution.{Execution, x-stop, x-in, x-asking-ret, x-on, x-to}
+use Rattle.claim_functions.specs.Execution.{x-back, x-call, x-case, x-default}
 
 -- an execution that is under way, and of which nothing is counted yet
 abbrev pub Early : Result → List Event → Type 0
@@ -45,6 +45,7 @@ pass : {ts : List Top} {f : Code} {n : Option ℕ} {s : Simple} {c : Code} {z : 
 unfolding step
 pass w h e x-stop = inl (refl, refl)
 pass {s = s} {z = z} w h e x-in = inl (refl, told-counts s z ∙ h)
+pass w h e x-asking-ret = inl (refl, refl)
 pass {ts} {f} {n} {s} {c} {z} {r} w h e (x-on {u = u} {xs = xs} {es = es} g x) =
     inr (
       xs,

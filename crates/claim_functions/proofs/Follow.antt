@@ -11,8 +11,8 @@ use Rattle.file_instrs.specs.declared.decode.TimedInstr.{TimedInstr}
 use Rattle.file_blocks.specs.Parse.{Block, blockKey}
 use Rattle.file_blocks.specs.Address.{region}
 use Rattle.c_tree.specs.Expr.{u32, x-pc}
-use Rattle.c_tree.specs.Stmt.{Test, Owner, Simple, Code, end, _⨾_, when, braces, _⧺_, call, switch}
-use Rattle.c_tree.specs.Stmt.{Top}
+use Rattle.c_tree.specs.Stmt.{Test, Owner, Simple, retIf, call, switch, Code, end, _⨾_, when, braces}
+use Rattle.c_tree.specs.Stmt.{_⧺_, Top}
 use Rattle.c_meaning.specs.State.{State, bind, enter, leave, Declares}
 use Rattle.c_meaning.specs.Exec.{Goes, on, to, back, Outcome, next, step, runs}
 use Rattle.c_meaning.specs.Helpers.{run, rotated, called}
@@ -26,8 +26,8 @@ use Rattle.claim_meaning.specs.Block.{Interprets, isCovered, Carries, BlockLeav
 use Rattle.claim_ways.specs.Ways.{Event, reach, said}
 use Rattle.claim_functions.specs.Execution.{Result, underway, returned, LabelIn, ask, act}
 use Rattle.claim_functions.specs.Execution.{told, leaveAll, Execution, x-stop, x-in, x-asking}
-use Rattle.claim_functions.specs.Execution.{x-on, x-to, x-back, x-when, x-else, x-open}
-use Rattle.claim_functions.specs.Execution.{x-close, x-call, x-case, x-default}
+use Rattle.claim_functions.specs.Execution.{x-asking-ret, x-on, x-to, x-back, x-when, x-else}
+use Rattle.claim_functions.specs.Execution.{x-open, x-close, x-call, x-case, x-default}
 use Rattle.claim_functions.proofs.Outcomes.{stateOf, goesOf}
 use Rattle.lower_forms.proofs.Body.{not-none}
 use Rattle.claim_functions.specs.Chain.{Reaches, Chain, c-last, c-more}
@@ -347,6 +347,8 @@ module _ (step : ℕ → ℕ → Machine → Machine × ℕ) (multiplier : ℕ) 
       inl (tt, (l .0, tt, l .1 ∙ ap (λ k. k ++ l .0) (sym (told-counts s z))))
   follow {ds = ds} {z = z} (x-asking {o = o} {x = x} {t = t} {b = b} {c = c}) n u mid h =
       inl (tt, (logAll (when o x t b c) ds z, tt, refl))
+  follow {ds = ds} {z = z} (x-asking-ret {o = o} {t = t} {e = e} {c = c}) n u mid h =
+      inl (tt, (logAll (retIf o t e ⨾ c) ds z, tt, refl))
   follow {ds = ds} {r = r} (x-on {s = s} {c = c} {z = z} {u = w} {es = es} e x) n u mid h =
       before n u mid r (counts s) (logAll (s ⨾ c) ds z) (logAll c ds w) (told s z .1 ++ es) es
       (counted-told s z es) (log-on s c ds z w e)

@@ -21,9 +21,9 @@ use Rattle.claim_functions.proofs.Outcomes.{goesOf}
 use Rattle.lower_forms.proofs.Body.{not-none}
 use Rattle.claim_functions.specs.Execution.{Result, LabelIn, l-here, l-later, l-when}
 use Rattle.claim_functions.specs.Execution.{l-braces, heard, ask, act, told, Execution}
-use Rattle.claim_functions.specs.Execution.{x-stop, x-in, x-asking, x-on, x-to, x-back}
-use Rattle.claim_functions.specs.Execution.{x-when, x-else, x-open, x-close, x-call, x-case}
-use Rattle.claim_functions.specs.Execution.{x-default}
+use Rattle.claim_functions.specs.Execution.{x-stop, x-in, x-asking, x-asking-ret, x-on}
+use Rattle.claim_functions.specs.Execution.{x-to, x-back, x-when, x-else, x-open, x-close}
+use Rattle.claim_functions.specs.Execution.{x-call, x-case, x-default}
 use Rattle.c_tree.proofs.Laws.{append-end}
 
 -- the code after the braces around a statement
@@ -152,6 +152,7 @@ module _ (ts us : List Top) (among : (t : Top) → List·Memᴰ t ts → List·M
   way-of x-stop = stop
   way-of {f} {ds = ds} (x-in {s = s} {c = c} {z = z}) = within us f s (c ⧺ afterAll ds) z
   way-of x-asking = w-unanswered
+  way-of x-asking-ret = w-unsaid
   way-of {f} {ds = ds} (x-on {s = s} {c = c} {z = z} {u = u} {xs = xs} {es = es} e x) =
       over us f s (c ⧺ afterAll ds) z u on xs es e (way-of x)
   way-of {f} {ds = ds}

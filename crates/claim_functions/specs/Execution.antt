@@ -7,6 +7,7 @@ use mathlib.Core.Bool.{Bool, true, false, cond, Bool·beq}
 use mathlib.Core.List.{List, [], _∷_, _++_, List·Memᴰ}
 use mathlib.Core.Option.{Option, none, some}
 use lib.ListN.{getElem?}
+use Rattle.c_tree.specs.Expr.{Expr}
 use Rattle.c_tree.specs.Stmt.{Test, Owner, common, Simple, gap, recordMark, plain, label, goto, ret}
 use Rattle.c_tree.specs.Stmt.{retIf, interp, retInterp, call, switch, Code, end, _⨾_, when, braces}
 use Rattle.c_tree.specs.Stmt.{group, Top, function}
@@ -79,12 +80,16 @@ pub data Execution (ts : List Top) : Code → Option ℕ → Code → List Code 
   -- it may be looked at at any time: before a statement,
   x-stop : {f : Code} {n : Option ℕ} {c : Code} {ds : List Code} {z : State}
       → Execution ts f n c ds z [] [] underway
-  -- or in one, which may be undefined, or call what does not return
+  -- or in one, which may be undefined, or call what does not return,
   x-in : {f : Code} {n : Option ℕ} {s : Simple} {c : Code} {ds : List Code} {z : State}
       → Execution ts f n (s ⨾ c) ds z (told s z .0) (told s z .1) underway
+  -- or in the test of an `if` with braces or of one that returns, before there is an answer
   x-asking : {f : Code} {n : Option ℕ} {o : Owner} {x : Bool} {t : Test} {b c : Code}
       {ds : List Code} {z : State}
       → Execution ts f n (when o x t b c) ds z [] (reach o ∷ []) underway
+  x-asking-ret : {f : Code} {n : Option ℕ} {o : Owner} {t : Test} {e : Expr} {c : Code}
+      {ds : List Code} {z : State}
+      → Execution ts f n (retIf o t e ⨾ c) ds z [] (reach o ∷ []) underway
   -- a statement that leads on
   x-on : {f : Code} {n : Option ℕ} {s : Simple} {c : Code} {ds : List Code} {z u : State}
       {xs : List Bool} {es : List Event} {r : Result}
