@@ -1,5 +1,5 @@
--- To be believed: that a goto leads where LabelIn says: in the functions of the units a label
--- stands once, and inside no braces.
+-- To be believed: that a goto leads where LabelIn says, and nowhere else: in the functions of the
+-- units a label stands in one place at most, and inside no braces.
 use Prim.Native.Nat.{ℕ}
 use mathlib.Core.Path.{_≡_}
 use mathlib.Core.Logic.{_⊎_}
@@ -10,8 +10,10 @@ use Rattle.lower_units.specs.Units.{TranslationUnit, units}
 use Rattle.claim_ways.specs.Ways.{LabelAt}
 use Rattle.claim_functions.specs.Execution.{LabelIn}
 
--- of a file, if it is accepted: every unit, and every function of a block or of a group in it;
--- wherever there is a place with a label, at any depth, it is inside no braces, and the only one
+-- of a file, if it is accepted: every unit, and every function of a block or of a group in it; where
+-- there is a place with a label, at any depth, it is inside no braces, and each place with that
+-- label inside no braces has the same code after it, so that there is but one. That a goto finds
+-- its label is not said here
 unfoldable pub LabelsPlain : ℕ → ℕ → ℕ → List ℕ → Type 0
 LabelsPlain multiplier limit max f =
     (bs : List Block) → parse f ≡ Parsed.accepted bs → (u : TranslationUnit)
