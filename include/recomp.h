@@ -73,18 +73,21 @@ uint32_t recomp_listing(const uint8_t *file, size_t file_len, uint32_t *work, si
  * file has a last unit, at every size; refusal 9 is given for every number above that unit's.
  * Not proved: each call goes through the file from its start, so its time does not depend on earlier
  * calls. No promise speaks of time.
- * Refusals 1 to 10. Definition: `unitCall` in crates/call_unit/specs/Calls.antt. It is also proved
- * that along every way through the units, at every size, at most 8,192 instructions are carried out
- * between two calls of the chain gate in a group of several blocks, that a block alone in its group
- * carries out no instruction twice, and that native code of a block outside ROM and BIOS is reached
- * only after the guard said yes to it: `Demand3Of` in crates/claim_ways/specs/Demand3.antt; and that the
- * text of each block, read by C99, does what the ARM manual says of the instructions that are lowered
- * to C, and what interp_one does for the others (supposed to be a step of the machine that leaves in
- * c[15] the address of the key which it answers), but for the records that docs/DIFFERENCES.md names
- * and, as a whole, the blocks that hold one: `MeaningOf` in crates/claim_meaning/specs/Meaning.antt;
- * and that every execution of a block's function by C99 is such a way, and, where no block of its
- * group holds such a record, carries out blocks of the group one after the other as their text
- * means. crates/claim_units/specs/Claims.antt lists all. */
+ * Refusals 1 to 10. Definition: `unitCall` in crates/call_unit/specs/Calls.antt. It is also
+ * proved that along every way through the units, at every size, at most 8,192 instructions are
+ * carried out between two calls of the chain gate in a group of several blocks, that a block
+ * alone in its group carries out no instruction twice, and that native code of a block outside
+ * ROM and BIOS is reached only after the guard said yes to it: `Demand3Of` in
+ * crates/claim_ways/specs/Demand3.antt; that each block has one function, and such a way from it
+ * through the text of every record that it prints: `Demand3AppliesOf` in
+ * crates/claim_ways/specs/Applies.antt; and that the text of each block, read by C99, does what
+ * the ARM manual says of the instructions that are lowered to C, and what interp_one does for the
+ * others (supposed to be a step of the machine that leaves in c[15] the address of the key which
+ * it answers), but for the records that docs/DIFFERENCES.md names and, as a whole, the blocks
+ * that hold one: `MeaningOf` in crates/claim_meaning/specs/Meaning.antt; and that every execution
+ * of a block's function by C99 is such a way, that from one state there is one, and that, where
+ * no block of its group holds such a record, it carries out blocks of the group one after the
+ * other as their text means. crates/claim_units/specs/Claims.antt lists all. */
 uint32_t recomp_unit(const uint8_t *file, size_t file_len, uint64_t max_bytes, uint64_t unit,
                      uint32_t *work, size_t work_len, uint8_t *text, size_t text_len,
                      uint64_t *at, uint64_t *length, uint64_t *done, uint64_t *last);

@@ -52,7 +52,7 @@ use Rattle.claim_functions.specs.Counted.{counted, blockEvents, chainEve
 use Rattle.claim_functions.specs.Means.{ExecutionMeans, ExecutionBegins, ExecutionGetsOn}
 use Rattle.claim_functions.specs.Determined.{ExecutionDetermined}
 use Rattle.claim_functions.proofs.Ways.{label-at}
-use Rattle.claim_functions.proofs.Determined.{same}
+use Rattle.claim_functions.proofs.Determined.{alike}
 use Rattle.claim_functions.proofs.Gotos.{among-key}
 use Rattle.claim_functions.proofs.GetsOn.{Gets, gets, gets-gap, gets-head, gets-case}
 use Rattle.claim_functions.proofs.GetsOn.{gets-forwarder}
@@ -658,9 +658,9 @@ one-function multiplier limit max f bs accepted u made k g h m n =
 pub execution-determined : (multiplier limit max : ℕ) (f : List ℕ)
     → ExecutionDetermined multiplier limit max f
 unfolding ExecutionDetermined LabelsPlain
-execution-determined multiplier limit max f bs accepted u made h c stands z xs es y v x xs′ es′ y′
-    v′ x′ =
-    same (u .tree)
+execution-determined multiplier limit max f bs accepted u made h c stands z xs es r x xs′ es′ r′
+    x′ =
+    alike (u .tree)
     (λ k g m. (
       λ j d e p q. labels-plain multiplier limit max f bs accepted u made k g (inr m) j d
           (label-at p) .1 e q,

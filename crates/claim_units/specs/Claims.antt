@@ -22,8 +22,8 @@ pub record UnitClaims (multiplier limit max : ℕ) (f : List ℕ) : Type 0 where
   -- each execution of a block's function by C99 is a way, so that demand 3 holds of it
   pub executionsAreWays : ExecutionsAreWays multiplier limit max f
   pub executions : ExecutionClaim multiplier limit max f
-  -- a label stands in one place at most, inside no braces, and an execution that returns is the
-  -- only one from its state that does
+  -- a label stands in one place at most, inside no braces, and from one state there is one
+  -- execution: any two are the same, or one is under way and the beginning of the other
   pub labels : LabelsPlain multiplier limit max f
   pub determined : ExecutionDetermined multiplier limit max f
   -- where all records of a group are covered: an execution carries out blocks of the group one
