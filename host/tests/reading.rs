@@ -10,6 +10,7 @@ use std::fmt::Write;
 use std::fs::{self, File, Permissions};
 use std::os::unix::fs::{MetadataExt, PermissionsExt};
 use std::os::unix::process::CommandExt;
+use std::path::Path;
 use std::process::{Command, Stdio};
 
 /// Files without blocks, with some, and with as many as there may be.
@@ -126,7 +127,7 @@ fn unprivileged(scratch: &Scratch) -> Command {
     }
     // The program may lie where others have no access.
     let copy = scratch.join("recomp");
-    fs::copy(PROGRAM, &copy).expect("a copy");
+    common::copy(Path::new(PROGRAM), Path::new(&copy));
     let mut command = Command::new(copy);
     command.uid(65_534).gid(65_534);
     command

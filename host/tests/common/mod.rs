@@ -114,6 +114,13 @@ impl Drop for Scratch {
     }
 }
 
+/// Copies a file or folder to a path or into a folder, by a process of its own: a program that is
+/// written by this one could not be run while another test starts a process, which has it open too.
+pub fn copy(from: &Path, to: &Path) {
+    let copied = Command::new("cp").arg("-R").arg(from).arg(to).status();
+    assert!(copied.expect("cp runs").success());
+}
+
 /// The names in a folder, sorted.
 pub fn names(folder: &str) -> Vec<String> {
     let entries = std::fs::read_dir(folder).expect("a folder");
