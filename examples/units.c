@@ -1,6 +1,7 @@
 /* Writes the C units of a block file with the proved library: units FILE DIR BYTES.
  *
- *     cc -std=c99 -Iinclude examples/units.c target/staticlib/librecomp.a -o units
+ *     lib/archive take librecomp.a
+ *     cc -std=c99 -Iinclude examples/units.c librecomp.a -o units
  *     ./units samples/three_blocks.blk . 1048576
  */
 #include "recomp.h"

@@ -1,9 +1,10 @@
 /* The calls of librecomp.a: block files to plans, exits, listings and C units.
  *
- * `rt staticlib recomp` proves the library and writes target/staticlib/librecomp.a. What is said
- * here in words is proved of every call and every input, but for what is marked as not proved; the
- * definitions are named at each call. What every call leaves: `callFrame` in
- * crates/call_frame/specs/Frame.antt; the numbers handed over: `numbersOf` in Numbers.antt there.
+ * `rt staticlib recomp` proves the library and writes target/staticlib/librecomp.a; lib/ keeps one
+ * (`lib/archive take FILE`). What is said here in words is proved of every call and every input,
+ * but for what is marked as not proved; the definitions are named at each call. What every call
+ * leaves: `callFrame` in crates/call_frame/specs/Frame.antt; the numbers handed over: `numbersOf` in
+ * Numbers.antt there.
  *
  * For all calls:
  * - The return value is 0, or the number of a refusal:

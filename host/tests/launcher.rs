@@ -1,144 +1,28 @@
 //! The launcher at the repository's root: what it proves and builds and when, and what it hands on.
-//! The kit is a script here, which says what `rt` says and proves nothing.
 
 mod common;
 
-use common::{lone_blocks, names, root, sample, Run, Scratch, PROGRAM};
-use std::fs::{self, File, Permissions};
-use std::os::unix::fs::{symlink, PermissionsExt};
+use common::repository::{finish, Repository, CRATES};
+use common::{lone_blocks, names, root, sample, Run};
+use std::fs::{self, File};
+use std::io::Read;
+use std::os::unix::fs::symlink;
 use std::os::unix::process::CommandExt;
-use std::path::{Path, PathBuf};
-use std::process::{Command, Stdio};
+use std::path::Path;
+use std::process::{Child, Stdio};
 use std::time::{Duration, Instant};
 
-/// Programs that the launcher may call besides the three that it asks for.
-const TOOLS: [&str; 10] = [
-    "awk", "cat", "cp", "date", "find", "mkdir", "mv", "readlink", "rm", "touch",
-];
-
-/// Three of these crates make up the library.
-const CRATES: &str = "\
-# NAME: the libraries that it uses directly
-base:
-
-# A comment
-beside: base
-middle: base
-recomp: middle
-above: recomp base
+/// What the launcher says first where no archive is kept.
+const PROVING: &str = "\
+recomp: lib/x86_64-linux/librecomp.a is missing, or its text is; \
+    proving the library, which takes minutes where it was not proved before
 ";
 
-/// Two crates, of which one was proved before. What is on standard input is taken away.
-const RT: &str = r#"#!/bin/sh
-cat >/dev/null
-echo "rt $* in $PWD" >>"$CALLS"
-echo 'rt: base proved (unchanged since it was last proved)' >&2
-echo 'logic=proved functions=7' >&2
-[ -z "${WHILE_PROVING:-}" ] || eval "$WHILE_PROVING"
-echo 'rt: middle proved (61 s)' >&2
-mkdir -p target/staticlib
-cp "$ARCHIVE" target/staticlib/librecomp.a
-echo 'rt: target/staticlib/librecomp.a has the functions of recomp'
-"#;
-
-const CARGO: &str = r#"#!/bin/sh
-cat >/dev/null
-echo "cargo with $RECOMP_LIBRARY" >>"$CALLS"
-echo 'what cargo prints'
-[ -z "${WHILE_BUILDING:-}" ] || eval "$WHILE_BUILDING"
-mkdir -p host/target/release
-cp "$PROGRAM" host/target/release/recomp
-"#;
-
-const PROVING: &str =
-    "recomp: proving the library, which takes minutes where it was not proved before\n";
-
-/// What the launcher says when it proves.
+/// What it says when it proves.
 const PROVED: &str = "\
 recomp: proved 2 of 3: middle, 0 min
 recomp: proved 3 of 3: recomp, 0 min
 ";
-
-/// A repository with the launcher, and a folder of programs that are all it finds on its path.
-struct Repository(Scratch);
-
-impl Repository {
-    fn new() -> Repository {
-        let repository = Repository(Scratch::new());
-        for folder in ["bin", "crates/base/src", "crates/middle/src", "host/src"] {
-            fs::create_dir_all(repository.path(folder)).expect("a folder");
-        }
-        for file in ["crates/base/src/lib.rt", "crates/middle/src/lib.rt"] {
-            repository.put(file, "");
-        }
-        for file in ["src/main.rs", "build.rs", "Cargo.toml", "Cargo.lock"] {
-            repository.put(&format!("host/{file}"), "");
-        }
-        repository.put("crates.txt", CRATES);
-        fs::copy(root().join("recomp"), repository.path("recomp")).expect("the launcher");
-        for tool in TOOLS {
-            let path = on_path(tool).expect(tool);
-            symlink(path, repository.path("bin").join(tool)).expect("a link");
-        }
-        repository.script("rt", RT);
-        repository.script("cargo", CARGO);
-        repository.script("cc", "#!/bin/sh\n");
-        repository
-    }
-
-    fn path(&self, name: &str) -> PathBuf {
-        self.0.path().join(name)
-    }
-
-    fn put(&self, name: &str, text: &str) {
-        fs::write(self.path(name), text).expect("a file");
-    }
-
-    fn script(&self, name: &str, text: &str) {
-        let path = self.path("bin").join(name);
-        fs::write(&path, text).expect("a script");
-        fs::set_permissions(path, Permissions::from_mode(0o755)).expect("a mode");
-    }
-
-    fn command(&self, launcher: &Path, args: &[&str]) -> Command {
-        let mut command = Command::new(launcher);
-        command.args(args).stdin(Stdio::null());
-        command.env("PATH", self.path("bin"));
-        command.env("CALLS", self.path("calls"));
-        command.env("ARCHIVE", env!("RECOMP_LIBRARY"));
-        command.env("PROGRAM", PROGRAM);
-        command.env("RECOMP_LIBRARY", "/a/library/of/somebody/else");
-        command
-    }
-
-    fn run(&self, args: &[&str]) -> Run {
-        let mut command = self.command(&self.path("recomp"), args);
-        Run::of(command.output().expect("the launcher runs"))
-    }
-
-    /// The calls of rt and cargo since they were last asked for.
-    fn calls(&self) -> Vec<String> {
-        let calls = fs::read_to_string(self.path("calls")).unwrap_or_default();
-        let _ = fs::remove_file(self.path("calls"));
-        calls.lines().map(String::from).collect()
-    }
-
-    /// The calls of a run that proves and builds.
-    fn both_calls(&self) -> Vec<String> {
-        let root = self.0.path().display();
-        vec![
-            format!("rt staticlib recomp in {root}"),
-            format!("cargo with {root}/target/staticlib/librecomp.a"),
-        ]
-    }
-}
-
-/// Where the path of these tests has a program.
-fn on_path(name: &str) -> Option<PathBuf> {
-    let path = std::env::var_os("PATH")?;
-    let mut places = std::env::split_paths(&path).map(|folder| folder.join(name));
-    places.find(|place| place.is_file())
-}
 
 #[track_caller]
 fn assert_run(run: Run, status: i32, out: &str, err: &str) {
@@ -156,12 +40,12 @@ fn what_is_missing_is_proved_and_built_once() {
     assert_run(repository.run(&["--version"]), 0, VERSION, &said);
     assert_eq!(repository.calls(), repository.both_calls());
     for tool in ["rt", "cargo", "cc"] {
-        fs::remove_file(repository.path("bin").join(tool)).expect("it goes");
+        repository.without(tool);
     }
     assert_run(repository.run(&["--version"]), 0, VERSION, "");
     assert_eq!(
         names(repository.path("host/target").to_str().expect("UTF-8")),
-        ["recomp", "release"]
+        ["librecomp.a", "recomp", "release"]
     );
 }
 
@@ -176,6 +60,7 @@ fn what_changed_is_proved_and_built_again() {
         ("crates/base/src/new.rt", Some("")),
         ("crates/base/src/new.rt", None),
         ("crates.txt", Some(CRATES)),
+        ("lib/link.rs", Some("")),
         ("host/src/main.rs", Some("")),
         ("host/build.rs", Some("")),
         ("host/Cargo.toml", Some("")),
@@ -197,12 +82,9 @@ fn what_changed_is_proved_and_built_again() {
 #[test]
 fn what_changes_while_it_is_proved_is_seen_by_the_next_run() {
     let repository = Repository::new();
-    let mut command = repository.command(&repository.path("recomp"), &["--version"]);
+    let mut command = repository.launcher(&["--version"]);
     command.env("WHILE_PROVING", "touch crates/base/src/lib.rt");
-    assert_eq!(
-        Run::of(command.output().expect("the launcher runs")).out,
-        VERSION
-    );
+    assert_eq!(finish(&mut command).out, VERSION);
     repository.calls();
     repository.run(&["--version"]);
     assert_eq!(repository.calls(), repository.both_calls());
@@ -211,19 +93,34 @@ fn what_changes_while_it_is_proved_is_seen_by_the_next_run() {
 
 #[test]
 fn a_program_that_is_missing_is_named_in_one_line() {
-    for (tool, what) in [
-        ("rt", "the Rattle kit and put its folder bin there"),
-        ("cargo", "Rust 1.89 or later"),
-        ("cc", "a C compiler, as gcc"),
+    for (tool, line) in [
+        (
+            "rt",
+            "lib/x86_64-linux/librecomp.a is missing, or its text is; rt is not on the path; \
+            install the Rattle kit and put its folder bin there, then run again",
+        ),
+        (
+            "cargo",
+            "cargo is not on the path; install Rust 1.89 or later (README has a way with cc \
+            alone), then run again",
+        ),
+        (
+            "cc",
+            "cc is not on the path; install a C compiler, as gcc, then run again",
+        ),
+        (
+            "flock",
+            "flock is not on the path; install util-linux, then run again",
+        ),
+        (
+            "sha256sum",
+            "sha256sum is not on the path; install coreutils, then run again",
+        ),
     ] {
         let repository = Repository::new();
-        fs::remove_file(repository.path("bin").join(tool)).expect("it goes");
-        let line = repository.run(&["--version"]).failed(2);
-        let install = format!("install {what}, then run again");
-        assert_eq!(
-            line,
-            format!("recomp: {tool} is not on the path; {install}")
-        );
+        repository.without(tool);
+        let said = repository.run(&["--version"]).failed(2);
+        assert_eq!(said, format!("recomp: {line}"));
         assert!(repository.calls().is_empty());
     }
 }
@@ -234,9 +131,9 @@ fn a_proof_that_fails_is_shown_and_nothing_is_built() {
     let fails =
         "echo 'error: does not hold' >&2; echo 'rt: middle NOT PROVED (exit 1, 2 s)'; exit 1";
     for _ in 0..2 {
-        let mut command = repository.command(&repository.path("recomp"), &["--version"]);
+        let mut command = repository.launcher(&["--version"]);
         command.env("WHILE_PROVING", fails);
-        let run = Run::of(command.output().expect("the launcher runs"));
+        let run = finish(&mut command);
         let shown = "logic=proved functions=7\nerror: does not hold\n\
             rt: middle NOT PROVED (exit 1, 2 s)\n\
             recomp: the library is not proved; mend what rt says above, then run again\n";
@@ -250,9 +147,9 @@ fn a_proof_that_fails_is_shown_and_nothing_is_built() {
 fn a_build_that_fails_leaves_no_program() {
     let repository = Repository::new();
     for _ in 0..2 {
-        let mut command = repository.command(&repository.path("recomp"), &["--version"]);
+        let mut command = repository.launcher(&["--version"]);
         command.env("WHILE_BUILDING", "exit 101");
-        let run = Run::of(command.output().expect("the launcher runs"));
+        let run = finish(&mut command);
         let line = "recomp: the program is not built; mend what cargo says above, then run again\n";
         let said = format!("{PROVING}{PROVED}what cargo prints\n{line}");
         assert_run(run, 2, "", &said);
@@ -264,12 +161,12 @@ fn a_build_that_fails_leaves_no_program() {
 #[test]
 fn a_launcher_that_is_ended_leaves_nothing_behind() {
     let repository = Repository::new();
-    let mut command = repository.command(&repository.path("recomp"), &["--version"]);
+    let mut command = repository.launcher(&["--version"]);
     // The signal goes to the launcher and all that it started, as from a terminal.
     command
         .process_group(0)
         .env("WHILE_PROVING", "kill -TERM 0");
-    let run = Run::of(command.output().expect("the launcher runs"));
+    let run = finish(&mut command);
     assert_eq!((run.status, run.out.as_str()), (None, ""));
     let folder = repository.path("host/target");
     let start = Instant::now();
@@ -280,6 +177,77 @@ fn a_launcher_that_is_ended_leaves_nothing_behind() {
     assert_eq!(repository.run(&["--version"]).out, VERSION);
 }
 
+/// What the kit of a first launcher does: it takes the library as it is now, and waits, for a minute
+/// at most, before it writes it.
+const WAITS: &str = r#"
+    cp "$ARCHIVE" old
+    ARCHIVE=old tried=0
+    echo >began
+    while [ ! -e go ] && [ "$tried" -lt 3000 ]; do
+        tried=$((tried + 1))
+        sleep 0.02
+    done
+"#;
+
+/// Starts a launcher, and gives it back once its kit waits.
+fn first(repository: &Repository) -> Child {
+    let mut command = repository.launcher(&["--version"]);
+    command.env("WHILE_PROVING", WAITS);
+    command.stdout(Stdio::piped()).stderr(Stdio::null());
+    let child = command.spawn().expect("it starts");
+    let start = Instant::now();
+    while !repository.path("began").exists() {
+        assert!(start.elapsed() < Duration::from_secs(60), "it begins");
+        std::thread::sleep(Duration::from_millis(2));
+    }
+    child
+}
+
+/// Starts a second launcher, and gives it back once it waits for the first, which may then go on.
+fn second(repository: &Repository) -> Child {
+    let mut command = repository.launcher(&["--version"]);
+    command.stdout(Stdio::piped()).stderr(Stdio::piped());
+    let mut child = command.spawn().expect("it starts");
+    let line = "recomp: another launcher proves or builds in this folder; waiting for it\n";
+    let mut said = vec![0; line.len()];
+    let errors = child.stderr.as_mut().expect("a pipe");
+    errors.read_exact(&mut said).expect("a line");
+    assert_eq!(String::from_utf8_lossy(&said), line);
+    repository.put("go", "");
+    child
+}
+
+fn ended(child: Child) -> Run {
+    Run::of(child.wait_with_output().expect("it ends"))
+}
+
+#[test]
+fn a_second_launcher_waits_for_the_first_and_runs_what_it_built() {
+    let repository = Repository::new();
+    let first = first(&repository);
+    let second = second(&repository);
+    assert_eq!(ended(first).out, VERSION);
+    assert_eq!(ended(second).printed(), VERSION);
+    assert_eq!(repository.calls(), repository.both_calls());
+}
+
+#[test]
+fn a_second_launcher_gets_nothing_of_what_was_before_a_change() {
+    let repository = Repository::new();
+    let first = first(&repository);
+    repository.put("crates/base/src/lib.rt", "changed");
+    repository.put("archive", "another library");
+    let second = second(&repository);
+    assert_eq!(ended(first).out, VERSION);
+    assert_eq!(ended(second).out, VERSION);
+    let [proved, linked] = &repository.both_calls()[..] else {
+        panic!("two calls")
+    };
+    let calls = [proved, linked, proved, "cargo links another library"];
+    assert_eq!(repository.calls(), calls);
+    assert_eq!(repository.run(&["--version"]).printed(), VERSION);
+}
+
 #[test]
 fn standard_input_arguments_and_status_are_handed_through() {
     let repository = Repository::new();
@@ -287,9 +255,9 @@ fn standard_input_arguments_and_status_are_handed_through() {
     let path = repository.0.file("two.blk", &file);
     // The first run proves and builds, and standard input is there after that.
     for _ in 0..2 {
-        let mut command = repository.command(&repository.path("recomp"), &["check", "-"]);
+        let mut command = repository.launcher(&["check", "-"]);
         command.stdin(File::open(&path).expect("the file"));
-        let run = Run::of(command.output().expect("the launcher runs"));
+        let run = finish(&mut command);
         assert_eq!(
             (run.status, run.out.as_str()),
             (Some(0), "accepted: blocks 2, instructions 2\n")
@@ -326,46 +294,9 @@ fn any_folder_will_do_and_so_does_a_link() {
     ] {
         let mut command = repository.command(launcher, &["check", file]);
         command.current_dir(repository.path(folder));
-        let run = Run::of(command.output().expect("the launcher runs"));
+        let run = finish(&mut command);
         assert!(run.printed().starts_with("accepted: blocks 3, "));
     }
-}
-
-/// What cargo needs to build this package, and a sample.
-const PARTS: [&str; 10] = [
-    "crates",
-    "crates.txt",
-    "host/src",
-    "host/build.rs",
-    "host/Cargo.toml",
-    "host/Cargo.lock",
-    "tools/src",
-    "tools/build.rs",
-    "tools/Cargo.toml",
-    "samples/count_down.blk",
-];
-
-/// A repository with the real sources, in which the real cargo is found.
-fn real_sources() -> Repository {
-    let repository = Repository::new();
-    for folder in ["host", "crates"] {
-        fs::remove_dir_all(repository.path(folder)).expect("the folder goes");
-    }
-    for part in PARTS {
-        let place = repository.path(part);
-        let folder = place.parent().expect("a folder");
-        fs::create_dir_all(folder).expect("a folder");
-        let copied = Command::new("cp")
-            .arg("-R")
-            .arg(root().join(part))
-            .arg(folder)
-            .status();
-        assert!(copied.expect("cp runs").success());
-    }
-    for tool in ["cargo", "cc"] {
-        fs::remove_file(repository.path("bin").join(tool)).expect("it goes");
-    }
-    repository
 }
 
 /// The number of crates in the last line of a run that proved.
@@ -377,20 +308,11 @@ fn counted(run: &Run) -> Option<usize> {
 /// With the real cargo and this package: what is built is the program.
 #[test]
 fn the_program_is_built_by_cargo() {
-    let repository = real_sources();
+    let repository = Repository::real();
     let folder = repository.0.join("units");
-    let args = ["units", "samples/count_down.blk", "-o", &folder];
-    let mut command = repository.command(&repository.path("recomp"), &args);
-    let path = std::env::var_os("PATH").expect("a path");
-    let others = std::env::split_paths(&path);
-    let places = [repository.path("bin")].into_iter().chain(others);
-    command.env("PATH", std::env::join_paths(places).expect("a path"));
-    let run = Run::of(
-        command
-            .current_dir(repository.0.path())
-            .output()
-            .expect("it runs"),
-    );
+    let mut command = repository.launcher(&["units", "samples/count_down.blk", "-o", &folder]);
+    repository.with_all(&mut command);
+    let run = finish(command.current_dir(repository.0.path()));
     assert_eq!(run.out, "units 1, blocks 3, bytes 3752\n", "{}", run.err);
     // Programs and replays of crates.txt are not needed.
     let listed = fs::read_to_string(root().join("crates.txt")).expect("the list");

@@ -2,8 +2,10 @@
 
 mod common;
 
+use common::repository::{finish, Repository, DAMAGED};
 use common::{recomp, root, Scratch};
 use std::fs;
+use std::path::Path;
 
 const SAMPLE: &str = "samples/count_down.blk";
 
@@ -46,4 +48,44 @@ fn the_refusal_of_the_readme() {
         readme.contains(&shown(&command)),
         "README without\n{command}"
     );
+}
+
+/// The line that starts so, of those that the README sets apart as commands.
+fn command(start: &str) -> String {
+    let readme = fs::read_to_string(root().join("README.md")).expect("the README");
+    let commands = readme.lines().filter_map(|line| line.strip_prefix("    "));
+    let mut found = commands.filter(|line| line.starts_with(start));
+    let line = found.next().expect("the command");
+    assert_eq!(found.next(), None, "one line starts so");
+    line.into()
+}
+
+/// With the kept archive made from the library that is tested here.
+#[test]
+fn the_line_of_the_readme_without_cargo() {
+    let repository = Repository::real();
+    for part in ["include", "examples", "samples/count_down.blk"] {
+        repository.take(part);
+    }
+    repository.renew();
+    repository.without("rt");
+    let line = command("lib/archive take");
+    let run = || {
+        let mut shell = repository.command(Path::new("sh"), &["-c", &line]);
+        repository.with_all(&mut shell);
+        finish(shell.current_dir(repository.0.path()))
+    };
+    assert_eq!(run().printed(), "unit 0: 3752 bytes, 3 blocks done\n");
+    let folder = repository.0.join("out");
+    recomp(&["units", &common::sample("count_down.blk"), "-o", &folder]).printed();
+    let [from_c, from_program] = ["unit_000.c", "out/unit_000.c"].map(|unit| repository.has(unit));
+    assert_eq!(from_c, from_program);
+    // Nothing is compiled with an archive that is not as it was made.
+    for name in ["units", "unit_000.c", "librecomp.a"] {
+        fs::remove_file(repository.path(name)).expect("what was made");
+    }
+    repository.damage();
+    let refused = run();
+    assert!(refused.failed(2).starts_with(DAMAGED));
+    assert!(!repository.path("units").exists() && !repository.path("librecomp.a").exists());
 }

@@ -3,6 +3,7 @@
 // Each file of tests uses some of it.
 #![allow(dead_code)]
 
+pub mod repository;
 pub mod stop;
 
 use recomp_host::library;
