@@ -4,7 +4,7 @@
 mod common;
 
 use common::repository::{
-    finish, Repository, CRATES, DAMAGED, KEPT, LIBRARY, OTHER_SOURCES, RT, TEXT,
+    finish, Repository, CRATES, DAMAGED, KEPT, KIT, LIBRARY, OTHER_SOURCES, RT, TEXT,
 };
 use common::{names, Run};
 use std::fs;
@@ -18,7 +18,8 @@ const VERSION: &str = "recomp 0.1.0\n";
 const KEPT_IS_LINKED: &str =
     "recomp: building the program with the library that lib/ keeps\nwhat cargo prints\n";
 
-const RESTORE: &str = "restore both (git checkout lib), or run ./recomp --prove, which needs rt";
+const RESTORE: &str =
+    "restore both (as by git checkout lib), or run ./recomp --prove, which needs rt";
 
 /// A change of a file that makes another library.
 type Change = (&'static str, fn(&Repository));
@@ -131,11 +132,12 @@ fn a_damaged_archive_is_refused_before_it_is_linked() {
             repository.put(TEXT, &change(text))
         }
     };
-    let damages: [&dyn Fn(&Repository); 5] = [
+    let damages: [&dyn Fn(&Repository); 6] = [
         &Repository::damage,
         &|repository| repository.put(KEPT, ""),
         &|repository| repository.put(KEPT, "another library"),
         &text(|text| text.replace("librecomp.a\n", "librecomp.b\n")),
+        &text(|text| text.replace(KIT, "")),
         &text(|text| format!("{text}{text}").replacen("# sources", "# other", 1)),
     ];
     for damage in damages {
@@ -145,7 +147,7 @@ fn a_damaged_archive_is_refused_before_it_is_linked() {
         assert_eq!(line, format!("recomp: {DAMAGED}; {RESTORE}"));
         assert!(repository.calls().is_empty());
         let left = names(repository.path("host/target").to_str().expect("UTF-8"));
-        assert!(left.is_empty(), "{left:?}");
+        assert_eq!(left, ["lock"]);
         // The library can be proved in its place.
         assert_eq!(repository.run(&["--prove", "--version"]).out, VERSION);
         assert_eq!(repository.calls(), repository.both_calls());

@@ -45,7 +45,7 @@ fn what_is_missing_is_proved_and_built_once() {
     assert_run(repository.run(&["--version"]), 0, VERSION, "");
     assert_eq!(
         names(repository.path("host/target").to_str().expect("UTF-8")),
-        ["librecomp.a", "recomp", "release"]
+        ["librecomp.a", "lock", "recomp", "release"]
     );
 }
 
@@ -109,10 +109,6 @@ fn a_program_that_is_missing_is_named_in_one_line() {
             "cc is not on the path; install a C compiler, as gcc, then run again",
         ),
         (
-            "flock",
-            "flock is not on the path; install util-linux, then run again",
-        ),
-        (
             "sha256sum",
             "sha256sum is not on the path; install coreutils, then run again",
         ),
@@ -123,6 +119,22 @@ fn a_program_that_is_missing_is_named_in_one_line() {
         assert_eq!(said, format!("recomp: {line}"));
         assert!(repository.calls().is_empty());
     }
+}
+
+#[test]
+fn a_folder_that_cannot_be_written_is_named_in_one_line() {
+    let repository = Repository::new();
+    // A file in the place of the folder: root may write to a folder of any mode.
+    repository.put("host/target", "");
+    let line = repository.run(&["--version"]).failed(2);
+    let heading = "In a folder that cannot be written";
+    assert_eq!(
+        line,
+        format!("recomp: host/target cannot be written; see README, \"{heading}\"")
+    );
+    let readme = fs::read_to_string(root().join("README.md")).expect("the README");
+    assert!(readme.contains(&format!("\n**{heading}** ")));
+    assert!(repository.calls().is_empty());
 }
 
 #[test]
@@ -170,7 +182,7 @@ fn a_launcher_that_is_ended_leaves_nothing_behind() {
     assert_eq!((run.status, run.out.as_str()), (None, ""));
     let folder = repository.path("host/target");
     let start = Instant::now();
-    while !names(folder.to_str().expect("UTF-8")).is_empty() {
+    while names(folder.to_str().expect("UTF-8")) != ["lock"] {
         assert!(start.elapsed() < Duration::from_secs(60), "all is removed");
         std::thread::sleep(Duration::from_millis(5));
     }
@@ -229,6 +241,17 @@ fn a_second_launcher_waits_for_the_first_and_runs_what_it_built() {
     assert_eq!(ended(first).out, VERSION);
     assert_eq!(ended(second).printed(), VERSION);
     assert_eq!(repository.calls(), repository.both_calls());
+}
+
+#[test]
+fn where_nothing_can_be_locked_it_is_built_all_the_same() {
+    let repository = Repository::new();
+    repository.without("flock");
+    let run = repository.run(&["--version"]);
+    let line =
+        "recomp: host/target cannot be locked (flock): start no other launcher here meanwhile\n";
+    let said = format!("{line}{PROVING}{PROVED}what cargo prints\n");
+    assert_run(run, 0, VERSION, &said);
 }
 
 #[test]

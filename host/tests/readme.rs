@@ -60,6 +60,28 @@ fn command(start: &str) -> String {
     line.into()
 }
 
+/// With the kept archive made from the library that is tested here: nothing is written beside it.
+#[test]
+fn the_line_of_the_readme_for_a_folder_that_cannot_be_written() {
+    let repository = Repository::real();
+    repository.renew();
+    fs::remove_dir_all(repository.path("host/target")).expect("the folder goes");
+    let folder = repository.0.join("elsewhere");
+    let line = command("cargo build");
+    let line = line
+        .replace("REPOSITORY", &repository.0.join(""))
+        .replace("DIR", &folder);
+    let mut shell = repository.command(Path::new("sh"), &["-c", &line]);
+    repository.with_all(&mut shell);
+    let run = finish(shell.env_remove("RECOMP_LIBRARY"));
+    assert_eq!(run.status, Some(0), "{}", run.err);
+    assert!(repository.calls().is_empty());
+    assert!(!repository.path("host/target").exists());
+    let mut program =
+        repository.command(&repository.path("elsewhere/release/recomp"), &["--version"]);
+    assert_eq!(finish(&mut program).printed(), "recomp 0.1.0\n");
+}
+
 /// With the kept archive made from the library that is tested here.
 #[test]
 fn the_line_of_the_readme_without_cargo() {
