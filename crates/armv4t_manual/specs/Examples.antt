@@ -1,5 +1,5 @@
 -- Examples: whole instructions, computed.
-use Prim.Native.Nat.{ℕ, _*_, _%_}
+use Prim.Native.Nat.{ℕ, _+_, _*_, _%_}
 use mathlib.Core.Path.{_≡_, refl}
 use mathlib.Core.Bool.{true, false}
 use mathlib.Core.Option.{Option, none, some}
@@ -31,6 +31,19 @@ begin =
       v = false;
       otherBits = 0;
       mem = λ a. a % 16;
+    }
+
+-- the same with 2 more in each register and each byte
+abbrev uneven : Machine
+uneven =
+    record {
+      r = λ k. 16 * k + 2;
+      n = false;
+      z = false;
+      c = false;
+      v = false;
+      otherBits = 0;
+      mem = λ a. a % 16 + 2;
     }
 
 -- an ARM instruction at 0x08000000
@@ -95,7 +108,13 @@ pops : seen 13 (execute (at Al (BlockMem true 13 0x8001 false true false true)) 
 unfolding execute listed
 pops = refl
 
--- bl 0x08000100 with r14; bx r1 to ARM
+-- a PC of 0x09080706 loses its low bits in ARM
+pops-uneven : seen 13 (execute (at Al (BlockMem true 13 0x8001 false true false true)) uneven)
+    ≡ some (0xda, 0, 0x09080704)
+unfolding execute listed
+pops-uneven = refl
+
+-- bl 0x08000100 with r14; bx r1 to ARM, from 0x12 without its low bits
 links : seen 14 (execute (at Al (Branch true 0x08000100)) begin) ≡ some (0x08000004, 0, 0x08000100)
 unfolding execute
 links = refl
@@ -103,6 +122,10 @@ links = refl
 exchanges : seen 0 (execute (at Al (Bx 1)) begin) ≡ some (0, 0, 0x10)
 unfolding execute
 exchanges = refl
+
+exchanges-uneven : seen 0 (execute (at Al (Bx 1)) uneven) ≡ some (2, 0, 0x10)
+unfolding execute
+exchanges-uneven = refl
 
 -- both halves of a Thumb BL, one after the other
 pair : seen 14

@@ -5,18 +5,20 @@ use mathlib.Core.Bool.{true, false}
 use mathlib.Core.List.{[], _∷_}
 use mathlib.Core.Option.{Option, none, some}
 use Rattle.base_words.specs.Word.{AND, OR, EOR}
-use Rattle.c_tree.specs.Expr.{s8, s16, s32, u32, s64, word, udec, int, x-r, x-pc, reg, var, mul}
-use Rattle.c_tree.specs.Expr.{add}
+use Rattle.c_tree.specs.Expr.{s8, s16, s32, u32, s64, word, udec, int, x-r, x-a, x-pc, reg, var}
+use Rattle.c_tree.specs.Expr.{mul, add}
 use Rattle.c_tree.specs.Expr.{sub, shl, shr, land, lor, w8, w16, w32, lit, get, par, bin, cast, ror}
-use Rattle.c_tree.specs.Expr.{read}
-use Rattle.c_tree.specs.Stmt.{is, plus, f-nz, f-c, local, declare, adds, set, discard, run, write}
+use Rattle.c_tree.specs.Expr.{read, Expr}
+use Rattle.c_tree.specs.Stmt.{is, plus, f-nz, f-c, f-nz64, local, declare, adds, set, discard}
+use Rattle.c_tree.specs.Stmt.{run, write, call, switch}
 use Rattle.c_tree.specs.Stmt.{gate, other, common, plain, goto, ret, retIf, interp, retInterp, end}
 use Rattle.c_tree.specs.Stmt.{_⨾_, when, braces}
 use Rattle.c_tree.specs.Preamble.{v32}
 use Rattle.c_meaning.specs.Types.{commonType, convert}
 use Rattle.c_meaning.specs.State.{bind, update, State, empty, load, store}
 use Rattle.c_meaning.specs.Eval.{eval, evalAs}
-use Rattle.c_meaning.specs.Exec.{Goes, to, back, Outcome, exec, others, asks, step, runs}
+use Rattle.c_meaning.specs.Exec.{Goes, on, to, back, Outcome, ended, returned, exec}
+use Rattle.c_meaning.specs.Exec.{others, asks, step, runs}
 use Rattle.c_meaning.specs.Perform.{execs, evaluate, perform}
 use Rattle.c_meaning.specs.Helpers.{called, rotated}
 use Rattle.c_meaning.specs.Helpers as H
@@ -125,6 +127,13 @@ adds-overflow : after 16
 unfolding perform eval evalAs rotated called runs step asks exec execs others AND OR EOR
 adds-overflow = refl
 
+-- 1 + 1 with a carry is 3
+adds-carry : after 0
+    (perform (adds x-r (lit udec 1) (get (reg 1)) (lit udec 1) ∷ set (reg 0) is (v32 x-r) ∷ [])
+    begin) ≡ some 3
+unfolding perform eval evalAs rotated called runs step asks exec execs others AND OR EOR
+adds-carry = refl
+
 -- f_c(c, 1u) and f_nz(c, 0u)
 flags : after 16 (perform (run f-c (lit udec 1) ∷ run f-nz (lit udec 0) ∷ []) begin)
     ≡ some 0x60000000
@@ -177,12 +186,76 @@ taken : afterCode 0
 unfolding H.run eval evalAs exec execs others runs step asks
 taken = refl
 
+-- 2^32 as an int64_t is 0 in a word: by =, by += of 1 and 0xffffffff, and as what f_nz and f_c take
+abbrev wide : Expr
+wide = bin add (cast s64 (lit word 0xffffffff)) (lit int 1)
+
+narrowed : after 1 (perform (set (reg 1) is wide ∷ []) begin) ≡ some 0
+unfolding perform eval evalAs exec execs others
+narrowed = refl
+
+narrowed-sum : after 1 (perform (set (reg 1) plus (cast s64 (lit word 0xffffffff)) ∷ []) begin)
+    ≡ some 0
+unfolding perform eval evalAs exec execs others
+narrowed-sum = refl
+
+narrowed-flags : after 16 (perform (run f-nz wide ∷ run f-c wide ∷ []) begin) ≡ some 0x40000000
+unfolding perform eval evalAs rotated called runs step asks exec execs others AND OR
+narrowed-flags = refl
+
+-- but not as what f_nz64 takes
+wide-flags : after 16 (perform (run f-nz64 wide ∷ []) begin) ≡ some 0
+unfolding perform eval evalAs rotated called runs step asks exec execs others AND OR
+wide-flags = refl
+
+-- uint32_t r = c[1], a = r; c[0] = a; : a further declarator sees the one before it
+further : after 0
+    (perform
+    (declare (u32, x-r) (get (reg 1)) ((x-a, v32 x-r) ∷ []) ∷ set (reg 0) is (v32 x-a) ∷ [])
+    begin) ≡ some 1
+unfolding perform eval evalAs exec execs others
+further = refl
+
+-- (void)r names r with its type
+another-type : after 0 (perform (local (u32, x-r) ∷ discard (s32, x-r) ∷ []) begin) ≡ none
+unfolding perform eval evalAs exec execs others
+another-type = refl
+
+-- a function without a value ends by no goto and by no return of one; one with a value returns it
+no-end : (ended (to 8) begin ≡ none) × (ended (back 8) begin ≡ none)
+no-end = (refl, refl)
+
+no-return : (returned on ≡ none) × (returned (to 8) ≡ none)
+no-return = (refl, refl)
+
 -- after its braces a local is gone
 gone : afterCode 0
     (H.run (braces (plain common (declare (u32, x-r) (get (reg 1)) []) ⨾ end)
     (ret common (v32 x-r) ⨾ end)) begin) ≡ none
 unfolding H.run eval evalAs exec execs others runs step asks
 gone = refl
+
+-- and after those of an if
+gone-if : afterCode 0
+    (H.run (when common false (other (get (reg 1)))
+    (plain common (declare (u32, x-r) (get (reg 1)) []) ⨾ end) (ret common (v32 x-r) ⨾ end)) begin)
+    ≡ none
+unfolding H.run eval evalAs exec execs others runs step asks
+gone-if = refl
+
+-- uint32_t r = c[1]; { uint32_t r = r; } : the r on the right is the new one, which has no value
+own-name : afterCode 0
+    (H.run (plain common (declare (u32, x-r) (get (reg 1)) [])
+    ⨾ braces (plain common (declare (u32, x-r) (v32 x-r) []) ⨾ end) (ret common (v32 x-r) ⨾ end))
+    begin) ≡ none
+unfolding H.run eval evalAs exec execs others runs step asks
+own-name = refl
+
+-- the call of a group's function and its switch are not written out here
+elsewhere : (afterCode 0 (H.run (call 8 0 ⨾ end) begin) ≡ none)
+    × (afterCode 0 (H.run (switch (8 ∷ []) ⨾ end) begin) ≡ none)
+unfolding H.run eval evalAs exec execs others runs step asks
+elsewhere = (refl, refl)
 
 -- if (a->chain_gate(m)) return 8u; goto L_..: the gate says yes; a test with a ! before it fails
 gated : afterCode 0 (H.run (retIf common gate (lit udec 8) ⨾ goto common 9 ⨾ end) begin)
