@@ -3,10 +3,15 @@ use Prim.Native.Nat.{ℕ}
 use mathlib.Core.List.{List, [], _∷_}
 use mathlib.Core.Option.{none}
 use lib.ListN.{length}
-use Rattle.file_blocks.specs.Answer.{Answer, Counts}
+use Rattle.call_frame.specs.Answer.{Answer}
 use Rattle.file_blocks.specs.Parse.{Block, Parsed, instrTotal}
 use Rattle.call_frame.specs.Frame.{Call, makes, callFrame}
 use Rattle.call_frame.specs.Numbers.{numbersOf}
+
+-- how many blocks and instructions a file has
+pub record Counts : Type 0 where
+  pub blocks : ℕ
+  pub instructions : ℕ
 
 -- what it makes: how many blocks and instructions there are
 abbrev pub asksCheck : Call Counts

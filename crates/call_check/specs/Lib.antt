@@ -1,2 +1,3 @@
 -- The definitions that the crate's promise names.
 pub mod Calls
+mod Examples

@@ -3,7 +3,7 @@ use Prim.Native.Nat.{ℕ}
 use mathlib.Core.List.{List, [], _∷_, map}
 use mathlib.Core.Option.{none}
 use lib.ListN.{length, getD, getElem?}
-use Rattle.file_blocks.specs.Answer.{Answer, refusal, value}
+use Rattle.call_frame.specs.Answer.{Answer, refusal, value}
 use Rattle.file_blocks.specs.Parse.{Block, Parsed}
 use Rattle.plan_exits.specs.Exits.{exits, keysOf}
 use Rattle.call_frame.specs.Frame.{Call, makes, ifFound, callFrame}

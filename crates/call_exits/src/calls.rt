@@ -7,7 +7,7 @@ use plan_exits::FoundExits;
 use plan_exits::block_exits;
 ghost use mathlib.Core.Path.{_≡_};
 ghost use mathlib.Core.List.{_∷_, []};
-ghost use Rattle.file_blocks.specs.Answer.{value};
+ghost use Rattle.call_frame.specs.Answer.{value};
 ghost use Rattle.file_blocks.specs.Parse.{parse};
 ghost use Rattle.plan_exits.specs.Exits.{keysOf};
 ghost use Rattle.call_exits.specs.Calls.{exitsAnswer, exitsCall, exitsNumbers};

@@ -1,4 +1,4 @@
--- A file that is opened: what the check's answer says of it, and what a call on it leaves.
+-- A file that is opened: what that tells of it, and what a call on it leaves.
 -- Assumes nothing.
 use Prim.Native.Nat.{ℕ, _*_, _≤_, _<_}
 use mathlib.Core.Path.{_≡_, refl, sym, ap, _∙_, subst}
@@ -7,28 +7,12 @@ use mathlib.Core.Option.{Option, none, some}
 use borrow.Author.Tests.{lt-ltb, le-ltb}
 use lib.ListN.{length}
 use Rattle.file_records.specs.Trailer.{blockCount}
-use Rattle.file_blocks.specs.declared.refusal.Checked.{Checked}
-use Rattle.file_blocks.specs.Answer.{Answer, refusal, value, Counts, checkedOf}
-use Rattle.file_blocks.specs.Parse.{Parsed, parse, blocksOf, instrTotal, checkAnswer, Accepted}
+use Rattle.file_blocks.specs.Parse.{Parsed, parse, blocksOf, instrTotal, Accepted}
 use Rattle.file_blocks.proofs.Accepted.{length-of}
-use Rattle.file_blocks.proofs.Answers.{accepted-file}
 use Rattle.call_frame.specs.declared.open.Opened.{Opened}
 use Rattle.call_frame.specs.Frame.{Refusal, Call, Outcome, refusedWith, cleared, settle}
 use Rattle.call_frame.specs.Frame.{numbered, callOnBlocks, callFrame}
 use Rattle.call_frame.specs.Open.{opening, IsOpen, IsOpened}
-
--- how many instructions an answer counts
-instructions-in : Answer Counts → ℕ
-instructions-in (refusal n i) = 0
-instructions-in (value c) = c .instructions
-
--- the check counts the instructions of an accepted file
-pub accepted-instrs : (f : List ℕ) (r : Checked) → checkedOf r ≡ checkAnswer (parse f) → (b k : ℕ)
-    → r ≡ Checked.Accepted b k → k ≡ instrTotal (blocksOf f)
-unfolding checkedOf checkAnswer instructions-in instrTotal
-accepted-instrs f r e b k is =
-    ap instructions-in
-    (ap checkedOf (sym is) ∙ e ∙ ap checkAnswer (accepted-file f r e b k is))
 
 -- what opening finds in an accepted file: the early refusal, or 8
 module _ (f : List ℕ) (ok : Accepted f) (early : Option Refusal) (perBlock lent : ℕ) where

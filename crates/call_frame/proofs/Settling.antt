@@ -7,7 +7,7 @@ use native.Mathlib.Omega.{arith}
 use borrow.Author.Tests.{lt-ltb, le-ltb}
 use lib.ListN.{length, getD, drop, replicate, length-drop}
 use lib.Seq.{ext-getD, getD-drop}
-use Rattle.file_blocks.specs.Answer.{value}
+use Rattle.call_frame.specs.Answer.{value}
 use Rattle.call_frame.specs.Frame.{Refusal, Decision, Outcome, refuses, makes, numbered}
 use Rattle.call_frame.specs.Frame.{cleared, refusedWith, settle}
 

@@ -4,7 +4,7 @@ use Prim.Native.Nat.{ℕ}
 use mathlib.Core.Path.{_≡_, refl}
 use mathlib.Core.List.{List, [], _∷_}
 use mathlib.Core.Option.{Option, none, some}
-use Rattle.file_blocks.specs.Answer.{refusal, value}
+use Rattle.call_frame.specs.Answer.{refusal, value}
 use Rattle.file_blocks.specs.Parse.{Block, Parsed}
 use Rattle.call_frame.specs.Frame.{Refusal, Decision, Call, Outcome, refuses, makes, numbered}
 use Rattle.call_frame.specs.Frame.{callOnBlocks, callFrame}

@@ -6,7 +6,7 @@ use mathlib.Core.List.{List, [], _∷_, _++_, map}
 use mathlib.Core.Option.{Option, none, some}
 use lib.ListN.{length, drop, replicate}
 use lib.Dec.{ltb}
-use Rattle.file_blocks.specs.Answer.{Answer, refusal, value}
+use Rattle.call_frame.specs.Answer.{Answer, refusal, value}
 use Rattle.file_blocks.specs.Parse.{Block, Parsed}
 
 -- a refusal: its number, and i, or 0 where there is no i

@@ -1,5 +1,6 @@
--- The definitions that the promises of calls name: Frame and Numbers say what document 01 says,
--- Open what a step of the code tells.
+-- The definitions that the promises of calls name: Answer, Frame and Numbers say what document 01
+-- says, Open what a step of the code tells.
+pub mod Answer
 mod Examples
 pub mod Frame
 pub mod Numbers

@@ -2,7 +2,7 @@
 use Prim.Native.Nat.{ℕ}
 use mathlib.Core.List.{List, _∷_}
 use lib.ListN.{replicate}
-use Rattle.file_blocks.specs.Answer.{Answer, refusal, value}
+use Rattle.call_frame.specs.Answer.{Answer, refusal, value}
 use Rattle.call_frame.specs.Frame.{Outcome}
 
 -- the numbers of an answer, in the order of the interface: what is returned, 0 or the refusal's

@@ -3,7 +3,7 @@ use Prim.Native.Nat.{ℕ}
 use mathlib.Core.List.{List, [], _∷_}
 use mathlib.Core.Option.{none}
 use lib.ListN.{length}
-use Rattle.file_blocks.specs.Answer.{Answer, refusal, value}
+use Rattle.call_frame.specs.Answer.{Answer, refusal, value}
 use Rattle.file_blocks.specs.Parse.{Block, Parsed}
 use Rattle.base_text.specs.Doc.{print}
 use Rattle.call_frame.specs.Frame.{Call, Outcome, makes, callFrame}

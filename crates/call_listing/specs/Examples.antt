@@ -2,7 +2,7 @@
 use mathlib.Core.Path.{_≡_, refl}
 use mathlib.Core.List.{[], _∷_, _++_}
 use lib.ListN.{replicate}
-use Rattle.file_blocks.specs.Answer.{refusal, value}
+use Rattle.call_frame.specs.Answer.{refusal, value}
 use Rattle.file_blocks.specs.Parse.{Parsed}
 use Rattle.plan_groups.specs.Limit.{partLimit}
 use Rattle.call_frame.specs.Frame.{callOnBlocks, callFrame}

@@ -2,7 +2,7 @@
 use mathlib.Core.Path.{_≡_, refl}
 use mathlib.Core.List.{[], _∷_}
 use lib.ListN.{replicate}
-use Rattle.file_blocks.specs.Answer.{refusal, value}
+use Rattle.call_frame.specs.Answer.{refusal, value}
 use Rattle.file_blocks.specs.Parse.{Parsed}
 use Rattle.plan_exits.specs.Examples.{armBlock, threeBlocks}
 use Rattle.plan_exits.specs.Exits.{exits, instrExits}

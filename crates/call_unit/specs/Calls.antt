@@ -5,7 +5,7 @@ use mathlib.Core.List.{List, [], _∷_}
 use mathlib.Core.Option.{none}
 use lib.ListN.{getElem?}
 use Rattle.base_hash.specs.Fnv.{hashMultiplier}
-use Rattle.file_blocks.specs.Answer.{Answer, refusal, value}
+use Rattle.call_frame.specs.Answer.{Answer, refusal, value}
 use Rattle.file_blocks.specs.Parse.{Block, Parsed}
 use Rattle.lower_units.specs.Units.{TranslationUnit, UnitValues, unitValues, textOf, units}
 use Rattle.call_frame.specs.Frame.{Decision, Call, Outcome, makes, ifFound, callFrame}

@@ -2,7 +2,7 @@
 -- work numbers, computed; `whole` in lower_units has a unit.
 use mathlib.Core.Path.{_≡_, refl}
 use mathlib.Core.List.{[], _∷_}
-use Rattle.file_blocks.specs.Answer.{refusal}
+use Rattle.call_frame.specs.Answer.{refusal}
 use Rattle.file_blocks.specs.Parse.{Parsed}
 use Rattle.plan_exits.specs.Examples.{threeBlocks}
 use Rattle.call_frame.specs.Frame.{callOnBlocks, callFrame}

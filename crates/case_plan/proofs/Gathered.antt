@@ -6,7 +6,7 @@ use mathlib.Core.Path.{_≡_, refl, sym, ap, ap₂, _∙_}
 use mathlib.Core.List.{List, [], _∷_, _++_, append-nil}
 use lib.ListN.{length, take, drop, set, getD}
 use lib.Seq.{take-length, drop-length, sets-eq, length-sets, paste, length-paste, take-paste}
-use Rattle.file_blocks.specs.Answer.{Answer, refusal, value}
+use Rattle.call_frame.specs.Answer.{Answer, refusal, value}
 use Rattle.call_frame.specs.Frame.{Outcome}
 use Rattle.call_frame.specs.Numbers.{Handed, numbersOf}
 use Rattle.call_plan.specs.Calls.{planNumbers}

@@ -12,8 +12,7 @@ use lib.ListN.{getD}
 use Rattle.file_records.specs.Trailer.{blockCount}
 use Rattle.file_blocks.specs.Refusal.{Rule, number, place, broken, pick, firstBroken, rules}
 use Rattle.file_blocks.specs.Refusal.{First, Applies}
-use Rattle.file_blocks.specs.Parse.{Block, Parsed, blocksFrom, parsed, parse, checkAnswer}
-use Rattle.file_blocks.specs.Answer.{refusal}
+use Rattle.file_blocks.specs.Parse.{Block, Parsed, blocksFrom, parsed, parse}
 
 -- the first broken rule is the one found
 found-first : (f : List ℕ) (before : List Rule) (r : Rule) (after : List Rule) → broken f r ≡ true
@@ -115,20 +114,3 @@ module _ (f : List ℕ) where
           → parsed f o ≡ Parsed.accepted (blocksFrom f (blockCount f) 0 0)
       go none e never = refl
       go (some r) e never = absurd (never r (applies r e))
-
-  -- and so the check answers with it
-  pub answer-exactly : (r : Rule)
-      → (checkAnswer (parse f) ≡ refusal (number r) (place r)) ↔ Applies f r
-  unfolding checkAnswer
-  answer-exactly r = (
-    λ e. refused-exactly r .0 (unanswer (parse f) e),
-    λ a. ap checkAnswer
-        (refused-exactly r .1 a),
-  )
-    where
-      unanswer : (p : Parsed) {n i : ℕ} → checkAnswer p ≡ refusal n i → p ≡ Parsed.refused n i
-      unanswer (Parsed.refused m j) {n} {i} e =
-          let same-number : m ≡ n = cc in
-          let same-place : j ≡ i = cc in
-          ap₂ Parsed.refused same-number same-place
-      unanswer (Parsed.accepted bs) e = absurd (let z : _≡_ {A = ℕ} 0 1 = cc in omega arith)

@@ -13,28 +13,13 @@ use borrow.Author.Tests.{le-leb, lt-leb, eqb-true, not-false}
 use lib.ListN.{length}
 use Rattle.file_blocks.specs.declared.refusal.Checked.{Checked}
 use Rattle.file_blocks.specs.declared.refusal.Found.{Found}
-use Rattle.file_blocks.specs.Answer.{checkedOf}
 use Rattle.file_records.specs.Trailer.{blockCount, instrCount, blockStart, withinLimits}
 use Rattle.file_records.specs.Trailer.{trailerRight}
 use Rattle.file_records.specs.BlockRecord.{countAt, countSum}
 use Rattle.file_blocks.specs.Refusal.{Rule, broken, pick, firstBroken, blockRules, instrRules}
-use Rattle.file_blocks.specs.Found.{found}
-use Rattle.file_blocks.specs.Parse.{Parsed, instrsFrom, blockAt, blocksFrom, parsed, parse}
-use Rattle.file_blocks.specs.Parse.{instrTotal, checkAnswer}
-
--- the answer to a file as the code makes it
-unfoldable pub checked : Parsed → Checked
-checked (Parsed.refused n i) = Checked.Refused n i
-checked (Parsed.accepted bs) = Checked.Accepted (length bs) (instrTotal bs)
-
--- it stands for the answer of the definition
-pub answered : (p : Parsed) (r : Checked) → r ≡ checked p → checkedOf r ≡ checkAnswer p
-unfolding checkedOf checked checkAnswer
-answered p r e = ap checkedOf e ∙ stands p
-  where
-    stands : (p′ : Parsed) → checkedOf (checked p′) ≡ checkAnswer p′
-    stands (Parsed.refused n i) = refl
-    stands (Parsed.accepted bs) = refl
+use Rattle.file_blocks.specs.Parse.{instrsFrom, blockAt, blocksFrom, parsed, parse}
+use Rattle.file_blocks.specs.Parse.{instrTotal}
+use Rattle.file_blocks.specs.Found.{found, checked}
 
 -- the answer of a pass, or another answer where it found nothing
 abbrev pub orElse : Found → Checked → Checked

@@ -1,5 +1,4 @@
 -- The definitions that the crate's promises name, in the order of document 01.
-pub mod Answer
 pub mod Refusal
 pub mod Parse
 pub mod Read

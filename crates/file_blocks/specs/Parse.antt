@@ -7,7 +7,6 @@ use mathlib.Core.Option.{Option, none, some}
 use lib.ListN.{length, take, drop}
 use Rattle.armv4t.specs.Instr.{sizeOf}
 use Rattle.file_instrs.specs.declared.decode.TimedInstr.{TimedInstr}
-use Rattle.file_blocks.specs.Answer.{Answer, refusal, value, Counts}
 use Rattle.file_records.specs.Trailer.{blockCount, blockStart, instrStart}
 use Rattle.file_records.specs.BlockRecord.{addrAt, countAt, codeOffsetAt, thumbAt, presentAt}
 use Rattle.file_records.specs.BlockRecord.{lengthAt, keyPlus}
@@ -82,8 +81,3 @@ Accepted f = parse f ≡ accepted (blocksOf f)
 unfoldable pub instrTotal : List Block → ℕ
 instrTotal [] = 0
 instrTotal (b ∷ bs) = length (b .instrs) + instrTotal bs
-
--- what the check of a file answers: its refusal, or how many blocks and instructions it has
-unfoldable pub checkAnswer : Parsed → Answer Counts
-checkAnswer (refused n i) = refusal n i
-checkAnswer (accepted bs) = value (record { blocks = length bs; instructions = instrTotal bs })

@@ -14,9 +14,8 @@ ghost use mathlib.Core.List.{_∷_, [], _++_};
 ghost use Rattle.file_records.specs.Trailer.{blockCount, instrCount, trailerRight};
 ghost use Rattle.file_instrs.specs.Limits.{limitsTo};
 ghost use Rattle.file_blocks.specs.Refusal.{Rule, blockRules, instrRules, firstBroken};
-ghost use Rattle.file_blocks.specs.Found.{found};
-ghost use Rattle.file_blocks.specs.Answer.{checkedOf};
-ghost use Rattle.file_blocks.specs.Parse.{parse, checkAnswer};
+ghost use Rattle.file_blocks.specs.Parse.{parse};
+ghost use Rattle.file_blocks.specs.Found.{found, checked};
 
 // The answer of the check.
 pub enum Checked {
@@ -107,7 +106,7 @@ fn check_instrs(file: &[u8]) -> Found
 
 // Whether a file is accepted, or which refusal it gets.
 pub fn check(file: &[u8]) -> Checked
-    ensures { λ r. ⌜ checkedOf r ≡ checkAnswer (parse (now (file .entry))) ⌝ }
+    ensures { λ r. ⌜ r ≡ checked (parse (now (file .entry))) ⌝ }
 {
     if file.len() < 32 {
         return Checked::Refused { number: 1, at: 0 };

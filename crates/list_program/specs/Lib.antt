@@ -1,3 +1,2 @@
 -- The definitions that the program's promises name.
 pub mod Output
-pub mod Room

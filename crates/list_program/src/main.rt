@@ -7,11 +7,8 @@ use plan_groups::PART_LIMIT;
 ghost use mathlib.Core.Path.{_≡_};
 ghost use Prim.Native.Nat.{_+_, _≤_};
 ghost use lib.ListN.{length, take};
-ghost use Rattle.file_blocks.specs.Parse.{parse};
-ghost use Rattle.base_text.specs.Doc.{print};
 ghost use Rattle.base_text.specs.Wrote.{Wrote};
-ghost use Rattle.list_program.specs.Output.{longest, refusalLine, answerText, output};
-ghost use Rattle.list_program.specs.Room.{room};
+ghost use Rattle.list_program.specs.Output.{longest, room, refusalLine, output};
 
 // The longest file that is listed.
 const LONGEST: usize = 65536;
@@ -35,7 +32,7 @@ fn put_answer(file: &[u8], out: &mut [u8]) -> usize
     requires { ⌜ (length (now file) ≤ longest) × (room ≤ length (now out)) ⌝ }
     ensures { λ r. ⌜
         (r ≤ length (now (out .exit)))
-        × (take r (now (out .exit)) ≡ print (answerText (parse (now (file .entry)))))
+        × (take r (now (out .exit)) ≡ output (now (file .entry)))
         ⌝ }
 {
     let mut work = [0u32; 16384];
@@ -50,7 +47,7 @@ fn put_output(file: &[u8], out: &mut [u8]) -> usize
     requires { ⌜ room ≤ length (now out) ⌝ }
     ensures { λ r. ⌜
         (r ≤ length (now (out .exit)))
-        × (take r (now (out .exit)) ≡ print (output (now (file .entry))))
+        × (take r (now (out .exit)) ≡ output (now (file .entry)))
         ⌝ }
 {
     if file.len() > LONGEST {

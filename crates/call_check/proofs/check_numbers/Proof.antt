@@ -4,10 +4,9 @@ use Prim.Native.Nat.{ℕ}
 use mathlib.Core.Path.{ap, ap₂, _∙_}
 use mathlib.Core.List.{[], _∷_}
 use borrow.Author.Needs.{needs}
-use Rattle.file_blocks.specs.Answer.{Counts}
 use Rattle.call_frame.specs.Frame.{Outcome}
 use Rattle.call_frame.proofs.Opening.{is-open, instr-number, block-number, refused-call, open-call}
-use Rattle.call_check.specs.Calls.{asksCheck, checkNumbers}
+use Rattle.call_check.specs.Calls.{Counts, asksCheck, checkNumbers}
 use Rattle.call_check.proofs.check_numbers.Statement.{statement}
 use Rattle.call_check.proofs.check_numbers.Tie as tie
 

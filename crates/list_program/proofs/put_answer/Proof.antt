@@ -1,14 +1,14 @@
 -- Either the listing stands in the front of the buffer, or it is as it was and the line of the
 -- refusal is put there. Assumes nothing.
 use Prim.Native.Nat.{ℕ}
-use Rattle.file_blocks.specs.Answer.{Answer}
+use Rattle.call_frame.specs.Answer.{Answer}
 use Rattle.call_listing.specs.Calls.{listingAnswer}
 use Rattle.list_program.proofs.Room.{listing-shown, refusal-shown}
 use Rattle.list_program.proofs.put_answer.Statement.{statement}
 use Rattle.list_program.proofs.put_answer.Tie as tie
 use borrow.Author.Needs.{needs}
 use mathlib.Core.List.{[], _∷_}
-use mathlib.Core.Path.{refl, sym, ap, _∙_}
+use mathlib.Core.Path.{sym, ap, _∙_}
 use native.Mathlib.Omega.{arith}
 
 returns : tie.Need-returns
@@ -16,7 +16,7 @@ unfolding listingAnswer
 returns c = let pre =
     c .before .before .before .before .before .before .before .before .before .before .before
     .pre in
-    listing-shown _ (pre .0) _ _ (omega arith) (pre .1) _ refl _ _ _
+    listing-shown _ (pre .0) _ _ (omega arith) (pre .1) _ _ _
     (ap (λ (a : Answer ℕ). record {
       answer = a;
       work = c .before .before .before .before .before .before .listing-of .last .1 .1 .0;
@@ -31,7 +31,7 @@ unfolding listingAnswer
 returns-2 c = let pre =
     c .before .before .before .before .before .before .before .before .before .before .before
     .before .before .before .before .pre in
-    refusal-shown _ (pre .0) _ _ (omega arith) (pre .1) _ refl _ _ _ _ _ _
+    refusal-shown _ (pre .0) _ _ (omega arith) (pre .1) _ _ _ _ _ _
     (ap (λ (a : Answer ℕ). record {
       answer = a;
       work =

@@ -1,6 +1,6 @@
 -- A file that is too long has one line; the answer to any other is put by `put_answer`.
 -- Assumes nothing.
-use Rattle.list_program.proofs.Room.{long-shown, short-shown}
+use Rattle.list_program.proofs.Room.{long-shown}
 use Rattle.list_program.proofs.put_output.Statement.{statement}
 use Rattle.list_program.proofs.put_output.Tie as tie
 use Rattle.base_text.proofs.Laws.{wrote-as}
@@ -14,7 +14,7 @@ returns c =
     (omega arith) (wrote-as (c .before .before .put .ensures) refl)
 
 returns-2 : tie.Need-returns-2
-returns-2 c = short-shown _ _ _ (omega arith) (c .before .before .put-answer .ensures)
+returns-2 c = c .before .before .put-answer .ensures
 
 pub put-output-spec : {M : Type 1} → statement M
 put-output-spec =

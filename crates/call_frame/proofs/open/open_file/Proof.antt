@@ -6,8 +6,9 @@ use native.Mathlib.Omega.{arith}
 use borrow.Author.Needs.{needs}
 use Rattle.file_blocks.proofs.Accepted.{few-blocks}
 use Rattle.file_blocks.proofs.Answers.{refused-file, accepted-file, accepted-blocks}
+use Rattle.file_blocks.proofs.Answers.{accepted-instrs}
 use Rattle.call_frame.specs.Open.{earlyOf, opening, IsOpened}
-use Rattle.call_frame.proofs.Opening.{accepted-instrs, opening-early, opening-8}
+use Rattle.call_frame.proofs.Opening.{opening-early, opening-8}
 use Rattle.call_frame.proofs.open.open_file.Statement.{statement}
 use Rattle.call_frame.proofs.open.open_file.Tie as tie
 

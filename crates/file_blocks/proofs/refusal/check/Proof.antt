@@ -9,21 +9,19 @@ use Rattle.file_blocks.proofs.refusal.check.Statement.{statement}
 use Rattle.file_blocks.proofs.refusal.check.Tie as tie
 
 returns : tie.Need-returns
-returns c = whole.answered _ _ (whole.too-short _ (c .if1 .taken))
+returns c = whole.too-short _ (c .if1 .taken)
 
 returns-2 : tie.Need-returns-2
 returns-2 c =
-    whole.answered _ _
-    (whole.over-limits _ (c .before .before .if1 .left)
-    (sym (c .before .within-limits .ensures) ∙ not-true _ (c .if2 .taken)))
+    whole.over-limits _ (c .before .before .if1 .left)
+    (sym (c .before .within-limits .ensures) ∙ not-true _ (c .if2 .taken))
 
 returns-3 : tie.Need-returns-3
 returns-3 c =
-    whole.answered _ _
-    (whole.wrong-trailer _ (c .before .before .before .before .if1 .left)
+    whole.wrong-trailer _ (c .before .before .before .before .if1 .left)
     (sym (c .before .before .before .within-limits .ensures)
     ∙ not-false _ (c .before .before .if2 .left))
-    (sym (c .before .trailer-right .ensures) ∙ not-true _ (c .if3 .taken)))
+    (sym (c .before .trailer-right .ensures) ∙ not-true _ (c .if3 .taken))
 
 check-blocks-requires : tie.Need-check-blocks-requires
 check-blocks-requires c κs = sym (c .before .trailer-right .ensures) ∙ not-false _ (c .if3 .left)
@@ -35,14 +33,13 @@ returns-4 c =
     let at-if2 = at-trailer-right .before in
     let at-within-limits = at-if2 .before in
     let at-if1 = at-within-limits .before in
-    whole.answered _ _
-    (whole.blocks-refused _
+    whole.blocks-refused _
     (at-if1 .if1 .left)
     (sym (at-within-limits .within-limits .ensures)
     ∙ not-false _ (at-if2 .if2 .left))
     (sym (at-trailer-right .trailer-right .ensures)
     ∙ not-false _ (at-if3 .if3 .left)) _
-    (c .before .before .before .check-blocks .ensures) _ _ (c .before .number .given .1))
+    (c .before .before .before .check-blocks .ensures) _ _ (c .before .number .given .1)
 
 check-instrs-requires : tie.Need-check-instrs-requires
 check-instrs-requires c κs = sym (c .before .before .before .before .trailer-right .ensures)
@@ -57,8 +54,7 @@ returns-5 c =
     let at-if2 = at-trailer-right .before in
     let at-within-limits = at-if2 .before in
     let at-if1 = at-within-limits .before in
-    whole.answered _ _
-    (whole.instrs-refused _
+    whole.instrs-refused _
     (at-if1 .if1 .left) (sym
     (at-within-limits .within-limits .ensures)
     ∙ not-false _
@@ -67,7 +63,7 @@ returns-5 c =
     ∙ not-false _ (at-if3 .if3 .left)) _
     (at-check-blocks .check-blocks .ensures)
     (at-enum-told .enum-told .given .1) _
-    (c .before .before .before .check-instrs .ensures) _ _ (c .before .number2 .given .1))
+    (c .before .before .before .check-instrs .ensures) _ _ (c .before .number2 .given .1)
 
 returns-6 : tie.Need-returns-6
 returns-6 c =
@@ -79,8 +75,7 @@ returns-6 c =
     let at-if2 = at-trailer-right .before in
     let at-within-limits = at-if2 .before in
     let at-if1 = at-within-limits .before in
-    whole.answered _ _
-    (ap₂ Checked.Accepted (c .before .trailer-word .ensures) (c .trailer-word2 .ensures)
+    ap₂ Checked.Accepted (c .before .trailer-word .ensures) (c .trailer-word2 .ensures)
     ∙ whole.all-kept _
     (at-if1 .if1 .left)
     (sym (at-within-limits .within-limits .ensures)
@@ -92,7 +87,7 @@ returns-6 c =
     (at-check-blocks .check-blocks .ensures)
     (at-enum-told .enum-told .given .1) _
     (at-check-instrs .check-instrs .ensures)
-    (c .before .before .enum-told2 .given .1))
+    (c .before .before .enum-told2 .given .1)
 
 pub check-spec : {M : Type 1} → statement M
 check-spec =

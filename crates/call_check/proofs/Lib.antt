@@ -1,0 +1,2 @@
+-- What is proved of the check beside its promise.
+mod Exactly
