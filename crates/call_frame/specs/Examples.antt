@@ -44,6 +44,17 @@ second-short : callOnBlocks (some-call none made) 1 made (9 ∷ 9 ∷ 9 ∷ 9 �
 unfolding callOnBlocks some-call made
 second-short = refl
 
+-- and so it is where no second result is lent
+second-missing : callOnBlocks (some-call none made) 1 made (9 ∷ 9 ∷ 9 ∷ 9 ∷ 9 ∷ [])
+    ((7 ∷ 7 ∷ 7 ∷ []) ∷ [])
+    ≡ record {
+      answer = refusal 10 0;
+      work = 0 ∷ 0 ∷ 0 ∷ 0 ∷ 9 ∷ [];
+      results = (7 ∷ 7 ∷ 7 ∷ []) ∷ [];
+    }
+unfolding callOnBlocks some-call made
+second-missing = refl
+
 -- the call's own refusal comes before 10
 own-first : callOnBlocks (some-call none made) 1 (refuses (numbered 9)) (9 ∷ 9 ∷ 9 ∷ 9 ∷ []) []
     ≡ record { answer = refusal 9 0; work = 0 ∷ 0 ∷ 0 ∷ 0 ∷ []; results = [] }

@@ -1,7 +1,7 @@
 -- To be believed: what a public call answers, and what it leaves in all that it is lent. Each call
 -- is told by a `Call`; what a refusal leaves is said here for all of them.
 use Prim.Native.Nat.{ℕ, _*_}
-use mathlib.Core.Bool.{Bool, false, _||_, cond}
+use mathlib.Core.Bool.{Bool, true, false, _||_, cond}
 use mathlib.Core.List.{List, [], _∷_, _++_, map}
 use mathlib.Core.Option.{Option, none, some}
 use lib.ListN.{length, drop, replicate}
@@ -52,10 +52,10 @@ abbrev pub refusedWith : {A : Type 0} → Refusal → List ℕ → List (List �
 refusedWith r work results =
     record { answer = refusal (r .number) (r .place); work = work; results = results }
 
--- whether a result is shorter than its content
+-- whether a result is shorter than its content; a content without a result does not fit
 abbrev pub tooShort : List (List ℕ) → List (List ℕ) → Bool
 tooShort [] results = false
-tooShort (c ∷ contents) [] = false
+tooShort (c ∷ contents) [] = true
 tooShort (c ∷ contents) (r ∷ results) = ltb (length r) (length c) || tooShort contents results
 
 -- each content in the front of its result
