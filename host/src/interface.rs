@@ -103,6 +103,68 @@ pub fn unit(
     (number, [at, length, done, last])
 }
 
+pub fn units(
+    file: &[u8],
+    max_bytes: u64,
+    first: u64,
+    work: &mut [u32],
+    text: &mut [u8],
+    lengths: &mut [u64],
+) -> (u32, [u64; 5]) {
+    let [mut at, mut count, mut length, mut done, mut last] = [UNWRITTEN; 5];
+    // SAFETY: the four slices and the five numbers are apart and outlive the call, which keeps none
+    // of them.
+    let number = unsafe {
+        recomp_units(
+            file.as_ptr(),
+            file.len(),
+            max_bytes,
+            first,
+            work.as_mut_ptr(),
+            work.len(),
+            text.as_mut_ptr(),
+            text.len(),
+            lengths.as_mut_ptr(),
+            lengths.len(),
+            &mut at,
+            &mut count,
+            &mut length,
+            &mut done,
+            &mut last,
+        )
+    };
+    (number, [at, count, length, done, last])
+}
+
+pub fn lengths(
+    file: &[u8],
+    max_bytes: u64,
+    first: u64,
+    work: &mut [u32],
+    lengths: &mut [u64],
+) -> (u32, [u64; 4]) {
+    let [mut at, mut count, mut done, mut last] = [UNWRITTEN; 4];
+    // SAFETY: the three slices and the four numbers are apart and outlive the call, which keeps none
+    // of them.
+    let number = unsafe {
+        recomp_lengths(
+            file.as_ptr(),
+            file.len(),
+            max_bytes,
+            first,
+            work.as_mut_ptr(),
+            work.len(),
+            lengths.as_mut_ptr(),
+            lengths.len(),
+            &mut at,
+            &mut count,
+            &mut done,
+            &mut last,
+        )
+    };
+    (number, [at, count, done, last])
+}
+
 extern "C" {
     fn recomp_check(
         file: *const u8,
@@ -155,6 +217,39 @@ extern "C" {
         text_len: usize,
         at: *mut u64,
         length: *mut u64,
+        done: *mut u64,
+        last: *mut u64,
+    ) -> u32;
+
+    fn recomp_units(
+        file: *const u8,
+        file_len: usize,
+        max_bytes: u64,
+        first: u64,
+        work: *mut u32,
+        work_len: usize,
+        text: *mut u8,
+        text_len: usize,
+        lengths: *mut u64,
+        lengths_len: usize,
+        at: *mut u64,
+        count: *mut u64,
+        length: *mut u64,
+        done: *mut u64,
+        last: *mut u64,
+    ) -> u32;
+
+    fn recomp_lengths(
+        file: *const u8,
+        file_len: usize,
+        max_bytes: u64,
+        first: u64,
+        work: *mut u32,
+        work_len: usize,
+        lengths: *mut u64,
+        lengths_len: usize,
+        at: *mut u64,
+        count: *mut u64,
         done: *mut u64,
         last: *mut u64,
     ) -> u32;
