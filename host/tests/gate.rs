@@ -16,8 +16,11 @@ fn gate(repository: &Repository) -> Command {
     repository.command(&repository.path(".ci/run"), &[])
 }
 
-fn last(run: &Run) -> &str {
-    run.out.lines().last().expect("a line")
+/// Looks at the status of a run and at its last line.
+#[track_caller]
+fn assert_ends(run: &Run, status: i32, line: &str) {
+    let last = run.out.lines().last().expect("a line");
+    assert_eq!((run.status, last), (Some(status), line), "{}", run.err);
 }
 
 #[test]
@@ -25,7 +28,7 @@ fn the_tests_link_what_was_just_proved() {
     let repository = Repository::keeping();
     let [archive, text] = [KEPT, TEXT].map(|name| repository.has(name));
     let run = finish(&mut gate(&repository));
-    assert_eq!((run.status, last(&run)), (Some(0), COUNT), "{}", run.err);
+    assert_ends(&run, 0, COUNT);
     assert!(run
         .out
         .contains(&format!("\n{KEPT} is what was just proved\n")));
@@ -33,14 +36,8 @@ fn the_tests_link_what_was_just_proved() {
     assert_eq!(repository.calls()[1..], [&linked[..], &linked]);
     // Another library was proved: the tests link it, and the kept one stays and is told of.
     repository.put("archive", "another library");
-    let run = finish(&mut gate(&repository));
     let line = format!("{KEPT} is not what was just proved; {RENEW}");
-    assert_eq!(
-        (run.status, last(&run)),
-        (Some(1), &line[..]),
-        "{}",
-        run.err
-    );
+    assert_ends(&finish(&mut gate(&repository)), 1, &line);
     assert_eq!(repository.calls()[1..], ["cargo links another library"; 2]);
     assert_eq!(
         [KEPT, TEXT].map(|name| repository.has(name)),
@@ -52,17 +49,10 @@ fn the_tests_link_what_was_just_proved() {
 fn a_kept_archive_of_other_sources_fails_the_gate() {
     let repository = Repository::keeping();
     repository.put("crates/base/src/lib.rt", "changed");
-    let run = finish(&mut gate(&repository));
     let line = format!("{OTHER_SOURCES}; {RENEW}");
-    assert_eq!(
-        (run.status, last(&run)),
-        (Some(1), &line[..]),
-        "{}",
-        run.err
-    );
+    assert_ends(&finish(&mut gate(&repository)), 1, &line);
     repository.renew();
-    let run = finish(&mut gate(&repository));
-    assert_eq!((run.status, last(&run)), (Some(0), COUNT), "{}", run.err);
+    assert_ends(&finish(&mut gate(&repository)), 0, COUNT);
 }
 
 #[test]
@@ -70,7 +60,7 @@ fn another_kit_does_not_fail_the_gate() {
     let repository = Repository::keeping();
     repository.put("archive", "the library as another kit makes it");
     let run = finish(gate(&repository).env("KIT", "kit 2"));
-    assert_eq!((run.status, last(&run)), (Some(0), COUNT), "{}", run.err);
+    assert_ends(&run, 0, COUNT);
     assert!(run.out.contains(" and was not compared\n"), "{}", run.out);
 }
 
