@@ -151,6 +151,11 @@ mul-r15 : seen 0 (execute (at Al (Mul false false 0 0 1 15)) begin) ≡ none
 unfolding execute
 mul-r15 = refl
 
+-- a Branch of Thumb that links is no instruction
+no-thumb-bl : seen 14 (execute (thumb 0x08000000 (Branch true 0x08000100)) begin) ≡ none
+unfolding execute
+no-thumb-bl = refl
+
 -- SWI is not written out
 swi : seen 0 (execute (at Al (Swi 0)) begin) ≡ none
 unfolding execute
