@@ -271,6 +271,7 @@ impl Fault {
             "is for an impossible case",
             "has no implicit argument",
             "level argument(s)",
+            "is not in scope",
         ];
         marks.iter().any(|m| self.message.contains(m))
     }

@@ -6,8 +6,9 @@ use mathlib.Core.Bool.{Bool, true, false}
 use mathlib.Core.List.{List, [], _∷_, _++_, map}
 use mathlib.Core.Option.{none, some}
 use lib.Dec.{leb}
+use package.native.Mathlib.Omega.{arith}
 use borrow.Author.Tests.{le-leb}
-use lib.ListN.{replicate}
+use lib.ListN.{length, replicate}
 use Rattle.base_text.specs.Digits.{numeral, lastDigits}
 use Rattle.base_text.specs.Doc.{text, decimal, hexadecimal, hexadecimal8, hexadecimal16, print}
 use Rattle.c_tree.specs.Expr.{u32, word, udec, x-r, x-addr, x-cz, reg, var, lnot, compl, add, band}
@@ -23,7 +24,7 @@ use Rattle.lower_units.specs.Block.{underGuard, blockCode}
 use Rattle.file_blocks.specs.Address.{outsideRomBios}
 use Rattle.lower_units.specs.Units.{TranslationUnit, withLocals, emitBlock, labelled}
 use Rattle.lower_units.specs.Units.{groupCode, forwarders, emitGroup, textOf, cut, bodiesOf}
-use Rattle.lower_units.specs.Units.{emitCChunked}
+use Rattle.lower_units.specs.Units.{unitHead, emitCChunked}
 
 -- c[15] = a, and that after a tick
 abbrev to : ℕ → Lines
@@ -319,3 +320,14 @@ one-pair : (a b : Body)
     → map ends (emitCChunked 0 (a ∷ b ∷ []) ((0 ∷ 1 ∷ []) ∷ [])) ≡ (2, false) ∷ (2, true) ∷ []
 unfolding emitCChunked cut bodiesOf
 one-pair a b = rw zero-leb
+
+-- a unit is handed on where its length is the wished size
+self-leb : (n : ℕ) → leb n n ≡ true
+self-leb n = le-leb n n (omega arith)
+
+met : (b : Body)
+    → map ends (emitCChunked (length (textOf (unitHead ++ emitGroup (b ∷ [])))) (b ∷ [])
+    ((0 ∷ []) ∷ []))
+    ≡ (1, false) ∷ (1, true) ∷ []
+unfolding emitCChunked cut bodiesOf
+met b = rw (self-leb (length (textOf (unitHead ++ emitGroup (b ∷ [])))))
