@@ -288,7 +288,8 @@ fn builds_by_hand_link_the_kept_archive_where_it_fits() {
     let repository = Repository::real();
     for package in ["host", "tools"] {
         repository.renew();
-        assert_eq!(built(&repository, package).printed(), "");
+        let run = built(&repository, package);
+        assert_eq!(run.status, Some(0), "{}", run.err);
         assert!(repository.calls().is_empty());
         repository.damage();
         let run = built(&repository, package);
@@ -301,7 +302,8 @@ fn builds_by_hand_link_the_kept_archive_where_it_fits() {
         assert!(repository.calls().is_empty());
         let file = format!("crates/{package}_is_changed");
         repository.put(&file, "");
-        assert_eq!(built(&repository, package).printed(), "");
+        let run = built(&repository, package);
+        assert_eq!(run.status, Some(0), "{}", run.err);
         assert_eq!(repository.calls(), repository.both_calls()[..1]);
         // A kit that fails is shown, after what it was called for.
         repository.put(&file, "again");

@@ -322,9 +322,10 @@ fn any_folder_will_do_and_so_does_a_link() {
     }
 }
 
-/// The number of crates in the last line of a run that proved.
+/// The number of crates in the last line that counts them; what cargo says comes after it.
 fn counted(run: &Run) -> Option<usize> {
-    let rest = run.err.lines().last()?.strip_prefix("recomp: proved ")?;
+    let mut lines = run.err.lines().rev();
+    let rest = lines.find_map(|line| line.strip_prefix("recomp: proved "))?;
     rest.split(' ').next()?.parse().ok()
 }
 
