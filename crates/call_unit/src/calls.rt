@@ -48,7 +48,7 @@ fn answer_unit(
     if text.len() < e.length {
         return UnitAnswer::Refused { number: 10, at: 0 };
     }
-    write_unit(text, file, work, n, e);
+    write_unit(text, file, work, n, max, e);
     let length = e.length as u64;
     let done = e.end as u64;
     let last = e.last;

@@ -6,10 +6,11 @@ use native.Mathlib.Decide.{decLt}
 use borrow.Author.Tests.{le-leb, lt-leb}
 use mathlib.Core.Bool.{Bool, true, false, cond}
 use mathlib.Core.List.{List, [], _∷_, _++_, map, List·Memᴰ, List·Memᴰ·head, List·Memᴰ·tail}
+use mathlib.Core.List.{nil≢cons, cons≢nil, head-eq-of-cons-eq}
 use mathlib.Core.Option.{none, some, Option·none-ne-some, Option·some-injective}
 use lib.Dec.{leb}
 use lib.ListN.{length, length as ListN·length, getD, take, drop, getElem?, length-map, length-drop}
-use lib.Seq.{take-suc, drop-cons, drop-length, getD-drop}
+use lib.Seq.{take-suc, drop-cons, drop-drop, drop-length, drop-nil, getD-drop}
 use Rattle.base_text.specs.Wrote.{maxUsize}
 use Rattle.base_hash.specs.Fnv.{hashMultiplier}
 use Rattle.file_blocks.specs.Parse.{blocksOf, Accepted}
@@ -25,7 +26,7 @@ use Rattle.lower_units.proofs.Lengths.{text-append, units-short}
 use Rattle.emit_units.specs.declared.extents.Extent.{Extent}
 use Rattle.emit_group.specs.Groups.{fileBodies}
 use Rattle.emit_units.specs.Units.{after, grown, unitGroups, unitTree, unitsWith, unitsFrom}
-use Rattle.emit_units.specs.Units.{FirstUnit, IsUnit}
+use Rattle.emit_units.specs.Units.{FirstUnit, StartsAt, IsUnit}
 
 -- a group after some
 pub grown-last : (bs : List Body) (ts : List Top) (gs : List (List ℕ)) (is : List ℕ)
@@ -132,7 +133,7 @@ module _ (f : List ℕ) (limit max : ℕ) where
   units-all = refl
 
 -- the length of a tree and another after it
-after-both : (ts us : List Top) → after (after 0 ts) us ≡ after 0 (ts ++ us)
+pub after-both : (ts us : List Top) → after (after 0 ts) us ≡ after 0 (ts ++ us)
 after-both ts us = omega (arith, text-append ts us)
 
 -- how far the first unit of the groups from group g on has come: row q, and so many bytes
@@ -144,7 +145,7 @@ pub record Walked (f : List ℕ) (limit max g q at : ℕ) : Type 0 where
   pub units : unitsFrom f limit max g ≡ unitsWith f limit max (unitGroups f limit g size) (g + size)
 
 -- no group yet
-pub walked-none : (f : List ℕ) (limit max g p at : ℕ) → g ≤ length (groups limit (blocksOf f))
+unfoldable pub walked-none : (f : List ℕ) (limit max g p at : ℕ) → g ≤ length (groups limit (blocksOf f))
     → p ≡ startOf (groups limit (blocksOf f)) g → at ≡ after 0 unitHead
     → Walked f limit max g p at
 unfolding grown
@@ -175,32 +176,32 @@ module _ {f : List ℕ} {n limit : ℕ} {work : List ℕ} (ready : HoldsPlan f n
       ≡ after at
       (emitGroup (bodiesOf (fileBodies f) (getD (groups limit (blocksOf f)) (g + w .size) []))))
       (most : max ≤ maxUsize) where
-    inside : g + w .size < length (groups limit (blocksOf f))
+    pub inside : g + w .size < length (groups limit (blocksOf f))
     inside = group-left ready (g + w .size) (omega (arith, w .here))
 
-    one-more : suc (g + w .size) ≡ g + suc (w .size)
+    pub one-more : suc (g + w .size) ≡ g + suc (w .size)
     one-more = omega arith
 
-    bytes : at′ ≡ after 0 (sofar ++ next)
-    bytes = long ∙ ap (λ (m : ℕ). after m next) (w .bytes) ∙ after-both sofar next
+    pub walked-bytes : at′ ≡ after 0 (sofar ++ next)
+    walked-bytes = long ∙ ap (λ (m : ℕ). after m next) (w .bytes) ∙ after-both sofar next
 
-    tree : sofar ++ next ≡ unitGroups f limit g (suc (w .size))
-    tree = sym (grown-next (fileBodies f) unitHead (groups limit (blocksOf f)) g (w .size) inside)
+    pub walked-tree : sofar ++ next ≡ unitGroups f limit g (suc (w .size))
+    walked-tree = sym (grown-next (fileBodies f) unitHead (groups limit (blocksOf f)) g (w .size) inside)
 
     -- a group after which the unit goes on
-    pub walked-more : at′ < max → Walked f limit max g end at′
+    unfoldable pub walked-more : at′ < max → Walked f limit max g end at′
     walked-more short =
         record {
           size = suc (w .size);
           within = omega (arith, inside);
           here = ends ∙ ap (startOf (groups limit (blocksOf f))) one-more;
-          bytes = bytes ∙ ap (after 0) tree;
-          units = w .units ∙ cut-on f limit max sofar (g + w .size) inside (omega (arith, bytes))
-              ∙ ap₂ (unitsWith f limit max) tree one-more;
+          bytes = walked-bytes ∙ ap (after 0) walked-tree;
+          units = w .units ∙ cut-on f limit max sofar (g + w .size) inside (omega (arith, walked-bytes))
+              ∙ ap₂ (unitsWith f limit max) walked-tree one-more;
         }
 
     -- a group after which it is handed on
-    pub walked-handed : (start : ℕ) → start ≡ startOf (groups limit (blocksOf f)) g → max ≤ at′
+    unfoldable pub walked-handed : (start : ℕ) → start ≡ startOf (groups limit (blocksOf f)) g → max ≤ at′
         → FirstUnit f limit max g (record { start = start; end = end; length = at′; last = false })
     walked-handed start first enough =
         record {
@@ -212,19 +213,20 @@ module _ {f : List ℕ} {n limit : ℕ} {work : List ℕ} (ready : HoldsPlan f n
                 end = ends
                     ∙ ap (startOf (groups limit (blocksOf f))) one-more;
               };
-          bytes = bytes ∙ ap (after 0) tree;
+          bytes = walked-bytes ∙ ap (after 0) walked-tree;
           units =
               w .units
-              ∙ cut-handed f limit max sofar (g + w .size) inside (omega (arith, bytes))
+              ∙ cut-handed f limit max sofar (g + w .size) inside (omega (arith, walked-bytes))
               ∙ ap₂ (λ (ts : List Top) (d : ℕ). record { tree = ts; done = d; last = false }
-              ∷ unitsFrom f limit max (suc (g + w .size))) tree (sym ends)
+              ∷ unitsFrom f limit max (suc (g + w .size))) walked-tree (sym ends)
               ∙ ap (λ (j : ℕ). record
               { tree = unitGroups f limit g (suc (w .size)); done = end; last = false }
               ∷ unitsFrom f limit max j) one-more;
         }
 
   -- where no row is left
-  pub walked-end : (start length : ℕ) → start ≡ startOf (groups limit (blocksOf f)) g → n ≤ q
+  unfoldable pub walked-end : (start length : ℕ)
+      → start ≡ startOf (groups limit (blocksOf f)) g → n ≤ q
       → length ≡ after at (lastUnitEnd (fileBodies f))
       → FirstUnit f limit max g (record { start = start; end = q; length = length; last = true })
   walked-end start length first none-left long =
@@ -255,97 +257,109 @@ module _ {f : List ℕ} {n limit : ℕ} {work : List ℕ} (ready : HoldsPlan f n
             | no d ↦ omega (arith, w .within)
           ]
 
--- where the walk over units has come: unit i is the first of the groups from row p on
-pub record Reached (f : List ℕ) (limit max i p : ℕ) : Type 0 where
-  pub group : ℕ
-  pub within : group ≤ length (groups limit (blocksOf f))
-  pub here : p ≡ startOf (groups limit (blocksOf f)) group
-  pub units : (j : ℕ)
-      → getElem? (units hashMultiplier limit max (blocksOf f)) (i + j)
-      ≡ getElem? (unitsFrom f limit max group) j
-
-pub reached-none : (f : List ℕ) (limit max : ℕ) → Reached f limit max 0 0
+-- before the first unit
+pub starts-first : (f : List ℕ) (limit max : ℕ) → StartsAt f limit max 0 0
 unfolding startOf
-reached-none f limit max =
+starts-first f limit max =
     record {
       group = 0;
       within = omega arith;
       here = refl;
-      units = λ j.
-          ap₂ (λ (us : List TranslationUnit) (k : ℕ). getElem? us k) (sym (units-all f limit max))
-          (let same : 0 + j ≡ j = omega arith in same);
+      units = sym (units-all f limit max);
     }
+
+-- an element at the front of what is left of a list
+front-at : {A : Type 0} (xs : List A) (k : ℕ) (a : A) (ys : List A) → drop k xs ≡ a ∷ ys
+    → getElem? xs k ≡ some a
+front-at [] zero a ys e = absurd (nil≢cons e)
+front-at [] (suc k) a ys e = absurd (nil≢cons e)
+front-at (x ∷ xs) zero a ys e = ap some (head-eq-of-cons-eq e)
+front-at (x ∷ xs) (suc k) a ys e = front-at xs k a ys e
+
+-- nothing is left of a list
+pub none-at : {A : Type 0} (xs : List A) (k : ℕ) → drop k xs ≡ [] → getElem? xs k ≡ none
+none-at [] zero e = refl
+none-at [] (suc k) e = refl
+none-at (x ∷ xs) zero e = absurd (cons≢nil e)
+none-at (x ∷ xs) (suc k) e = none-at xs k e
 
 found-in : {A : Type 0} (xs : List A) (i : ℕ) (a : A) → getElem? xs i ≡ some a → List·Memᴰ a xs
 found-in [] i a e = absurd (Option·none-ne-some a e)
 found-in (x ∷ xs) zero a e = List·Memᴰ·head (sym (Option·some-injective x a e))
 found-in (x ∷ xs) (suc i) a e = List·Memᴰ·tail (found-in xs i a e)
 
-module _ {f : List ℕ} {limit max i p : ℕ} (r : Reached f limit max i p) {e : Extent}
-    (u : FirstUnit f limit max (r .group) e) where
-  abbrev here : TranslationUnit
-  here =
-      record {
-        tree = unitTree f limit (r .group) (u .size) (e .last);
-        done = e .end;
-        last = e .last;
-      }
+-- the unit of an extent
+abbrev pub unitOf : (f : List ℕ) (limit g size : ℕ) → Extent → TranslationUnit
+unitOf f limit g size e =
+    record { tree = unitTree f limit g size (e .last); done = e .end; last = e .last }
 
-  abbrev later : List TranslationUnit
-  later = cond (e .last) [] (unitsFrom f limit max (r .group + u .size))
-
-  units-at : (j : ℕ)
-      → getElem? (units hashMultiplier limit max (blocksOf f)) (i + j)
-      ≡ getElem? (here ∷ later) j
-  units-at j = r .units j ∙ ap (λ (us : List TranslationUnit). getElem? us j) (u .units)
-
+module _ {f : List ℕ} {limit max i p : ℕ} (s : StartsAt f limit max i p) {e : Extent}
+    (u : FirstUnit f limit max (s .group) e) where
   -- a unit that is not the last
-  pub reached-more : e .last ≡ false → Reached f limit max (i + 1) (e .end)
-  reached-more on =
+  unfoldable pub starts-next : e .last ≡ false → StartsAt f limit max (i + 1) (e .end)
+  starts-next on =
       record {
-        group = r .group + u .size;
+        group = s .group + u .size;
         within = u .takes .within;
         here = u .takes .end;
-        units = λ j.
-            ap (getElem? (units hashMultiplier limit max (blocksOf f)))
-            (let same : i + 1 + j ≡ i + suc j = omega arith in same)
-            ∙ units-at (suc j)
-            ∙ ap (λ (x : Bool). getElem? (cond x [] (unitsFrom f limit max (r .group + u .size))) j)
-            on;
+        units =
+            sym (drop-drop 1 i (units hashMultiplier limit max (blocksOf f)))
+            ∙ ap (drop 1) (s .units ∙ u .units)
+            ∙ ap (λ (x : Bool). cond x [] (unitsFrom f limit max (s .group + u .size))) on;
       }
 
   -- none after the last
-  pub reached-past : e .last ≡ true → (k : ℕ) → i < k
-      → getElem? (units hashMultiplier limit max (blocksOf f)) k ≡ none
-  reached-past over k later =
-      ap (getElem? (units hashMultiplier limit max (blocksOf f)))
+  pub starts-past : e .last ≡ true → (k : ℕ) → i < k
+      → drop k (units hashMultiplier limit max (blocksOf f)) ≡ []
+  starts-past over k later =
+      ap (λ (j : ℕ). drop j (units hashMultiplier limit max (blocksOf f)))
       (let same : k ≡ i + suc (k - suc i) = omega arith in same)
-      ∙ units-at (suc (k - suc i))
-      ∙ ap (λ (x : Bool). getElem? (cond x [] (unitsFrom f limit max (r .group + u .size)))
-      (k - suc i)) over
+      ∙ sym (drop-drop (suc (k - suc i)) i (units hashMultiplier limit max (blocksOf f)))
+      ∙ ap (drop (suc (k - suc i))) (s .units ∙ u .units)
+      ∙ ap (λ (x : Bool). drop (k - suc i) (cond x [] (unitsFrom f limit max (s .group + u .size))))
+      over
+      ∙ drop-nil (k - suc i)
 
-  -- the unit that is looked for
-  pub reached-unit : Accepted f → (k : ℕ) → i ≡ k → IsUnit f limit max k e
+  -- the unit stands in the list
+  pub unit-found : getElem? (units hashMultiplier limit max (blocksOf f)) i
+      ≡ some (unitOf f limit (s .group) (u .size) e)
+  unit-found = front-at (units hashMultiplier limit max (blocksOf f)) i _ _ (s .units ∙ u .units)
+
+  -- its length is exact
+  pub unit-bytes : Accepted f
+      → e .length ≡ length (textOf (unitTree f limit (s .group) (u .size) (e .last)))
   unfolding unitsBy
-  reached-unit ok k at =
-      let found : getElem? (units hashMultiplier limit max (blocksOf f)) k
-      ≡ some here =
-      ap (getElem? (units hashMultiplier limit max (blocksOf f)))
-      (let same : k ≡ i + 0 = omega arith in same) ∙ units-at 0 in
-      record {
-        unit = here;
-        found = found;
-        bytes =
-            omega (
-              arith,
-              u .bytes,
-              units-short f (blocksOf f) ok hashMultiplier limit max here
-                  (found-in _ k here found),
-            );
-        done = refl;
-        last = refl;
-        group = r .group;
-        size = u .size;
-        takes = u .takes;
-        tree = refl;
-      }
+  unit-bytes ok =
+      omega (
+        arith,
+        u .bytes,
+        units-short f (blocksOf f) ok hashMultiplier limit max _ (found-in _ i _ unit-found),
+      )
+
+-- the unit that is looked for
+pub starts-unit : {f : List ℕ} {limit max k p : ℕ} {e : Extent} → Accepted f
+    → (s : StartsAt f limit max k p) → FirstUnit f limit max (s .group) e → IsUnit f limit max k e
+starts-unit {f} {limit} {max} {k} {p} {e} ok s u =
+    record {
+      at =
+          record {
+            group = s .group;
+            within = s .within;
+            here = u .takes .start;
+            units = s .units;
+          };
+      first = u;
+      unit = unitOf f limit (s .group) (u .size) e;
+      found = unit-found s u;
+      bytes = unit-bytes s u ok;
+      done = refl;
+      last = refl;
+      tree = refl;
+    }
+
+-- two extents of the first unit have one tree
+pub same-tree : {f : List ℕ} {limit max g : ℕ} {d e : Extent} (v : FirstUnit f limit max g d)
+    (u : FirstUnit f limit max g e)
+    → unitTree f limit g (v .size) (d .last) ≡ unitTree f limit g (u .size) (e .last)
+same-tree {f} {limit} {max} {g} {d} {e} v u =
+    ap (λ (t : TranslationUnit). t .tree) (head-eq-of-cons-eq (sym (v .units) ∙ u .units))

@@ -1,3 +1,4 @@
 -- The laws that the functions' proofs share.
 pub mod Cuts
+pub mod Fitted
 pub mod Written

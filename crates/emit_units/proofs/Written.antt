@@ -1,8 +1,7 @@
 -- The text of a unit, as the pieces that are written one after another.
-use mathlib.Core.Path.{_≡_, refl, sym, ap, ap₂, _∙_, subst}
-use Prim.Native.Nat.{ℕ, zero, suc, _+_, _-_, _≤_, _<_}
+use mathlib.Core.Path.{_≡_, refl, sym, ap, ap₂, _∙_}
+use Prim.Native.Nat.{ℕ, suc, _+_, _≤_, _<_, min}
 use native.Mathlib.Omega.{arith}
-use native.Mathlib.Decide.{decLt}
 use mathlib.Core.Bool.{Bool, true, false}
 use mathlib.Core.List.{List, [], _∷_, _++_, map}
 use lib.ListN.{length, getD, take, drop, length-drop}
@@ -15,16 +14,17 @@ use Rattle.file_blocks.specs.Parse.{blocksOf}
 use Rattle.plan_groups.specs.Plan.{groups}
 use Rattle.plan_members.specs.Members.{startOf}
 use Rattle.plan_members.specs.Prepared.{HoldsPlan}
-use Rattle.plan_members.proofs.Places.{start-next, group-has}
 use Rattle.c_tree.specs.Stmt.{Top}
 use Rattle.c_tree.specs.Print.{topText, unitText}
 use Rattle.lower_forms.specs.Forms.{Body}
 use Rattle.lower_units.specs.Measured.{hashedIf}
-use Rattle.lower_units.specs.Units.{emitGroup, unitHead, lastUnitEnd, bodiesOf}
-use Rattle.lower_units.proofs.Measured.{hashed-written}
+use Rattle.lower_units.specs.Units.{emitGroup, unitHead, lastUnitEnd, textOf, bodiesOf}
+use Rattle.lower_units.proofs.Measured.{hashed-written, hashed-length}
 use Rattle.emit_units.specs.declared.extents.Extent.{Extent}
 use Rattle.emit_group.specs.Groups.{fileBodies, groupText}
-use Rattle.emit_units.specs.Units.{grown, unitGroups, unitTree, SpansGroups}
+use Rattle.emit_units.specs.Units.{after, grown, unitGroups, unitTree, unitDoc, MadeUnit}
+use Rattle.emit_units.proofs.Cuts.{Walked, walked-none, walked-more, walked-handed}
+use Rattle.emit_units.proofs.Cuts.{walked-end, inside}
 
 -- bodies as they are written are themselves
 all-written : (bs : List Body) → map (hashedIf true) bs ≡ bs
@@ -45,128 +45,114 @@ grown-text f ts (is ∷ gs) k =
     ∙ each-append topText ts (emitGroup ms) (flat (each (groupText true f) gs) k)
     ∙ grown-text f (ts ++ emitGroup ms) gs k
 
-module _ (f : List ℕ) (limit g size : ℕ) {o o₁ o₂ : List ℕ} {r₁ r₂ : ℕ} (tree : List Top)
-    (last : Bool) (is : tree ≡ unitTree f limit g size last)
-    (head : Wrote o 0 (unitText unitHead) o₁ r₁)
-    (body : Wrote o₁ r₁
-    (each (groupText true f) (take size (drop g (groups limit (blocksOf f))))) o₂ r₂) where
-  abbrev gs : List (List ℕ)
-  gs = take size (drop g (groups limit (blocksOf f)))
+-- a group that is written or measured makes a text longer by its length
+pub group-after : (hashing : Bool) (f : List ℕ) (is : List ℕ) {o o′ : List ℕ} {at r : ℕ}
+    → Wrote o at (groupText hashing f is) o′ r
+    → r ≡ after at (emitGroup (bodiesOf (fileBodies f) is))
+unfolding textOf
+group-after hashing f is {o} {o′} {at} {r} w =
+    w .next
+    ∙ ap (λ (m : ℕ). min (at + m) maxUsize)
+    (hashed-length hashing (bodiesOf (fileBodies f) is))
 
-  -- a unit that is not the last
-  pub unit-handed : last ≡ false → Wrote o 0 (unitText tree) o₂ r₂
-  unit-handed e =
-      wrote-as (seq head body)
-      (grown-text f unitHead gs []
-      ∙ ap (λ (ts : List Top). flat (unitText ts) []) (sym (is ∙ ap (unitTree f limit g size) e)))
+-- how far the first unit of the groups from group g on has come: row q and so many bytes, of which
+-- those from `from` on were put over o
+pub record Making (hashing : Bool) (f : List ℕ) (limit max g q from at : ℕ) (o o′ : List ℕ) : Type 0
+    where
+  pub walked : Walked f limit max g q at
+  pub wrote : Wrote o from
+      (each (groupText hashing f) (take (walked .size) (drop g (groups limit (blocksOf f)))))
+      o′ at
 
-  -- the last
-  pub unit-last : {o₃ : List ℕ} {r₃ : ℕ} → last ≡ true
-      → Wrote o₂ r₂ (unitText (lastUnitEnd (fileBodies f))) o₃ r₃ → Wrote o 0 (unitText tree) o₃ r₃
-  unit-last e end =
-      wrote-as (seq head (seq body end))
-      (grown-text f unitHead gs (flat (unitText (lastUnitEnd (fileBodies f))) [])
-      ∙ each-append topText (unitGroups f limit g size) (lastUnitEnd (fileBodies f)) []
-      ∙ ap (λ (ts : List Top). flat (unitText ts) []) (sym (is ∙ ap (unitTree f limit g size) e)))
-
--- a later group starts no earlier
-start-rises : (gs : List (List ℕ)) (g d : ℕ) → startOf gs g ≤ startOf gs (g + d)
-start-rises gs g zero = omega (arith, ap (startOf gs) (let same : g + 0 ≡ g = omega arith in same))
-start-rises gs g (suc d) =
-    omega (
-      arith,
-      start-rises gs g d,
-      start-next gs (g + d),
-      ap (startOf gs)
-          (let same : g + suc d ≡ suc (g + d) = omega arith in same),
-    )
-
--- how far the groups of a unit are written: up to row p
-pub record PutTo (f : List ℕ) (limit g size p : ℕ) (o : List ℕ) (at : ℕ) (o′ : List ℕ) (r : ℕ) :
-    Type 0 where
-  pub count : ℕ
-  pub within : count ≤ size
-  pub here : p ≡ startOf (groups limit (blocksOf f)) (g + count)
-  pub wrote : Wrote o at (each (groupText true f) (take count (drop g (groups limit (blocksOf f)))))
-      o′ r
-
-pub put-none : {f : List ℕ} {limit g size : ℕ} {e : Extent} → SpansGroups f limit g size e
-    → (o : List ℕ) (at : ℕ) → length o ≤ maxUsize → at ≤ maxUsize
-    → PutTo f limit g size (e .start) o at o at
-put-none {f} {limit} {g} t o at h k =
+-- PREAMBLE is written, and no group yet
+pub making-none : {hashing : Bool} {f : List ℕ} {limit max g p at : ℕ} {o o′ : List ℕ}
+    → g ≤ length (groups limit (blocksOf f)) → p ≡ startOf (groups limit (blocksOf f)) g
+    → Wrote o 0 (unitText unitHead) o′ at → length o′ ≡ length o
+    → Making hashing f limit max g p at at o′ o′
+unfolding textOf walked-none
+making-none {limit = limit} h e w same =
     record {
-      count = 0;
-      within = omega arith;
-      here = t .start
-          ∙ ap (startOf (groups limit (blocksOf f))) (let same : g ≡ g + 0 = omega arith in same);
-      wrote = none h k;
+      walked = walked-none _ limit _ _ _ _ h e (w .next);
+      wrote = none (omega (arith, w .small)) (omega (arith, w .next));
     }
 
-module _ {f : List ℕ} {n limit : ℕ} {work : List ℕ} (ready : HoldsPlan f n limit work) {g size : ℕ}
-    {e : Extent} (t : SpansGroups f limit g size e) {p at r₁ : ℕ} {o o₁ : List ℕ}
-    (put : PutTo f limit g size p o at o₁ r₁) where
-  -- a row is left, so a group is
-  pub group-more : p < e .end → put .count < size
-  group-more left =
-      elim (decLt (put .count) size) [
-        | yes l ↦ l
-        | no d ↦ absurd
-            (omega (
-              arith,
-              t .end,
-              put .here,
-              ap (λ (m : ℕ). startOf (groups limit (blocksOf f)) (g + m))
-                  (let same : put .count ≡ size = omega (arith, put .within) in same),
-            ))
-      ]
+module _ {hashing : Bool} {f : List ℕ} {n limit : ℕ} {work : List ℕ}
+    (ready : HoldsPlan f n limit work)
+    {max g q from at : ℕ} {o₁ o₂ : List ℕ} (m : Making hashing f limit max g q from at o₁ o₂) where
+  abbrev gs : List (List ℕ)
+  gs = groups limit (blocksOf f)
 
-  -- a group is written
-  pub put-more : p < e .end → (end r₂ : ℕ) (o₂ : List ℕ)
-      → end ≡ startOf (groups limit (blocksOf f)) (suc (g + put .count))
-      → Wrote o₁ r₁ (groupText true f (getD (groups limit (blocksOf f)) (g + put .count) [])) o₂ r₂
-      → PutTo f limit g size end o at o₂ r₂
-  put-more left end r₂ o₂ ends w =
-      let more : put .count < size = group-more left in
+  module _ (left : q < n) {end at′ : ℕ} {o₃ : List ℕ}
+      (ends : end ≡ startOf (groups limit (blocksOf f)) (suc (g + m .walked .size)))
+      (put : Wrote o₂ at
+      (groupText hashing f (getD (groups limit (blocksOf f)) (g + m .walked .size) [])) o₃ at′)
+      (most : max ≤ maxUsize) where
+    long : at′ ≡ after at (emitGroup (bodiesOf (fileBodies f) (getD gs (g + m .walked .size) [])))
+    long = group-after hashing f (getD gs (g + m .walked .size) []) put
+
+    -- one group more
+    wrote-more : Wrote o₁ from
+        (each (groupText hashing f) (take (suc (m .walked .size)) (drop g gs))) o₃ at′
+    wrote-more =
+        rw (sym (add-one (m .walked .size)))
+        (each-more (groupText hashing f) (drop g gs) [] (m .walked .size)
+        (omega (arith, length-drop g gs, inside ready (m .walked) left _ _ ends long most))
+        (m .wrote) (wrote-as put (ap (λ (is : List ℕ). flat (groupText hashing f is) [])
+        (sym (getD-drop g gs (m .walked .size) [])))))
+      where
+        add-one : (k : ℕ) → k + 1 ≡ suc k
+        add-one k = omega arith
+
+    -- a group after which the unit goes on
+    pub making-more : at′ < max → Making hashing f limit max g end from at′ o₁ o₃
+    unfolding walked-more
+    making-more short =
+        record {
+          walked = walked-more ready (m .walked) left _ _ ends long most short;
+          wrote = wrote-more;
+        }
+
+    -- a group after which it is handed on
+    pub making-handed : {o : List ℕ} (start : ℕ) → start ≡ startOf (groups limit (blocksOf f)) g
+        → max ≤ at′ → Wrote o 0 (unitText unitHead) o₁ from
+        → MadeUnit hashing f limit max g o o₃
+        (record { start = start; end = end; length = at′; last = false })
+    unfolding walked-handed
+    making-handed start first enough head =
+        record {
+          first = walked-handed ready (m .walked) left _ _ ends long most start first enough;
+          wrote = wrote-as (seq head wrote-more) refl;
+        }
+
+  -- where no row is left
+  pub making-end : {o o₃ : List ℕ} {r : ℕ} (start : ℕ)
+      → start ≡ startOf (groups limit (blocksOf f)) g → n ≤ q
+      → Wrote o 0 (unitText unitHead) o₁ from
+      → Wrote o₂ at (unitText (lastUnitEnd (fileBodies f))) o₃ r
+      → MadeUnit hashing f limit max g o o₃
+      (record { start = start; end = q; length = r; last = true })
+  unfolding textOf walked-end
+  making-end start first none-left head put =
       record {
-        count = put .count + 1;
-        within = omega arith;
-        here = ends
-            ∙ ap (startOf (groups limit (blocksOf f)))
-            (let same : suc (g + put .count) ≡ g + (put .count + 1) = omega arith in same);
-        wrote =
-            each-more (groupText true f) (drop g (groups limit (blocksOf f))) [] (put .count)
-            (omega (arith, length-drop g (groups limit (blocksOf f)), t .within)) (put .wrote)
-            (wrote-as w (ap (λ (is : List ℕ). flat (groupText true f is) [])
-            (sym (getD-drop g (groups limit (blocksOf f)) (put .count) []))));
+        first = walked-end ready (m .walked) start _ first none-left (put .next);
+        wrote = seq (seq head (m .wrote)) put;
       }
 
-  -- no row is left, so all groups are written
-  pub put-all : e .end ≤ p
-      → Wrote o at (each (groupText true f) (take size (drop g (groups limit (blocksOf f))))) o₁ r₁
-  put-all over =
-      subst (λ (m : ℕ). Wrote o at
-      (each (groupText true f) (take m (drop g (groups limit (blocksOf f))))) o₁ r₁) all
-      (put .wrote)
-    where
-      -- a group that were left would have a row
-      left : put .count < size → ⊥
-      left l =
-          omega (
-            arith,
-            t .end,
-            put .here,
-            group-has ready (g + put .count) (omega (arith, t .within)),
-            start-next (groups limit (blocksOf f)) (g + put .count),
-            start-rises (groups limit (blocksOf f)) (suc (g + put .count))
-                (size - suc (put .count)),
-            ap (startOf (groups limit (blocksOf f)))
-                (let same : suc (g + put .count) + (size - suc (put .count))
-                ≡ g + size = omega arith in same),
-          )
+-- a unit that is written has the text of its tree
+pub made-text : {f : List ℕ} {limit max g : ℕ} {o o′ : List ℕ} {e : Extent}
+    (m : MadeUnit true f limit max g o o′ e)
+    → Wrote o 0 (unitText (unitTree f limit g (m .first .size) (e .last))) o′ (e .length)
+made-text {f} {limit} {max} {g} {o} {o′} {e} m =
+    wrote-as (m .wrote) (go (e .last))
+  where
+    size : ℕ
+    size = m .first .size
 
-      all : put .count ≡ size
-      all =
-          elim (decLt (put .count) size) [
-            | yes l ↦ absurd (left l)
-            | no d ↦ omega (arith, put .within)
-          ]
+    go : (last : Bool)
+        → flat (unitDoc true f limit g size last) []
+        ≡ flat (unitText (unitTree f limit g size last)) []
+    go true =
+        grown-text f unitHead (take size (drop g (groups limit (blocksOf f))))
+        (flat (unitText (lastUnitEnd (fileBodies f))) [])
+        ∙ each-append topText (unitGroups f limit g size) (lastUnitEnd (fileBodies f)) []
+    go false = grown-text f unitHead (take size (drop g (groups limit (blocksOf f)))) []

@@ -1,8 +1,8 @@
-// Which rows a unit takes, and how long it is.
-use crate::lengths::after_group;
-use crate::lengths::after_preamble;
-use crate::lengths::after_tail;
+// A unit: the rows that it takes, its length, and its text.
+use emit_group::emit_group;
 use emit_tables::Rows;
+use emit_tables::put_preamble;
+use emit_tables::put_tail;
 use plan_members::group_end;
 ghost use mathlib.Core.Path.{_≡_};
 ghost use Prim.Native.Nat.{ℕ, _≤_};
@@ -11,7 +11,7 @@ ghost use Rattle.file_blocks.specs.Parse.{blocksOf, Accepted};
 ghost use Rattle.plan_groups.specs.Plan.{groups};
 ghost use Rattle.plan_members.specs.Members.{startOf};
 ghost use Rattle.plan_members.specs.Prepared.{HoldsPlan};
-ghost use Rattle.emit_units.specs.Units.{FirstUnit, IsFoundUnit};
+ghost use Rattle.emit_units.specs.Units.{FirstUnit, MadeUnit};
 ghost use Rattle.plan_groups.specs.Groups.{HasRoom};
 
 // A unit: the rows from start to the one before end, the length of its text, and whether it is the
@@ -23,14 +23,17 @@ pub struct Extent {
     pub last: bool,
 }
 
-// The unit with a number, if there is one.
-pub enum FoundUnit {
-    Nothing,
-    At(Extent),
-}
-
-// The first unit of the groups from row p on.
-fn measure_unit(file: &[u8], work: &[u32], n: usize, max: u64, p: usize) -> Extent
+// The first unit of the groups from row p on, from the front of `out` on, with its hashes or with 0
+// in their place.
+pub(crate) fn put_unit(
+    out: &mut [u8],
+    file: &[u8],
+    work: &[u32],
+    n: usize,
+    max: u64,
+    p: usize,
+    hashing: bool,
+) -> Extent
     requires { ⌜ HasRoom (now file) (now work) n × (p ≤ n) ⌝ }
     requires { ⌜ Accepted (now file) ⌝ }
     ensures within { λ r. ⌜ r .end ≤ n ⌝ }
@@ -38,10 +41,10 @@ fn measure_unit(file: &[u8], work: &[u32], n: usize, max: u64, p: usize) -> Exte
         ((limit g : ℕ) → HoldsPlan (now (file .entry)) n limit (now (work .entry))
         → g ≤ length (groups limit (blocksOf (now (file .entry))))
         → p ≡ startOf (groups limit (blocksOf (now (file .entry)))) g
-        → FirstUnit (now (file .entry)) limit max g r)
+        → MadeUnit hashing (now (file .entry)) limit max g (now (out .entry)) (now (out .exit)) r)
         ⌝ }
 {
-    let mut at = after_preamble();
+    let mut at = put_preamble(out, 0);
     let mut q = p;
     while q < n {
         let rows = Rows {
@@ -49,7 +52,7 @@ fn measure_unit(file: &[u8], work: &[u32], n: usize, max: u64, p: usize) -> Exte
             first: q,
             end: group_end(work, n, q),
         };
-        at = after_group(at, file, work, rows);
+        at = emit_group(out, at, file, work, rows, hashing);
         q = rows.end;
         if max <= at as u64 {
             return Extent {
@@ -63,29 +66,23 @@ fn measure_unit(file: &[u8], work: &[u32], n: usize, max: u64, p: usize) -> Exte
     Extent {
         start: p,
         end: q,
-        length: after_tail(at, file, n),
+        length: put_tail(out, at, file, n),
         last: true,
     }
 }
 
-// Unit k at a wished size, of an accepted file with n blocks.
-pub fn find_unit(file: &[u8], work: &[u32], n: usize, max: u64, k: u64) -> FoundUnit
-    requires { ⌜ HasRoom (now file) (now work) n ⌝ }
+// The first unit of the groups from row p on, measured: it is written to no bytes at all.
+pub(crate) fn measure_unit(file: &[u8], work: &[u32], n: usize, max: u64, p: usize) -> Extent
+    requires { ⌜ HasRoom (now file) (now work) n × (p ≤ n) ⌝ }
     requires { ⌜ Accepted (now file) ⌝ }
-    ensures { λ r. ⌜
-        ((limit : ℕ) → HoldsPlan (now (file .entry)) n limit (now (work .entry))
-        → IsFoundUnit (now (file .entry)) limit max k r)
+    ensures within { λ r. ⌜ r .end ≤ n ⌝ }
+    ensures unit { λ r. ⌜
+        ((limit g : ℕ) → HoldsPlan (now (file .entry)) n limit (now (work .entry))
+        → g ≤ length (groups limit (blocksOf (now (file .entry))))
+        → p ≡ startOf (groups limit (blocksOf (now (file .entry)))) g
+        → FirstUnit (now (file .entry)) limit max g r)
         ⌝ }
 {
-    let mut p = 0;
-    let mut i = 0;
-    while i < k {
-        let unit = measure_unit(file, work, n, max, p);
-        if unit.last {
-            return FoundUnit::Nothing;
-        }
-        p = unit.end;
-        i += 1;
-    }
-    FoundUnit::At(measure_unit(file, work, n, max, p))
+    let mut nothing = [0u8; 0];
+    put_unit(&mut nothing, file, work, n, max, p, false)
 }

@@ -1,10 +1,14 @@
-// The units of a file at a wished size: the rows of the unit with a number, found by measuring, and
-// its text.
+// The units of a file at a wished size: where the unit with a number begins, its rows, its text,
+// and the units from one on that fit what is lent.
 mod extents;
-mod lengths;
-mod writing;
+mod finding;
+mod fronts;
 
 pub use extents::Extent;
-pub use extents::FoundUnit;
-pub use extents::find_unit;
-pub use writing::write_unit;
+pub use finding::FoundStart;
+pub use finding::FoundUnit;
+pub use finding::find_start;
+pub use finding::find_unit;
+pub use finding::write_unit;
+pub use fronts::Front;
+pub use fronts::put_units;

@@ -1,6 +1,6 @@
 -- One law for each of the three answers.
 -- Assumes nothing.
-use Prim.Native.Nat.{_+_, _≤_}
+use Prim.Native.Nat.{_≤_}
 use borrow.Author.Needs.{needs}
 use lib.ListN.{length}
 use mathlib.Core.Path.{subst}
@@ -56,7 +56,7 @@ write-unit-requires c κs =
     (known .before .before .find-unit .ensures (a .limit) ready) in (
       (
         (ready .room, omega (arith, few-blocks _ _ (ready .accepted), ready .all), ready .all),
-        omega (arith, is .takes .end, start-inside ready (is .group + is .size)),
+        omega (arith, is .at .here, start-inside ready (is .at .group)),
       ),
       ready .accepted,
     )
@@ -75,7 +75,7 @@ returns-3 c =
     let fits : length (textOf (is .unit .tree)) ≤ length (a .text .now) =
     omega (arith, is .bytes) in
     unit-made f (a .limit) (a .max) (a .k) _ is _ (omega arith)
-    (whole (c .before .before .write-unit .ensures (a .limit) (a .max) (a .k) ready is) fits .0)
+    (whole (c .before .before .write-unit .ensures (a .limit) (a .k) ready is) fits .0)
 
 pub answer-unit-spec : {M : Type 1} → statement M
 answer-unit-spec =

@@ -1,0 +1,2 @@
+-- The laws of pieces that fit.
+pub mod Laws

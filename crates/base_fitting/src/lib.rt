@@ -1,0 +1,1 @@
+// Which of some pieces fit what is lent: a definition and its laws only.
