@@ -3,7 +3,7 @@
 use Prim.Native.Nat.{ℕ, zero, suc, _+_, _-_, _≤_, _<_}
 use mathlib.Core.Path.{_≡_, refl, sym, ap, ap₂, _∙_, subst}
 use mathlib.Core.Bool.{Bool, true, false, cond}
-use mathlib.Core.List.{List, [], _∷_, _++_, append-assoc, append-nil}
+use mathlib.Core.List.{List, [], _∷_, _++_, append-assoc, append-nil, cons≢nil}
 use native.Mathlib.Omega.{arith}
 use native.Mathlib.Decide.{decLt}
 use borrow.Author.Tests.{lt-ltb, le-ltb}
@@ -101,6 +101,42 @@ module _ {X : Type 0} (size : X → ℕ) (room places : ℕ) (all : List X) wher
     pub fit-all : FitSoFar size room places all made [] → fitting size room places all ≡ made
     unfolding fitting
     fit-all so = so .same ∙ append-nil made
+
+-- what fits has room, and a place each
+pub fit-room : {X : Type 0} (size : X → ℕ) (room places : ℕ) (xs : List X)
+    → total size (fitting size room places xs) ≤ room
+unfolding fitting total
+fit-room size room places [] = omega arith
+fit-room size room zero (x ∷ xs) = omega arith
+fit-room size room (suc places) (x ∷ xs) =
+    elim (decLt room (size x)) [
+      | yes h ↦ subst (λ (b : Bool). total size (cond b [] (x ∷ fitting size (room - size x) places xs))
+          ≤ room) (sym (lt-ltb _ _ h)) (omega arith)
+      | no d ↦ subst (λ (b : Bool). total size (cond b [] (x ∷ fitting size (room - size x) places xs))
+          ≤ room) (sym (le-ltb room (size x) (omega arith)))
+          (omega (arith, fit-room size (room - size x) places xs))
+    ]
+
+pub fit-places : {X : Type 0} (size : X → ℕ) (room places : ℕ) (xs : List X)
+    → length (fitting size room places xs) ≤ places
+unfolding fitting
+fit-places size room places [] = omega arith
+fit-places size room zero (x ∷ xs) = omega arith
+fit-places size room (suc places) (x ∷ xs) =
+    go (ltb room (size x)) (fit-places size (room - size x) places xs)
+  where
+    go : (b : Bool) → length (fitting size (room - size x) places xs) ≤ places
+        → length (cond b [] (x ∷ fitting size (room - size x) places xs)) ≤ suc places
+    go true h = omega arith
+    go false h = omega arith
+
+-- where nothing fits, there is no room for the first, or no place
+pub fit-nothing : {X : Type 0} (size : X → ℕ) (room places : ℕ) (x : X) (xs : List X)
+    → fitting size room places (x ∷ xs) ≡ [] → size x ≤ room → places ≡ 0
+unfolding fitting
+fit-nothing size room zero x xs e h = refl
+fit-nothing size room (suc places) x xs e h =
+    absurd (cons≢nil (sym (first-fits size 0 0 [] room places x xs h) ∙ e))
 
 -- nothing in the front yet
 pub front-none : {X : Type 0} (xs : List X) → HasFront [] xs xs

@@ -12,9 +12,9 @@ total size (x ∷ xs) = size x + total size xs
 
 -- of all pieces those made are the first that fit, and which follow is decided over the rest
 pub record FitSoFar {X : Type 0} (size : X → ℕ) (room places : ℕ) (all made rest : List X) : Type 0
-    where
-  pub same : fitting size room places all
-      ≡ made ++ fitting size (room - total size made) (places - length made) rest
+  where
+    pub same : fitting size room places all
+        ≡ made ++ fitting size (room - total size made) (places - length made) rest
 
 -- a list whose front became another
 pub record HasFront {X : Type 0} (front before after : List X) : Type 0 where

@@ -2,6 +2,7 @@
 -- Assumes nothing.
 use Prim.Native.Nat.{ℕ, _+_, _*_, _≤_, _<_, _-_}
 use mathlib.Core.Path.{_≡_, refl, sym, ap, ap₂, _∙_}
+use mathlib.Core.Bool.{true, false}
 use mathlib.Core.List.{List, [], _∷_, _++_}
 use native.Mathlib.Omega.{arith}
 use borrow.Author.Tests.{lt-ltb, le-ltb}
@@ -9,7 +10,7 @@ use lib.ListN.{length, getD, drop, replicate, length-drop}
 use lib.Seq.{ext-getD, getD-drop}
 use Rattle.call_frame.specs.Answer.{value}
 use Rattle.call_frame.specs.Frame.{Refusal, Decision, Outcome, refuses, makes, numbered}
-use Rattle.call_frame.specs.Frame.{cleared, refusedWith, settle}
+use Rattle.call_frame.specs.Frame.{cleared, refusedWith, tooShort, putFronts, settle}
 
 -- numbers past m, where none of them changed
 past : (m : ℕ) (work work′ : List ℕ) → length work′ ≡ length work
@@ -47,3 +48,18 @@ module _ {A : Type 0} {decision : Decision A} where
         → record { answer = value v′; work = work; results = result′ ∷ [] }
         ≡ settle decision work (result ∷ [])
     handed-over v′ result′ same h e = rw (made, le-ltb _ _ h, e, same)
+
+  -- what a call with any number of results makes
+  module _ (v : A) (contents : List (List ℕ)) (made : decision ≡ makes v contents) (work : List ℕ)
+      (results : List (List ℕ)) where
+    -- a result is too short
+    pub refused-short : tooShort contents results ≡ true
+        → refusedWith (numbered 10) work results ≡ settle decision work results
+    refused-short short = rw (made, short)
+
+    -- each content is in the front of its result
+    pub handed-all : (v′ : A) (results′ : List (List ℕ)) → v′ ≡ v
+        → tooShort contents results ≡ false → results′ ≡ putFronts contents results
+        → record { answer = value v′; work = work; results = results′ }
+        ≡ settle decision work results
+    handed-all v′ results′ same long put = rw (made, long, put, same)

@@ -1,7 +1,8 @@
--- The definitions that the promises of calls name: Answer, Frame and Numbers say what document 01
--- says, Open what a step of the code tells.
+-- The definitions that the promises of calls name: Answer, Frame, Pieces and Numbers say what calls
+-- leave, Open what a step of the code tells.
 pub mod Answer
 mod Examples
 pub mod Frame
 pub mod Numbers
 pub mod Open
+pub mod Pieces

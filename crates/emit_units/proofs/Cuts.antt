@@ -363,3 +363,24 @@ pub same-tree : {f : List ℕ} {limit max g : ℕ} {d e : Extent} (v : FirstUnit
     → unitTree f limit g (v .size) (d .last) ≡ unitTree f limit g (u .size) (e .last)
 same-tree {f} {limit} {max} {g} {d} {e} v u =
     ap (λ (t : TranslationUnit). t .tree) (head-eq-of-cons-eq (sym (v .units) ∙ u .units))
+
+-- there is a unit from every group on
+cut-some : (max : ℕ) (closed ts : List Top) (n : ℕ) (gs : List (List Body))
+    → cut max closed ts n gs ≡ [] → ⊥
+unfolding cut
+cut-some max closed ts n [] e = cons≢nil e
+cut-some max closed ts n (g ∷ gs) e =
+    go (leb max (length (textOf (ts ++ emitGroup g))))
+    (cut-some max closed (ts ++ emitGroup g) (n + length g) gs) e
+  where
+    go : (b : Bool)
+        → (cut max closed (ts ++ emitGroup g) (n + length g) gs ≡ [] → ⊥)
+        → cond b (record { tree = ts ++ emitGroup g; done = n + length g; last = false }
+        ∷ cut max closed unitHead (n + length g) gs)
+        (cut max closed (ts ++ emitGroup g) (n + length g) gs) ≡ [] → ⊥
+    go true later h = cons≢nil h
+    go false later h = later h
+
+pub units-some : {f : List ℕ} {limit max k p : ℕ} → StartsAt f limit max k p
+    → drop k (units hashMultiplier limit max (blocksOf f)) ≡ [] → ⊥
+units-some s e = cut-some _ _ _ _ _ (sym (s .units) ∙ e)

@@ -51,7 +51,7 @@ unfolding endsFile
 ends-more b [] u = refl
 ends-more b (v ∷ us) u = ends-more (v .last) us u
 
-total-texts : (us : List TranslationUnit) → total unitLength us ≡ length (textsOf us)
+pub total-texts : (us : List TranslationUnit) → total unitLength us ≡ length (textsOf us)
 unfolding total textsOf flatten
 total-texts [] = refl
 total-texts (u ∷ us) = omega (arith, total-texts us, length-append (textOf (u .tree)) (textsOf us))

@@ -58,11 +58,11 @@ group-after hashing f is {o} {o′} {at} {r} w =
 -- how far the first unit of the groups from group g on has come: row q and so many bytes, of which
 -- those from `from` on were put over o
 pub record Making (hashing : Bool) (f : List ℕ) (limit max g q from at : ℕ) (o o′ : List ℕ) : Type 0
-    where
-  pub walked : Walked f limit max g q at
-  pub wrote : Wrote o from
-      (each (groupText hashing f) (take (walked .size) (drop g (groups limit (blocksOf f)))))
-      o′ at
+  where
+    pub walked : Walked f limit max g q at
+    pub wrote : Wrote o from
+        (each (groupText hashing f) (take (walked .size) (drop g (groups limit (blocksOf f)))))
+        o′ at
 
 -- PREAMBLE is written, and no group yet
 pub making-none : {hashing : Bool} {f : List ℕ} {limit max g p at : ℕ} {o o′ : List ℕ}

@@ -27,14 +27,7 @@ pub struct Front {
 }
 
 // The first unit of the groups from row p on, from the front of `part` on if it fits.
-fn fit_unit(
-    part: &mut [u8],
-    file: &[u8],
-    work: &[u32],
-    n: usize,
-    max: u64,
-    p: usize,
-) -> Extent
+fn fit_unit(part: &mut [u8], file: &[u8], work: &[u32], n: usize, max: u64, p: usize) -> Extent
     requires { ⌜ HasRoom (now file) (now work) n × (p ≤ n) ⌝ }
     requires { ⌜ Accepted (now file) ⌝ }
     ensures within { λ r. ⌜ r .end ≤ n ⌝ }
@@ -125,23 +118,23 @@ pub fn put_lengths(
         (now (lengths .exit)) r)
         ⌝ }
 {
-    let mut count = 0;
+    let mut told = 0;
     let mut end = p;
-    while count < lengths.len() {
+    while told < lengths.len() {
         let e = measure_unit(file, work, n, max, end);
-        lengths[count] = e.length as u64;
-        count += 1;
+        lengths[told] = e.length as u64;
+        told += 1;
         end = e.end;
         if e.last {
             return Lengths {
-                count,
+                count: told,
                 end,
                 last: true,
             };
         }
     }
     Lengths {
-        count,
+        count: told,
         end,
         last: false,
     }

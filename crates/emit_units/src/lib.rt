@@ -11,4 +11,6 @@ pub use finding::find_start;
 pub use finding::find_unit;
 pub use finding::write_unit;
 pub use fronts::Front;
+pub use fronts::Lengths;
+pub use fronts::put_lengths;
 pub use fronts::put_units;

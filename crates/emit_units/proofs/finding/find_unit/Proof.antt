@@ -22,8 +22,7 @@ measure-unit-requires : tie.Need-measure-unit-requires
 unfolding StartWithin
 measure-unit-requires c κs =
     let start = c .before .before .before .before .before .before in
-    let found = c .before .before .before .find-start .ensures in
-    (
+    let found = c .before .before .before .find-start .ensures in (
       (start .pre .0, subst (StartWithin (start .args .n)) (c .before .p .given .1) (found .0)),
       start .pre .1,
     )

@@ -16,19 +16,20 @@ use Rattle.emit_units.proofs.fronts.put_lengths.Statement.{statement}
 use Rattle.emit_units.proofs.fronts.put_lengths.Tie as tie
 
 abbrev Inv-loop : tie.InvT-loop
-Inv-loop lengths₀ file work n max p count₀ end₀ lengths count end =
+Inv-loop lengths₀ file work n max p told₀ end₀ lengths told end =
     (end ≤ n)
     × (length lengths ≡ length lengths₀)
     × ((limit k : ℕ) → HoldsPlan file n limit work → StartsAt file limit max k p
-    → Going (λ (u : TranslationUnit). 0) 0 file limit max k p lengths₀ lengths count end)
+    → Going (λ (u : TranslationUnit). 0) 0 file limit max k p lengths₀ lengths told end)
 
 abbrev μ-loop : tie.MeasureT-loop
-μ-loop lengths₀ file work n max p count₀ end₀ lengths count end = length lengths₀ - count
+μ-loop lengths₀ file work n max p told₀ end₀ lengths told end = length lengths₀ - told
 
 loop-holds : tie.Need-loop-holds Inv-loop μ-loop
 loop-holds c = (omega arith, refl, λ limit k ready s. going-none _ _ _ s)
 
 returns : tie.Need-returns Inv-loop μ-loop
+unfolding list-more
 returns c = λ limit k ready s.
     let turn = c .before .before .before in
     let inv = turn .loop .inv in
@@ -42,7 +43,7 @@ returns c = λ limit k ready s.
 same-length : tie.Need-same-length Inv-loop μ-loop
 same-length c =
     let turn = c .before .before .before in
-    length-set (turn .loop .lengths) (turn .loop .count) (c .before .measure-unit .result .length)
+    length-set (turn .loop .lengths) (turn .loop .told) (c .before .measure-unit .result .length)
     ∙ turn .loop .inv .1
 
 loop-again : tie.Need-loop-again Inv-loop μ-loop
@@ -50,7 +51,7 @@ loop-again c =
     let turn = c .before .before .before in
     let inv = turn .loop .inv in (
       c .before .measure-unit .ensures .0,
-      length-set (turn .loop .lengths) (turn .loop .count) (c .before .measure-unit .result .length)
+      length-set (turn .loop .lengths) (turn .loop .told) (c .before .measure-unit .result .length)
           ∙ inv .1,
       λ limit k ready s.
           let go = inv .2 limit k ready s in
