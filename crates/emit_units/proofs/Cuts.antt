@@ -283,7 +283,7 @@ none-at [] (suc k) e = refl
 none-at (x ∷ xs) zero e = absurd (cons≢nil e)
 none-at (x ∷ xs) (suc k) e = none-at xs k e
 
-found-in : {A : Type 0} (xs : List A) (i : ℕ) (a : A) → getElem? xs i ≡ some a → List·Memᴰ a xs
+pub found-in : {A : Type 0} (xs : List A) (i : ℕ) (a : A) → getElem? xs i ≡ some a → List·Memᴰ a xs
 found-in [] i a e = absurd (Option·none-ne-some a e)
 found-in (x ∷ xs) zero a e = List·Memᴰ·head (sym (Option·some-injective x a e))
 found-in (x ∷ xs) (suc i) a e = List·Memᴰ·tail (found-in xs i a e)

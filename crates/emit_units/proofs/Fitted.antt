@@ -21,8 +21,9 @@ use Rattle.emit_units.specs.declared.extents.Extent.{Extent}
 use Rattle.emit_units.specs.declared.fronts.Front.{Front}
 use Rattle.emit_units.specs.Texts.{unitLength, textsOf, doneWith, endsFile}
 use Rattle.emit_units.specs.Units.{unitTree, unitsFrom, FirstUnit, MadeUnit, StartsAt}
+use Rattle.emit_units.specs.Bounds.{Bounds}
 use Rattle.emit_units.specs.Fronts.{FitUnit, PutUnits, PutLengths}
-use Rattle.emit_units.proofs.Cuts.{unitOf, starts-next, unit-bytes}
+use Rattle.emit_units.proofs.Cuts.{unitOf, starts-next, found-in, unit-found, unit-bytes}
 use Rattle.emit_units.proofs.Written.{made-text}
 
 -- one unit more: its text, the sizes in all, the blocks done, whether it is the last
@@ -61,6 +62,13 @@ pub unit-over : {f : List ℕ} {limit max g : ℕ} {e : Extent} (part : List ℕ
     → FirstUnit f limit max g e → length part < e .length
     → FitUnit f limit max g part part e
 unit-over part u over = record { first = u; fits = λ h. absurd (omega arith); kept = λ h. refl }
+
+-- a unit where no unit is longer than a bound
+pub unit-bounded : {f : List ℕ} {limit max k p bound : ℕ} {e : Extent} → Accepted f
+    → (s : StartsAt f limit max k p) → FirstUnit f limit max (s .group) e
+    → Bounds f limit max bound → e .length ≤ bound
+unit-bounded ok s u bounds =
+    omega (arith, unit-bytes s u ok, bounds _ (found-in _ _ _ (unit-found s u)))
 
 -- a unit that was written, and fits
 pub unit-fits : {f : List ℕ} {limit max k p : ℕ} {part part′ : List ℕ} {e : Extent} → Accepted f

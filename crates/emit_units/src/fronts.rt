@@ -1,4 +1,5 @@
 // The units from one on that fit what is lent, and the lengths of those that have a place.
+use crate::bounds::unit_bound;
 use crate::extents::Extent;
 use crate::extents::measure_unit;
 use crate::extents::put_unit;
@@ -6,6 +7,7 @@ ghost use Prim.Native.Nat.{ℕ, _≤_};
 ghost use Rattle.file_blocks.specs.Parse.{Accepted};
 ghost use Rattle.plan_members.specs.Prepared.{HoldsPlan};
 ghost use Rattle.emit_units.specs.Units.{StartsAt};
+ghost use Rattle.emit_units.specs.Bounds.{Bounds};
 ghost use Rattle.emit_units.specs.Fronts.{FitUnit, PutUnits, PutLengths};
 ghost use Rattle.plan_groups.specs.Groups.{HasRoom};
 
@@ -26,17 +28,30 @@ pub struct Front {
     pub last: bool,
 }
 
-// The first unit of the groups from row p on, from the front of `part` on if it fits.
-fn fit_unit(part: &mut [u8], file: &[u8], work: &[u32], n: usize, max: u64, p: usize) -> Extent
+// The first unit of the groups from row p on, where no unit is longer than `bound`. It is written
+// from the front of `part` on if it fits, and measured first only where it might not.
+fn fit_unit(
+    part: &mut [u8],
+    file: &[u8],
+    work: &[u32],
+    n: usize,
+    max: u64,
+    p: usize,
+    bound: usize,
+) -> Extent
     requires { ⌜ HasRoom (now file) (now work) n × (p ≤ n) ⌝ }
     requires { ⌜ Accepted (now file) ⌝ }
     ensures within { λ r. ⌜ r .end ≤ n ⌝ }
     ensures unit { λ r. ⌜
         ((limit k : ℕ) → HoldsPlan (now (file .entry)) n limit (now (work .entry))
         → (s : StartsAt (now (file .entry)) limit max k p)
+        → Bounds (now (file .entry)) limit max bound
         → FitUnit (now (file .entry)) limit max (s .group) (now (part .entry)) (now (part .exit)) r)
         ⌝ }
 {
+    if bound <= part.len() {
+        return put_unit(part, file, work, n, max, p, true);
+    }
     let e = measure_unit(file, work, n, max, p);
     if part.len() < e.length {
         return e;
@@ -65,11 +80,12 @@ pub fn put_units(
         (now (text .exit)) (now (lengths .exit)) r)
         ⌝ }
 {
+    let bound = unit_bound(file, work, n, max);
     let mut count = 0;
     let mut length = 0;
     let mut end = p;
     while count < lengths.len() {
-        let e = fit_unit(&mut text[length..], file, work, n, max, end);
+        let e = fit_unit(&mut text[length..], file, work, n, max, end, bound);
         if text.len() - length < e.length {
             return Front {
                 count,

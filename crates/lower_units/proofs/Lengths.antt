@@ -7,6 +7,7 @@ use mathlib.Core.Option.{Option, none, some}
 use mathlib.Core.Path.{_≡_, refl, subst}
 use native.Mathlib.Omega.{arith}
 use native.Mathlib.Decide.{decLt}
+use borrow.Author.Tests.{leb-false}
 use lib.Dec.{leb, eqb}
 use lib.ListN.{length, getD, length-map}
 use Rattle.armv4t.specs.Bit0.{clearBit0}
@@ -371,6 +372,62 @@ groups-short : (bs : List Body) → Each Short bs → (gs : List (List ℕ))
     → Each (Each Short) (map (bodiesOf bs) gs)
 groups-short bs h [] = tt
 groups-short bs h (g ∷ gs) = (members-short bs h g, groups-short bs h gs)
+
+-- so the text of a group of some blocks, by their numbers, is no longer than what they take at most
+pub group-within : (multiplier : ℕ) (bs : List Block) (is : List ℕ)
+    → length (textOf (emitGroup (bodiesOf (map (bodyOf multiplier) bs) is)))
+    ≤ membersMost (bodiesOf (map (bodyOf multiplier) bs) is)
+group-within multiplier bs is =
+    group-most (bodiesOf (map (bodyOf multiplier) bs) is)
+    (members-short (map (bodyOf multiplier) bs) (bodies-short multiplier bs) is)
+
+-- a unit is handed on after the group with which it reaches max, so it has at most max bytes and
+-- one group more, PREAMBLE and the end apart
+cut-within : (max longest : ℕ) (closed ts : List Top) (n : ℕ) (gs : List (List Body))
+    → Each (λ (g : List Body). Within longest (emitGroup g)) gs → Within (4000 + max) ts
+    → (u : TranslationUnit) → List·Memᴰ u (cut max closed ts n gs)
+    → Within (4000 + max + longest + length (textOf closed)) (u .tree)
+unfolding cut
+cut-within max longest closed ts n [] g h u (List·Memᴰ·head e) =
+    rw e (omega (arith, text-append ts closed, h))
+cut-within max longest closed ts n (c ∷ gs) g h u m =
+    go (leb max (length (textOf (ts ++ emitGroup c)))) refl
+    (cut-within max longest closed unitHead (n + length c) gs (g .1) (omega (arith, head-most)) u)
+    (λ short. cut-within max longest closed (ts ++ emitGroup c) (n + length c) gs (g .1) short u) m
+  where
+    go : (b : Bool) → leb max (length (textOf (ts ++ emitGroup c))) ≡ b
+        → (List·Memᴰ u (cut max closed unitHead (n + length c) gs)
+        → Within (4000 + max + longest + length (textOf closed)) (u .tree))
+        → (Within (4000 + max) (ts ++ emitGroup c)
+        → List·Memᴰ u (cut max closed (ts ++ emitGroup c) (n + length c) gs)
+        → Within (4000 + max + longest + length (textOf closed)) (u .tree))
+        → List·Memᴰ u
+        (cond b (record { tree = ts ++ emitGroup c; done = n + length c; last = false }
+        ∷ cut max closed unitHead (n + length c) gs)
+        (cut max closed (ts ++ emitGroup c) (n + length c) gs))
+        → Within (4000 + max + longest + length (textOf closed)) (u .tree)
+    go true is next same (List·Memᴰ·head e) =
+        rw e (omega (arith, text-append ts (emitGroup c), g .0, h))
+    go true is next same (List·Memᴰ·tail l) = next l
+    go false is next same l = same (omega (arith, leb-false max (length (textOf (ts ++ emitGroup c))) is)) l
+
+-- where no group is longer than `longest`, no unit is longer than that, max, PREAMBLE and the end
+pub units-within : (multiplier limit max longest : ℕ) (bs : List Block)
+    → Each (λ (g : List Body). length (textOf (emitGroup g)) ≤ longest)
+    (map (bodiesOf (map (bodyOf multiplier) bs)) (groups limit bs))
+    → (u : TranslationUnit)
+    → List·Memᴰ u (emitCChunked max (map (bodyOf multiplier) bs) (groups limit bs))
+    → length (textOf (u .tree)) ≤ 4200 + max + longest + length bs * 100
+unfolding emitCChunked
+units-within multiplier limit max longest bs g u m =
+    omega (
+      arith,
+      cut-within max longest (lastUnitEnd (map (bodyOf multiplier) bs)) unitHead 0
+          (map (bodiesOf (map (bodyOf multiplier) bs)) (groups limit bs)) g
+          (omega (arith, head-most)) u m,
+      end-most (map (bodyOf multiplier) bs),
+      length-map bs (bodyOf multiplier),
+    )
 
 -- what each block adds to a unit at most
 costs : List Body → List ℕ

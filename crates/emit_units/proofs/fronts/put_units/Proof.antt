@@ -14,7 +14,7 @@ use Rattle.emit_units.proofs.fronts.put_units.Statement.{statement}
 use Rattle.emit_units.proofs.fronts.put_units.Tie as tie
 
 abbrev Inv-loop : tie.InvT-loop
-Inv-loop text₀ lengths₀ file work n max p count₀ length₀ end₀ text lengths count at end =
+Inv-loop text₀ lengths₀ file work n max p bound count₀ length₀ end₀ text lengths count at end =
     (end ≤ n)
     × (at ≤ length text)
     × (length text ≡ length text₀)
@@ -23,7 +23,7 @@ Inv-loop text₀ lengths₀ file work n max p count₀ length₀ end₀ text len
     → Putting file limit max k p text₀ lengths₀ text lengths count at end)
 
 abbrev μ-loop : tie.MeasureT-loop
-μ-loop text₀ lengths₀ file work n max p count₀ length₀ end₀ text lengths count at end =
+μ-loop text₀ lengths₀ file work n max p bound count₀ length₀ end₀ text lengths count at end =
     length lengths₀ - count
 
 loop-holds : tie.Need-loop-holds Inv-loop μ-loop
@@ -33,24 +33,29 @@ loop-holds c =
 returns : tie.Need-returns Inv-loop μ-loop
 returns c = λ limit k ready s.
     let call = c .before .before .before .before in
-    let inv = call .before .before .before .loop .inv in
+    let turn = call .before .before .before in
+    let inv = turn .loop .inv in
     let put = inv .4 limit k ready s in
     putting-over (ready .accepted) put (inv .2)
-    (call .fit-unit .ensures .1 limit _ ready (put .go .starts)) (omega arith)
+    (call .fit-unit .ensures .1 limit _ ready (put .go .starts)
+    (turn .before .unit-bound .ensures limit ready)) (omega arith)
 
 returns-2 : tie.Need-returns-2 Inv-loop μ-loop
 returns-2 c = λ limit k ready s.
     let call = c .before .before .before .before .before .before in
-    let inv = call .before .before .before .loop .inv in
+    let turn = call .before .before .before in
+    let inv = turn .loop .inv in
     let put = inv .4 limit k ready s in
     putting-last (ready .accepted) put (inv .2)
-    (call .fit-unit .ensures .1 limit _ ready (put .go .starts)) (omega arith) (inv .1) (omega arith)
+    (call .fit-unit .ensures .1 limit _ ready (put .go .starts)
+    (turn .before .unit-bound .ensures limit ready)) (omega arith) (inv .1) (omega arith)
     (inv .3) (c .if2 .taken)
 
 loop-again : tie.Need-loop-again Inv-loop μ-loop
 loop-again c =
     let call = c .before .before .before .before .before .before in
-    let inv = call .before .before .before .loop .inv in (
+    let turn = call .before .before .before in
+    let inv = turn .loop .inv in (
       call .fit-unit .ensures .0,
       search (needs, inv),
       search (needs, inv),
@@ -58,7 +63,8 @@ loop-again c =
       λ limit k ready s.
           let put = inv .4 limit k ready s in
           putting-more (ready .accepted) put (inv .2)
-          (call .fit-unit .ensures .1 limit _ ready (put .go .starts)) (omega arith) (inv .1)
+          (call .fit-unit .ensures .1 limit _ ready (put .go .starts)
+          (turn .before .unit-bound .ensures limit ready)) (omega arith) (inv .1)
           (omega arith) (inv .3) (c .if2 .left),
     )
 
@@ -76,7 +82,8 @@ same-length-4 c =
 pub put-units-spec : {M : Type 1} → statement M
 put-units-spec =
     tie.close
-    (tie.spec Inv-loop μ-loop loop-holds (search needs) (search needs) (search needs)
+    (tie.spec Inv-loop μ-loop (λ c κs. search needs) loop-holds (search needs) (search needs)
+    (search needs)
     (λ c κs. search needs) (search needs) (search needs) (search needs) returns (search needs)
     (search needs) (search needs) (search needs) (search needs) same-length-4 returns-2
     (λ c. omega arith) loop-again (search needs) (search needs) returns-3)
