@@ -7,6 +7,7 @@ pub mod check;
 pub mod damage;
 pub mod file;
 pub mod floors;
+pub mod fronts;
 pub mod generate;
 pub mod lent;
 pub mod listing;

@@ -7,6 +7,7 @@
 mod interface;
 
 use recomp_tools::check::Numbers;
+use recomp_tools::fronts::FrontNumbers;
 use recomp_tools::listing::ListingNumbers;
 use recomp_tools::model::{ExitNumbers, PlanNumbers};
 use recomp_tools::units::UnitNumbers;
@@ -55,6 +56,47 @@ pub fn unit(
         number,
         at,
         length,
+        done,
+        last,
+    }
+}
+
+/// The units from `first` on, as many whole ones as fit, and the length of each.
+pub fn units(
+    file: &[u8],
+    max_bytes: u64,
+    first: u64,
+    work: &mut [u32],
+    text: &mut [u8],
+    lengths: &mut [u64],
+) -> FrontNumbers {
+    let (number, [at, count, length, done, last]) =
+        interface::units(file, max_bytes, first, work, text, lengths);
+    FrontNumbers {
+        number,
+        at,
+        count,
+        length: Some(length),
+        done,
+        last,
+    }
+}
+
+/// The lengths of the units from `first` on, as many as there are places for.
+pub fn lengths(
+    file: &[u8],
+    max_bytes: u64,
+    first: u64,
+    work: &mut [u32],
+    lengths: &mut [u64],
+) -> FrontNumbers {
+    let (number, [at, count, done, last]) =
+        interface::lengths(file, max_bytes, first, work, lengths);
+    FrontNumbers {
+        number,
+        at,
+        count,
+        length: None,
         done,
         last,
     }

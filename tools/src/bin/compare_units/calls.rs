@@ -9,8 +9,8 @@ use recomp_tools::trials::Trial;
 use recomp_tools::units::{outcome, reached, Unit};
 
 /// Numbers and bytes lent beyond those that the call needs.
-const SPARE_WORK: usize = 3;
-const SPARE_TEXT: usize = 5;
+pub const SPARE_WORK: usize = 3;
+pub const SPARE_TEXT: usize = 5;
 
 const MIB: u64 = 1 << 20;
 
@@ -18,7 +18,7 @@ const MIB: u64 = 1 << 20;
 const HUGE: [u64; 4] = [MIB, 1 << 32, (1 << 63) + 1, u64::MAX];
 
 /// Mismatches that are printed; the others are counted.
-const PRINTED: u64 = 20;
+pub const PRINTED: u64 = 20;
 
 /// It settles the sizes that units are asked for at, and how many calls are made.
 #[derive(Clone, Copy, PartialEq, Eq)]
@@ -30,22 +30,25 @@ pub enum Sort {
 }
 
 /// A file with the answer of the check and, if it is accepted, its units at one size.
-struct Emitted<'a> {
-    trial: &'a Trial,
-    bytes: &'a [u8],
-    checked: Result<Accepted, Refused>,
-    size: u64,
-    units: Vec<Unit>,
+pub struct Emitted<'a> {
+    pub trial: &'a Trial,
+    pub bytes: &'a [u8],
+    pub checked: Result<Accepted, Refused>,
+    pub size: u64,
+    pub units: Vec<Unit>,
 }
 
 #[derive(Default)]
 pub struct Tally {
     files: u64,
-    sizes: u64,
+    pub sizes: u64,
     units: u64,
     bytes: u64,
-    /// Calls by what they must answer: a unit, then refusals 1 to 10.
+    /// Calls for a unit by what they must answer: one, then refusals 1 to 10.
     answers: [u64; 11],
+    /// Likewise those for the units from one on, and for their lengths.
+    pub fronts: [u64; 11],
+    pub lengths: [u64; 11],
     pub mismatches: u64,
 }
 
@@ -100,6 +103,7 @@ impl Tally {
             if file.blocks > 0 {
                 self.short_work(&emitted, 4 * file.blocks);
             }
+            self.fronts(&emitted, 4 * file.blocks);
         }
     }
 
@@ -165,19 +169,25 @@ impl Tally {
             };
             self.call(&emitted, 0, [4 * blocks + SPARE_WORK, text + SPARE_TEXT]);
             self.call(&emitted, u64::MAX, [0, 0]);
+            self.fronts_of_damaged(&emitted, 4 * blocks);
         }
     }
 
     pub fn print(&self) {
-        for (number, count) in self.answers.iter().enumerate() {
+        println!("                unit      units    lengths");
+        let kinds = [self.answers, self.fronts, self.lengths];
+        for number in 0..self.answers.len() {
+            let [unit, units, lengths] = kinds.map(|answers| answers[number]);
             match number {
-                0 => println!("emitted    {count:8}"),
-                _ => println!("refused {number:2} {count:8}"),
+                0 => print!("answered   "),
+                _ => print!("refused {number:2} "),
             }
+            println!("{unit:9} {units:10} {lengths:10}");
         }
-        let calls: u64 = self.answers.iter().sum();
+        let [unit, units, lengths] = kinds.map(|answers| answers.iter().sum::<u64>());
+        println!("calls      {unit:9} {units:10} {lengths:10}");
         println!(
-            "{} sizes, {} units, {} bytes of text, {calls} calls",
+            "{} sizes, {} units, {} bytes of text",
             self.sizes, self.units, self.bytes
         );
         println!(

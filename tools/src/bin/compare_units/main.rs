@@ -1,7 +1,9 @@
-//! Compares the units of generated files with the original's, and every byte and number lent. It is
-//! a program of its own, so that the others link without the call for a unit.
+//! Compares the units of generated files with the original's, one by one and many at once, and every
+//! byte and number lent. It is a program of its own, so that the others link without the calls for
+//! units.
 
 mod calls;
+mod fronts;
 #[path = "../../library.rs"]
 mod library;
 
