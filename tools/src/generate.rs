@@ -6,6 +6,7 @@ pub mod forms;
 mod instructions;
 mod layout;
 pub mod linked;
+pub mod transfers;
 
 use crate::file::{self, Block, File};
 use crate::record::Record;

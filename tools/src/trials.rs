@@ -4,6 +4,7 @@ use crate::file::File;
 use crate::generate::closings::{self, Closings};
 use crate::generate::forms::Forms;
 use crate::generate::linked::{Graph, Linked};
+use crate::generate::transfers::Transfers;
 use crate::generate::{self, Lengths, Params};
 
 /// What a file is made from; printed, it names the file.
@@ -13,6 +14,7 @@ pub enum Trial {
     Linked(Linked),
     Closings(Closings),
     Forms(Forms),
+    Transfers(Transfers),
 }
 
 impl Trial {
@@ -22,6 +24,7 @@ impl Trial {
             Trial::Linked(linked) => linked.file(),
             Trial::Closings(closings) => closings.file(),
             Trial::Forms(forms) => forms.file(),
+            Trial::Transfers(transfers) => transfers.file(),
         }
     }
 }
@@ -88,4 +91,9 @@ pub fn timed() -> [(&'static str, Trial); 5] {
         ("falling chain", linked(Graph::Falling, short)),
         ("first block again and again", linked(Graph::First, short)),
     ]
+}
+
+/// The file with the most text that calls are timed on, over a gigabyte of it, by name.
+pub fn most_text() -> (&'static str, Trial) {
+    ("block transfers", Trial::Transfers(Transfers::most()))
 }

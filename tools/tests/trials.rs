@@ -3,7 +3,7 @@
 use recomp_tools::check::check;
 use recomp_tools::generate::linked::{Graph, Linked};
 use recomp_tools::model::{blocks, exits, plan};
-use recomp_tools::trials::{large, largest, limits, small};
+use recomp_tools::trials::{large, largest, limits, most_text, small};
 
 /// The sizes of a plan's groups.
 fn group_sizes(plan: &[[u32; 2]]) -> Vec<usize> {
@@ -97,4 +97,15 @@ fn chains() {
         let sizes = group_sizes(&plan);
         assert!(sizes.len() < 20, "{graph:?}: {}", sizes.len());
     }
+}
+
+/// Groups are far shorter than the limit, so that units of several sizes differ.
+#[test]
+fn most_text_of_all() {
+    let (_, trial) = most_text();
+    let file = trial.file();
+    assert!(check(&file.bytes).is_ok());
+    assert_eq!((file.blocks, file.instructions), (65_536, 1_048_576));
+    let sizes = group_sizes(&plan(&file.bytes));
+    assert!(sizes.iter().all(|&n| n == 16), "{} groups", sizes.len());
 }

@@ -1,22 +1,17 @@
-//! Times the call for a unit on the largest files against the original's emitter, in one run.
+//! Single units, one call each, and all units of a file in that way.
 //!
 //! The original hands on one unit after the other, so a unit of it costs all those before it: it is
-//! timed up to the unit that the library is asked for, and as a whole. It gets decoded blocks, where
-//! the library gets the file, checks it and groups its blocks in every call.
+//! timed up to the unit that the library is asked for, and as a whole.
 
-#[path = "../library.rs"]
-mod library;
-
+use crate::{library, print_file, MIB};
 use recomp_tools::file::File;
 use recomp_tools::original::units::{Emitter, Timed};
 use recomp_tools::original::Original;
 use recomp_tools::timing::median_and_best;
 use recomp_tools::trials;
 use std::hint::black_box;
-use std::process::ExitCode;
 use std::time::Instant;
 
-const MIB: u64 = 1 << 20;
 const SIZES: [u64; 2] = [MIB, 4 * MIB];
 
 const COLUMNS: &str = concat!(
@@ -25,8 +20,8 @@ const COLUMNS: &str = concat!(
 );
 
 /// Rounds unless told otherwise: for single units, and for all units of a file.
-const ROUNDS: u64 = 11;
-const ROUNDS_OF_ALL: u64 = 3;
+pub const ROUNDS: u64 = 11;
+pub const ROUNDS_OF_ALL: u64 = 3;
 
 /// The library with all that it is lent.
 struct Library<'a> {
@@ -114,8 +109,7 @@ impl Times {
     }
 }
 
-/// Single units and all of them, at one size. The sides take turns, so that a slow spell of the
-/// machine falls on both.
+/// Single units and all of them, at one size.
 fn measure(library: &mut Library, emitter: &mut Emitter, size: u64, [rounds, of_all]: [u64; 2]) {
     let whole = emitter.time(0, size, u64::MAX);
     let units = whole.units;
@@ -178,7 +172,7 @@ fn measure_writing(library: &mut Library, emitter: &mut Emitter, rounds: u64) {
 
 /// Ratios are library / original: of medians, of best rounds, and the library's median against the
 /// original's for the whole file.
-fn run(original: &Original, rounds: [u64; 2]) -> Result<(), String> {
+pub fn run(original: &Original, rounds: [u64; 2]) -> Result<(), String> {
     let program = original.build("units")?;
     println!(
         "{} rounds for single units, {} for all",
@@ -186,12 +180,7 @@ fn run(original: &Original, rounds: [u64; 2]) -> Result<(), String> {
     );
     for (name, trial) in trials::timed() {
         let file = trial.file();
-        println!(
-            "{name}: {} blocks, {} instructions, {} bytes",
-            file.blocks,
-            file.instructions,
-            file.bytes.len()
-        );
+        print_file(name, &file);
         let mut emitter = Emitter::start(&program, &[&file.bytes]);
         let mut library = Library::new(&file);
         for size in SIZES {
@@ -202,21 +191,4 @@ fn run(original: &Original, rounds: [u64; 2]) -> Result<(), String> {
         measure_writing(&mut library, &mut emitter, rounds[0]);
     }
     Ok(())
-}
-
-fn main() -> ExitCode {
-    let words: Vec<String> = std::env::args().skip(1).collect();
-    let number = |n: usize, usual: u64| words.get(n).map_or(Some(usual), |w| w.parse().ok());
-    let rounds = [number(0, ROUNDS), number(1, ROUNDS_OF_ALL)];
-    let [Some(rounds @ 1..), Some(of_all @ 1..)] = rounds else {
-        eprintln!("usage: bench-units [ROUNDS] [ROUNDS_OF_ALL]");
-        return ExitCode::from(2);
-    };
-    match Original::new().and_then(|original| run(&original, [rounds, of_all])) {
-        Ok(()) => ExitCode::SUCCESS,
-        Err(reason) => {
-            eprintln!("{reason}");
-            ExitCode::FAILURE
-        }
-    }
 }
