@@ -24,8 +24,8 @@
  *   over are 0 on refusal. All of them are written on every return.
  * - Work numbers: the first 4 * blocks are 0 after success and after 9 and 10, and are as they were
  *   after 1 to 8. What they hold before a call does not matter. Those after are never changed.
- * - A lent plan or text is changed on success only, and only in its front, as far as the result
- *   reaches.
+ * - A lent plan, text or slice of lengths is changed on success only, and only in its front, as far
+ *   as the result reaches.
  * - Nothing is allocated, kept or read beyond what is lent.
  * - Not proved: calls with different buffers may run at the same time, and may share the file. No
  *   promise speaks of threads; it is so because a call keeps nothing and writes only what is lent.
@@ -68,14 +68,10 @@ uint32_t recomp_plan(const uint8_t *file, size_t file_len, uint32_t *work, size_
 uint32_t recomp_listing(const uint8_t *file, size_t file_len, uint32_t *work, size_t work_len,
                         uint8_t *text, size_t text_len, uint64_t *at, uint64_t *length);
 
-/* The C text of unit `unit` (from 0) of those that are closed once they have `max_bytes` bytes after
- * a group: `*length` bytes of UTF-8, with no zero byte after it. `*done` is the number of blocks in
- * it and in all units before it, `*last` is 1 for the last unit and 0 for the others. Every accepted
- * file has a last unit, at every size; refusal 9 is given for every number above that unit's.
- * Not proved: each call goes through the file from its start, so its time does not depend on earlier
- * calls. No promise speaks of time.
- * Refusals 1 to 10. Definition: `unitCall` in crates/call_unit/specs/Calls.antt. It is also
- * proved that along every way through the units, at every size, at most 8,192 instructions are
+/* Units: the C text is cut into units, each closed once it has `max_bytes` bytes after a group.
+ * They are numbered from 0. Every accepted file has a last unit, at every size; refusal 9 is given
+ * for every number above that unit's. Of the units at every size it is proved, as a promise of
+ * recomp_unit and of recomp_units, that along every way through them at most 8,192 instructions are
  * carried out between two calls of the chain gate in a group of several blocks, that a block
  * alone in its group carries out no instruction twice, and that native code of a block outside
  * ROM and BIOS is reached only after the guard said yes to it: `Demand3Of` in
@@ -88,10 +84,37 @@ uint32_t recomp_listing(const uint8_t *file, size_t file_len, uint32_t *work, si
  * that hold one: `MeaningOf` in crates/claim_meaning/specs/Meaning.antt; and that every execution
  * of a block's function by C99 is such a way, that from one state there is one, and that, where
  * no block of its group holds such a record, it carries out blocks of the group one after the
- * other as their text means. crates/claim_units/specs/Claims.antt lists all. */
+ * other as their text means. crates/claim_units/specs/Claims.antt lists all.
+ * Not proved, as no promise speaks of time: each call goes through the file from its start, so its
+ * time does not depend on earlier calls. It measures the units before the first that is asked for;
+ * of all units of a file, with all their text lent, each is measured at most once and written
+ * once. */
+
+/* The text of unit `unit`: `*length` bytes of UTF-8, with no zero byte after it. `*done` is the
+ * number of blocks in it and in all units before it, `*last` is 1 for the last unit and 0 for the
+ * others. Refusals 1 to 10. Definition: `unitCall` in crates/call_unit/specs/Calls.antt. */
 uint32_t recomp_unit(const uint8_t *file, size_t file_len, uint64_t max_bytes, uint64_t unit,
                      uint32_t *work, size_t work_len, uint8_t *text, size_t text_len,
                      uint64_t *at, uint64_t *length, uint64_t *done, uint64_t *last);
+
+/* The texts of units `first`, `first` + 1 and so on, one after another in the front of `text`, and
+ * the length of each in the front of `lengths`: as many whole units as fit both. `*count` is how
+ * many they are, `*length` the bytes of all their texts; `*done` and `*last` are as above, of the
+ * last of them. Where `*last` is 0, a call with `first` + `*count` gives those after.
+ * Refusals 1 to 10; 9: there is no unit `first`; 10: unit `first` does not fit, or there is no room
+ * for its length. Definition: `unitsCall` in crates/call_units/specs/Calls.antt. */
+uint32_t recomp_units(const uint8_t *file, size_t file_len, uint64_t max_bytes, uint64_t first,
+                      uint32_t *work, size_t work_len, uint8_t *text, size_t text_len,
+                      uint64_t *lengths, size_t lengths_len, uint64_t *at, uint64_t *count,
+                      uint64_t *length, uint64_t *done, uint64_t *last);
+
+/* The lengths alone, of as many units from `first` on as there is room for: what has to be lent to
+ * recomp_units. There are at most as many units as blocks and one more. The numbers are those of
+ * recomp_units, without the bytes of all. Refusals 1 to 10; 10: there is no room for a length.
+ * Definition: `lengthsCall` in crates/call_units/specs/Calls.antt. */
+uint32_t recomp_lengths(const uint8_t *file, size_t file_len, uint64_t max_bytes, uint64_t first,
+                        uint32_t *work, size_t work_len, uint64_t *lengths, size_t lengths_len,
+                        uint64_t *at, uint64_t *count, uint64_t *done, uint64_t *last);
 
 #ifdef __cplusplus
 }
