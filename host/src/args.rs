@@ -8,6 +8,9 @@ use std::path::PathBuf;
 /// The size of units unless one is given.
 pub const UNIT_SIZE: u64 = 1 << 20;
 
+/// Bytes of text that are lent at most unless a bound is given, a longer unit apart.
+pub const MEMORY: u64 = 1 << 30;
+
 #[derive(Clone, Debug, PartialEq, Eq)]
 pub enum Command {
     /// Print this text.
@@ -16,6 +19,7 @@ pub enum Command {
         file: OsString,
         folder: PathBuf,
         size: u64,
+        memory: u64,
     },
     Check {
         file: OsString,
@@ -42,6 +46,7 @@ struct Words {
     plain: Vec<OsString>,
     folder: Option<OsString>,
     size: Option<OsString>,
+    memory: Option<OsString>,
 }
 
 pub fn parse(args: impl Iterator<Item = OsString>) -> Result<Command, Failure> {
@@ -98,8 +103,12 @@ fn words(command: &str, mut args: impl Iterator<Item = OsString>) -> Result<Word
             ("--", _) => words.plain.extend(args.by_ref()),
             ("-o", "units") => words.folder = value("a folder")?,
             ("--unit-size", "units") => words.size = value("a size")?,
+            ("--memory", "units") => words.memory = value("a size")?,
             (option, "units") if option.starts_with("--unit-size=") => {
                 words.size = option.strip_prefix("--unit-size=").map(OsString::from)
+            }
+            (option, "units") if option.starts_with("--memory=") => {
+                words.memory = option.strip_prefix("--memory=").map(OsString::from)
             }
             (option, _) if option.starts_with('-') && option != "-" => {
                 return Err(wrong(command, &format!("there is no option {option}")));
@@ -125,6 +134,7 @@ fn build(command: &str, words: Words) -> Result<Command, Failure> {
                 file,
                 folder: folder.ok_or_else(none)?.into(),
                 size: words.size.map_or(Ok(UNIT_SIZE), |size| parse_size(&size))?,
+                memory: words.memory.map_or(Ok(MEMORY), |size| parse_size(&size))?,
             }
         }
         "check" => Command::Check { file },

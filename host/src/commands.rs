@@ -4,27 +4,27 @@ use crate::args::Command;
 use crate::failure::Failure;
 use crate::folder::Folder;
 use crate::input::{self, Input};
-use crate::lent::{Lent, NoResult, Units};
+use crate::lent::{Lent, NoResult};
 use crate::library;
 use crate::output::{self, print};
-use crate::progress::{Progress, Totals};
+use crate::progress::Progress;
 use crate::refusal;
+use crate::units::Units;
 use crate::verify;
 use std::ffi::OsStr;
 use std::fmt::Write;
 use std::path::Path;
 
-/// Text that is lent for a unit beyond its wished size, which most groups fit into.
-const SPARE: u64 = 1 << 20;
-
-/// Of a wished size no more than this is lent at first: a file may have far less text.
-const MOST_AT_FIRST: u64 = 64 << 20;
-
 pub fn run(command: Command) -> Result<(), Failure> {
     output::ready()?;
     match command {
         Command::Say(text) => print(text.as_bytes()),
-        Command::Units { file, folder, size } => units(&file, &folder, size),
+        Command::Units {
+            file,
+            folder,
+            size,
+            memory,
+        } => units(&file, &folder, size, memory),
         Command::Check { file } => check(&file),
         Command::Plan { file } => plan(&file),
         Command::Exits { file, block } => match block {
@@ -59,7 +59,7 @@ fn check(file: &OsStr) -> Result<(), Failure> {
 
 fn plan(file: &OsStr) -> Result<(), Failure> {
     let input = input::read(file)?;
-    let plan = Lent::new(&input.bytes, 0).and_then(|mut lent| lent.plan());
+    let plan = Lent::new(&input.bytes).and_then(|mut lent| lent.plan());
     let plan = plan.map_err(|nothing| failed(&input, nothing))?;
     let mut text = String::from("group block\n");
     for row in plan.chunks_exact(2) {
@@ -94,9 +94,9 @@ fn exits_of(file: &OsStr, block: u64) -> Result<(), Failure> {
 /// the listing, where they follow key and group.
 fn exits(file: &OsStr) -> Result<(), Failure> {
     let input = input::read(file)?;
-    let mut lent = Lent::new(&input.bytes, 0).map_err(|nothing| failed(&input, nothing))?;
+    let mut lent = Lent::new(&input.bytes).map_err(|nothing| failed(&input, nothing))?;
     let listing = lent.listing().map_err(|nothing| failed(&input, nothing))?;
-    let listing = std::str::from_utf8(listing).expect("a listing is ASCII");
+    let listing = std::str::from_utf8(&listing).expect("a listing is ASCII");
     let mut text = String::from(EXITS);
     for (block, line) in listing.lines().skip(1).enumerate() {
         let keys = line.splitn(3, ' ').nth(2).expect("key, group and exits");
@@ -107,38 +107,31 @@ fn exits(file: &OsStr) -> Result<(), Failure> {
 
 fn listing(file: &OsStr) -> Result<(), Failure> {
     let input = input::read(file)?;
-    let mut lent = Lent::new(&input.bytes, 0).map_err(|nothing| failed(&input, nothing))?;
-    print(lent.listing().map_err(|nothing| failed(&input, nothing))?)
+    let mut lent = Lent::new(&input.bytes).map_err(|nothing| failed(&input, nothing))?;
+    print(&lent.listing().map_err(|nothing| failed(&input, nothing))?)
 }
 
-fn units(file: &OsStr, folder: &Path, size: u64) -> Result<(), Failure> {
+fn units(file: &OsStr, folder: &Path, size: u64, memory: u64) -> Result<(), Failure> {
     let input = input::read(file)?;
-    let expected = size.min(MOST_AT_FIRST) + SPARE;
-    let lent = Lent::new(&input.bytes, expected as usize);
-    let lent = lent.map_err(|nothing| failed(&input, nothing))?;
-    let blocks = lent.counts.blocks;
-    let mut folder = Folder::open(folder)?;
-    write_units(&input, lent.units(size), &mut folder, Progress::new(blocks))?;
-    let manifest = folder.finish(size, blocks)?;
+    let units = Lent::new(&input.bytes).and_then(|lent| Units::new(lent, size, memory));
+    let mut units = units.map_err(|nothing| failed(&input, nothing))?;
+    if let Some([lent, wished]) = units.short() {
+        output::say(&format!(
+            "recomp: memory is short: text of {lent} bytes is made at a time in place of {wished}, \
+             which takes longer"
+        ));
+    }
+    let mut folder = Folder::open(folder, units.lengths())?;
+    write_units(&input, &mut units, &mut folder)?;
+    let manifest = folder.finish(size, units.blocks())?;
     print(format!("{}\n", manifest.totals()).as_bytes())
 }
 
 /// Writes all units, as they are handed out.
-fn write_units(
-    input: &Input,
-    mut units: Units,
-    folder: &mut Folder,
-    mut progress: Progress,
-) -> Result<(), Failure> {
-    let mut totals = Totals::default();
-    while let Some((unit, text)) = units.hand_out().map_err(|nothing| failed(input, nothing))? {
-        folder.write(text)?;
-        totals = Totals {
-            units: totals.units + 1,
-            blocks: unit.done,
-            bytes: totals.bytes + unit.length,
-        };
-        progress.show(totals);
+fn write_units(input: &Input, units: &mut Units, folder: &mut Folder) -> Result<(), Failure> {
+    let mut progress = Progress::new(units.lengths());
+    while let Some(texts) = units.hand_out().map_err(|nothing| failed(input, nothing))? {
+        folder.write(&texts, |length| progress.add(length))?;
     }
     Ok(())
 }

@@ -1,66 +1,77 @@
 //! The folder that units are written to. Each is written under a temporary name; all get their
-//! names once the last one stands. The manifest is removed before anything else is changed and gets
-//! its name last, so that where there is one, the units are those of the run that wrote it.
+//! names once the last one stands. The manifest is removed before the first is written and gets its
+//! name last, so that where there is one, the units are those of the run that wrote it.
 
 use crate::failure::Failure;
-use crate::held::{Beside, Entry, Held};
+use crate::held::{self, Beside, Entry, Held};
 use crate::manifest::{self, Manifest};
 use crate::names::{self, MANIFEST};
+use crate::room::Room;
 use std::fs;
-use std::io::{ErrorKind, Write};
+use std::io::Write;
 use std::path::Path;
+use std::thread;
 
 /// A folder that takes units one after another, from 0.
 pub struct Folder {
     held: Held,
+    room: Room,
     /// Files of this run that have their temporary names.
     unnamed: Vec<String>,
     units: Vec<manifest::Entry>,
 }
 
 impl Folder {
-    /// Makes the folder if there is none, locks it, and removes the manifest and what an
-    /// interrupted run left.
-    pub fn open(path: &Path) -> Result<Folder, Failure> {
+    /// Makes the folder if there is none, locks it, removes what an interrupted run left, reserves
+    /// room for units of these lengths, and removes the manifest.
+    pub fn open(path: &Path, lengths: &[u64]) -> Result<Folder, Failure> {
         fs::create_dir_all(path).map_err(|error| {
             Failure::cannot("make the folder", path, error, "name another with -o")
         })?;
         let held = Held::open(path, Beside::Nobody)?;
         let entries = held.entries()?;
-        let meant = |entry: &Entry| entry.name == MANIFEST || names::is_temporary(&entry.name);
-        no_folder_among(&held, &entries, meant)?;
-        clear(&held, &entries)?;
+        let count = lengths.len() as u64;
+        no_folder_among(&held, &entries, |entry| {
+            names::is_temporary(&entry.name) || is_written(entry, count)
+        })?;
+        remove_temporary(&held, &entries)?;
+        let manifest = manifest::most_bytes(count);
+        let room = Room::reserve(&held, lengths.iter().copied().chain([manifest]))?;
+        remove_manifest(&held, &entries)?;
         Ok(Folder {
             held,
+            room,
             unnamed: vec![],
             units: vec![],
         })
     }
 
-    /// Writes the next unit.
-    pub fn write(&mut self, text: &[u8]) -> Result<(), Failure> {
-        let name = names::unit(self.units.len() as u64);
-        self.units.push(manifest::Entry::of(text));
-        self.write_temporary(&name, text)
+    /// Writes the next units, while another thread makes their sums, and tells the length of each
+    /// that is written.
+    pub fn write(&mut self, texts: &[&[u8]], mut tell: impl FnMut(u64)) -> Result<(), Failure> {
+        let first = self.units.len();
+        let sums = || texts.iter().map(|text| manifest::Entry::of(text));
+        let (units, written) = both(&|| sums().collect::<Vec<_>>(), || {
+            for (text, unit) in texts.iter().zip(first as u64..) {
+                self.write_temporary(&names::unit(unit), text)?;
+                tell(text.len() as u64);
+            }
+            Ok(())
+        });
+        self.units.extend(units);
+        written
     }
 
     /// Writes a file under the temporary name for this one, so that all of it is on the disk.
     fn write_temporary(&mut self, name: &str, text: &[u8]) -> Result<(), Failure> {
         let name = names::temporary(name);
+        let mut file = self.held.create(&name)?;
         let path = self.held.named(&name);
-        let failed = |error: std::io::Error| {
-            let advice = match error.kind() {
-                ErrorKind::AlreadyExists => "remove what stands there, then run again",
-                ErrorKind::NotFound => "see that the folder stays where it is, then run again",
-                _ => "make room or get the right to write there, then run again",
-            };
-            Failure::cannot("write", &path, error, advice)
-        };
-        let mut file = self.held.create(&name).map_err(failed)?;
         // From here on it is removed after a failure.
         self.unnamed.push(name);
+        self.room.give_back(text.len() as u64);
         let written = file.write_all(text).and_then(|()| file.sync_all());
-        written.map_err(failed)
+        written.map_err(|error| held::cannot_write(&path, error))
     }
 
     /// Gives all units their names, removes units that an older run had beyond them, and then gives
@@ -76,9 +87,7 @@ impl Folder {
         self.write_temporary(MANIFEST, manifest.print().as_bytes())?;
         let count = manifest.units.len() as u64;
         let older = self.held.entries()?;
-        no_folder_among(&self.held, &older, |entry| {
-            entry.name == MANIFEST || entry.unit().is_some_and(|unit| unit < count)
-        })?;
+        no_folder_among(&self.held, &older, |entry| is_written(entry, count))?;
         self.name_units(count)?;
         self.remove_beyond(count, &older)?;
         self.held.sync()?;
@@ -118,6 +127,11 @@ impl Drop for Folder {
     }
 }
 
+/// Whether it has the name of the manifest or of one of so many units.
+fn is_written(entry: &Entry, count: u64) -> bool {
+    entry.name == MANIFEST || entry.unit().is_some_and(|unit| unit < count)
+}
+
 /// Fails if a folder has one of the names that are meant: no file can take its place.
 fn no_folder_among(
     held: &Held,
@@ -142,17 +156,35 @@ fn no_folder_among(
     }
 }
 
-/// Removes the manifest, so that it stands on the disk no longer, and then the temporary files of
-/// an interrupted run. A link or pipe under such a name is removed itself.
-fn clear(held: &Held, entries: &[Entry]) -> Result<(), Failure> {
-    if entries.iter().any(|entry| entry.name == MANIFEST) {
-        held.remove(MANIFEST)?;
-        held.sync()?;
-    }
+/// Removes the temporary files of an interrupted run. A link or pipe under such a name is removed
+/// itself.
+fn remove_temporary(held: &Held, entries: &[Entry]) -> Result<(), Failure> {
     for entry in entries {
         if names::is_temporary(&entry.name) {
             held.remove(&entry.name)?;
         }
     }
     Ok(())
+}
+
+/// Removes the manifest, so that it stands on the disk no longer.
+fn remove_manifest(held: &Held, entries: &[Entry]) -> Result<(), Failure> {
+    if entries.iter().any(|entry| entry.name == MANIFEST) {
+        held.remove(MANIFEST)?;
+        held.sync()?;
+    }
+    Ok(())
+}
+
+/// Does both at the same time, or one after the other where there is no thread to be had.
+fn both<A: Send, B>(first: &(impl Fn() -> A + Sync), second: impl FnOnce() -> B) -> (A, B) {
+    thread::scope(
+        |scope| match thread::Builder::new().spawn_scoped(scope, first) {
+            Ok(thread) => {
+                let second = second();
+                (thread.join().expect("it comes to its end"), second)
+            }
+            Err(_) => (first(), second()),
+        },
+    )
 }

@@ -3,7 +3,7 @@
 //! own on the folder: it needs no file, and ends with the program, however that ends.
 
 use crate::failure::Failure;
-use crate::names;
+use crate::names::{self, MANIFEST};
 use std::fs::{self, File, FileType, TryLockError};
 use std::io::{self, ErrorKind};
 use std::os::fd::AsRawFd;
@@ -51,6 +51,11 @@ impl Held {
         })
     }
 
+    /// The path of the folder in messages.
+    pub fn path(&self) -> &Path {
+        &self.named
+    }
+
     /// The path of a file in messages.
     pub fn named(&self, name: &str) -> PathBuf {
         self.named.join(name)
@@ -82,11 +87,18 @@ impl Held {
     }
 
     /// Makes a file that is not there yet. Nothing that stands under its name is opened.
-    pub fn create(&self, name: &str) -> io::Result<File> {
-        File::options()
-            .write(true)
-            .create_new(true)
-            .open(self.reach(name))
+    pub fn create(&self, name: &str) -> Result<File, Failure> {
+        let mut options = File::options();
+        let made = options.write(true).create_new(true).open(self.reach(name));
+        made.map_err(|error| cannot_write(&self.named(name), error))
+    }
+
+    /// Makes a file that has no name, but for a moment a temporary one.
+    pub fn create_unnamed(&self) -> Result<File, Failure> {
+        let name = names::temporary(MANIFEST);
+        let file = self.create(&name)?;
+        self.remove(&name)?;
+        Ok(file)
     }
 
     /// Gives a file another name, in place of what has it.
@@ -117,6 +129,16 @@ impl Held {
             Ok(()) => Ok(()),
         }
     }
+}
+
+/// The failure of making or writing a file.
+pub fn cannot_write(path: &Path, error: io::Error) -> Failure {
+    let advice = match error.kind() {
+        ErrorKind::AlreadyExists => "remove what stands there, then run again",
+        ErrorKind::NotFound => "see that the folder stays where it is, then run again",
+        _ => "make room or get the right to write there, then run again",
+    };
+    Failure::cannot("write", path, error, advice)
 }
 
 fn lock(folder: &File, path: &Path, beside: Beside) -> Result<(), Failure> {

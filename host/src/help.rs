@@ -5,12 +5,12 @@ Translates block files (decoded ARM and Thumb blocks) to C units.
 
 usage: recomp COMMAND ...
 
-  recomp units FILE -o DIR [--unit-size BYTES]   write the C units
-  recomp check FILE                              say whether the file is accepted
-  recomp plan FILE                               print which blocks are emitted together
-  recomp exits FILE [BLOCK]                      print where blocks can statically go
-  recomp listing FILE                            print key, group and exits of each block
-  recomp verify DIR                              say whether units are as they were written
+  recomp units FILE -o DIR [OPTIONS]   write the C units
+  recomp check FILE                    say whether the file is accepted
+  recomp plan FILE                     print which blocks are emitted together
+  recomp exits FILE [BLOCK]            print where blocks can statically go
+  recomp listing FILE                  print key, group and exits of each block
+  recomp verify DIR                    say whether units are as they were written
 
 FILE is - for standard input. `recomp COMMAND --help` says more, `recomp --version` the version.
 Exit status: 0 done, 1 refused file (`refused N at I` and the rule) or units that are not as they
@@ -20,17 +20,20 @@ were written, 2 any other failure.
 pub const UNITS: &str = "\
 Writes the C units of a block file as unit_000.c, unit_001.c and so on.
 
-usage: recomp units FILE -o DIR [--unit-size BYTES]
+usage: recomp units FILE -o DIR [--unit-size BYTES] [--memory BYTES]
 
   FILE               a block file, or - for standard input
   -o DIR             the folder of the units, which is made if there is none
   --unit-size BYTES  close a unit once it has so many bytes (1M unless given; K is 1024, M is 1024K)
+  --memory BYTES     have text of so many bytes made at a time, or of one unit that is longer
+                     (1024M unless given); with all text at a time the units are made once, else
+                     those before are measured again each time
 
-Nothing is written for a refused file. DIR is locked meanwhile: a second run in it fails at once.
-units.txt, which `recomp verify` reads, is removed first and is there again once all units have
+Nothing is written for a refused file, nor where the disk has no room for all units, which is
+reserved first. DIR is locked meanwhile: a second run in it fails at once. units.txt, which `recomp
+verify` reads, is removed before the first unit is written and is there again once all units have
 their names; a run that ends early leaves none. Files of DIR that are named like further units, left
-by an older run, are removed, and no others but the .tmp files of a run that was interrupted. Each
-unit takes one pass over the file: large units take less time together.
+by an older run, are removed, and no others but the .tmp files of a run that was interrupted.
 ";
 
 pub const CHECK: &str = "\

@@ -1,7 +1,8 @@
-//! What calls are lent: the file, read once, work numbers for all its blocks, and a text that grows
-//! when a call finds it short.
+//! What calls are lent: the file, read once, work numbers for all its blocks, and room for what
+//! they make.
 
-use crate::library::{self, Counts, Refused, Unit};
+use crate::library::{self, Counts, Refused};
+use std::alloc::{alloc_zeroed, Layout};
 
 /// Why a call gave nothing.
 #[derive(Clone, Copy, Debug, PartialEq, Eq)]
@@ -14,26 +15,24 @@ pub enum NoResult {
 /// The refusal for a text that does not fit.
 const SHORT: u32 = 10;
 
-/// Bytes of text that are lent at first, if no more are expected.
+/// Bytes that are lent for a listing at first.
 const FIRST: usize = 1 << 16;
 
-/// An accepted file with the buffers for its calls.
+/// An accepted file with the work numbers for its calls.
 pub struct Lent<'a> {
-    file: &'a [u8],
+    pub file: &'a [u8],
     pub counts: Counts,
-    work: Vec<u32>,
-    text: Vec<u8>,
+    pub work: Vec<u32>,
 }
 
 impl<'a> Lent<'a> {
-    /// Has the file checked, and makes room for its blocks and for texts of this length.
-    pub fn new(file: &'a [u8], expected: usize) -> Result<Lent<'a>, NoResult> {
+    /// Has the file checked, and makes room for its blocks.
+    pub fn new(file: &'a [u8]) -> Result<Lent<'a>, NoResult> {
         let counts = library::check(file).map_err(NoResult::Refused)?;
         Ok(Lent {
             file,
             counts,
             work: zeros(4 * counts.blocks as usize)?,
-            text: zeros(expected.max(FIRST))?,
         })
     }
 
@@ -44,48 +43,12 @@ impl<'a> Lent<'a> {
         Ok(plan)
     }
 
-    pub fn listing(&mut self) -> Result<&[u8], NoResult> {
-        let (file, work) = (self.file, &mut self.work);
-        let call = |text: &mut [u8]| library::listing(file, work, text);
-        let length = growing(&mut self.text, call)?;
-        Ok(&self.text[..length as usize])
-    }
-
-    /// A unit of those that are closed from `size` bytes on, and its text.
-    fn unit(&mut self, size: u64, unit: u64) -> Result<(Unit, &[u8]), NoResult> {
-        let (file, work) = (self.file, &mut self.work);
-        let call = |text: &mut [u8]| library::unit(file, size, unit, work, text);
-        let said = growing(&mut self.text, call)?;
-        Ok((said, &self.text[..said.length as usize]))
-    }
-
-    /// The units that are closed from `size` bytes on.
-    pub fn units(self, size: u64) -> Units<'a> {
-        Units {
-            lent: self,
-            size,
-            next: Some(0),
-        }
-    }
-}
-
-/// Hands out the units of a file in order. How many of them a call makes is known here alone.
-pub struct Units<'a> {
-    lent: Lent<'a>,
-    size: u64,
-    /// The unit that is handed out next, if one is left.
-    next: Option<u64>,
-}
-
-impl Units<'_> {
-    /// The next unit and its text; nothing after the last.
-    pub fn hand_out(&mut self) -> Result<Option<(Unit, &[u8])>, NoResult> {
-        let Some(number) = self.next else {
-            return Ok(None);
-        };
-        let (unit, text) = self.lent.unit(self.size, number)?;
-        self.next = (!unit.last).then_some(number + 1);
-        Ok(Some((unit, text)))
+    pub fn listing(&mut self) -> Result<Vec<u8>, NoResult> {
+        let mut text = zeros(FIRST)?;
+        let call = |text: &mut [u8]| library::listing(self.file, &mut self.work, text);
+        let length = growing(&mut text, call)?;
+        text.truncate(length as usize);
+        Ok(text)
     }
 }
 
@@ -107,13 +70,30 @@ fn growing<A>(
     }
 }
 
-fn zeros<N: Copy + Default>(count: usize) -> Result<Vec<N>, NoResult> {
-    let mut numbers = Vec::new();
-    numbers
-        .try_reserve_exact(count)
-        .map_err(|_| NoResult::NoMemory(count.saturating_mul(size_of::<N>())))?;
-    numbers.resize(count, N::default());
-    Ok(numbers)
+/// Numbers that are 0 where all their bytes are.
+pub trait Number {}
+
+impl Number for u8 {}
+impl Number for u32 {}
+impl Number for u64 {}
+
+/// So many zeros. Where the system gives memory that is zero, none of it is written here, so that
+/// as much of it is taken as calls write to.
+pub fn zeros<N: Number>(count: usize) -> Result<Vec<N>, NoResult> {
+    let none = NoResult::NoMemory(count.saturating_mul(size_of::<N>()));
+    let layout = Layout::array::<N>(count).map_err(|_| none)?;
+    if layout.size() == 0 {
+        return Ok(Vec::new());
+    }
+    // SAFETY: the size is not 0. What is handed over was made for so many numbers, each of which is
+    // 0, and nothing else holds it.
+    unsafe {
+        let made = alloc_zeroed(layout).cast::<N>();
+        if made.is_null() {
+            return Err(none);
+        }
+        Ok(Vec::from_raw_parts(made, count, count))
+    }
 }
 
 #[cfg(test)]
@@ -149,8 +129,17 @@ mod tests {
     }
 
     #[test]
+    fn zeros_are_as_many_as_were_asked_for() {
+        for count in [0, 1, 7, 100_000] {
+            assert_eq!(zeros::<u64>(count), Ok(vec![0; count]));
+        }
+    }
+
+    #[test]
     fn memory_that_cannot_be_had_is_said() {
-        let said = zeros::<u32>(usize::MAX / 4);
-        assert_eq!(said, Err(NoResult::NoMemory(usize::MAX / 4 * 4)));
+        for count in [usize::MAX / 4, usize::MAX] {
+            let said = zeros::<u32>(count);
+            assert_eq!(said, Err(NoResult::NoMemory(count.saturating_mul(4))));
+        }
     }
 }

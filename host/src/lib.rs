@@ -14,5 +14,7 @@ mod names;
 pub mod output;
 mod progress;
 mod refusal;
+mod room;
 mod sha256;
+mod units;
 mod verify;

@@ -29,6 +29,27 @@ pub struct Unit {
     pub last: bool,
 }
 
+/// What is said of several units beside their texts and the length of each.
+#[derive(Clone, Copy, Debug, PartialEq, Eq)]
+pub struct Made {
+    /// How many they are.
+    pub count: u64,
+    /// Bytes of all their texts, in the front of the text lent.
+    pub length: u64,
+    /// Blocks in them and in all units before them.
+    pub done: u64,
+    /// Whether the last of them is the file's last.
+    pub last: bool,
+}
+
+/// What is said of units of which the lengths alone were asked for.
+#[derive(Clone, Copy, Debug, PartialEq, Eq)]
+pub struct Measured {
+    pub count: u64,
+    pub done: u64,
+    pub last: bool,
+}
+
 /// The values if the call returned 0, else the refusal.
 fn answer<A>(number: u32, at: u64, values: A) -> Result<A, Refused> {
     match number {
@@ -77,6 +98,46 @@ pub fn unit(
     let (number, [at, length, done, last]) = interface::unit(file, max_bytes, unit, work, text);
     let values = Unit {
         length,
+        done,
+        last: last != 0,
+    };
+    answer(number, at, values)
+}
+
+/// Units `first`, `first` + 1 and so on, as many whole ones as fit `text` and have a place among
+/// `lengths`; `text` then has them one after another in its front, `lengths` the length of each.
+pub fn units(
+    file: &[u8],
+    max_bytes: u64,
+    first: u64,
+    work: &mut [u32],
+    text: &mut [u8],
+    lengths: &mut [u64],
+) -> Result<Made, Refused> {
+    let (number, [at, count, length, done, last]) =
+        interface::units(file, max_bytes, first, work, text, lengths);
+    let values = Made {
+        count,
+        length,
+        done,
+        last: last != 0,
+    };
+    answer(number, at, values)
+}
+
+/// The lengths of units `first`, `first` + 1 and so on, as many as have a place; `lengths` then has
+/// them in its front.
+pub fn lengths(
+    file: &[u8],
+    max_bytes: u64,
+    first: u64,
+    work: &mut [u32],
+    lengths: &mut [u64],
+) -> Result<Measured, Refused> {
+    let (number, [at, count, done, last]) =
+        interface::lengths(file, max_bytes, first, work, lengths);
+    let values = Measured {
+        count,
         done,
         last: last != 0,
     };

@@ -8,6 +8,11 @@ use std::fmt::Write;
 /// Instructions that a group of several blocks has at most.
 const LIMIT: u64 = 8192;
 
+/// Bytes that the text of a manifest of so many units has at most.
+pub const fn most_bytes(units: u64) -> u64 {
+    128 * (units + 2)
+}
+
 const TITLE: &str = "# The units that recomp wrote; recomp verify or sha256sum -c tests them.\n";
 
 #[derive(Clone, Debug, PartialEq, Eq)]

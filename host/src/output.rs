@@ -60,11 +60,16 @@ fn write(text: &[u8]) -> io::Result<()> {
     File::from(io::stdout().as_fd().try_clone_to_owned()?).write_all(text)
 }
 
+/// Puts a line on standard error.
+pub fn say(line: &str) {
+    let _ = io::stderr().write_all(format!("{line}\n").as_bytes());
+}
+
 /// Ends the program after a failure, with its line on standard error.
 pub fn end(failure: Failure) -> ExitCode {
     match failure {
         Failure::Said { status, line } => {
-            let _ = io::stderr().write_all(format!("{line}\n").as_bytes());
+            say(&line);
             ExitCode::from(status)
         }
         Failure::NobodyReads => end_by_signal(),

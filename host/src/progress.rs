@@ -3,45 +3,62 @@
 use std::io::{IsTerminal, Write};
 use std::time::{Duration, Instant};
 
-/// How far a run has come.
-#[derive(Clone, Copy, Default)]
-pub struct Totals {
-    pub units: u64,
-    pub blocks: u64,
-    pub bytes: u64,
-}
-
 const PAUSE: Duration = Duration::from_millis(100);
 
+/// Units and their bytes.
+#[derive(Clone, Copy, Default)]
+struct Totals {
+    units: u64,
+    bytes: u64,
+}
+
+impl Totals {
+    fn and(self, length: u64) -> Totals {
+        Totals {
+            units: self.units + 1,
+            bytes: self.bytes + length,
+        }
+    }
+}
+
+/// How far a run has come.
 pub struct Progress {
-    all_blocks: u64,
+    all: Totals,
+    written: Totals,
     terminal: bool,
     shown: Option<Instant>,
 }
 
 impl Progress {
-    pub fn new(all_blocks: u64) -> Progress {
-        Progress {
-            all_blocks,
+    /// For a run that has units of these lengths to write.
+    pub fn new(lengths: &[u64]) -> Progress {
+        let add = |all: Totals, &length: &u64| all.and(length);
+        let mut progress = Progress {
+            all: lengths.iter().fold(Totals::default(), add),
+            written: Totals::default(),
             terminal: std::io::stderr().is_terminal(),
             shown: None,
-        }
+        };
+        progress.show();
+        progress
+    }
+
+    /// A unit of this length is written.
+    pub fn add(&mut self, length: u64) {
+        self.written = self.written.and(length);
+        self.show();
     }
 
     /// Shows the line anew, unless it was shown just now.
-    pub fn show(&mut self, totals: Totals) {
+    fn show(&mut self) {
         if !self.terminal || self.shown.is_some_and(|at| at.elapsed() < PAUSE) {
             return;
         }
         self.shown = Some(Instant::now());
-        let Totals {
-            units,
-            blocks,
-            bytes,
-        } = totals;
-        let all = self.all_blocks;
+        let (done, all) = (self.written, self.all);
         put(&format!(
-            "units {units}, blocks {blocks} of {all}, bytes {bytes}"
+            "units {} of {}, bytes {} of {}",
+            done.units, all.units, done.bytes, all.bytes
         ));
     }
 }

@@ -2,15 +2,15 @@
 
 use crate::failure::Failure;
 use crate::held::{Beside, Held};
-use crate::manifest::{Entry, Manifest};
+use crate::manifest::{self, Entry, Manifest};
 use crate::names::{self, MANIFEST};
 use crate::sha256::{self, Sha256};
 use std::fs::{self, File};
 use std::io::{self, ErrorKind, Read};
 use std::path::Path;
 
-/// No manifest is longer: at most 65,537 units, with under 128 bytes each.
-const LONGEST: u64 = 128 << 16;
+/// No manifest is longer: there are at most 65,537 units.
+const LONGEST: u64 = manifest::most_bytes(65_537);
 
 /// Bytes of a unit that are read at a time.
 const PART: usize = 1 << 18;

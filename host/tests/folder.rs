@@ -105,7 +105,7 @@ fn the_lock_ends_with_the_run_that_was_killed() {
 /// Both runs are in the midst of their work when the first goes on.
 #[test]
 fn a_folder_made_anew_during_a_run_is_left_alone() {
-    for (call, at) in [("open", 2), ("rename", 1), ("rename", 3), ("rename", 6)] {
+    for (call, at) in [("open", 3), ("rename", 1), ("rename", 3), ("rename", 6)] {
         let titles = Titles::new();
         let first = titles.halted("first", call, at);
         fs::remove_dir_all(&titles.folder).expect("the folder goes");
@@ -169,36 +169,43 @@ fn pipes_in_the_way_go_and_are_not_waited_for() {
     }
 }
 
-/// What came under a temporary name after the run had looked is neither opened nor removed.
+/// What came under a temporary name after the run had looked is neither opened nor removed. The
+/// first file that is made holds room on the disk, the third is the second unit.
 #[test]
 fn what_comes_in_the_way_during_a_run_is_refused() {
     let titles = Titles::new();
     let outside = titles.scratch.file("outside", b"kept");
-    for link in [true, false] {
-        let halted = titles.halted("first", "open", 2);
+    for (at, name, link) in [
+        (1, "units.txt.tmp", true),
+        (3, "unit_001.c.tmp", true),
+        (3, "unit_001.c.tmp", false),
+    ] {
+        let halted = titles.halted("first", "open", at);
         match link {
-            true => symlink(&outside, titles.in_folder("unit_001.c.tmp")).expect("a link"),
-            false => titles.pipe("unit_001.c.tmp"),
+            true => symlink(&outside, titles.in_folder(name)).expect("a link"),
+            false => titles.pipe(name),
         }
         let line = halted.end().failed(2);
-        let start = format!(
-            "recomp: cannot write {}: ",
-            titles.in_folder("unit_001.c.tmp")
-        );
+        let start = format!("recomp: cannot write {}: ", titles.in_folder(name));
         assert!(line.starts_with(&start), "{line}");
         assert!(
             line.ends_with("; remove what stands there, then run again"),
             "{line}"
         );
-        assert_eq!(names(&titles.folder), ["unit_001.c.tmp"]);
-        fs::remove_file(titles.in_folder("unit_001.c.tmp")).expect("it is still there");
+        assert_eq!(names(&titles.folder), [name]);
+        fs::remove_file(titles.in_folder(name)).expect("it is still there");
     }
     assert_eq!(fs::read(&outside).expect("the file"), b"kept");
 }
 
 #[test]
 fn folders_in_the_way_are_refused_before_anything_is_touched() {
-    for name in ["unit_000.c.tmp", "units.txt.tmp", "unit_007.c.tmp"] {
+    for name in [
+        "unit_000.c.tmp",
+        "units.txt.tmp",
+        "unit_007.c.tmp",
+        "unit_004.c",
+    ] {
         let titles = Titles::new();
         titles.write("second");
         fs::create_dir(titles.in_folder(name)).expect("a folder");
@@ -216,15 +223,16 @@ fn in_the_way(titles: &Titles, name: &str) -> String {
 }
 
 #[test]
-fn folders_in_place_of_units_are_found_before_the_first_renaming() {
+fn folders_that_come_in_place_of_units_are_found_before_the_first_renaming() {
     for name in ["unit_001.c", "unit_004.c", "units.txt"] {
         let titles = Titles::new();
         titles.write("second");
+        let halted = titles.halted("first", "open", 3);
         let _ = fs::remove_file(titles.in_folder(name));
         fs::create_dir(titles.in_folder(name)).expect("a folder");
         let units = ["unit_000.c", "unit_002.c"];
         let before = units.map(|unit| fs::read(titles.in_folder(unit)).expect("a unit"));
-        let line = titles.run("first").failed(2);
+        let line = halted.end().failed(2);
         assert_eq!(line, in_the_way(&titles, name));
         let after = units.map(|unit| fs::read(titles.in_folder(unit)).expect("a unit"));
         assert!(before == after, "{name}");
@@ -252,6 +260,8 @@ fn state(titles: &Titles) -> State {
         return State::NoManifest;
     }
     verified.printed();
+    // What reserves room has this name for a moment; the next run removes it.
+    let _ = fs::remove_file(titles.in_folder("units.txt.tmp"));
     for (state, title) in [
         (State::First, &titles.first),
         (State::Second, &titles.second),
@@ -286,8 +296,9 @@ fn stopped_at_each_call(titles: &Titles, by: By, call: &str) -> Vec<(Run, State)
 fn a_run_killed_at_any_call_leaves_one_title_or_no_manifest() {
     let titles = Titles::new();
     let ends = stopped_at_each_call(&titles, By::Kill, "any");
-    // Removing, three units and the manifest written, four renamings, what the first had beyond.
-    assert!(ends.len() > 20, "{}", ends.len());
+    // Room reserved, the manifest removed, three units and the manifest written, four renamings,
+    // what the first had beyond.
+    assert!(ends.len() > 24, "{}", ends.len());
     for (run, _) in &ends {
         assert_eq!(
             (run.status, run.out.as_str(), run.err.as_str()),
@@ -304,10 +315,76 @@ fn a_run_killed_at_any_call_leaves_one_title_or_no_manifest() {
 fn a_run_that_fails_at_any_call_says_so_and_leaves_one_title_or_no_manifest() {
     let titles = Titles::new();
     let ends = stopped_at_each_call(&titles, By::Fail, "any");
-    assert!(ends.len() > 20, "{}", ends.len());
+    assert!(ends.len() > 24, "{}", ends.len());
+    let mut full = 0;
     for (run, _) in ends {
         let line = run.failed(2);
-        assert!(line.contains("Input/output error (os error 5); "), "{line}");
+        let broken = line.contains("Input/output error (os error 5); ");
+        assert!(broken || line.contains(FULL), "{line}");
+        full += u32::from(!broken);
+    }
+    assert_eq!(full, 1, "room is reserved once");
+}
+
+/// What the system says where a disk has no room.
+const FULL: &str = "No space left on device (os error 28); ";
+
+/// Room for all units is reserved before anything of the older run is touched.
+#[test]
+fn a_disk_too_small_is_said_and_leaves_the_folder_as_it_was() {
+    let titles = Titles::new();
+    titles.write("first");
+    let before = contents(&titles.folder);
+    let mut command = stopping(&titles.args("second"), By::Fail, "reserve", 1);
+    let line = Run::of(command.output().expect("the program runs")).failed(2);
+    assert_eq!(line, too_small(&titles.folder, 4));
+    assert!(contents(&titles.folder) == before);
+}
+
+/// So many blocks of the disk, 4096 bytes each, are not to be had.
+fn too_small(folder: &str, blocks: u64) -> String {
+    let bytes = 4096 * blocks;
+    let what = format!("cannot write the units to {folder}: it takes {bytes} bytes of the disk");
+    format!("recomp: {what}: {FULL}make room, or name another folder with -o")
+}
+
+/// A script with the program and these arguments, run where a disk of so many bytes stands at a
+/// path; nothing where the system lets nobody make one.
+fn on_a_small_disk(path: &str, bytes: u64, script: &str, args: &[String]) -> Option<Run> {
+    let mount = format!("mount -t tmpfs -o size={bytes} none '{path}'");
+    let inside = |script: &str| {
+        let mut command = Command::new("unshare");
+        command.args(["--map-root-user", "--mount", "sh", "-c"]);
+        command
+            .arg(format!("{mount} && {script}"))
+            .arg(PROGRAM)
+            .args(args);
+        Run::of(command.output().expect("unshare runs"))
+    };
+    (inside("true").status == Some(0)).then(|| inside(script))
+}
+
+/// Three units and the manifest take a block of the disk each.
+#[test]
+fn a_small_disk() {
+    let titles = Titles::new();
+    fs::create_dir(&titles.folder).expect("a folder");
+    let args = titles.args("second");
+    for blocks in [3, 4] {
+        let script = "\"$0\" \"$@\" && \"$0\" verify \"$4\"; echo $?; ls \"$4\"";
+        let run = on_a_small_disk(&titles.folder, 4096 * blocks, script, &args);
+        let Some(run) = run else {
+            eprintln!("no disk can be made here");
+            return;
+        };
+        if blocks == 3 {
+            assert_eq!(run.err, format!("{}\n", too_small(&titles.folder, 4)));
+            assert_eq!(run.out, "2\n");
+        } else {
+            let units = "unit_000.c\nunit_001.c\nunit_002.c\nunits.txt\n";
+            assert!(run.out.ends_with(&format!("\n0\n{units}")), "{run:?}");
+            assert_eq!(run.err, "");
+        }
     }
 }
 

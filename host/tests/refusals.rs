@@ -4,7 +4,7 @@
 mod common;
 
 use common::{lone, lone_blocks, recomp, recomp_on, Scratch};
-use recomp_host::library::{self, Refused};
+use recomp_host::library::{self, Made, Measured, Refused};
 use recomp_tools::file::{block, build, trailer, File};
 use recomp_tools::record::Record;
 
@@ -116,6 +116,15 @@ fn no_such_unit() {
     assert_eq!(answer, Err(refusal(9)));
     assert_eq!((work[..8].to_vec(), work[8]), (vec![0; 8], 7));
     assert_eq!(text, &[7; 8192]);
+    let (work, lengths) = (&mut [7; 8], &mut [7; 4]);
+    for first in [3, u64::MAX] {
+        let answer = library::units(&file, 0, first, work, text, lengths);
+        assert_eq!(answer, Err(refusal(9)));
+        let answer = library::lengths(&file, 0, first, work, lengths);
+        assert_eq!(answer, Err(refusal(9)));
+    }
+    assert_eq!((*work, *lengths), ([0; 8], [7; 4]));
+    assert_eq!(text, &[7; 8192]);
 }
 
 #[test]
@@ -125,7 +134,12 @@ fn too_few_work_numbers() {
     assert_eq!(library::plan(&file, work, plan), Err(refusal(8)));
     assert_eq!(library::listing(&file, work, text), Err(refusal(8)));
     assert_eq!(library::unit(&file, 0, 0, work, text), Err(refusal(8)));
-    assert_eq!((*work, *plan), ([7; 7], [7; 4]));
+    let lengths = &mut [7; 3];
+    let answer = library::units(&file, 0, 0, work, text, lengths);
+    assert_eq!(answer, Err(refusal(8)));
+    let answer = library::lengths(&file, 0, 0, work, lengths);
+    assert_eq!(answer, Err(refusal(8)));
+    assert_eq!((*work, *plan, *lengths), ([7; 7], [7; 4], [7; 3]));
     assert_eq!(text, &[7; 8192]);
 }
 
@@ -139,4 +153,45 @@ fn too_short_a_result() {
     assert_eq!(library::unit(&file, 0, 0, work, text), Err(refusal(10)));
     assert_eq!((*work, *plan), ([0; 8], [7; 3]));
     assert_eq!(text, &[7; 40]);
+    let (work, lengths) = (&mut [7; 8], &mut [7; 3]);
+    let answer = library::units(&file, 0, 0, work, text, lengths);
+    assert_eq!(answer, Err(refusal(10)));
+    assert_eq!((*work, *lengths), ([0; 8], [7; 3]));
+    assert_eq!(text, &[7; 40]);
+    // No place for a length.
+    let text = &mut [7; 8192];
+    let answer = library::units(&file, 0, 0, work, text, &mut []);
+    assert_eq!(answer, Err(refusal(10)));
+    let answer = library::lengths(&file, 0, 0, work, &mut []);
+    assert_eq!(answer, Err(refusal(10)));
+    assert_eq!(text, &[7; 8192]);
+}
+
+/// Two units of three, with room for two and a bit, then for two lengths.
+#[test]
+fn as_many_units_as_fit() {
+    let file = lone_blocks(2).bytes;
+    let units = common::expected(&file, 0);
+    let [first, second] = [units[0].len(), units[1].len()];
+    let both = first + second;
+    let (work, lengths) = (&mut [7; 8], &mut [7; 3]);
+    let mut text = vec![7; both + 1];
+    let made = library::units(&file, 0, 0, work, &mut text, lengths);
+    let two = Made {
+        count: 2,
+        length: both as u64,
+        done: 2,
+        last: false,
+    };
+    assert_eq!(made, Ok(two));
+    assert_eq!(*lengths, [first as u64, second as u64, 7]);
+    assert_eq!(text, [&units[0][..], &units[1], &[7]].concat());
+    let measured = library::lengths(&file, 0, 1, work, lengths);
+    let rest = Measured {
+        count: 2,
+        done: 2,
+        last: true,
+    };
+    assert_eq!(measured, Ok(rest));
+    assert_eq!(*lengths, [second as u64, units[2].len() as u64, 7]);
 }

@@ -51,7 +51,7 @@ fn progress_is_shown_and_taken_away() {
     assert!(totals.starts_with("units 3, blocks 2, bytes "), "{totals}");
     let shown = shown(ours);
     assert!(
-        shown.starts_with("\r\x1b[Kunits 1, blocks 1 of 2, bytes "),
+        shown.starts_with("\r\x1b[Kunits 0 of 3, bytes 0 of "),
         "{shown:?}"
     );
     assert!(shown.ends_with("\r\x1b[K"), "{shown:?}");

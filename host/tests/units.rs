@@ -7,7 +7,7 @@ use common::{
     assert_units, expected, has_units, lone, lone_blocks, names, read, recomp, recomp_on, sample,
 };
 use common::{Run, Scratch, PROGRAM};
-use recomp_tools::file::build;
+use recomp_tools::file::{build, Block};
 use recomp_tools::generate::{self, Params};
 use recomp_tools::record::Record;
 use std::fs;
@@ -53,17 +53,90 @@ fn the_largest_size_takes_no_more_memory_than_the_text() {
     assert_units(run, folder, &file, u64::MAX);
 }
 
-/// One block with as much text as 40,000 instructions have: longer than what is lent at first.
 #[test]
-fn a_text_longer_than_what_is_lent_at_first() {
+fn any_bound_on_memory_gives_the_same_units() {
     let scratch = Scratch::new();
     let folder = &scratch.join("units");
-    let mut block = lone(0x0800_0000, Record::bx(14));
-    block.records = vec![Record::swi([0; 12]); 40_000];
-    let file = build(&[block]).bytes;
+    for seed in 0..5 {
+        let file = generate::file(&Params::small(seed)).bytes;
+        let path = &scratch.file("small.blk", &file);
+        for memory in ["0", "1", "4K", "5000", "12K", "18446744073709551615"] {
+            let args = ["units", path, "-o", folder, "--unit-size", "0", "--memory"];
+            assert_units(recomp(&[&args[..], &[memory]].concat()), folder, &file, 0);
+        }
+        let run = recomp(&["units", path, "-o", folder, "--memory=100"]);
+        assert_units(run, folder, &file, 1 << 20);
+    }
+}
+
+/// A file of so many blocks, each with as much text as 40,000 instructions have.
+fn long_blocks(count: u32) -> Vec<u8> {
+    let block = |n| Block {
+        records: vec![Record::swi([0; 12]); 40_000],
+        ..lone(0x0800_0000 + 160_000 * n, Record::bx(14))
+    };
+    let blocks: Vec<_> = (0..count).map(block).collect();
+    build(&blocks).bytes
+}
+
+#[test]
+fn a_unit_longer_than_the_bound() {
+    let scratch = Scratch::new();
+    let folder = &scratch.join("units");
+    let file = long_blocks(2);
     assert!(expected(&file, 0)[0].len() > 2 << 20);
-    let run = recomp_on(&file, &["units", "-", "-o", folder, "--unit-size", "0"]);
+    let args = [
+        "units",
+        "-",
+        "-o",
+        folder,
+        "--unit-size",
+        "0",
+        "--memory",
+        "1M",
+    ];
+    assert_units(recomp_on(&file, &args), folder, &file, 0);
+}
+
+/// The program with so many KiB of memory.
+fn with_memory(kib: u64, args: &[&str]) -> Run {
+    let script = format!("ulimit -v {kib}; exec \"$0\" \"$@\"");
+    let mut shell = Command::new("sh");
+    shell.args(["-c", &script, PROGRAM]).args(args);
+    Run::of(shell.output().expect("the shell runs"))
+}
+
+/// 6 units of over 2 MiB each, with memory for the file (4 MiB) and for some of them.
+#[test]
+fn short_memory_is_said_and_the_units_are_the_same() {
+    let scratch = Scratch::new();
+    let folder = &scratch.join("units");
+    let file = long_blocks(6);
+    let path = &scratch.file("long.blk", &file);
+    let args = ["units", path, "-o", folder, "--unit-size", "0"];
+    let mut run = with_memory(14 << 10, &args);
+    let line = std::mem::take(&mut run.err);
+    assert!(
+        line.starts_with("recomp: memory is short: text of "),
+        "{line}"
+    );
+    assert!(line.ends_with(", which takes longer\n"), "{line}");
     assert_units(run, folder, &file, 0);
+}
+
+/// As one unit the text is longer than the memory.
+#[test]
+fn memory_too_short_for_a_unit_leaves_the_folder_as_it_was() {
+    let scratch = Scratch::new();
+    let folder = &scratch.join("units");
+    let path = &scratch.file("long.blk", &long_blocks(6));
+    let args = ["units", path, "-o", folder, "--unit-size", "1024M"];
+    let line = with_memory(14 << 10, &args).failed(2);
+    assert!(
+        line.contains(" bytes of memory could not be had; "),
+        "{line}"
+    );
+    assert!(!Path::new(folder).exists());
 }
 
 #[test]
@@ -215,7 +288,7 @@ fn folders_that_cannot_be_made_or_written() {
     }
     let line = recomp(&["units", path, "-o", "/proc/self/fd"]).failed(2);
     assert!(
-        line.starts_with("recomp: cannot write /proc/self/fd/unit_000.c.tmp: "),
+        line.starts_with("recomp: cannot write /proc/self/fd/units.txt.tmp: "),
         "{line}"
     );
 }

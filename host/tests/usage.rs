@@ -42,7 +42,7 @@ fn help_of_each_command() {
 #[test]
 fn wrong_uses() {
     let file = &sample("three_blocks.blk");
-    let cases: [(&[&str], &str); 17] = [
+    let cases: [(&[&str], &str); 20] = [
         (&[], "no command is given; run recomp --help"),
         (&["unit", file], "unit is no command; run recomp --help"),
         (
@@ -72,6 +72,18 @@ fn wrong_uses() {
         (
             &["units", file, "-o", "x", "--unit-size=-1"],
             "units: -1 is no size; give bytes, as 1048576, 1024K or 1M; run recomp units --help",
+        ),
+        (
+            &["units", file, "-o", "x", "--memory"],
+            "units: --memory needs a size after it; run recomp units --help",
+        ),
+        (
+            &["units", file, "-o", "x", "--memory=1G"],
+            "units: 1G is no size; give bytes, as 1048576, 1024K or 1M; run recomp units --help",
+        ),
+        (
+            &["check", "--memory", "1M", file],
+            "check: there is no option --memory; run recomp check --help",
         ),
         (
             &["check", "-o", "x", file],

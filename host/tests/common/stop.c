@@ -44,6 +44,13 @@ ssize_t write(int file, const void *bytes, size_t length) {
     return syscall(SYS_write, file, bytes, length);
 }
 
+/* Fails as where the disk is full. */
+int posix_fallocate(int file, off_t from, off_t length) {
+    if (stopped("reserve"))
+        return ENOSPC;
+    return syscall(SYS_fallocate, file, 0, from, length) < 0 ? errno : 0;
+}
+
 int fsync(int file) {
     return stopped("fsync") ? -1 : (int)syscall(SYS_fsync, file);
 }
