@@ -7,6 +7,7 @@ use crate::held::{self, Beside, Entry, Held};
 use crate::manifest::{self, Manifest};
 use crate::names::{self, MANIFEST};
 use crate::room::Room;
+use crate::sums::Sums;
 use std::fs;
 use std::io::Write;
 use std::path::Path;
@@ -46,20 +47,26 @@ impl Folder {
         })
     }
 
-    /// Writes the next units, while another thread makes their sums, and tells the length of each
-    /// that is written.
-    pub fn write(&mut self, texts: &[&[u8]], mut tell: impl FnMut(u64)) -> Result<(), Failure> {
-        let first = self.units.len();
-        let sums = || texts.iter().map(|text| manifest::Entry::of(text));
-        let (units, written) = both(&|| sums().collect::<Vec<_>>(), || {
-            for (text, unit) in texts.iter().zip(first as u64..) {
-                self.write_temporary(&names::unit(unit), text)?;
-                tell(text.len() as u64);
-            }
+    /// Writes the next units, and tells the length of each that is written. Another thread begins
+    /// with their sums meanwhile, where there is one to be had.
+    pub fn write(&mut self, texts: &[&[u8]], tell: impl FnMut(u64)) -> Result<(), Failure> {
+        let sums = Sums::of(texts);
+        thread::scope(|scope| {
+            let _ = thread::Builder::new().spawn_scoped(scope, || sums.make());
+            self.write_units(texts, tell)?;
+            sums.make();
             Ok(())
-        });
-        self.units.extend(units);
-        written
+        })?;
+        self.units.extend(sums.entries());
+        Ok(())
+    }
+
+    fn write_units(&mut self, texts: &[&[u8]], mut tell: impl FnMut(u64)) -> Result<(), Failure> {
+        for (text, unit) in texts.iter().zip(self.units.len() as u64..) {
+            self.write_temporary(&names::unit(unit), text)?;
+            tell(text.len() as u64);
+        }
+        Ok(())
     }
 
     /// Writes a file under the temporary name for this one, so that all of it is on the disk.
@@ -174,17 +181,4 @@ fn remove_manifest(held: &Held, entries: &[Entry]) -> Result<(), Failure> {
         held.sync()?;
     }
     Ok(())
-}
-
-/// Does both at the same time, or one after the other where there is no thread to be had.
-fn both<A: Send, B>(first: &(impl Fn() -> A + Sync), second: impl FnOnce() -> B) -> (A, B) {
-    thread::scope(
-        |scope| match thread::Builder::new().spawn_scoped(scope, first) {
-            Ok(thread) => {
-                let second = second();
-                (thread.join().expect("it comes to its end"), second)
-            }
-            Err(_) => (first(), second()),
-        },
-    )
 }

@@ -3,6 +3,8 @@
 
 use crate::lent::{zeros, Lent, NoResult};
 use crate::library;
+use crate::promised::Promised;
+use std::thread;
 
 pub struct Units<'a> {
     lent: Lent<'a>,
@@ -52,15 +54,18 @@ impl<'a> Units<'a> {
 
     /// The texts of the next units, as many as one call gives; nothing after the last.
     pub fn hand_out(&mut self) -> Result<Option<Vec<&[u8]>>, NoResult> {
-        let (first, lent) = (self.handed, &mut self.lent);
-        // The call puts the lengths where they are.
-        let lengths = &mut self.lengths[first..];
-        if lengths.is_empty() {
+        let first = self.handed;
+        if first == self.lengths.len() {
             return Ok(None);
         }
-        let (work, text) = (&mut lent.work, &mut self.text);
-        let made = library::units(lent.file, self.size, first as u64, work, text, lengths);
-        self.handed += made.map_err(NoResult::Refused)?.count as usize;
+        let promised = Promised::of(&mut self.text);
+        self.handed += thread::scope(|scope| {
+            if first == 0 && !promised.is_empty() {
+                // Without a thread to be had the call takes longer.
+                let _ = thread::Builder::new().spawn_scoped(scope, || promised.provide());
+            }
+            self.make(first)
+        })?;
         let mut rest = &self.text[..];
         let cut = |&length: &u64| {
             let (unit, after) = rest.split_at(length as usize);
@@ -69,6 +74,16 @@ impl<'a> Units<'a> {
         };
         let lengths = &self.lengths[first..self.handed];
         Ok(Some(lengths.iter().map(cut).collect()))
+    }
+
+    /// Has the text filled with units from one on, and tells how many they are.
+    fn make(&mut self, first: usize) -> Result<usize, NoResult> {
+        let (lent, text) = (&mut self.lent, &mut self.text);
+        // The call puts the lengths where they are.
+        let lengths = &mut self.lengths[first..];
+        let (file, work) = (lent.file, &mut lent.work);
+        let made = library::units(file, self.size, first as u64, work, text, lengths);
+        Ok(made.map_err(NoResult::Refused)?.count as usize)
     }
 }
 
