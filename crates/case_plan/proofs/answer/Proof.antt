@@ -4,7 +4,6 @@ use Prim.Native.Nat.{ℕ, _+_}
 use mathlib.Core.List.{List}
 use mathlib.Core.Path.{_≡_, ap, _∙_}
 use native.Mathlib.Omega.{arith}
-use borrow.Author.Needs.{needs}
 use denote.Ref.{now}
 use lib.ListN.{length, getD, length-set}
 use lib.Seq.{paste}
@@ -53,6 +52,6 @@ returns c =
 pub answer-spec : {M : Type 1} → statement M
 answer-spec =
     tie.close
-    (tie.spec (search needs) (search needs) (search needs) (search needs) slice-write-got-2
-    (search needs) slice-write-got-3 put-requires (search needs) put-requires-2 same-length
-    (search needs) (search needs) returns)
+    (tie.spec (λ c. omega arith) (λ c. omega arith) (λ c. omega arith) (λ c. omega arith)
+    slice-write-got-2 (λ c. omega arith) slice-write-got-3 put-requires (λ c. omega arith)
+    put-requires-2 same-length (λ c. omega arith) (λ c. omega arith) returns)

@@ -1,12 +1,11 @@
--- `put` meets its contract. The loop's invariant: the first i lent numbers stand from
--- place at on, and the rest of the list is as it was.
+-- `put` meets its contract. The loop's invariant: the first i lent numbers stand from place `at`
+-- on, and the rest of the list is as it was.
 use Prim.Native.Nat.{ℕ, _+_, _≤_, _<_, _-_}
 use native.Mathlib.Numerals.{add-one}
 use mathlib.Core.Path.{_≡_, refl, sym, ap, _∙_}
 use mathlib.Core.List.{List}
 use denote.Ref.{now}
 use native.Mathlib.Omega.{arith}
-use borrow.Author.Needs.{needs}
 use lib.ListN.{length, set, getD, length-set}
 use lib.Seq.{paste, paste-zero, paste-suc}
 use Rattle.case_plan.proofs.put.Statement.{statement}
@@ -57,6 +56,6 @@ returns c =
 pub put-spec : {M : Type 1} → statement M
 put-spec =
     tie.close
-    (tie.spec Inv-loop μ-loop loop-holds (search needs) (search needs) cast-list (search needs)
-    (search needs)
-    (search needs) (search needs) (search needs) loop-again (search needs) returns)
+    (tie.spec Inv-loop μ-loop loop-holds (λ c. omega arith) (λ c. omega arith) cast-list
+    (λ c. omega arith) (λ c. omega arith) (λ c. omega arith) (λ c. omega arith) (λ c. omega arith)
+    loop-again (λ c. omega arith) returns)

@@ -4,7 +4,7 @@ use Prim.Native.Nat.{_≤_}
 use mathlib.Core.Path.{sym}
 use lib.ListN.{length}
 use lib.Seq.{length-take-le}
-use borrow.Author.Needs.{needs}
+use native.Mathlib.Omega.{arith}
 use Rattle.case_plan.proofs.replay_file.Statement.{statement}
 use Rattle.case_plan.proofs.replay_file.Tie as tie
 
@@ -13,7 +13,7 @@ slice-aggregate-numbers c =
     let three : 3
     ≤ length
     (c .before .before .before .before .before .before .before .before .before .before .before
-    .before .before .fill .last .0) = search needs in
+    .before .before .fill .last .0) = omega arith in
     sym (length-take-le 3
     (c .before .before .before .before .before .before .before .before .before .before .before
     .before .before .fill .last .0) three)
@@ -29,14 +29,12 @@ slice-aggregate-replay-plan c = sym (length-take-le _ _ (array-share-prefix-buff
 pub replay-file-spec : {M : Type 1} → statement M
 replay-file-spec =
     tie.close
-    (tie.spec (search needs) (search needs) (search needs) (search needs) (search needs)
-    slice-aggregate-numbers
-    (search needs) (search needs) (search needs) (search needs) (search needs) (search needs)
-    (search needs)
-    (search needs) (search needs) (search needs) (search needs) (search needs) (search needs)
-    (search needs)
-    array-share-prefix-buffer slice-aggregate-replay-plan (search needs) (search needs)
-    (search needs) (search needs)
-    (search needs) (search needs) (search needs) (search needs) (search needs) (search needs)
-    (search needs)
-    (search needs) (search needs) (search needs) (search needs) (search needs) (search needs))
+    (tie.spec (λ c. omega arith) (λ c. omega arith) (λ c. omega arith) (λ c. omega arith)
+    (λ c. omega arith) slice-aggregate-numbers (λ c. omega arith) (λ c. omega arith)
+    (λ c. omega arith) (λ c. omega arith) (λ c. omega arith) (λ c. omega arith) (λ c. omega arith)
+    (λ c. omega arith) (λ c. omega arith) (λ c. omega arith) (λ c. omega arith) (λ c. omega arith)
+    (λ c. omega arith) (λ c. omega arith) array-share-prefix-buffer slice-aggregate-replay-plan
+    (λ c. omega arith) (λ c. omega arith) (λ c. omega arith) (λ c. omega arith) (λ c. omega arith)
+    (λ c. omega arith) (λ c. omega arith) (λ c. omega arith) (λ c. omega arith) (λ c. omega arith)
+    (λ c. omega arith) (λ c. omega arith) (λ c. omega arith) (λ c. omega arith) (λ c. omega arith)
+    (λ c. omega arith) (λ c. omega arith))

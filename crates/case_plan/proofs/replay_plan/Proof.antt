@@ -2,12 +2,12 @@
 -- the expected result.
 use mathlib.Core.Path.{sym, _∙_}
 use lib.Seq.{length-take-le}
-use borrow.Author.Needs.{needs}
+use native.Mathlib.Omega.{arith}
 use Rattle.case_plan.proofs.replay_plan.Statement.{statement}
 use Rattle.case_plan.proofs.replay_plan.Tie as tie
 
 array-borrow-prefix-got : tie.Need-array-borrow-prefix-got
-array-borrow-prefix-got c = search needs
+array-borrow-prefix-got c = omega arith
 
 slice-aggregate-is-right : tie.Need-slice-aggregate-is-right
 slice-aggregate-is-right c = sym (length-take-le _ _ (array-borrow-prefix-got (c .before)))
@@ -20,10 +20,9 @@ is-right-requires c κs = length-take-le _ _ (array-borrow-prefix-got (c .before
 pub replay-plan-spec : {M : Type 1} → statement M
 replay-plan-spec =
     tie.close
-    (tie.spec (search needs) (search needs) (search needs) (search needs) (search needs)
-    (search needs) (search needs)
-    (search needs) (search needs) (search needs) (search needs) (search needs) (search needs)
-    (search needs)
-    array-borrow-prefix-got slice-aggregate-is-right is-right-requires (search needs) (search needs)
-    (search needs)
-    (search needs) (search needs) (search needs) (search needs) (search needs))
+    (tie.spec (λ c. omega arith) (λ c. omega arith) (λ c. omega arith) (λ c. omega arith)
+    (λ c. omega arith) (λ c. omega arith) (λ c. omega arith) (λ c. omega arith) (λ c. omega arith)
+    (λ c. omega arith) (λ c. omega arith) (λ c. omega arith) (λ c. omega arith) (λ c. omega arith)
+    array-borrow-prefix-got slice-aggregate-is-right is-right-requires (λ c. omega arith)
+    (λ c. omega arith) (λ c. omega arith) (λ c. omega arith) (λ c. omega arith) (λ c. omega arith)
+    (λ c. omega arith) (λ c. omega arith))

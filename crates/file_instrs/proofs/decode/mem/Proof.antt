@@ -2,7 +2,7 @@
 -- division by 1.
 use native.Mathlib.Nat.{div-one}
 use Rattle.file_instrs.specs.Decode.{memAt}
-use borrow.Author.Needs.{needs}
+use native.Mathlib.Omega.{arith}
 use Rattle.file_instrs.proofs.decode.mem.Statement.{statement}
 use Rattle.file_instrs.proofs.decode.mem.Tie as tie
 
@@ -13,6 +13,6 @@ returns c = simp (c .mem-offset .ensures, c .before .before .before .width .ensu
 pub mem-spec : {M : Type 1} → statement M
 mem-spec =
     tie.close
-    (tie.spec (search needs) (search needs) (search needs) (search needs) (search needs)
-    (search needs) (search needs)
-    (search needs) (search needs) (search needs) returns)
+    (tie.spec (λ c. omega arith) (λ c. omega arith) (λ c. omega arith) (λ c. omega arith)
+    (λ c. omega arith) (λ c. omega arith) (λ c. omega arith) (λ c. omega arith) (λ c. omega arith)
+    (λ c. omega arith) returns)

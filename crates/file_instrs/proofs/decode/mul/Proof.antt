@@ -2,7 +2,7 @@
 -- within the record.
 use mathlib.Core.Path.{refl}
 use Rattle.file_instrs.specs.Decode.{mulAt}
-use borrow.Author.Needs.{needs}
+use native.Mathlib.Omega.{arith}
 use Rattle.file_instrs.proofs.decode.mul.Statement.{statement}
 use Rattle.file_instrs.proofs.decode.mul.Tie as tie
 
@@ -13,6 +13,6 @@ returns c = refl
 pub mul-spec : {M : Type 1} → statement M
 mul-spec =
     tie.close
-    (tie.spec (search needs) (search needs) (search needs) (search needs) (search needs)
-    (search needs) (search needs)
-    (search needs) (search needs) (search needs) (search needs) (search needs) returns)
+    (tie.spec (λ c. omega arith) (λ c. omega arith) (λ c. omega arith) (λ c. omega arith)
+    (λ c. omega arith) (λ c. omega arith) (λ c. omega arith) (λ c. omega arith) (λ c. omega arith)
+    (λ c. omega arith) (λ c. omega arith) (λ c. omega arith) returns)

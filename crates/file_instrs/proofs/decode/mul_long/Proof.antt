@@ -2,7 +2,7 @@
 -- reads are within the record.
 use mathlib.Core.Path.{refl}
 use Rattle.file_instrs.specs.Decode.{mulLongAt}
-use borrow.Author.Needs.{needs}
+use native.Mathlib.Omega.{arith}
 use Rattle.file_instrs.proofs.decode.mul_long.Statement.{statement}
 use Rattle.file_instrs.proofs.decode.mul_long.Tie as tie
 
@@ -13,7 +13,7 @@ returns c = refl
 pub mul-long-spec : {M : Type 1} → statement M
 mul-long-spec =
     tie.close
-    (tie.spec (search needs) (search needs) (search needs) (search needs) (search needs)
-    (search needs) (search needs)
-    (search needs) (search needs) (search needs) (search needs) (search needs) (search needs)
-    (search needs) returns)
+    (tie.spec (λ c. omega arith) (λ c. omega arith) (λ c. omega arith) (λ c. omega arith)
+    (λ c. omega arith) (λ c. omega arith) (λ c. omega arith) (λ c. omega arith) (λ c. omega arith)
+    (λ c. omega arith) (λ c. omega arith) (λ c. omega arith) (λ c. omega arith) (λ c. omega arith)
+    returns)

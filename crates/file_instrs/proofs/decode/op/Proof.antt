@@ -5,7 +5,7 @@ use lib.ListN.{List·getD-eq-default}
 use Rattle.file_instrs.specs.Decode.{opsAt, freeOp, opAt}
 use Rattle.file_instrs.proofs.Limits.{next}
 use mathlib.Core.Path.{_∙_, sym}
-use borrow.Author.Needs.{needs}
+use native.Mathlib.Omega.{arith}
 use Rattle.file_instrs.proofs.decode.op.Statement.{statement}
 use Rattle.file_instrs.proofs.decode.op.Tie as tie
 
@@ -67,10 +67,8 @@ returns-11 c = c .free2 .ensures
 pub op-spec : {M : Type 1} → statement M
 op-spec =
     tie.close
-    (tie.spec (search needs) (search needs) (search needs) (search needs) (search needs)
-    (search needs) (search needs)
-    (search needs) (search needs) (search needs) (search needs) (search needs) (search needs)
-    (search needs)
-    (search needs) (search needs) (search needs) (search needs) returns returns-2 returns-3
-    returns-4 returns-5
-    returns-6 returns-7 returns-8 returns-9 returns-10 returns-11)
+    (tie.spec (λ c. omega arith) (λ c. omega arith) (λ c. omega arith) (λ c. omega arith)
+    (λ c. omega arith) (λ c. omega arith) (λ c. omega arith) (λ c. omega arith) (λ c. omega arith)
+    (λ c. omega arith) (λ c. omega arith) (λ c. omega arith) (λ c. omega arith) (λ c. omega arith)
+    (λ c. omega arith) (λ c. omega arith) (λ c. omega arith) (λ c. omega arith) returns returns-2
+    returns-3 returns-4 returns-5 returns-6 returns-7 returns-8 returns-9 returns-10 returns-11)

@@ -1,7 +1,7 @@
 -- `shift` reads how a register is shifted: the test of the form chooses between amount and
 -- register, as the definition's does.
 use borrow.Author.Tests.{eq-eqb, ne-eqb}
-use borrow.Author.Needs.{needs}
+use native.Mathlib.Omega.{arith}
 use Rattle.file_instrs.proofs.decode.shift.Statement.{statement}
 use Rattle.file_instrs.proofs.decode.shift.Tie as tie
 
@@ -14,6 +14,5 @@ returns-2 c = simp (ne-eqb _ _ (c .if1 .left), c .before .before .before .from-b
 pub shift-spec : {M : Type 1} → statement M
 shift-spec =
     tie.close
-    (tie.spec (search needs) (search needs) (search needs) (search needs) (search needs)
-    (search needs) (search needs)
-    returns returns-2)
+    (tie.spec (λ c. omega arith) (λ c. omega arith) (λ c. omega arith) (λ c. omega arith)
+    (λ c. omega arith) (λ c. omega arith) (λ c. omega arith) returns returns-2)
