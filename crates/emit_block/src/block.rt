@@ -1,7 +1,6 @@
 // The code of a block: what stands between its head, or label, and its close.
 use crate::member::Member;
 use crate::member::MemberBlock;
-use crate::region::region_of;
 use crate::walk::emit_records;
 use base_hash::hash;
 use emit_flow::emit_defer;
@@ -10,6 +9,7 @@ use file_blocks::BlockRecord;
 use file_blocks::FoundBlock;
 use file_blocks::block_at;
 use file_blocks::code_bytes;
+use file_blocks::region_of;
 use file_records::block_record::instrs_length;
 use plan_members::first_of;
 ghost use mathlib.Core.Path.{_≡_};

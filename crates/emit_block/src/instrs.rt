@@ -2,7 +2,6 @@
 use crate::member::Member;
 use crate::member::MemberBlock;
 use crate::member::is_inside;
-use crate::region::region_of;
 use armv4t::Fused;
 use armv4t::Instr;
 use armv4t::Op;
@@ -17,6 +16,7 @@ use file_blocks::FoundInstr;
 use file_blocks::TimedInstr;
 use file_blocks::instr_of;
 use file_blocks::key_of;
+use file_blocks::region_of;
 ghost use mathlib.Core.Path.{_≡_};
 ghost use mathlib.Core.Bool.{false};
 ghost use mathlib.Core.List.{List, [], _∷_};

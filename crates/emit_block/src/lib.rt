@@ -2,7 +2,6 @@
 mod block;
 mod instrs;
 mod member;
-mod region;
 mod walk;
 
 pub use block::emit_block;

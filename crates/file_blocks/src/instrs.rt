@@ -1,4 +1,4 @@
-// The instructions of a block: the address of each, its record, and keys.
+// The instructions of a block: the address of each, its record, region and keys.
 use crate::read::BlockRecord;
 use crate::read::FoundInstr;
 use crate::read::instr_at;
@@ -7,8 +7,15 @@ use armv4t::set_bit0;
 ghost use mathlib.Core.Path.{_≡_};
 ghost use Prim.Native.Nat.{_+_, _*_, _%_, _^_};
 ghost use Rattle.armv4t.specs.Instr.{sizeOf};
-ghost use Rattle.file_blocks.specs.Address.{keyOf, fallThrough};
+ghost use Rattle.file_blocks.specs.Address.{region, keyOf, fallThrough};
 ghost use Rattle.file_blocks.specs.Read.{readInstr};
+
+// The region of an address: its page modulo 16.
+pub fn region_of(addr: u32) -> u32
+    ensures { λ r. ⌜ r ≡ region addr ⌝ }
+{
+    addr / 16777216 % 16
+}
 
 // An address with the block's Thumb bit.
 pub fn key_of(addr: u32, thumb: bool) -> u32

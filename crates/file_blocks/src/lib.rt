@@ -8,6 +8,7 @@ pub use instrs::fall_through;
 pub use instrs::instr_addr;
 pub use instrs::instr_of;
 pub use instrs::key_of;
+pub use instrs::region_of;
 pub use read::BlockRecord;
 pub use read::FoundBlock;
 pub use read::FoundInstr;

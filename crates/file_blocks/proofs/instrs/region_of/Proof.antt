@@ -1,8 +1,8 @@
 -- `region_of` computes what the definition says.
 -- Assumes nothing.
 use mathlib.Core.Path.{refl}
-use Rattle.emit_block.proofs.region.region_of.Statement.{statement}
-use Rattle.emit_block.proofs.region.region_of.Tie as tie
+use Rattle.file_blocks.proofs.instrs.region_of.Statement.{statement}
+use Rattle.file_blocks.proofs.instrs.region_of.Tie as tie
 
 returns : tie.Need-returns
 returns c = refl
