@@ -19,7 +19,7 @@ use Rattle.lower_units.specs.Block.{defer, underGuard, exitCode, closingLines}
 use Rattle.lower_units.specs.Lines.{linesText}
 use Rattle.emit_flow.specs.Pieces.{straightOpen, straightEnd, beforeCondition, afterCondition}
 use Rattle.emit_flow.specs.Pieces.{afterConditional, straightIfOpen, straightIfEnd}
-use Rattle.emit_flow.proofs.Pieces.{lines-after}
+use Rattle.lower_units.proofs.LinesAfter.{lines-after}
 
 -- lines in braces
 pub straight-text : (ks : List ℕ) (a : ℕ) (o : Owner) (t l : Lines) (c : Code) (k : List ℕ)

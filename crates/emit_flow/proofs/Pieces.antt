@@ -11,7 +11,7 @@ use Rattle.base_text.specs.Digits.{numeral}
 use Rattle.base_text.specs.Doc.{text, dec, hex8, hex16, _▸_, decimal, hexadecimal}
 use Rattle.base_text.specs.Flat.{flat}
 use Rattle.c_tree.specs.Expr.{word, Expr, lit}
-use Rattle.c_tree.specs.Stmt.{Plain, gate, guard, Owner, common, plain, ret, retIf, Code, end, _⨾_}
+use Rattle.c_tree.specs.Stmt.{Plain, gate, guard, Owner, common, ret, retIf, Code, end, _⨾_}
 use Rattle.c_tree.specs.Stmt.{when}
 use Rattle.c_tree.specs.Print.{exprText, codeText}
 use Rattle.lower_forms.specs.Forms.{Lines, jump, bx, Body}
@@ -22,26 +22,7 @@ use Rattle.lower_units.specs.Block.{nativeText, defer, underGuard}
 use Rattle.lower_units.specs.Lines.{linesText}
 use Rattle.base_lists.specs.Lists.{among}
 use Rattle.emit_flow.specs.Pieces.{afterCondition, afterConditional}
-use Rattle.lower_units.proofs.LinesAfter.{lines-append}
-
--- a line, and the code after it
-pub line-after : (o p : Owner) (l : List Plain) (c : Code) (k : List ℕ)
-    → flat (codeText (line o l c)) k ≡ flat (codeText (line p l end)) (flat (codeText c) k)
-line-after o p [] c k = refl
-line-after o p (x ∷ []) c k = refl
-line-after o p (x ∷ y ∷ l) c k =
-    ap (flat (codeText (plain p x ⨾ sp 1 ⨾ end))) (line-after o p (y ∷ l) c k)
-
--- lines, and the code after them
-pub lines-after : (o p : Owner) (n : ℕ) (ls : Lines) (c : Code) (k : List ℕ)
-    → flat (codeText (lines o n ls c)) k ≡ flat (codeText (lines p n ls end)) (flat (codeText c) k)
-lines-after o p n [] c k = refl
-lines-after o p n (l ∷ ls) c k =
-    ap (flat (codeText (sp n ⨾ end)))
-    (line-after o p l (nl ⨾ lines o n ls c) k
-    ∙ ap (λ (t : List ℕ). flat (codeText (line p l end)) (flat (codeText (nl ⨾ end)) t))
-    (lines-after o p n ls c k)
-    ∙ sym (line-after p p l (nl ⨾ lines p n ls end) (flat (codeText c) k)))
+use Rattle.lower_units.proofs.LinesAfter.{lines-append, line-after, lines-after}
 
 -- cycles, and the lines after them
 pub ticked : (o : Owner) (cycles : ℕ) (ms : Lines) (c : Code)

@@ -7,21 +7,20 @@ use Rattle.base_text.specs.Flat.{flat}
 use Rattle.c_tree.specs.Expr.{w32, Expr, read}
 use Rattle.c_tree.specs.Stmt.{Plain, write, common, Code, end}
 use Rattle.c_tree.specs.Print.{codeText}
-use Rattle.emit_operands.proofs.Lines.{lines-after}
 use Rattle.lower_forms.specs.Forms.{Lines}
 use Rattle.emit_mem.proofs.Listed.{listed-suc}
 use Rattle.lower_forms.specs.InlineBody.{listIf, eachOnLine, setReg, aligned, listed, advance}
 use Rattle.lower_forms.specs.InlineBody.{loads, stores}
 use Rattle.armv4t.specs.RegisterList.{isListed}
 use Rattle.lower_units.specs.Block.{lines}
-use Rattle.lower_units.proofs.LinesAfter.{lines-append}
+use Rattle.lower_units.proofs.LinesAfter.{lines-append, lines-after}
 
 pub lines-both : (n : ℕ) (ls ms : Lines) (c : Code) (k : List ℕ)
     → flat (codeText (lines common n ls end) ▸ codeText (lines common n ms c)) k
     ≡ flat (codeText (lines common n (ls ++ ms) c)) k
 lines-both n ls ms c k =
     sym (ap (λ (d : Code). flat (codeText d) k) (lines-append common n ls ms c)
-    ∙ lines-after common n ls (lines common n ms c) k)
+    ∙ lines-after common common n ls (lines common n ms c) k)
 
 -- statements after statements, each in a line of its own
 each-on-line-append : (ps qs : List Plain) → eachOnLine (ps ++ qs) ≡ eachOnLine ps ++ eachOnLine qs

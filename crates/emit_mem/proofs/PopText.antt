@@ -16,7 +16,7 @@ use Rattle.lower_forms.specs.InlineBody.{eachOnLine, let32, setReg, aligned, lo
 use Rattle.lower_forms.specs.Block.{flushTicks, emitPop}
 use Rattle.lower_units.specs.Block.{nl, sp, lines, leave, nativeText}
 use Rattle.lower_units.specs.Lines.{linesText}
-use Rattle.emit_operands.proofs.Lines.{lines-owner, lines-after}
+use Rattle.lower_units.proofs.LinesAfter.{lines-after}
 use Rattle.emit_mem.proofs.Lines.{lines-both}
 
 -- the statement that writes the base back
@@ -74,8 +74,8 @@ code-owner o thumb rn regs k =
     let k′ : List ℕ = flat (text "}" ▸ codeText (nl ⨾ end)) k in
     ap (λ (s : List ℕ). flat
     (text "    { " ▸ codeText (plain common (let32 x-addr (get (reg rn))) ⨾ nl ⨾ end)) s)
-    (lines-owner o common 6 ls (popTail o thumb) k′ ∙ lines-after common 6 ls (popTail o thumb) k′
-    ∙ sym (lines-after common 6 ls (popTail common thumb) k′))
+    (lines-after o common 6 ls (popTail o thumb) k′
+    ∙ sym (lines-after common common 6 ls (popTail common thumb) k′))
 
 -- the ticks stand before a pop, and neither its owner nor what would stand after it shows
 pub ticks-then-pop : (ks : List ℕ) (a : ℕ) (o : Owner) (thumb : Bool) (cycles rn : ℕ)
@@ -85,6 +85,5 @@ pub ticks-then-pop : (ks : List ℕ) (a : ℕ) (o : Owner) (thumb : Bool) (cycle
     ▸ codeText (nativeText [] 0 common (emitPop thumb 0 rn regs) end)) k
 unfolding nativeText
 ticks-then-pop ks a o thumb cycles rn regs c k =
-    lines-owner o common 4 (flushTicks cycles) (popCode o thumb rn regs) k
-    ∙ lines-after common 4 (flushTicks cycles) (popCode o thumb rn regs) k
+    lines-after o common 4 (flushTicks cycles) (popCode o thumb rn regs) k
     ∙ ap (flat (linesText 4 (flushTicks cycles))) (code-owner o thumb rn regs k)

@@ -1,3 +1,2 @@
 -- The laws that the functions' proofs share.
 pub mod Operands
-pub mod Lines
