@@ -6,10 +6,9 @@ use mathlib.Core.Logic.{_⊎_, inl, inr}
 use mathlib.Core.Bool.{Bool, true, false, cond, true≢false}
 use mathlib.Core.List.{List, [], _∷_, _++_, List·Memᴰ, List·Memᴰ·head, List·Memᴰ·tail}
 use mathlib.Core.Option.{some}
-use native.Mathlib.Nat.{mod-lt}
 use native.Mathlib.Omega.{arith}
 use borrow.Author.Tests.{eqb-true, eqb-false}
-use lib.Dec.{eqb, lit<}
+use lib.Dec.{eqb}
 use Rattle.armv4t.specs.Instr.{sizeOf}
 use Rattle.armv4t.specs.declared.Fused.the-variants.{Pair}
 use Rattle.armv4t.specs.Fused.{fuse}
@@ -36,7 +35,6 @@ use Rattle.lower_units.specs.Records.{isTaken, RecordMeans, PairMeans}
 use Rattle.claim_meaning.specs.Block.{ActsAsStep, isNative, isNativeRecord, isCovered}
 use Rattle.claim_meaning.specs.Block.{Alone, leavesBy, Ends, final, away, transfers, CarriedOut}
 use Rattle.claim_meaning.specs.Block.{byManual, byInterpreter, Sequence, last, pair, more}
-use Rattle.claim_meaning.proofs.Closing.{after-even}
 use Rattle.claim_meaning.proofs.Shells.{Emitted, as-native, as-shell, emitted, some-form}
 use Rattle.claim_meaning.proofs.Shells.{after-address, GoesOn, goes-on}
 use Rattle.claim_meaning.proofs.Quiet.{native-quiet}
@@ -48,7 +46,7 @@ use Rattle.claim_functions.specs.Counted.{recordEvent, sequenceEvents}
 use Rattle.claim_functions.proofs.Log.{ledOn, log, log-append, silent-log, silent-on}
 use Rattle.claim_functions.proofs.Texts.{native-goes, native-leaves, lines-log, closing-log}
 use Rattle.lower_units.proofs.Thumbs.{neither}
-use Rattle.claim_meaning.proofs.Carried.{even-key-of, key-of-lt, ready-after}
+use Rattle.claim_meaning.proofs.Carried.{fall, fall-lt, own-set, ready-after}
 
 -- what is known of a record of a block
 pub record Facts (ks : List ℕ) (b : Block) (x : TimedInstr) : Type 0 where
@@ -136,21 +134,6 @@ module _ (multiplier : ℕ) (ks : List ℕ) (b : Block) (step : ℕ → ℕ → 
       × (log (codeFrom ks body i (f ∷ fs)) z ≡ e ∷ [])
 
   module _ (x : TimedInstr) (k : Facts ks b x) where
-    -- the key that a shell compares with
-    fall : fallThrough (b .thumb) (x .instr) ≡ keyAfter (x .instr)
-    fall =
-        rw (k .set)
-        (even-key-of (b .thumb) ((x .instr .addr + sizeOf (b .thumb)) % 4294967296)
-        (after-even (b .thumb) (x .instr .addr) (k .aligned)))
-
-    fall-lt : fallThrough (b .thumb) (x .instr) < 4294967296
-    fall-lt = key-of-lt (b .thumb) _ (mod-lt (x .instr .addr + sizeOf (x .instr .thumb)) (lit< tt))
-
-    own-set : (cycles : ℕ)
-        → emitInstr (x .instr .thumb) (region (b .addr)) cycles x .0
-        ≡ emitInstr (b .thumb) (region (b .addr)) cycles x .0
-    own-set cycles = ap (λ (t : Bool). emitInstr t (region (b .addr)) cycles x .0) (k .set)
-
     native-one : (i cycles : ℕ) (r : Native) (fs : List Form)
         → emitInstr (b .thumb) (region (b .addr)) cycles x .0 ≡ Form.native r
         → isNativeRecord (region (b .addr)) x ≡ true
@@ -160,7 +143,8 @@ module _ (multiplier : ℕ) (ks : List ℕ) (b : Block) (step : ℕ → ℕ → 
         ⊎ Only x m next (nativeStart (bodyKey body) i 1) i (Form.native r) fs z
     unfolding bodyOf codeFrom log Rattle.c_meaning.specs.Exec.step
     native-one i cycles r fs e natively n z m q next x′ =
-        go (k .means .acts cycles r (own-set cycles ∙ e) owner z m (q .sound) (q .agrees)
+        go (k .means .acts cycles r (own-set b x (k .set) cycles ∙ e) owner z m (q .sound)
+        (q .agrees)
         (neither _ (passed (x .instr .cond) m) _ (said .condition) (said .same)) next x′)
       where
         owner : Owner
@@ -246,7 +230,7 @@ module _ (multiplier : ℕ) (ks : List ℕ) (b : Block) (step : ℕ → ℕ → 
               (after-address cycles (x .instr .addr) end z (k .below))
               ∙ shell-log body i (fallThrough (b .thumb) (x .instr)) fs at
               ∙ ap (λ o. interpreted (bodyKey body) i ∷ ledOn o (log fs))
-              (g .goes body i (fallThrough (b .thumb) (x .instr)) end fall-lt
+              (g .goes body i (fallThrough (b .thumb) (x .instr)) end (fall-lt b x)
               ∙ ap (λ t. cond t (some (after, on)) (some (after, back (interpAnswer at)))) e)
 
           stays : leavesBy (region (b .addr)) x m ≡ false
@@ -267,11 +251,15 @@ module _ (multiplier : ℕ) (ks : List ℕ) (b : Block) (step : ℕ → ℕ → 
                   agrees = with-scopes (by-step .same) (g .scopes);
                 },
                 stays,
-                sym (by-step .answers) ∙ eqb-true _ _ e ∙ fall,
+                sym (by-step .answers) ∙ eqb-true _ _ e ∙ fall b x (k .set) (k .aligned),
                 logs true e,
               )
           go false e =
-              inr (λ s ss p l f. eqb-false _ _ e (by-step .answers ∙ f ∙ sym fall), logs false e)
+              inr (
+                λ s ss p l f. eqb-false _ _ e
+                    (by-step .answers ∙ f ∙ sym (fall b x (k .set) (k .aligned))),
+                logs false e,
+              )
 
     -- a record that is not fused
     one : (i cycles : ℕ) (fs : List Form) (n after : ℕ) (z : State) (m : Machine)
@@ -290,7 +278,8 @@ module _ (multiplier : ℕ) (ks : List ℕ) (b : Block) (step : ℕ → ℕ → 
             → One x m next n (nativeStart (bodyKey body) i 1) i f fs z
             ⊎ Only x m next (nativeStart (bodyKey body) i 1) i f fs z
         go (as-native r) e t = native-one i cycles r fs e natively n z m q next x′
-        go (as-shell high) e t = absurd (true≢false (sym natively ∙ ap isNative (own-set 0) ∙ t))
+        go (as-shell high) e t =
+            absurd (true≢false (sym natively ∙ ap isNative (own-set b x (k .set) 0) ∙ t))
     one i cycles fs n after z m next (byInterpreter n′ not-native made) q =
         go (emitted (b .thumb) (region (b .addr)) cycles x) refl fs
       where
@@ -299,7 +288,7 @@ module _ (multiplier : ℕ) (ks : List ℕ) (b : Block) (step : ℕ → ℕ → 
             → One x m next (suc n) (interpreted (bodyKey body) i) i f fs z
             ⊎ Only x m next (interpreted (bodyKey body) i) i f fs z
         go (as-native r) t fs =
-            absurd (true≢false (sym t ∙ sym (ap isNative (own-set 0)) ∙ not-native))
+            absurd (true≢false (sym t ∙ sym (ap isNative (own-set b x (k .set) 0)) ∙ not-native))
         go (as-shell high) t [] =
             inr (
               λ r rs e s p. (let y : _≡_ {A = ℕ} 0 1 = cc in omega arith),

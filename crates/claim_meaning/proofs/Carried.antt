@@ -58,6 +58,24 @@ pub key-of-lt : (t : Bool) (a : ℕ) → a < 4294967296 → keyOf a t < 42949672
 key-of-lt true a h = omega arith
 key-of-lt false a h = omega arith
 
+module _ (b : Block) (x : TimedInstr) where
+  -- the key that a shell of an instruction compares with, in a block of the instruction's own set
+  pub fall : x .instr .thumb ≡ b .thumb → x .instr .addr % sizeOf (b .thumb) ≡ 0
+      → fallThrough (b .thumb) (x .instr) ≡ keyAfter (x .instr)
+  fall set aligned =
+      rw set
+      (even-key-of (b .thumb) ((x .instr .addr + sizeOf (b .thumb)) % 4294967296)
+      (after-even (b .thumb) (x .instr .addr) aligned))
+
+  pub fall-lt : fallThrough (b .thumb) (x .instr) < 4294967296
+  fall-lt = key-of-lt (b .thumb) _ (mod-lt (x .instr .addr + sizeOf (x .instr .thumb)) (lit< tt))
+
+  -- its form there is that of its own set
+  pub own-set : x .instr .thumb ≡ b .thumb → (cycles : ℕ)
+      → emitInstr (x .instr .thumb) (region (b .addr)) cycles x .0
+      ≡ emitInstr (b .thumb) (region (b .addr)) cycles x .0
+  own-set set cycles = ap (λ (t : Bool). emitInstr t (region (b .addr)) cycles x .0) set
+
 -- text that does what other text does from another state leaves as that does
 abbrev pub through : {text other : Code → Code} {z y : State} {out : Machine × ℕ}
     → ((c : Code) → run (text c) z ≡ run (other c) y) → Leaves other y out → Leaves text z out
@@ -208,25 +226,12 @@ module _ (multiplier : ℕ) (ks : List ℕ) (b : Block) (step : ℕ → ℕ → 
       → Done step before multiplier ks b (x ∷ xs) m i fs z
 
   module _ (x : TimedInstr) (k : Known ks b x) where
-    -- the key that a shell compares with
-    fall : fallThrough (b .thumb) (x .instr) ≡ keyAfter (x .instr)
-    fall =
-        rw (k .set)
-        (even-key-of (b .thumb) ((x .instr .addr + sizeOf (b .thumb)) % 4294967296)
-        (after-even (b .thumb) (x .instr .addr) (k .aligned)))
-
-    fall-lt : fallThrough (b .thumb) (x .instr) < 4294967296
-    fall-lt = key-of-lt (b .thumb) _ (mod-lt (x .instr .addr + sizeOf (x .instr .thumb)) (lit< tt))
-
-    own-set : (cycles : ℕ)
-        → emitInstr (x .instr .thumb) (region (b .addr)) cycles x .0
-        ≡ emitInstr (b .thumb) (region (b .addr)) cycles x .0
-    own-set cycles = ap (λ (t : Bool). emitInstr t (region (b .addr)) cycles x .0) (k .set)
-
     -- a native record
     module _ (natively : isNative (emitInstr (b .thumb) (region (b .addr)) 0 x .0) ≡ true) where
       said : Said (x .instr)
-      said = covered-native (region (b .addr)) x (ap isNative (own-set 0) ∙ natively) (k .covered)
+      said =
+          covered-native (region (b .addr)) x (ap isNative (own-set b x (k .set) 0) ∙ natively)
+          (k .covered)
 
       native-done : (xs : List TimedInstr) (fs : List Form) → Alone x xs → After x xs fs
           → (i cycles : ℕ) (r : Native)
@@ -235,7 +240,8 @@ module _ (multiplier : ℕ) (ks : List ℕ) (b : Block) (step : ℕ → ℕ → 
           → Done step before multiplier ks b (x ∷ xs) m i (Form.native r ∷ fs) z
       unfolding bodyOf codeFrom run runs
       native-done xs fs alone onward i cycles r e before z m q =
-          go (k .means .acts cycles r (own-set cycles ∙ e) owner z m (q .sound) (q .agrees)
+          go (k .means .acts cycles r (own-set b x (k .set) cycles ∙ e) owner z m (q .sound)
+          (q .agrees)
           (neither _ (passed (x .instr .cond) m) _ (said .condition) (said .same)) next
           (outcome .1))
         where
@@ -244,23 +250,24 @@ module _ (multiplier : ℕ) (ks : List ℕ) (b : Block) (step : ℕ → ℕ → 
 
           outcome : (next : Machine × ℕ) × (execute (x .instr) m ≡ some next)
           outcome =
-              k .means .said cycles r (own-set cycles ∙ e) (said .instruction) (said .predictable) m
+              k .means .said cycles r (own-set b x (k .set) cycles ∙ e) (said .instruction)
+              (said .predictable) m
 
           next : Machine × ℕ
           next = outcome .0
 
           carried : CarriedOut step (region (b .addr)) x m next before before
-          carried = byManual before (ap isNative (own-set 0) ∙ natively) (outcome .1)
+          carried = byManual before (ap isNative (own-set b x (k .set) 0) ∙ natively) (outcome .1)
 
           still : Sound (next .0)
           still = execute-sound (x .instr) m (k .ranged) (q .sound) next (outcome .1)
 
           -- it leaves the block where it is a transfer that is taken
           leaving : isTaken (x .instr) m ≡ true → leavesBy (region (b .addr)) x m ≡ true
-          leaving t = rw (ap isNative (own-set 0) ∙ natively) t
+          leaving t = rw (ap isNative (own-set b x (k .set) 0) ∙ natively) t
 
           stays : isTaken (x .instr) m ≡ false → leavesBy (region (b .addr)) x m ≡ false
-          stays t = rw (ap isNative (own-set 0) ∙ natively) t
+          stays t = rw (ap isNative (own-set b x (k .set) 0) ∙ natively) t
 
           go : Acts (nativeText ks (b .addr) owner r) (isTaken (x .instr) m) z next
               (keyAfter (x .instr))
@@ -303,10 +310,10 @@ module _ (multiplier : ℕ) (ks : List ℕ) (b : Block) (step : ℕ → ℕ → 
     module _ (not-native : isNative (emitInstr (b .thumb) (region (b .addr)) 0 x .0) ≡ false) where
       shell-carried : (n : ℕ) (m : Machine)
           → CarriedOut step (region (b .addr)) x m (step n (x .instr .addr) m) n (suc n)
-      shell-carried n m = byInterpreter n (ap isNative (own-set 0) ∙ not-native) refl
+      shell-carried n m = byInterpreter n (ap isNative (own-set b x (k .set) 0) ∙ not-native) refl
 
       shell-stays : (m : Machine) → leavesBy (region (b .addr)) x m ≡ false
-      shell-stays m = rw (ap isNative (own-set 0) ∙ not-native)
+      shell-stays m = rw (ap isNative (own-set b x (k .set) 0) ∙ not-native)
 
       module _ (high : Bool) (i cycles before : ℕ) (z : State) (m : Machine)
           (q : AtRecord step before z m) where
@@ -364,7 +371,7 @@ module _ (multiplier : ℕ) (ks : List ℕ) (b : Block) (step : ℕ → ℕ → 
             starts t e =
                 after-address cycles (x .instr .addr) _ z (k .below)
                 ∙ g .goes (bodyOf multiplier b) i (fallThrough (b .thumb) (x .instr))
-                (codeFrom ks (bodyOf multiplier b) (i + 1) (r ∷ rs)) fall-lt
+                (codeFrom ks (bodyOf multiplier b) (i + 1) (r ∷ rs)) (fall-lt b x)
                 ∙ ap branches e
 
             go : (t : Bool)
@@ -373,7 +380,8 @@ module _ (multiplier : ℕ) (ks : List ℕ) (b : Block) (step : ℕ → ℕ → 
                 → Done step before multiplier ks b (x ∷ xs) m i
                 (emitShell (b .thumb) high cycles (x .instr) ∷ r ∷ rs) z
             go true e =
-                let to-next = sym (by-step .answers) ∙ eqb-true _ _ e ∙ fall in
+                let to-next =
+                sym (by-step .answers) ∙ eqb-true _ _ e ∙ fall b x (k .set) (k .aligned) in
                 let d =
                 onward before (suc before) m (step before (x .instr .addr) m)
                 (shell-carried before m) (shell-stays m) to-next (i + 1) after
@@ -399,7 +407,8 @@ module _ (multiplier : ℕ) (ks : List ℕ) (b : Block) (step : ℕ → ℕ → 
                   sequence =
                       last before (suc before) x xs m (step before (x .instr .addr) m) alone
                       (shell-carried before m)
-                      (away (λ p. eqb-false _ _ e (by-step .answers ∙ p ∙ sym fall)));
+                      (away (λ p. eqb-false _ _ e
+                      (by-step .answers ∙ p ∙ sym (fall b x (k .set) (k .aligned)))));
                   sound = by-step .sound;
                   leaves =
                       interpreter-leaves (x .instr .addr) z m (left-now (q .left)) (q .sound)
