@@ -52,8 +52,8 @@ stored b most n {k} {o} {o′} {d} p e q =
     spelt b k n
     (p ∙ numeral-fixed b most n ∙ ap (λ (j : ℕ). lastDigits b j n) (sym (e ∙ ap length p))) q
 
--- the part of o from index at, or an empty one where at is past the end, was lent to a printer and
--- came back
+-- the part of o from index `at` on, or an empty one where `at` is past the end, was lent to a
+-- printer and came back
 pub lent : {o part′ : List ℕ} {at from n r : ℕ} {d : Doc} → length o ≤ maxUsize
     → from ≡ min at (length o)
     → Printed (take (length o - from) (drop from o)) d part′ n → r ≡ min (at + n) maxUsize

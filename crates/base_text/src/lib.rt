@@ -12,7 +12,7 @@ ghost use Rattle.base_text.specs.Wrote.{maxUsize, overlay, Printed, Wrot
 // The largest usize.
 const MAX_USIZE: usize = 0xffff_ffff_ffff_ffff;
 
-// at + n, or the largest usize where that is less.
+// `at + n`, or the largest `usize` where that is less.
 fn after(at: usize, n: usize) -> usize
     ensures { λ r. ⌜ r ≡ min (at + n) maxUsize ⌝ }
 {
@@ -30,7 +30,7 @@ fn least(a: usize, b: usize) -> usize
     if a < b { a } else { b }
 }
 
-// Stores b at index at of part, if part has that index.
+// Stores b at index `at` of part, if part has that index.
 fn store(part: &mut [u8], at: usize, b: u8)
     ensures { λ _. ⌜ now (part .exit) ≡ set (now (part .entry)) at b ⌝ }
 {
@@ -64,8 +64,8 @@ fn clip(part: &mut [u8], s: &[u8])
     }
 }
 
-// Stores the last hexadecimal digit of n at index at of part, if part has that index, and answers n
-// without it.
+// Stores the last hexadecimal digit of n at index `at` of part, if part has that index, and answers
+// n without it.
 fn digit(part: &mut [u8], at: usize, n: u64) -> u64
     ensures stored { λ _. ⌜ now (part .exit) ≡ set (now (part .entry)) at (glyph (n % 16)) ⌝ }
     ensures rest { λ r. ⌜ r ≡ n / 16 ⌝ }
@@ -163,8 +163,9 @@ pub fn dec(part: &mut [u8], n: u64) -> usize
     k
 }
 
-// The same at index at of a buffer: each lends a printer the part from there, an empty one where at
-// is past the end, and answers the index after the piece, or the largest usize where that is less.
+// The same at index `at` of a buffer: each lends a printer the part from there, an empty one where
+// `at` is past the end, and answers the index after the piece, or the largest `usize` where that is
+// less.
 
 // The bytes of s.
 pub fn put(out: &mut [u8], at: usize, s: &[u8]) -> usize

@@ -104,8 +104,8 @@ fn branch_inside(file: &[u8], work: &[u32], m: Member, thumb: bool, op: Op) -> b
     }
 }
 
-// A fused pair of the block at src; the cycles are those pending with its own. inside: the key of
-// its target is among those of the group.
+// A fused pair of the block at `src`; the cycles are those pending with its own. `inside`: the key
+// of its target is among those of the group.
 fn emit_fused(
     out: &mut [u8],
     at: usize,

@@ -120,7 +120,7 @@ pub fn emit_pair(
     transfer(out, s, e, false)
 }
 
-// The end of a block that goes on at address next, whose key the exit has.
+// The end of a block that goes on at address `next`, whose key the exit has.
 pub fn emit_closing(out: &mut [u8], at: usize, cycles: u64, next: u32, e: Exit) -> usize
     ensures { λ r. ⌜
         ((ks : List ℕ) → among (e .key) ks ≡ e .inside

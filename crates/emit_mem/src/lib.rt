@@ -1,5 +1,5 @@
 // The text of the instructions that touch memory: Mem, BlockMem and the pop of PC. Each printer
-// writes at index at of a buffer, and answers the index after.
+// writes at index `at` of a buffer, and answers the index after.
 mod access;
 mod block_mem;
 mod inlined;

@@ -1,5 +1,5 @@
 // Writers of conditions, registers and shifted operands. Each writes the text of an expression into
-// out at index at, and answers the index after it.
+// out at index `at`, and answers the index after it.
 mod shifts;
 
 use armv4t::Cond;

@@ -1,5 +1,5 @@
--- `text::put_hex` meets its contract: what `hex` prints to the part from index at, it writes to the
--- whole.
+-- `text::put_hex` meets its contract: what `hex` prints to the part from index `at` on, it writes
+-- to the whole.
 use borrow.Author.Needs.{needs}
 use Rattle.base_text.proofs.Printers.{lent}
 use Rattle.base_text.proofs.put_hex.Statement.{statement}

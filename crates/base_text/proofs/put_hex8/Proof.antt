@@ -1,5 +1,5 @@
--- `text::put_hex8` meets its contract: what `hex8` prints to the part from index at, it writes to
--- the whole.
+-- `text::put_hex8` meets its contract: what `hex8` prints to the part from index `at` on, it writes
+-- to the whole.
 use borrow.Author.Needs.{needs}
 use Rattle.base_text.proofs.Printers.{lent}
 use Rattle.base_text.proofs.put_hex8.Statement.{statement}
