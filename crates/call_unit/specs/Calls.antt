@@ -10,7 +10,7 @@ use Rattle.file_blocks.specs.Parse.{Block, Parsed}
 use Rattle.lower_units.specs.Units.{TranslationUnit, UnitValues, unitValues, textOf, units}
 use Rattle.call_frame.specs.Frame.{Decision, Call, Outcome, makes, ifFound, callFrame}
 use Rattle.call_frame.specs.Numbers.{Handed, handed}
-use Rattle.call_unit.specs.declared.calls.UnitAnswer.{UnitAnswer}
+use Rattle.call_answers.specs.declared.UnitAnswer.{UnitAnswer}
 
 -- what the cases of UnitAnswer stand for: the values of a unit, or a refusal
 unfoldable pub unitAnswer : UnitAnswer → Answer UnitValues
@@ -35,7 +35,10 @@ asksUnit limit max k =
 abbrev pub unitCall : ℕ → ℕ → ℕ → Parsed → List ℕ → List ℕ → Outcome UnitValues
 unitCall limit max k p work text = callFrame (asksUnit limit max k) p work (text ∷ [])
 
--- what it hands over: after the numbers of every answer the length, the blocks done, and 1 for the
--- last unit, else 0
+-- the values of a unit as numbers: the length, the blocks done, and 1 for the last unit, else 0
+abbrev pub unitValueNumbers : UnitValues → List ℕ
+unitValueNumbers u = u .length ∷ u .done ∷ cond (u .last) 1 0 ∷ []
+
+-- what it hands over: after the numbers of every answer the values
 abbrev pub unitNumbers : Outcome UnitValues → Handed
-unitNumbers = handed 3 (λ (u : UnitValues). u .length ∷ u .done ∷ cond (u .last) 1 0 ∷ [])
+unitNumbers = handed 3 unitValueNumbers

@@ -4,7 +4,7 @@ use mathlib.Core.Path.{_≡_}
 use mathlib.Core.List.{List, [], _∷_}
 use Rattle.file_blocks.specs.Parse.{blocksOf}
 use Rattle.call_frame.specs.Frame.{settle}
-use Rattle.call_unit.specs.declared.calls.UnitAnswer.{UnitAnswer}
+use Rattle.call_answers.specs.declared.UnitAnswer.{UnitAnswer}
 use Rattle.call_unit.specs.Calls.{unitAnswer, asksUnit}
 
 -- an answer, and the text that it leaves, are those of unit k, whatever becomes of the work numbers

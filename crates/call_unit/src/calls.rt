@@ -1,4 +1,7 @@
 // The public call for a unit. It checks its file and its lent buffers itself.
+use call_answers::UnitAnswer;
+use call_answers::answer_in;
+use call_answers::answer_numbers;
 use call_frame::Early;
 use call_frame::Opened;
 use call_frame::clear;
@@ -19,14 +22,6 @@ ghost use Rattle.call_frame.specs.Open.{IsOpen};
 ghost use Rattle.call_unit.specs.Calls.{unitAnswer, unitCall, unitNumbers};
 ghost use Rattle.call_unit.specs.Steps.{AnswersUnit};
 
-// The answer of the call for a unit.
-pub enum UnitAnswer {
-    // How many bytes the text has, how many blocks are done with it, and whether it is the last.
-    Unit { length: u64, done: u64, last: bool },
-    // The number of the refusal, and i or 0.
-    Refused { number: u32, at: u64 },
-}
-
 // Unit k of an accepted file with n blocks, by the plan at a limit in the work numbers.
 fn answer_unit(
     file: &[u8],
@@ -45,14 +40,12 @@ fn answer_unit(
     let FoundUnit::At(e) = find_unit(file, work, n, max, k) else {
         return UnitAnswer::Refused { number: 9, at: 0 };
     };
-    if text.len() < e.length {
-        return UnitAnswer::Refused { number: 10, at: 0 };
-    }
+    let told = answer_in(text.len(), e.length, e.end, e.last);
+    let UnitAnswer::Unit { .. } = told else {
+        return told;
+    };
     write_unit(text, file, work, n, max, e);
-    let length = e.length as u64;
-    let done = e.end as u64;
-    let last = e.last;
-    UnitAnswer::Unit { length, done, last }
+    told
 }
 
 // Unit k of a file that is open, with n blocks.
@@ -137,24 +130,6 @@ pub fn unit_numbers(
         ⌝ }
     ensures claims { λ r. ⌜ UnitClaims hashMultiplier limit max (now (file .entry)) ⌝ }
 {
-    match unit_of(file, limit, max, k, work, text) {
-        UnitAnswer::Unit {
-            length: n,
-            done: d,
-            last: is_last,
-        } => {
-            *at = 0;
-            *length = n;
-            *done = d;
-            *last = is_last as u64;
-            0
-        }
-        UnitAnswer::Refused { number, at: i } => {
-            *at = i;
-            *length = 0;
-            *done = 0;
-            *last = 0;
-            number
-        }
-    }
+    let answer = unit_of(file, limit, max, k, work, text);
+    answer_numbers(answer, at, length, done, last)
 }

@@ -10,7 +10,7 @@ use Rattle.base_text.proofs.Laws.{whole}
 use Rattle.plan_members.proofs.Places.{start-inside}
 use Rattle.lower_units.specs.Units.{textOf}
 use Rattle.emit_units.specs.Units.{IsUnit, IsFoundUnit}
-use Rattle.call_unit.proofs.Answers.{unit-none, unit-long, unit-made}
+use Rattle.call_unit.proofs.Answers.{unit-none, unit-long, unit-fits, unit-made}
 use Rattle.call_unit.proofs.calls.answer_unit.Statement.{statement}
 use Rattle.call_unit.proofs.calls.answer_unit.Tie as tie
 
@@ -34,19 +34,21 @@ returns c =
 returns-2 : tie.Need-returns-2
 unfolding IsFoundUnit
 returns-2 c =
-    let known = c .before .before .before in
+    let told = c .before .before in
+    let known = told .before .before in
     let start = known .before .before .before .before .before .before in
     let a = start .args in
     let f = a .file .now in
     let is : IsUnit f (a .limit) (a .max) (a .k) _ =
     subst (IsFoundUnit f (a .limit) (a .max) (a .k)) (known .e .given .1)
     (known .before .before .find-unit .ensures (a .limit) (start .pre)) in
-    unit-long f (a .limit) (a .max) (a .k) _ is (omega arith)
+    unit-long f (a .limit) (a .max) (a .k) _ is _ (told .answer-in .ensures) _ _
+    (c .enum-told3 .given .1)
 
 write-unit-requires : tie.Need-write-unit-requires
 unfolding IsFoundUnit
 write-unit-requires c κs =
-    let known = c .before .before .before .before in
+    let known = c .before .before .before .before .before in
     let start = known .before .before .before .before .before .before in
     let a = start .args in
     let f = a .file .now in
@@ -64,7 +66,10 @@ write-unit-requires c κs =
 returns-3 : tie.Need-returns-3
 unfolding IsFoundUnit textOf
 returns-3 c =
-    let known = c .before .before .before .before .before .before .before in
+    let wrote = c .before .before in
+    let answered = wrote .before .before in
+    let told = answered .before .before in
+    let known = told .before .before in
     let start = known .before .before .before .before .before .before in
     let a = start .args in
     let f = a .file .now in
@@ -72,13 +77,15 @@ returns-3 c =
     let is : IsUnit f (a .limit) (a .max) (a .k) _ =
     subst (IsFoundUnit f (a .limit) (a .max) (a .k)) (known .e .given .1)
     (known .before .before .find-unit .ensures (a .limit) ready) in
+    let made = answered .enum-told2 .given .1 in
     let fits : length (textOf (is .unit .tree)) ≤ length (a .text .now) =
-    omega (arith, is .bytes) in
-    unit-made f (a .limit) (a .max) (a .k) _ is _ (omega arith)
-    (whole (c .before .before .write-unit .ensures (a .limit) (a .k) ready is) fits .0)
+    unit-fits f (a .limit) (a .max) (a .k) (a .text .now) is _ (told .answer-in .ensures) _ _ _
+    made in
+    unit-made f (a .limit) (a .max) (a .k) _ is _ (told .answer-in .ensures) _ _ _ made _
+    (whole (wrote .write-unit .ensures (a .limit) (a .k) ready is) fits .0)
 
 pub answer-unit-spec : {M : Type 1} → statement M
 answer-unit-spec =
     tie.close
-    (tie.spec find-unit-requires (search needs) (search needs) returns returns-2
-    write-unit-requires (search needs) returns-3)
+    (tie.spec find-unit-requires (search needs) (search needs) returns (search needs)
+    (search needs) (search needs) returns-2 write-unit-requires (search needs) returns-3)
