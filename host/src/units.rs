@@ -76,7 +76,7 @@ impl<'a> Units<'a> {
         Ok(Some(lengths.iter().map(cut).collect()))
     }
 
-    /// Has the text filled with units from one on, and tells how many they are.
+    /// Has the text filled with units from a given one on, and tells how many they are.
     fn make(&mut self, first: usize) -> Result<usize, NoResult> {
         let (lent, text) = (&mut self.lent, &mut self.text);
         // The call puts the lengths where they are.

@@ -1,4 +1,4 @@
-//! What the calls for the units from one on and for their lengths answer and leave, written from
+//! What the calls for the units from a given one on and for their lengths answer and leave, written from
 //! include/recomp.h. The texts themselves come from the original.
 
 use crate::check::{Accepted, Refused};

@@ -1,4 +1,4 @@
-//! What the calls for the units from one on and for their lengths answer and leave, against
+//! What the calls for the units from a given one on and for their lengths answer and leave, against
 //! include/recomp.h.
 
 use recomp_tools::check::{check, Refused};

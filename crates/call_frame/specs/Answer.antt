@@ -1,4 +1,4 @@
--- To be believed: the answers of public calls in the paper's terms.
+-- To be believed: the answers of public calls, as document 01 has them.
 use Prim.Native.Nat.{ℕ}
 
 -- a refusal with its number and i, or 0 where there is no i; or the values of a success

@@ -79,8 +79,8 @@ abbrev pub beforeBlocks : Option Refusal → ℕ → ℕ → Option Refusal
 beforeBlocks (some r) lent needed = some r
 beforeBlocks none lent needed = cond (ltb lent needed) (some (numbered 8)) none
 
--- what such a refusal leaves, which is nothing written; or what a decision leaves, the first m work
--- numbers being cleared
+-- such a refusal, with nothing written; or what a decision leaves, the first m work numbers being
+-- cleared
 abbrev pub leave : {A : Type 0} → Option Refusal → ℕ → Decision A → List ℕ → List (List ℕ)
     → Outcome A
 leave (some r) m decision work results = refusedWith r work results

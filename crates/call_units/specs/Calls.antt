@@ -1,5 +1,5 @@
--- To be believed: the public calls for the units of a file from one on, and for their lengths. Both
--- are lent work numbers and a place for each length, the first a text too.
+-- To be believed: the public calls for the units of a file from a given one on, and for their
+-- lengths. Both are lent work numbers and a place for each length, the first a text too.
 use Prim.Native.Nat.{ℕ}
 use mathlib.Core.Bool.{Bool, false, cond}
 use mathlib.Core.List.{List, [], _∷_, map}
@@ -26,7 +26,7 @@ pub record FrontValues : Type 0 where
   pub done : ℕ
   pub last : Bool
 
--- the same of their lengths
+-- the same without the bytes in all, for the call that tells lengths
 pub record LengthsValues : Type 0 where
   pub count : ℕ
   pub done : ℕ
@@ -76,7 +76,7 @@ asksUnits asked =
           (unitsAsked asked bs);
     }
 
--- what the call for lengths makes: as many as have a place
+-- what the call for lengths makes: as many as have a place; a length takes no room but that
 abbrev pub asksLengths : Asked → Call LengthsValues
 asksLengths asked =
     record {

@@ -1,5 +1,5 @@
-// The public call for the lengths of the units from one on. It checks its file and its lent buffers
-// itself.
+// The public call for the lengths of the units from a given one on. It checks its file and its lent
+// buffers itself.
 use crate::units::Asked;
 use call_frame::Early;
 use call_frame::Opened;
@@ -21,15 +21,15 @@ ghost use Rattle.call_units.specs.Steps.{AnswersLengths};
 
 // The answer of the call for lengths.
 pub enum LengthsAnswer {
-    // How many lengths there are, how many blocks are done with the last of their units, and whether
-    // it is the last of the file.
+    // How many lengths there are, how many blocks are done with the last of their units, and
+    // whether it is the last of the file.
     Lengths { count: u64, done: u64, last: bool },
     // The number of the refusal, and i or 0.
     Refused { number: u32, at: u64 },
 }
 
-// The lengths of the units from one on of an accepted file with n blocks, by the plan in the work
-// numbers.
+// The lengths of the units from a given one on of an accepted file with n blocks, by the plan in
+// the work numbers.
 fn answer_lengths(
     file: &[u8],
     asked: Asked,
@@ -55,7 +55,7 @@ fn answer_lengths(
     LengthsAnswer::Lengths { count, done, last }
 }
 
-// The lengths of the units from one on of a file that is open, with n blocks.
+// The lengths of the units from a given one on of a file that is open, with n blocks.
 fn measure_units(
     file: &[u8],
     asked: Asked,
@@ -80,7 +80,7 @@ fn measure_units(
     answer
 }
 
-// The lengths of the units from one on of a file, as many as have a place, in the front of
+// The lengths of the units from a given one on of a file, as many as have a place, in the front of
 // `lengths`.
 pub fn lengths_of(file: &[u8], asked: Asked, work: &mut [u32], lengths: &mut [u64]) -> LengthsAnswer
     ensures answer { λ r. ⌜
@@ -98,8 +98,8 @@ pub fn lengths_of(file: &[u8], asked: Asked, work: &mut [u32], lengths: &mut [u6
     }
 }
 
-// The lengths of the units from one on of a file, and the numbers of the answer, of which 0 or the
-// number of the refusal is returned.
+// The lengths of the units from a given one on of a file, and the numbers of the answer, of which 0
+// or the number of the refusal is returned.
 pub fn lengths_numbers(
     file: &[u8],
     asked: Asked,

@@ -1,4 +1,4 @@
-// The public calls for the units from one on, and for their lengths.
+// The public calls for the units from a given one on, and for their lengths.
 mod lengths;
 mod units;
 

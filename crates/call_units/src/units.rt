@@ -1,4 +1,5 @@
-// The public call for the units from one on. It checks its file and its lent buffers itself.
+// The public call for the units from a given one on. It checks its file and its lent buffers
+// itself.
 use call_frame::Early;
 use call_frame::Opened;
 use call_frame::clear;
@@ -44,7 +45,7 @@ pub enum UnitsAnswer {
     },
 }
 
-// The units from one on of an accepted file with n blocks, by the plan in the work numbers.
+// The units from a given one on of an accepted file with n blocks, by the plan in the work numbers.
 fn answer_units(
     file: &[u8],
     asked: Asked,
@@ -78,7 +79,7 @@ fn answer_units(
     }
 }
 
-// The units from one on of a file that is open, with n blocks.
+// The units from a given one on of a file that is open, with n blocks.
 fn emit_units(
     file: &[u8],
     asked: Asked,
@@ -105,8 +106,9 @@ fn emit_units(
     answer
 }
 
-// The units from one on of a file: as many whole ones as fit, one after another in the front of
-// `text`, the length of each in the front of `lengths`. The claims on units hold of them all.
+// The units from a given one on of a file: as many whole ones as fit, one after another in the
+// front of `text`, the length of each in the front of `lengths`. The claims on units hold of them
+// all.
 pub fn units_of(
     file: &[u8],
     asked: Asked,
@@ -133,8 +135,8 @@ pub fn units_of(
     }
 }
 
-// The units from one on of a file, and the numbers of the answer, of which 0 or the number of the
-// refusal is returned.
+// The units from a given one on of a file, and the numbers of the answer, of which 0 or the number
+// of the refusal is returned.
 pub fn units_numbers(
     file: &[u8],
     asked: Asked,

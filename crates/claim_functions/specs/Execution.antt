@@ -126,8 +126,8 @@ pub data Execution (ts : List Top) : Code → Option ℕ → Code → List Code 
       {xs : List Bool} {es : List Event} {r : Result}
       → List·Memᴰ (function (group k) g) ts → Execution ts g (parameter i) g [] (atStart z) xs es r
       → Execution ts f n (call k i ⨾ c) ds z xs es r
-  -- switch: with the parameter i to the label of the i-th key, counted from 0; without one, return
-  -- 0
+  -- switch: with the parameter i to the label of the i-th key, counted from 0; where there is no
+  -- i-th key, return 0
   x-case : {f : Code} {i k : ℕ} {ks : List ℕ} {c d : Code} {ds : List Code} {z : State}
       {xs : List Bool} {es : List Event} {r : Result}
       → getElem? ks i ≡ some k → LabelIn k f d

@@ -57,7 +57,7 @@ formEvents k i (Form.native r ∷ rs) =
     nativeStart k i (recordsIn r) ∷ cond (leaves r) [] (formEvents k (i + recordsIn r) rs)
 formEvents k i (shell h t e ∷ rs) = interpreted k i ∷ formEvents k (i + 1) rs
 
--- every form but the last goes on to the next; the pair is two, and a record after it is dropped
+-- each form before the pair goes on to the next; the pair is two, and a record after it is dropped
 all-forms : (e : Expr) → formEvents 8 0
     (Form.native (straight [] []) ∷ shell false [] 0 ∷ Form.native (straightIf [] e [])
     ∷ Form.native (branchIf [] e [] 0) ∷ Form.native (pair [] 0) ∷ Form.native (straight [] [])

@@ -1,4 +1,4 @@
--- Steps: the units from one on that fit what is lent.
+-- Steps: the units from a given one on that fit what is lent.
 use Prim.Native.Nat.{ℕ, _≤_, _<_}
 use mathlib.Core.Path.{_≡_}
 use mathlib.Core.Bool.{false}

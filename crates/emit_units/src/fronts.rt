@@ -1,4 +1,4 @@
-// The units from one on that fit what is lent, and the lengths of those that have a place.
+// The units from a given one on that fit what is lent, and the lengths of those that have a place.
 use crate::bounds::unit_bound;
 use crate::extents::Extent;
 use crate::extents::measure_unit;

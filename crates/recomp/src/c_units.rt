@@ -1,4 +1,4 @@
-// The C forms of the calls for the units from one on, and for their lengths.
+// The C forms of the calls for the units from a given one on, and for their lengths.
 use call_units::Asked;
 use plan_groups::PART_LIMIT;
 ghost use mathlib.Core.Path.{_≡_};

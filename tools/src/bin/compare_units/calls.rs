@@ -46,7 +46,7 @@ pub struct Tally {
     bytes: u64,
     /// Calls for a unit by what they must answer: one, then refusals 1 to 10.
     answers: [u64; 11],
-    /// Likewise those for the units from one on, and for their lengths.
+    /// Likewise those for the units from a given one on, and for their lengths.
     pub fronts: [u64; 11],
     pub lengths: [u64; 11],
     pub mismatches: u64,

@@ -1,4 +1,4 @@
-//! The calls for the units from one on, and for their lengths, that are made for a file.
+//! The calls for the units from a given one on, and for their lengths, that are made for a file.
 
 use crate::calls::{Emitted, Tally, PRINTED, SPARE_TEXT, SPARE_WORK};
 use crate::library;

@@ -1,6 +1,5 @@
--- `put_lengths` walks the units from one on. The loop's invariant: the lengths of those before row
--- `end` are told, and which follow is decided over the rest.
--- Assumes nothing.
+-- `put_lengths` walks the units from a given one on. The loop's invariant: the lengths of those
+-- before row `end` are told, and which follow is decided over the rest. Assumes nothing.
 use Prim.Native.Nat.{ℕ, _+_, _-_, _≤_}
 use borrow.Author.Needs.{needs}
 use lib.ListN.{length, length-set}
