@@ -53,8 +53,8 @@ fn fitting(units: &[Unit], lent: Lent) -> &[Unit] {
     &units[..(1..=places).take_while(fits).count()]
 }
 
-/// What must come of the call for the units from `first` on, of a file with this answer of the check
-/// and, if accepted, these units, with so much lent.
+/// What must come of the call for the units from `first` on, of a file with this answer of the
+/// check and, if accepted, these units, with so much lent.
 pub fn outcome<'a>(
     checked: Result<Accepted, Refused>,
     units: &'a [Unit],

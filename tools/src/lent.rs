@@ -5,8 +5,8 @@ fn number(n: usize) -> u32 {
     !(n as u32)
 }
 
-/// Bytes of a text before a call, time and again: none that a text has, for no UTF-8 has a byte from
-/// the first of them on, and each unlike its neighbours.
+/// Bytes of a text before a call, time and again: none that a text has, for no UTF-8 has a byte
+/// from the first of them on, and each unlike its neighbours.
 const BYTES: [u8; 11] = [
     0xf5, 0xf6, 0xf7, 0xf8, 0xf9, 0xfa, 0xfb, 0xfc, 0xfd, 0xfe, 0xff,
 ];

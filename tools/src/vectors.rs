@@ -1,6 +1,7 @@
 //! Stored vectors: each a file with the answer that it must get, from the check or another call.
 
 mod blocks;
+pub mod fronts;
 pub mod grouping;
 mod instructions;
 mod long;

@@ -1,7 +1,9 @@
 //! The stored vectors: enough of each number, in the sizes that their reader has room for.
 
 use recomp_tools::check::check;
-use recomp_tools::units::UnitNumbers;
+use recomp_tools::fronts::{FrontNumbers, Lent};
+use recomp_tools::units::{Unit, UnitNumbers};
+use recomp_tools::vectors::fronts::{encode_fronts, FrontVector};
 use recomp_tools::vectors::grouping::{encode_exits, encode_plans, exits, plans, PlanVector};
 use recomp_tools::vectors::units::{encode_units, UnitVector};
 use recomp_tools::vectors::{all, encode};
@@ -96,4 +98,55 @@ fn encoded_units() {
     let mut expected: Vec<u8> = numbers.iter().flat_map(|n| n.to_le_bytes()).collect();
     expected.extend_from_slice(&[0xff, 0xfe, b'a', b'b', b'c']);
     assert_eq!(encode_units(&[vector]), expected);
+}
+
+/// Two units, as a vector of the call for units or of the one for lengths.
+fn front(text: Option<usize>, length: Option<u64>) -> FrontVector {
+    let unit = |text: &str, done| Unit {
+        text: text.into(),
+        done,
+    };
+    FrontVector {
+        max_bytes: u64::MAX - 1,
+        first: (3 << 32) + 2,
+        lent: Lent {
+            work: 4,
+            text,
+            lengths: 6,
+        },
+        cleared: 7,
+        expected: FrontNumbers {
+            number: 8,
+            at: 9,
+            count: 2,
+            length,
+            done: 10,
+            last: 1,
+        },
+        units: vec![unit("abc", 9), unit("de", 10)],
+        file: vec![0xff],
+    }
+}
+
+#[test]
+fn encoded_fronts() {
+    let words = |numbers: &[u32]| -> Vec<u8> {
+        let bytes = numbers.iter().flat_map(|n| n.to_le_bytes());
+        bytes.collect()
+    };
+    let asked = [1, 0xffff_fffe, 0xffff_ffff, 2, 3, 4];
+    let units = [
+        words(&asked),
+        words(&[5, 6, 7, 8, 9, 2, 5, 10, 1, 1]),
+        b"\xffabcde".to_vec(),
+        words(&[3, 2]),
+    ];
+    assert_eq!(encode_fronts(&[front(Some(5), Some(5))]), units.concat());
+    let lengths = [
+        words(&asked),
+        words(&[6, 7, 8, 9, 2, 10, 1, 1]),
+        vec![0xff],
+        words(&[3, 2]),
+    ];
+    assert_eq!(encode_fronts(&[front(None, None)]), lengths.concat());
 }

@@ -27,6 +27,12 @@ fn name(section: Section) {
         Section::Units => {
             text(b"units");
         }
+        Section::Fronts => {
+            text(b"fronts");
+        }
+        Section::Lengths => {
+            text(b"lengths");
+        }
     }
 }
 
@@ -58,7 +64,7 @@ pub fn mismatch(section: Section, k: u64, expected: &[u64], got: &[u64]) {
     text(b"\n");
 }
 
-// A place at which a vector of the units expects another number than stands there.
+// A place at which a vector expects another number than stands there.
 fn place_differs(i: u64, expected: u64, got: u64) {
     number(i);
     text(b": expected ");
@@ -68,16 +74,16 @@ fn place_differs(i: u64, expected: u64, got: u64) {
     text(b"\n");
 }
 
-// The line on a vector of the units: work number `i` is not the expected one.
-pub fn work_differs(k: u64, i: u64, expected: u32, got: u32) {
-    vector(Section::Units, k);
+// The line on a vector: work number `i` is not the expected one.
+pub fn work_differs(section: Section, k: u64, i: u64, expected: u32, got: u32) {
+    vector(section, k);
     text(b"work number ");
     place_differs(i, expected as u64, got as u64);
 }
 
-// The line on a vector of the units: byte `i` of the text is not the expected one.
-pub fn text_differs(k: u64, i: u64, expected: u8, got: u8) {
-    vector(Section::Units, k);
+// The line on a vector: byte `i` of the text is not the expected one.
+pub fn text_differs(section: Section, k: u64, i: u64, expected: u8, got: u8) {
+    vector(section, k);
     text(b"byte ");
     place_differs(i, expected as u64, got as u64);
 }

@@ -7,6 +7,8 @@ pub enum Section {
     Exits,
     Plan,
     Units,
+    Fronts,
+    Lengths,
 }
 
 // What became of a vector.

@@ -8,26 +8,22 @@ use case_io::report;
 use case_io::verdict;
 use case_io::verdict::Section;
 use case_io::verdict::Verdict;
+use case_lent::LONGEST;
+use case_lent::TEXT;
+use case_lent::WORK;
+use case_lent::no_text;
+use case_lent::same_text;
+use case_lent::same_work;
+use case_lent::whole;
+use case_lent::work_numbers;
 use plan_groups::PART_LIMIT;
 ghost use mathlib.Core.Path.{_≡_};
 ghost use mathlib.Core.List.{_∷_, []};
 ghost use Prim.Native.Nat.{_≤_};
-ghost use lib.ListN.{length};
 ghost use Rattle.file_blocks.specs.Parse.{parse};
 ghost use Rattle.plan_groups.specs.Limit.{partLimit};
 ghost use Rattle.call_unit.specs.Calls.{unitCall, unitNumbers};
-ghost use Rattle.case_io.specs.Same.{sameNumbers};
 ghost use Rattle.case_units.specs.UnitCases.{unitCallLeaves, sameUnit};
-
-// The longest file that a vector may hold.
-const LONGEST: usize = 4096;
-
-// How many work numbers there are, of which a vector lends fewer: what stands after those lent must
-// be as it was.
-const WORK: usize = 576;
-
-// How many bytes of text there are, of which a vector lends fewer, likewise.
-const TEXT: usize = 65600;
 
 // What a vector asks for, and how much it lends.
 struct Asked {
@@ -69,38 +65,6 @@ fn answer(file: &[u8], max: u64, k: u64, work: &mut [u32], text: &mut [u8]) -> [
     [number as u64, at, length, done, last]
 }
 
-// Whether the work numbers are the expected ones. The first that is not is printed.
-fn same_work(k: u64, expected: &[u32], got: &[u32]) -> bool
-    requires { ⌜ length (now expected) ≡ length (now got) ⌝ }
-    ensures { λ r. ⌜ r ≡ sameNumbers (now (expected .entry)) (now (got .entry)) ⌝ }
-{
-    let mut i = 0;
-    while i < expected.len() {
-        if expected[i] != got[i] {
-            report::work_differs(k, i as u64, expected[i], got[i]);
-            return false;
-        }
-        i += 1;
-    }
-    true
-}
-
-// Whether the bytes of text are the expected ones. The first that is not is printed.
-fn same_text(k: u64, expected: &[u8], got: &[u8]) -> bool
-    requires { ⌜ length (now expected) ≡ length (now got) ⌝ }
-    ensures { λ r. ⌜ r ≡ sameNumbers (now (expected .entry)) (now (got .entry)) ⌝ }
-{
-    let mut i = 0;
-    while i < expected.len() {
-        if expected[i] != got[i] {
-            report::text_differs(k, i as u64, expected[i], got[i]);
-            return false;
-        }
-        i += 1;
-    }
-    true
-}
-
 // Whether the call answers all the expected numbers and leaves what is expected. The first of these
 // that is not so is printed.
 fn is_right(
@@ -133,32 +97,10 @@ fn is_right(
         report::mismatch(Section::Units, k, expected, &got);
         return false;
     }
-    if !same_work(k, &expected_work, &work) {
+    if !same_work(Section::Units, k, &expected_work, &work) {
         return false;
     }
-    same_text(k, &expected_text, &text)
-}
-
-// So many times 0, and then numbers that no call writes, each another one.
-fn work_numbers(cleared: usize) -> [u32; WORK] {
-    let mut list = [0u32; WORK];
-    let mut i = cleared;
-    while i < WORK {
-        list[i] = 4294967295 - i as u32;
-        i += 1;
-    }
-    list
-}
-
-// Bytes that no text has, each another one than those beside it.
-fn no_text() -> [u8; TEXT] {
-    let mut list = [0u8; TEXT];
-    let mut i = 0;
-    while i < TEXT {
-        list[i] = 255 - (i % 127) as u8;
-        i += 1;
-    }
-    list
+    same_text(Section::Units, k, &expected_text, &text)
 }
 
 // Reads the expected text of vector `k` and tries the vector.
@@ -206,11 +148,6 @@ fn replay_file(k: u64, asked: Asked, cleared: usize) -> Verdict
         Filled::Ended => verdict::ended(k),
         Filled::TooLong => verdict::too_long(k),
     }
-}
-
-// A number of 64 bits from its halves, which have 32 bits each, as all that is read.
-fn whole(low: u64, high: u64) -> u64 {
-    low % 4294967296 + 4294967296 * (high % 4294967296)
 }
 
 // Reads vector `k` and tries it.

@@ -20,6 +20,12 @@ fn main() {
     if !sections::replay(Section::Units) {
         return;
     }
+    if !sections::replay(Section::Fronts) {
+        return;
+    }
+    if !sections::replay(Section::Lengths) {
+        return;
+    }
     if !input::at_end() {
         report::goes_on();
     }

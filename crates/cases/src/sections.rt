@@ -1,6 +1,8 @@
 // The sections of the input: a count of vectors, and the vectors.
 use case_answers::check_cases;
 use case_answers::exits_cases;
+use case_fronts::lengths_cases;
+use case_fronts::units_cases;
 use case_io::input;
 use case_io::input::Read;
 use case_io::report;
@@ -14,6 +16,8 @@ fn replay_one(section: Section, k: u64) -> Verdict {
         Section::Exits => exits_cases::replay_one(k),
         Section::Plan => case_plan::replay_one(k),
         Section::Units => case_units::replay_one(k),
+        Section::Fronts => units_cases::replay_one(k),
+        Section::Lengths => lengths_cases::replay_one(k),
     }
 }
 

@@ -2,6 +2,7 @@
 //! vectors there are for each answer.
 
 use recomp_tools::original::Original;
+use recomp_tools::vectors::fronts::{encode_fronts, fronts, lengths};
 use recomp_tools::vectors::grouping::{encode_exits, encode_plans, exits, plans};
 use recomp_tools::vectors::units::{encode_units, units};
 use recomp_tools::vectors::{all, encode};
@@ -10,7 +11,7 @@ use std::process::ExitCode;
 /// A section's bytes, and the number of the answer of each of its vectors.
 type Section = (Vec<u8>, Vec<u32>);
 
-const USAGE: &str = "usage: vectors PATH [check | exits | plan | units]...";
+const USAGE: &str = "usage: vectors PATH [check | exits | plan | units | fronts | lengths]...";
 
 fn section(name: &str) -> Result<Section, String> {
     match name {
@@ -33,6 +34,16 @@ fn section(name: &str) -> Result<Section, String> {
             let vectors = units(&Original::new()?.build("units")?);
             let numbers = vectors.iter().map(|v| v.expected.number).collect();
             Ok((encode_units(&vectors), numbers))
+        }
+        "fronts" => {
+            let vectors = fronts(&Original::new()?.build("units")?);
+            let numbers = vectors.iter().map(|v| v.expected.number).collect();
+            Ok((encode_fronts(&vectors), numbers))
+        }
+        "lengths" => {
+            let vectors = lengths(&Original::new()?.build("units")?);
+            let numbers = vectors.iter().map(|v| v.expected.number).collect();
+            Ok((encode_fronts(&vectors), numbers))
         }
         _ => Err(USAGE.to_string()),
     }

@@ -11,7 +11,7 @@ use crate::record::{block_mem, Record};
 use crate::units::{outcome, reached, Unit, UnitNumbers};
 
 /// The reader of the vectors has buffers of fixed size.
-const LONGEST_TEXT: usize = 65_536;
+pub(super) const LONGEST_TEXT: usize = 65_536;
 
 /// Work numbers lent for files whose blocks are not looked at.
 const AMPLE_WORK: usize = 508;
@@ -39,34 +39,34 @@ struct Vectors<'a> {
 }
 
 /// A file with its units at one size.
-struct Emitted<'a> {
-    file: &'a [u8],
-    checked: Result<Accepted, Refused>,
-    max_bytes: u64,
-    units: Vec<Unit>,
+pub(super) struct Emitted<'a> {
+    pub(super) file: &'a [u8],
+    pub(super) checked: Result<Accepted, Refused>,
+    pub(super) max_bytes: u64,
+    pub(super) units: Vec<Unit>,
 }
 
 impl Emitted<'_> {
-    fn work(&self) -> usize {
+    pub(super) fn work(&self) -> usize {
         self.checked.map_or(0, |counts| 4 * counts.blocks as usize)
     }
 }
 
-impl Vectors<'_> {
-    /// The file's units at each of these sizes; none where it is refused.
-    fn emitted<'f>(&self, file: &'f [u8], sizes: &[u64]) -> Vec<Emitted<'f>> {
-        let checked = check(file);
-        let mut emitter = checked.ok().map(|_| Emitter::start(self.program, &[file]));
-        let mut units = |size| emitter.as_mut().map_or(vec![], |e| e.units(0, size));
-        let emitted = sizes.iter().map(|&max_bytes| Emitted {
-            file,
-            checked,
-            max_bytes,
-            units: units(max_bytes),
-        });
-        emitted.collect()
-    }
+/// The file's units at each of these sizes; none where it is refused.
+pub(super) fn emitted<'f>(program: &Program, file: &'f [u8], sizes: &[u64]) -> Vec<Emitted<'f>> {
+    let checked = check(file);
+    let mut emitter = checked.ok().map(|_| Emitter::start(program, &[file]));
+    let mut units = |size| emitter.as_mut().map_or(vec![], |e| e.units(0, size));
+    let emitted = sizes.iter().map(|&max_bytes| Emitted {
+        file,
+        checked,
+        max_bytes,
+        units: units(max_bytes),
+    });
+    emitted.collect()
+}
 
+impl Vectors<'_> {
     fn ask(&mut self, file: &Emitted, unit: u64, lent: [usize; 2]) {
         let outcome = outcome(file.checked, &file.units, unit, lent);
         assert!(lent[1] <= LONGEST_TEXT);
@@ -90,7 +90,7 @@ impl Vectors<'_> {
 
     /// Sizes 0, 1, one that is met exactly, that plus 1, and the largest.
     fn sizes(&mut self, file: &[u8], turn: usize) {
-        let ends = self.emitted(file, &[0, u64::MAX]);
+        let ends = emitted(self.program, file, &[0, u64::MAX]);
         let reached = reached(&ends[0].units, &ends[1].units[0]);
         let exact = match reached.len() {
             0 => ends[1].units[0].text.len(),
@@ -98,8 +98,8 @@ impl Vectors<'_> {
             groups => reached[turn % groups.saturating_sub(1).max(1)],
         };
         let exact = exact as u64;
-        let [at_0, at_1, at_exact, above, at_most] = self
-            .emitted(file, &[0, 1, exact, exact + 1, u64::MAX])
+        let sizes = [0, 1, exact, exact + 1, u64::MAX];
+        let [at_0, at_1, at_exact, above, at_most] = emitted(self.program, file, &sizes)
             .try_into()
             .unwrap_or_else(|_| unreachable!("five sizes"));
         for k in 0..at_0.units.len() {
@@ -182,22 +182,23 @@ fn named() -> Vec<File> {
     files
 }
 
+/// Those files, and generated ones of either sort, each with a turn.
+pub(super) fn files() -> Vec<(usize, File)> {
+    let several = |file: &File| (3..=6).contains(&file.blocks) && file.instructions < 12;
+    let short: Vec<File> = short_files().filter(several).collect();
+    let last = short.iter().rev().take(FILES);
+    let either = short.iter().take(FILES).chain(last);
+    let either = either.cloned().enumerate();
+    named().into_iter().enumerate().chain(either).collect()
+}
+
 /// The original's program emits the texts.
 pub fn units(program: &Program) -> Vec<UnitVector> {
     let mut out = Vectors {
         list: vec![],
         program,
     };
-    for (turn, file) in named().iter().enumerate() {
-        out.sizes(&file.bytes, turn);
-    }
-    let several = |file: &File| (3..=6).contains(&file.blocks) && file.instructions < 12;
-    let short: Vec<File> = short_files().filter(several).collect();
-    let either = short
-        .iter()
-        .take(FILES)
-        .chain(short.iter().rev().take(FILES));
-    for (turn, file) in either.enumerate() {
+    for (turn, file) in files() {
         out.sizes(&file.bytes, turn);
     }
     for part in 0..forms::parts() {
@@ -209,17 +210,22 @@ pub fn units(program: &Program) -> Vec<UnitVector> {
                 turn,
             };
             let file = forms.file().bytes;
-            for emitted in out.emitted(&file, &[u64::MAX]) {
+            for emitted in emitted(program, &file, &[u64::MAX]) {
                 out.one(&emitted, 0, [0, 0]);
             }
         }
     }
     for copy in damaged_files().chain(cut_files()) {
-        for emitted in out.emitted(&copy, &[u64::MAX]) {
+        for emitted in emitted(program, &copy, &[u64::MAX]) {
             out.ask(&emitted, 0, [AMPLE_WORK, LONGEST_TEXT]);
         }
     }
     out.list
+}
+
+/// The low half of a number, and the high one.
+pub(super) fn halves(n: u64) -> [u64; 2] {
+    [n & 0xffff_ffff, n >> 32]
 }
 
 /// A count, then for each vector max_bytes and the unit's number, the low half of each before the
@@ -231,7 +237,6 @@ pub fn encode_units(vectors: &[UnitVector]) -> Vec<u8> {
     push_numbers(&mut out, &[vectors.len() as u64]);
     for v in vectors {
         let e = &v.expected;
-        let halves = |n: u64| [n & 0xffff_ffff, n >> 32];
         push_numbers(&mut out, &halves(v.max_bytes));
         push_numbers(&mut out, &halves(v.unit));
         let lent = [v.work_len, v.text_len, v.cleared];

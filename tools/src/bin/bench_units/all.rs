@@ -101,8 +101,8 @@ fn measure(file: &File, emitter: &mut Emitter, size: u64, rounds: u64) {
     );
 }
 
-/// Ratios are library / original, of medians and of best rounds. The lengths, which tell how much is
-/// to be lent, are asked for apart.
+/// Ratios are library / original, of medians and of best rounds. The lengths, which tell how much
+/// is to be lent, are asked for apart.
 pub fn run(original: &Original, rounds: u64) -> Result<(), String> {
     let program = original.build("units")?;
     println!("{rounds} rounds");

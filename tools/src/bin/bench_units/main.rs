@@ -28,8 +28,8 @@ fn print_file(name: &str, file: &File) {
     );
 }
 
-/// What is asked for: all units in so many rounds, or single ones in so many and all units, one call
-/// each, in so many.
+/// What is asked for: all units in so many rounds, or single ones in so many and all units, one
+/// call each, in so many.
 enum Asked {
     All(u64),
     Single([u64; 2]),

@@ -1,6 +1,6 @@
-//! Compares the units of generated files with the original's, one by one and many at once, and every
-//! byte and number lent. It is a program of its own, so that the others link without the calls for
-//! units.
+//! Compares the units of generated files with the original's, one by one and many at once, and
+//! every byte and number lent. It is a program of its own, so that the others link without the
+//! calls for units.
 
 mod calls;
 mod fronts;

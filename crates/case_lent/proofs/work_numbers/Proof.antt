@@ -3,8 +3,8 @@ use Prim.Native.Nat.{_-_}
 use mathlib.Core.Path.{_≡_}
 use borrow.Author.Needs.{needs}
 use lib.ListN.{length}
-use Rattle.case_units.proofs.work_numbers.Statement.{statement}
-use Rattle.case_units.proofs.work_numbers.Tie as tie
+use Rattle.case_lent.proofs.work_numbers.Statement.{statement}
+use Rattle.case_lent.proofs.work_numbers.Tie as tie
 
 abbrev Inv-loop : tie.InvT-loop
 Inv-loop cleared list₀ i₀ list i = length list ≡ 576

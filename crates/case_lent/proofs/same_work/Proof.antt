@@ -6,17 +6,17 @@ use borrow.Author.Needs.{needs}
 use lib.ListN.{length, drop}
 use Rattle.case_io.specs.Same.{sameNumbers}
 use Rattle.case_io.proofs.Same.{place-differs, place-same, end-same}
-use Rattle.case_units.proofs.same_work.Statement.{statement}
-use Rattle.case_units.proofs.same_work.Tie as tie
+use Rattle.case_lent.proofs.same_work.Statement.{statement}
+use Rattle.case_lent.proofs.same_work.Tie as tie
 
 abbrev Inv-loop : tie.InvT-loop
-Inv-loop k expected got i₀ i =
+Inv-loop section k expected got i₀ i =
     (length expected ≡ length got)
     × (i ≤ length expected)
     × (sameNumbers expected got ≡ sameNumbers (drop i expected) (drop i got))
 
 abbrev μ-loop : tie.MeasureT-loop
-μ-loop k expected got i₀ i = length expected - i
+μ-loop section k expected got i₀ i = length expected - i
 
 loop-holds : tie.Need-loop-holds Inv-loop μ-loop
 loop-holds c = (search needs, search needs, refl)

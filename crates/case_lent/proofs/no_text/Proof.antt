@@ -3,8 +3,8 @@ use Prim.Native.Nat.{_≤_, _-_}
 use mathlib.Core.Path.{_≡_}
 use borrow.Author.Needs.{needs}
 use lib.ListN.{length}
-use Rattle.case_units.proofs.no_text.Statement.{statement}
-use Rattle.case_units.proofs.no_text.Tie as tie
+use Rattle.case_lent.proofs.no_text.Statement.{statement}
+use Rattle.case_lent.proofs.no_text.Tie as tie
 
 abbrev Inv-loop : tie.InvT-loop
 Inv-loop list₀ i₀ list i = (i ≤ 65600) × (length list ≡ 65600)
