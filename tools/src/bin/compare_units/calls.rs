@@ -12,7 +12,7 @@ use recomp_tools::units::{outcome, reached, Unit};
 pub const SPARE_WORK: usize = 3;
 pub const SPARE_TEXT: usize = 5;
 
-const MIB: u64 = 1 << 20;
+pub const MIB: u64 = 1 << 20;
 
 /// Sizes that no small file reaches. Of some the low 32 bits alone would be a small size.
 const HUGE: [u64; 4] = [MIB, 1 << 32, (1 << 63) + 1, u64::MAX];

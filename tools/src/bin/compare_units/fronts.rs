@@ -1,10 +1,14 @@
 //! The calls for the units from a given one on, and for their lengths, that are made for a file.
 
-use crate::calls::{Emitted, Tally, PRINTED, SPARE_TEXT, SPARE_WORK};
+use crate::calls::{Emitted, Tally, MIB, PRINTED, SPARE_TEXT, SPARE_WORK};
 use crate::library;
+use recomp_tools::check::Accepted;
 use recomp_tools::fronts::{outcome, total, FrontNumbers, Lent};
 use recomp_tools::lent;
 use recomp_tools::units::Unit;
+
+/// More is not lent beyond what is needed.
+const MOST_SPARE: usize = 32 << 20;
 
 /// The answer of one call, and the buffers that it was lent.
 struct Left {
@@ -68,18 +72,21 @@ impl Tally {
     /// All units, and those from the first, a middle or the last one on, in turns.
     pub fn fronts(&mut self, file: &Emitted, work: usize) {
         let count = file.units.len();
-        let all = [Some(total(&file.units)), None];
-        for text in all {
-            let lengths = count;
-            self.front(
-                file,
-                0,
-                Lent {
-                    work,
-                    text,
-                    lengths,
-                },
-            );
+        let all = total(&file.units);
+        let roomy = all + longest_unit(file);
+        let all_units = [
+            (Some(all), count),
+            (Some(roomy), count),
+            (Some(roomy), count - 1),
+            (None, count),
+        ];
+        for (text, lengths) in all_units {
+            let lent = Lent {
+                work,
+                text,
+                lengths,
+            };
+            self.front(file, 0, lent);
         }
         let first = [0, count / 2, count - 1][self.sizes as usize % 3];
         for lent in lents(&file.units[first..], work) {
@@ -147,6 +154,15 @@ impl Tally {
             self.front(file, u64::MAX, nothing);
         }
     }
+}
+
+/// No unit is longer, so that where as much is left of a text none needs to be measured before it
+/// is written: the wished size, and bounds of what instructions, blocks and the rest add to a text.
+/// Of the largest files all text is more than that.
+fn longest_unit(file: &Emitted) -> usize {
+    let of = |counts: Accepted| 2_600 * counts.instructions + 800 * counts.blocks + 4_300;
+    let longest = file.checked.map_or(0, of) + file.size.min(MIB);
+    (longest as usize).min(MOST_SPARE)
 }
 
 /// What is lent for these units, of which there is at least one: texts with room to spare, a byte
