@@ -11,11 +11,7 @@ use native.Mathlib.Decide.{ℕ-discrete, decLe}
 use native.Mathlib.Omega.{arith}
 use borrow.Author.Tests.{eq-eqb, ne-eqb}
 use lib.Dec.{eqb}
-
--- how often a number stands in a list
-unfoldable pub count : ℕ → List ℕ → ℕ
-count i [] = 0
-count i (j ∷ js) = cond (eqb i j) 1 0 + count i js
+use Rattle.base_lists.specs.Lists.{count}
 
 -- the count of two lists is the sum of theirs
 pub count-append : (i : ℕ) (xs ys : List ℕ) → count i (xs ++ ys) ≡ count i xs + count i ys

@@ -8,7 +8,8 @@ use mathlib.Core.List.{Memᴰ·append-left}
 use native.Mathlib.Nat.{le-trans, le-of-suc-le-suc}
 use native.Mathlib.Omega.{arith}
 use lib.ListN.{length, getD}
-use Rattle.base_lists.proofs.Counts.{count, count-here, count-tail, counted}
+use Rattle.base_lists.specs.Lists.{count}
+use Rattle.base_lists.proofs.Counts.{count-here, count-tail, counted}
 use Rattle.base_lists.proofs.Places.{member-at}
 
 -- each number of a list stands so to each later one

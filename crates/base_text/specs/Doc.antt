@@ -1,5 +1,5 @@
 -- To be believed: a text put together from pieces, and its bytes.
-use Prim.Native.Nat.{ℕ, _+_, _/_, _%_}
+use Prim.Native.Nat.{ℕ, zero, suc, _+_, _/_, _%_}
 use Prim.Native.Char.{code}
 use Prim.Native.String.{String, [] as ε, _∷_ as _∷ˢ_}
 use mathlib.Core.Bool.{cond}
@@ -69,3 +69,8 @@ print (a ▸ b) = print a ++ print b
 abbrev pub each : {A : Type 0} → (A → Doc) → List A → Doc
 each f [] = nothing
 each f (x ∷ xs) = f x ▸ each f xs
+
+-- so many spaces
+abbrev pub spaces : ℕ → Doc
+spaces zero = nothing
+spaces (suc n) = text " " ▸ spaces n

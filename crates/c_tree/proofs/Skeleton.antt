@@ -7,10 +7,10 @@ use mathlib.Core.Bool.{Bool, true, false, not, cond, _&&_, _||_}
 use mathlib.Core.List.{List, [], _∷_, _++_}
 use lib.Dec.{eqb}
 use Rattle.armv4t.specs.Bit0.{clearBit0}
-use Rattle.base_text.specs.Doc.{Doc, nothing, text, _▸_, chars, print}
+use Rattle.base_text.specs.Doc.{Doc, nothing, text, _▸_, chars, print, spaces}
 use Rattle.c_tree.specs.Stmt.{Simple, gap, recordMark, plain, label, goto, ret, retIf, interp}
 use Rattle.c_tree.specs.Stmt.{retInterp, call, switch, Code, end, _⨾_, when, braces}
-use Rattle.c_tree.specs.Print.{keyText, spaces, casesText, simpleText, codeText}
+use Rattle.c_tree.specs.Print.{keyText, casesText, simpleText, codeText}
 use Rattle.c_tree.specs.Binds.{binds, testBinds, simpleBinds, codeBinds}
 use Rattle.c_tree.proofs.Clean.{stop, cleanByte, clean, Clean, ok, _&_, dec-clean}
 use Rattle.c_tree.proofs.Clean.{hex8-clean, expr-clean, test-clean, plain-clean}

@@ -1,12 +1,12 @@
 -- To be believed: the text of the tree. Marks print nothing.
-use Prim.Native.Nat.{ℕ, zero, suc, _-_, _%_}
+use Prim.Native.Nat.{ℕ, suc, _-_, _%_}
 use Prim.Native.String.{String}
 use mathlib.Core.Bool.{cond}
 use mathlib.Core.List.{List, [], _∷_}
 use lib.Dec.{eqb, leb}
 use Rattle.armv4t.specs.Bit0.{clearBit0}
 use Rattle.base_text.specs.Doc.{Doc, nothing, raw, text, dec, hex, hex8, hex16, _▸_, hexadecimal8}
-use Rattle.base_text.specs.Doc.{each}
+use Rattle.base_text.specs.Doc.{each, spaces}
 use Rattle.c_tree.specs.Expr.{Ty, s8, s16, s32, u32, s64, u64, Style, word, caps, uhex, udec}
 use Rattle.c_tree.specs.Expr.{int, Name, x-r, x-base, x-ob, x-addr, x-t, x-s, x-cn, x-cz}
 use Rattle.c_tree.specs.Expr.{x-cc, x-cv, x-pc, x-v, x-n, x-a, x-b, x-cin, x-w, Var, Place}
@@ -137,11 +137,6 @@ testText (guard a l h) =
     text "a->guard(m, 0x" ▸ hex8 a ▸ text "u, " ▸ dec l ▸ text "u, 0x" ▸ hex16 h ▸ text "ull)"
 testText gate = text "a->chain_gate(m)"
 testText (other e) = exprText e
-
--- so many spaces
-abbrev pub spaces : ℕ → Doc
-spaces zero = nothing
-spaces (suc n) = text " " ▸ spaces n
 
 -- the cases of a switch, counted from n
 abbrev pub casesText : ℕ → List ℕ → Doc

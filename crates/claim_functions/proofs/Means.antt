@@ -34,8 +34,8 @@ use Rattle.claim_meaning.specs.Block.{Interprets, isCovered, Carries, inOrder, 
 use Rattle.claim_meaning.specs.Block.{refused, BlockMeans}
 use Rattle.claim_meaning.specs.Meaning.{MeaningOf}
 use Rattle.claim_meaning.proofs.Meaning.{meaning-of}
-use Rattle.claim_meaning.proofs.Ranges.{accepted-consecutive, accepted-some, accepted-end}
-use Rattle.claim_meaning.proofs.Ranges.{accepted-aligned}
+use Rattle.file_blocks.proofs.Ranges.{accepted-consecutive, accepted-some, accepted-end}
+use Rattle.file_blocks.proofs.Ranges.{accepted-aligned}
 use Rattle.claim_meaning.proofs.Blocks.{placed, start-below}
 use Rattle.claim_meaning.proofs.Carried.{left-all}
 use Rattle.claim_ways.specs.Ways.{LabelAt, Event}

@@ -5,7 +5,8 @@ use mathlib.Core.Logic.{_⊎_, inl, inr}
 use mathlib.Core.List.{List, [], _∷_, _++_, map, flatten, List·Memᴰ, List·Memᴰ·head, List·Memᴰ·tail}
 use mathlib.Core.List.{Memᴰ·cast, Memᴰ·map, Memᴰ·of-map}
 use native.Mathlib.Omega.{arith}
-use Rattle.base_lists.proofs.Counts.{count, count-append, count-here, count-tail}
+use Rattle.base_lists.specs.Lists.{count}
+use Rattle.base_lists.proofs.Counts.{count-append, count-here, count-tail}
 use Rattle.c_tree.specs.Stmt.{Simple, label, switch, Code, end, _⨾_, when, braces, _⧺_}
 use Rattle.lower_forms.specs.Forms.{Body}
 use Rattle.lower_units.specs.Block.{bodyKey, nl, sp, blockCode}

@@ -32,7 +32,7 @@ use Rattle.lower_units.specs.Records.{RecordMeans, PairMeans, ClosingMeans}
 use Rattle.claim_meaning.specs.Block.{isCovered, Sequence, Carries, inOrder, granted, absent}
 use Rattle.claim_meaning.specs.Block.{refused, BlockMeans}
 use Rattle.lower_units.proofs.Exits.{moved-on}
-use Rattle.claim_meaning.proofs.Ranges.{Consecutive}
+use Rattle.file_blocks.proofs.Ranges.{Consecutive}
 use Rattle.claim_meaning.proofs.Carried.{through, KnownFrom, Left, left-all, left-now}
 use Rattle.claim_meaning.proofs.Carried.{left-later, AtRecord, Done, stepped}
 use Rattle.claim_meaning.proofs.Carried.{interpreter-leaves, carries}

@@ -20,7 +20,7 @@ use Rattle.file_records.specs.BlockRecord.{keyPlus}
 use Rattle.lower_units.specs.Text.{Leaves}
 use Rattle.lower_units.specs.Records.{ClosingMeans}
 use Rattle.lower_units.proofs.Exits.{jump-leaves}
-use Rattle.claim_meaning.proofs.Ranges.{Consecutive}
+use Rattle.file_blocks.proofs.Ranges.{Consecutive}
 
 -- one instruction further
 further : (t : Bool) (a n : ℕ) → a + sizeOf t + n * sizeOf t ≡ a + suc n * sizeOf t

@@ -1,5 +1,4 @@
 -- The proofs of what the text of blocks and of a file means.
-pub mod Ranges
 pub mod Closing
 pub mod Shells
 pub mod Covered

@@ -11,8 +11,8 @@ use Rattle.lower_units.proofs.RecordMeans.{record-means}
 use Rattle.lower_units.proofs.Thumbs.{thumb-means, thumb-pair-means}
 use Rattle.lower_units.proofs.Pairs.{pair-means}
 use Rattle.claim_meaning.specs.Meaning.{MeaningOf}
-use Rattle.claim_meaning.proofs.Ranges.{accepted-ranges, accepted-consecutive, accepted-some}
-use Rattle.claim_meaning.proofs.Ranges.{accepted-end, accepted-aligned}
+use Rattle.file_blocks.proofs.Ranges.{accepted-ranges, accepted-consecutive, accepted-some}
+use Rattle.file_blocks.proofs.Ranges.{accepted-end, accepted-aligned}
 use Rattle.claim_meaning.proofs.Closing.{closing-means}
 use Rattle.claim_meaning.proofs.Blocks.{Placed, placed, block-means}
 use Rattle.claim_meaning.proofs.State.{keeps-state}

@@ -12,7 +12,8 @@ use Rattle.file_blocks.specs.Parse.{Block, blockKey}
 use Rattle.plan_groups.specs.Plan.{groups}
 use Rattle.plan_groups.proofs.GroupLaws.{groups-once, group-inside, group-of}
 use Rattle.base_lists.proofs.Places.{map-at, found-at}
-use Rattle.base_lists.proofs.Counts.{count, count-append, count-here, count-other}
+use Rattle.base_lists.specs.Lists.{count}
+use Rattle.base_lists.proofs.Counts.{count-append, count-here, count-other}
 use Rattle.c_tree.specs.Stmt.{block, function}
 use Rattle.lower_forms.specs.Forms.{Body}
 use Rattle.lower_forms.proofs.RecordCount.{recordCounts}

@@ -13,7 +13,7 @@ use Rattle.lower_forms.specs.Forms.{Body}
 use Rattle.lower_units.specs.Block.{bodyKey}
 use Rattle.lower_units.specs.Units.{TranslationUnit, emitBlock, forwarders, emitGroup, unitHead}
 use Rattle.lower_units.specs.Units.{lastUnitEnd, textOf, cut}
-use Rattle.base_lists.proofs.Counts.{count as countOf}
+use Rattle.base_lists.specs.Lists.{count as countOf}
 use Rattle.claim_ways.specs.Applies.{functionCount}
 use Rattle.claim_ways.proofs.Functions.{trees}
 

@@ -7,12 +7,12 @@ use mathlib.Core.List.{List, [], _∷_, _++_}
 use mathlib.Core.Option.{Option, none, some}
 use Rattle.armv4t.specs.declared.AluOp.{AluOp}
 use Rattle.base_text.specs.Digits.{numeral}
-use Rattle.base_text.specs.Doc.{Doc, nothing, text, dec, _▸_, decimal}
+use Rattle.base_text.specs.Doc.{Doc, nothing, text, dec, _▸_, decimal, spaces}
 use Rattle.base_text.specs.Flat.{flat}
 use Rattle.c_tree.specs.Expr.{udec, x-r, Expr, lit}
 use Rattle.c_tree.specs.Stmt.{f-nz, f-nz64, Plain, run}
 use Rattle.c_tree.specs.Preamble.{v32}
-use Rattle.c_tree.specs.Print.{exprText, plainText, spaces}
+use Rattle.c_tree.specs.Print.{exprText, plainText}
 use Rattle.lower_forms.specs.InlineBody.{listIf, setReg, result, logicalC, sum, mulBody}
 use Rattle.lower_forms.specs.InlineBody.{r64, mulLongBody}
 use Rattle.emit_operands.specs.Operands.{carryText, isSome}

@@ -7,6 +7,7 @@ pub mod Keys
 pub mod Nowhere
 pub mod OwnKey
 mod Passes
+pub mod Ranges
 pub mod ReadInstrs
 mod Reading
 mod Whole

@@ -7,7 +7,7 @@ use mathlib.Core.List.{List, [], _∷_}
 use mathlib.Core.Option.{Option, none, some}
 use Rattle.base_text.specs.Digits.{numeral, lastDigits}
 use Rattle.base_text.specs.Doc.{Doc, nothing, text, _▸_, decimal, hexadecimal, hexadecimal8, print}
-use Rattle.base_text.specs.Doc.{each}
+use Rattle.base_text.specs.Doc.{each, spaces}
 use Rattle.armv4t.specs.declared.Cond.the-variants.{Eq, Al}
 use Rattle.armv4t.specs.declared.AluOp.the-variants.{And, Rsb, Sbc, Tst, Mov}
 use Rattle.armv4t.specs.declared.ShiftKind.the-variants.{Lsl, Asr, Ror}
@@ -25,7 +25,7 @@ use Rattle.c_tree.specs.Expr.{udec, x-cz, x-addr, reg, compl, add, band, bor, w
 use Rattle.c_tree.specs.Expr.{bin, read}
 use Rattle.c_tree.specs.Stmt.{Plain, tick}
 use Rattle.c_tree.specs.Preamble.{v32}
-use Rattle.c_tree.specs.Print.{plainText, spaces}
+use Rattle.c_tree.specs.Print.{plainText}
 use Rattle.lower_forms.specs.Forms.{Lines, straight, branchIf, pair, bx, pop, native, shell}
 use Rattle.lower_forms.specs.InlineBody.{eachOnLine, let32, setReg, mulBody, aligned, listed}
 use Rattle.lower_forms.specs.InlineBody.{advance, blockMemBody, inlineBody}

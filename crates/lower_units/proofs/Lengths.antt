@@ -13,22 +13,22 @@ use lib.ListN.{length, getD, length-map}
 use Rattle.armv4t.specs.Bit0.{clearBit0}
 use Rattle.file_blocks.specs.Parse.{Block, Parsed, parse, instrTotal}
 use Rattle.file_blocks.proofs.Accepted.{length-of, few-blocks, few-instrs, instrs-of}
-use Rattle.base_lists.specs.Lists.{range, among}
+use Rattle.base_lists.specs.Lists.{range, among, count}
 use Rattle.plan_groups.specs.Plan.{groups}
 use Rattle.plan_groups.proofs.Cutting.{instructions, instructions-append, instructions-within}
 use Rattle.plan_groups.proofs.GroupLaws.{groups-once, groups-only, group-inside}
 use Rattle.base_lists.proofs.Places.{member-at, map-at}
-use Rattle.base_lists.proofs.Counts.{count, counted}
+use Rattle.base_lists.proofs.Counts.{counted}
 use Rattle.base_lists.proofs.Range.{length-range, range-own}
 use Rattle.base_text.specs.Wrote.{maxUsize}
 use Rattle.base_text.specs.Digits.{lastDigits}
-use Rattle.base_text.specs.Doc.{hex8, text, _▸_, hexadecimal8, each}
+use Rattle.base_text.specs.Doc.{hex8, text, _▸_, hexadecimal8, each, spaces}
 use Rattle.base_text.proofs.Lengths.{most, length-most}
 use Rattle.c_tree.specs.Expr.{u32, x-t, Expr, lit, udec, band, bin}
 use Rattle.c_tree.specs.Stmt.{Plain, declare, Owner, common, other, Code, end, _⨾_, gap, plain}
 use Rattle.c_tree.specs.Stmt.{retInterp, when, braces, Top, extern, table, count as counts}
 use Rattle.c_tree.specs.Preamble.{v32}
-use Rattle.c_tree.specs.Print.{exprText, keyText, spaces, casesText, codeText, rowText, unitText}
+use Rattle.c_tree.specs.Print.{exprText, keyText, casesText, codeText, rowText, unitText}
 use Rattle.c_tree.proofs.Laws.{length-unit}
 use Rattle.c_tree.proofs.Lengths.{most-append}
 use Rattle.lower_forms.specs.Forms.{Lines, Native, straight, straightIf, branchIf, jump, pair, bx}

@@ -14,13 +14,13 @@ use lib.ListN.{length, getD}
 use lib.Dec.{eqb}
 use Rattle.file_blocks.specs.Parse.{Block, blockKey}
 use Rattle.base_forest.specs.Roots.{root}
-use Rattle.base_lists.specs.Lists.{range}
+use Rattle.base_lists.specs.Lists.{range, count}
 use Rattle.plan_groups.specs.Plan.{parents, withRoot, members, sortByKey, parts, groupsFrom}
 use Rattle.plan_groups.specs.Plan.{groups}
 use Rattle.plan_groups.proofs.Cutting.{NoFall, sort-count, sort-member, sort-sorted}
 use Rattle.plan_groups.proofs.Cutting.{parts-all}
 use Rattle.plan_groups.proofs.Edges.{root-block}
-use Rattle.base_lists.proofs.Counts.{count, count-append, count-here, count-other, none-counted}
+use Rattle.base_lists.proofs.Counts.{count-append, count-here, count-other, none-counted}
 use Rattle.base_lists.proofs.Counts.{flatten-append}
 use Rattle.base_lists.proofs.Order.{InOrder, order-weaker}
 

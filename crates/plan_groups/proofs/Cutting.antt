@@ -13,8 +13,8 @@ use borrow.Author.Tests.{leb-true, leb-false, le-leb, ltb-false}
 use lib.ListN.{length, getD}
 use lib.Dec.{leb, ltb}
 use Rattle.plan_groups.specs.Plan.{insert, sortByKey, asParts, parts}
-use Rattle.base_lists.specs.Lists.{isEmpty}
-use Rattle.base_lists.proofs.Counts.{count, count-here, count-cancel, counted, stands}
+use Rattle.base_lists.specs.Lists.{isEmpty, count}
+use Rattle.base_lists.proofs.Counts.{count-here, count-cancel, counted, stands}
 use Rattle.base_lists.proofs.Pieces.{Piece, flatten-piece}
 use Rattle.base_lists.proofs.Order.{InOrder}
 

@@ -9,7 +9,7 @@ use native.Mathlib.Omega.{arith}
 use lib.ListN.{length, getD}
 use Rattle.file_blocks.specs.Parse.{Block, blockKey}
 use Rattle.base_forest.specs.Roots.{root}
-use Rattle.base_lists.specs.Lists.{range}
+use Rattle.base_lists.specs.Lists.{range, count}
 use Rattle.plan_search.specs.Target.{joinable}
 use Rattle.plan_groups.specs.Plan.{parents, groupsFrom, groups}
 use Rattle.plan_groups.proofs.Components.{component, countsOf, component-member}
@@ -18,7 +18,7 @@ use Rattle.plan_groups.proofs.Components.{groups-part}
 use Rattle.plan_groups.proofs.Cutting.{NoFall, sort-order, instructions}
 use Rattle.plan_groups.proofs.Cutting.{part-fits, part-piece}
 use Rattle.plan_groups.proofs.Edges.{joinsAt, root-self, root-alone}
-use Rattle.base_lists.proofs.Counts.{count, stands, count-in, one-list}
+use Rattle.base_lists.proofs.Counts.{stands, count-in, one-list}
 use Rattle.base_lists.proofs.Counts.{some-list}
 use Rattle.base_lists.proofs.Places.{map-at, member-at}
 use Rattle.base_lists.proofs.Order.{InOrder, order-at, once-apart}

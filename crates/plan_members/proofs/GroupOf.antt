@@ -11,7 +11,8 @@ use lib.ListN.{length, getD}
 use Rattle.file_blocks.specs.Parse.{Block}
 use Rattle.plan_groups.specs.Plan.{groupRows, rowsFrom, groups, plan, groupOf}
 use Rattle.plan_groups.proofs.GroupLaws.{groups-once}
-use Rattle.base_lists.proofs.Counts.{count, count-append, count-here, count-other, counted}
+use Rattle.base_lists.specs.Lists.{count}
+use Rattle.base_lists.proofs.Counts.{count-append, count-here, count-other, counted}
 
 module _ (i : ℕ) where
   -- the rows of a group that has the block
