@@ -5,7 +5,7 @@ use mathlib.Core.Bool.{Bool}
 use mathlib.Core.List.{List, List·Memᴰ}
 use mathlib.Core.Option.{some}
 use lib.ListN.{getElem?}
-use Rattle.file_blocks.specs.Parse.{Block, Parsed, parse, blockKey}
+use Rattle.file_blocks.specs.Parse.{Block, blockKey, AcceptedAs}
 use Rattle.c_tree.specs.Stmt.{Code, block, function}
 use Rattle.c_meaning.specs.State.{State}
 use Rattle.lower_forms.specs.Block.{hashOf, bodyOf}
@@ -19,7 +19,7 @@ module _ (multiplier limit max : ℕ) (f : List ℕ) where
   -- state that it is called in, and every execution of it
   abbrev EachExecution : (ℕ → List Block → Code → List Bool → List Event → Type 0) → Type 0
   EachExecution P =
-      (bs : List Block) → parse f ≡ Parsed.accepted bs → (i : ℕ) (b : Block)
+      (bs : List Block) → AcceptedAs f bs → (i : ℕ) (b : Block)
       → getElem? bs i ≡ some b
       → (u : TranslationUnit) → List·Memᴰ u (units multiplier limit max bs) → (c : Code)
       → List·Memᴰ (function (block (blockKey b)) c) (u .tree)

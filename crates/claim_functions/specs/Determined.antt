@@ -4,7 +4,7 @@ use Prim.Native.Nat.{ℕ}
 use mathlib.Core.Path.{_≡_}
 use mathlib.Core.Bool.{Bool}
 use mathlib.Core.List.{List, _++_, List·Memᴰ}
-use Rattle.file_blocks.specs.Parse.{Block, Parsed, parse}
+use Rattle.file_blocks.specs.Parse.{Block, AcceptedAs}
 use Rattle.c_tree.specs.Stmt.{Code, block, function}
 use Rattle.c_meaning.specs.State.{State}
 use Rattle.lower_units.specs.Units.{TranslationUnit, units}
@@ -31,7 +31,7 @@ pub data Alike (xs : List Bool) (es : List Event) (r : Result) (xs′ : List Boo
 -- two executions from there
 unfoldable pub ExecutionDetermined : ℕ → ℕ → ℕ → List ℕ → Type 0
 ExecutionDetermined multiplier limit max f =
-    (bs : List Block) → parse f ≡ Parsed.accepted bs → (u : TranslationUnit)
+    (bs : List Block) → AcceptedAs f bs → (u : TranslationUnit)
     → List·Memᴰ u (units multiplier limit max bs)
     → (h : ℕ) (c : Code) → List·Memᴰ (function (block h) c) (u .tree)
     → (z : State) (xs : List Bool) (es : List Event) (r : Result) → Executes (u .tree) c z xs es r

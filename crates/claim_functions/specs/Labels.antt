@@ -4,7 +4,7 @@ use Prim.Native.Nat.{ℕ}
 use mathlib.Core.Path.{_≡_}
 use mathlib.Core.Logic.{_⊎_}
 use mathlib.Core.List.{List, List·Memᴰ}
-use Rattle.file_blocks.specs.Parse.{Block, Parsed, parse}
+use Rattle.file_blocks.specs.Parse.{Block, AcceptedAs}
 use Rattle.c_tree.specs.Stmt.{Code, block, group, function}
 use Rattle.lower_units.specs.Units.{TranslationUnit, units}
 use Rattle.claim_ways.specs.Ways.{LabelAt}
@@ -16,7 +16,7 @@ use Rattle.claim_functions.specs.Execution.{LabelIn}
 -- its label is not said here
 unfoldable pub LabelsPlain : ℕ → ℕ → ℕ → List ℕ → Type 0
 LabelsPlain multiplier limit max f =
-    (bs : List Block) → parse f ≡ Parsed.accepted bs → (u : TranslationUnit)
+    (bs : List Block) → AcceptedAs f bs → (u : TranslationUnit)
     → List·Memᴰ u (units multiplier limit max bs)
     → (h : ℕ) (c : Code)
     → List·Memᴰ (function (block h) c) (u .tree) ⊎ List·Memᴰ (function (group h) c) (u .tree)

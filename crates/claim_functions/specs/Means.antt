@@ -7,7 +7,7 @@ use mathlib.Core.List.{List, _++_, List·Memᴰ}
 use mathlib.Core.Option.{some}
 use lib.ListN.{getElem?}
 use Rattle.file_instrs.specs.declared.decode.TimedInstr.{TimedInstr}
-use Rattle.file_blocks.specs.Parse.{Block, Parsed, parse, blockKey}
+use Rattle.file_blocks.specs.Parse.{Block, blockKey, AcceptedAs}
 use Rattle.file_blocks.specs.Address.{region}
 use Rattle.c_tree.specs.Stmt.{Code, block, Top, function}
 use Rattle.c_meaning.specs.State.{State}
@@ -29,7 +29,7 @@ module _ (multiplier limit max : ℕ) (f : List ℕ) where
       (List Block → ℕ → Block → List Top → Code → (ℕ → ℕ → Machine → Machine × ℕ) → State → Machine
       → Type 0) → Type 0
   EachCovered P =
-      (bs : List Block) → parse f ≡ Parsed.accepted bs → (i : ℕ) (b : Block)
+      (bs : List Block) → AcceptedAs f bs → (i : ℕ) (b : Block)
       → getElem? bs i ≡ some b
       → (u : TranslationUnit) → List·Memᴰ u (units multiplier limit max bs) → (c : Code)
       → List·Memᴰ (function (block (blockKey b)) c) (u .tree)

@@ -5,7 +5,7 @@ use mathlib.Core.Path.{_≡_}
 use mathlib.Core.List.{List, [], _∷_, _++_, List·Memᴰ}
 use mathlib.Core.Option.{some}
 use Rattle.file_instrs.specs.declared.decode.TimedInstr.{TimedInstr}
-use Rattle.file_blocks.specs.Parse.{Block, Parsed, parse}
+use Rattle.file_blocks.specs.Parse.{Block, AcceptedAs}
 use Rattle.file_blocks.specs.Address.{region}
 use Rattle.armv4t_manual.specs.Machine.{Machine, Sound}
 use Rattle.armv4t_manual.specs.Execute.{execute}
@@ -52,6 +52,6 @@ pub record BlockMeaning (multiplier : ℕ) (ks : List ℕ) (b : Block) : Type 0 
 -- a file, if it is accepted: every block, whatever keys its group has
 unfoldable pub MeaningOf : ℕ → List ℕ → Type 0
 MeaningOf multiplier f =
-    (bs : List Block) → parse f ≡ Parsed.accepted bs
+    (bs : List Block) → AcceptedAs f bs
     → (b : Block) → List·Memᴰ b bs
     → (ks : List ℕ) → BlockMeaning multiplier ks b

@@ -7,7 +7,7 @@ use mathlib.Core.List.{List, [], _∷_, _++_, map, List·Memᴰ}
 use mathlib.Core.Option.{Option, none, some}
 use lib.Dec.{eqb}
 use lib.ListN.{getElem?}
-use Rattle.file_blocks.specs.Parse.{Block, Parsed, parse, blockKey}
+use Rattle.file_blocks.specs.Parse.{Block, blockKey, AcceptedAs}
 use Rattle.file_blocks.specs.Address.{outsideRomBios}
 use Rattle.plan_groups.specs.Plan.{groups}
 use Rattle.c_tree.specs.Expr.{Expr}
@@ -125,7 +125,7 @@ module _ (toBody : Block → Body) where
   -- each block of a file, if it is accepted, at a limit and a wished size
   unfoldable pub AppliesOf : ℕ → ℕ → List ℕ → Type 0
   AppliesOf limit max f =
-      (bs : List Block) → parse f ≡ Parsed.accepted bs → (i : ℕ) (b : Block)
+      (bs : List Block) → AcceptedAs f bs → (i : ℕ) (b : Block)
       → getElem? bs i ≡ some b → AppliesToBlock limit max bs i b
 
 -- demand 3 of a file applies: each block has its function, and a way from it

@@ -8,7 +8,7 @@ use mathlib.Core.Option.{Option, some}
 use lib.Dec.{T, leb, ltb, eqb}
 use lib.ListN.{length, getElem?}
 use Rattle.file_records.specs.BlockRecord.{lengthOf}
-use Rattle.file_blocks.specs.Parse.{Block, Parsed, parse, blockKey}
+use Rattle.file_blocks.specs.Parse.{Block, blockKey, AcceptedAs}
 use Rattle.file_blocks.specs.Address.{outsideRomBios}
 use Rattle.plan_groups.specs.Plan.{groups}
 use Rattle.c_tree.specs.Stmt.{Test, guard, gate, other, nativeOf, common, Code, block, Top}
@@ -97,7 +97,7 @@ module _ (toHash : Block → Option ℕ) (toBody : Block → Body) where
   -- units; every list of answers and every way
   unfoldable pub ClaimOf : ℕ → ℕ → List ℕ → Type 0
   ClaimOf limit max f =
-      (bs : List Block) → parse f ≡ Parsed.accepted bs
+      (bs : List Block) → AcceptedAs f bs
       → (i : ℕ) (b : Block) → getElem? bs i ≡ some b
       → (c : Code) → List·Memᴰ (function (block (blockKey b)) c) (allUnits toBody limit max bs)
       → (xs : List Bool) (es : List Event) → Way (allUnits toBody limit max bs) c c xs es

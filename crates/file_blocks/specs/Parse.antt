@@ -73,9 +73,13 @@ parsed f (some r) = refused (number r) (place r)
 unfoldable pub parse : List ℕ → Parsed
 parse f = parsed f (firstBroken f (rules f))
 
+-- a file is accepted, with these blocks
+abbrev pub AcceptedAs : List ℕ → List Block → Type 0
+AcceptedAs f bs = parse f ≡ accepted bs
+
 -- a file is accepted (document 01): none of 1 to 7 applies
 abbrev pub Accepted : List ℕ → Type 0
-Accepted f = parse f ≡ accepted (blocksOf f)
+Accepted f = AcceptedAs f (blocksOf f)
 
 -- how many instructions some blocks have
 unfoldable pub instrTotal : List Block → ℕ
