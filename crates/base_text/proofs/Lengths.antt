@@ -1,16 +1,17 @@
 -- The most bytes that a text can take, by its pieces: a bound that computes where numbers stay
 -- unknown. Assumes nothing.
-use Prim.Native.Nat.{ℕ, zero, suc, zero-le, _+_, _/_, _%_, _≤_}
+use Prim.Native.Nat.{ℕ, zero, suc, zero-le, _+_, _/_, _%_, _^_, _≤_, _<_}
 use mathlib.Core.Bool.{Bool, true, false, cond}
 use mathlib.Core.List.{[], _∷_, _++_}
 use native.Mathlib.Omega.{arith}
-use native.Mathlib.Nat.{le-refl}
+use native.Mathlib.Nat.{le-refl, pow-zero, pow-suc, div-lt-iff-lt-mul}
+use native.Mathlib.Decide.{decLt}
 use lib.Dec.{ltb}
 use lib.ListN.{length, length-append}
 use Rattle.base_text.specs.Digits.{numeral, glyph}
 use Rattle.base_text.specs.Doc.{Doc, nothing, raw, text, dec, hex, hex8, hex16, _▸_, chars}
 use Rattle.base_text.specs.Doc.{print, decimal, hexadecimal, hexadecimal8, hexadecimal16}
-use Rattle.base_text.proofs.Numerals.{length-fixed}
+use Rattle.base_text.proofs.Numerals.{numeral-one, numeral-more, length-fixed}
 
 numeral-length : (b most n : ℕ) → length (numeral b most n) ≤ most
 unfolding numeral
@@ -21,6 +22,27 @@ numeral-length b (suc most) n = go (ltb n b) (numeral-length b most (n / b))
         → length (cond t (glyph n ∷ []) (numeral b most (n / b) ++ (glyph (n % b) ∷ []))) ≤ suc most
     go true h = omega arith
     go false h = omega (arith, length-append (numeral b most (n / b)) (glyph (n % b) ∷ []))
+
+-- a number below a power of the base has no more digits than that
+pub numeral-short : (b most k n : ℕ) → 1 < b → n < b ^ suc k → length (numeral b most n) ≤ suc k
+unfolding numeral
+numeral-short b zero k n hb h = zero-le
+numeral-short b (suc most) zero n hb h =
+    let one : n < b = omega (arith, rw (pow-suc, pow-zero) at h) in
+    rw (numeral-one b most n one) (le-refl 1)
+numeral-short b (suc most) (suc k) n hb h =
+    elim (decLt n b) [
+      | yes one ↦ rw (numeral-one b most n one) (omega arith)
+      | no more ↦
+          let rest : n / b < b ^ suc k =
+          div-lt-iff-lt-mul {k = b} {x = n} {y = b ^ suc k} (omega arith) .1 (rw pow-suc at h) in
+          rw (numeral-more b most n (omega arith))
+          (omega (
+            arith,
+            length-append (numeral b most (n / b)) (glyph (n % b) ∷ []),
+            numeral-short b most k (n / b) hb rest,
+          ))
+    ]
 
 -- the most bytes of a doc: numbers count with all the digits that they can have
 abbrev pub most : Doc → ℕ

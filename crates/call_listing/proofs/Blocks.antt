@@ -9,15 +9,13 @@ use native.Mathlib.Omega.{arith}
 use lib.ListN.{length, getD, take}
 use Rattle.file_blocks.specs.declared.read.BlockRecord.{BlockRecord}
 use Rattle.file_records.specs.Trailer.{blockStart}
-use Rattle.file_records.specs.BlockRecord.{keyPlus}
 use Rattle.file_blocks.specs.Parse.{Block, blockAt}
-use Rattle.file_blocks.specs.Read.{recordAt, IsBlock}
+use Rattle.file_blocks.specs.Read.{IsBlock}
 use Rattle.base_text.specs.Doc.{Doc, _▸_}
 use Rattle.base_text.specs.Flat.{flat}
 use Rattle.plan_exits.specs.Exits.{exits}
 use Rattle.file_blocks.specs.Address.{keyOf}
-use Rattle.file_blocks.proofs.IsBlock.{block-record}
-use Rattle.file_blocks.proofs.OwnKey.{key-plus}
+use Rattle.file_blocks.proofs.OwnKey.{record-key}
 use Rattle.plan_groups.specs.Plan.{groupOf}
 use Rattle.call_listing.specs.Listing.{line, blockLine, linesFrom}
 
@@ -26,10 +24,9 @@ pub block-line : {f : List ℕ} {i : ℕ} {b : BlockRecord} {first : ℕ} → Is
     → (group key : ℕ) (keys : List ℕ) → key ≡ keyOf (b .addr) (b .thumb)
     → keys ≡ exits (blockAt f (blockStart f i) first)
     → line key group keys ≡ blockLine group (blockAt f (blockStart f i) first)
-unfolding blockLine blockAt recordAt
+unfolding blockLine
 block-line is group key keys e h =
-    ap₂ (λ (k : ℕ) (l : List ℕ). line k group l)
-    (e ∙ key-plus is ∙ ap (λ (r : BlockRecord). keyPlus (r .addr) (r .thumb)) (block-record is)) h
+    ap₂ (λ (k : ℕ) (l : List ℕ). line k group l) (e ∙ record-key is) h
 
 -- the lines of one more block
 pub lines-more : (rows : List ℕ) (j : ℕ) (bs : List Block) (i : ℕ) (d : Block) (k : List ℕ)

@@ -201,6 +201,12 @@ module _ (f : List ℕ) (bs : List Block) (accepted : parse f ≡ Parsed.accepte
         λ h. true≢false (sym right ∙ sym (by-record.no-count f (blockStart f i) h)) in
         omega arith
 
+    pub few-in-block : countAt f (blockStart f i) ≤ 65535
+    few-in-block =
+        let never : 65535 < countAt f (blockStart f i) → ⊥ =
+        λ h. true≢false (sym right ∙ sym (by-record.large-count f (blockStart f i) h)) in
+        omega arith
+
     pub ends-inside : addrAt f (blockStart f i) + lengthAt f (blockStart f i) ≤ 2 ^ 32
     ends-inside =
         let never : 2 ^ 32 < addrAt f (blockStart f i) + lengthAt f (blockStart f i) → ⊥ =

@@ -23,7 +23,8 @@ use Rattle.file_instrs.specs.Decode.{opsAt, opAt, timedAt}
 use Rattle.file_blocks.specs.Parse.{Block, Parsed, instrsFrom, blockAt, blocksFrom, parse}
 use Rattle.file_blocks.specs.Read.{recordAt}
 use Rattle.file_blocks.proofs.Accepted.{blocks-of, instr-right, has-instr, ends-inside}
-use Rattle.file_blocks.proofs.Accepted.{address-aligned, instrs-inside, record-reads}
+use Rattle.file_blocks.proofs.Accepted.{few-in-block, address-aligned, instrs-inside}
+use Rattle.file_blocks.proofs.Accepted.{record-reads}
 use Rattle.armv4t.specs.InRange.{InRange}
 
 -- instructions of a block's set, one after the other from an address on
@@ -329,6 +330,10 @@ module _ (f : List ℕ) (bs : List Block) (accepted : parse f ≡ Parsed.accepte
   -- it has an instruction
   pub accepted-some : 1 ≤ length (b .instrs)
   accepted-some = rw (place .same, ← count) (has-instr f bs accepted (place .at) (place .inside))
+
+  -- and at most 65,535
+  pub accepted-few : length (b .instrs) ≤ 65535
+  accepted-few = rw (place .same, ← count) (few-in-block f bs accepted (place .at) (place .inside))
 
   -- its end is not past 2^32
   pub accepted-end : b .addr + length (b .instrs) * sizeOf (b .thumb) ≤ 2 ^ 32

@@ -1,3 +1,4 @@
 -- The laws that the functions' proofs, and those of the crates above, share.
 pub mod Closing
 pub mod Few
+pub mod Words
