@@ -3,6 +3,7 @@
 mod c_check;
 mod c_exits;
 mod c_listing;
+mod c_pages;
 mod c_plan;
 mod c_unit;
 mod c_units;
@@ -10,6 +11,8 @@ mod c_units;
 pub use c_check::recomp_check;
 pub use c_exits::recomp_exits;
 pub use c_listing::recomp_listing;
+pub use c_pages::recomp_page;
+pub use c_pages::recomp_pages;
 pub use c_plan::recomp_plan;
 pub use c_unit::recomp_unit;
 pub use c_units::recomp_lengths;
