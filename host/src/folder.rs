@@ -8,6 +8,7 @@ use crate::manifest::{self, Manifest};
 use crate::names::{self, MANIFEST};
 use crate::room::Room;
 use crate::sums::Sums;
+use crate::threads;
 use std::fs;
 use std::io::Write;
 use std::path::Path;
@@ -52,7 +53,7 @@ impl Folder {
     pub fn write(&mut self, texts: &[&[u8]], tell: impl FnMut(u64)) -> Result<(), Failure> {
         let sums = Sums::of(texts);
         thread::scope(|scope| {
-            let _ = thread::Builder::new().spawn_scoped(scope, || sums.make());
+            threads::start(scope, || sums.make());
             self.write_units(texts, tell)?;
             sums.make();
             Ok(())

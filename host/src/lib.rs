@@ -18,5 +18,6 @@ mod refusal;
 mod room;
 mod sha256;
 mod sums;
+mod threads;
 mod units;
 mod verify;

@@ -4,6 +4,7 @@
 use crate::lent::{zeros, Lent, NoResult};
 use crate::library;
 use crate::promised::Promised;
+use crate::threads;
 use std::thread;
 
 pub struct Units<'a> {
@@ -62,7 +63,7 @@ impl<'a> Units<'a> {
         self.handed += thread::scope(|scope| {
             if first == 0 && !promised.is_empty() {
                 // Without a thread to be had the call takes longer.
-                let _ = thread::Builder::new().spawn_scoped(scope, || promised.provide());
+                threads::start(scope, || promised.provide());
             }
             self.make(first)
         })?;

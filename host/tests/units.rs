@@ -98,9 +98,9 @@ fn a_unit_longer_than_the_bound() {
     assert_units(recomp_on(&file, &args), folder, &file, 0);
 }
 
-/// The program with so many KiB of memory.
+/// The program with so many KiB of memory. One that does not end by itself is ended.
 fn with_memory(kib: u64, args: &[&str]) -> Run {
-    let script = format!("ulimit -v {kib}; exec \"$0\" \"$@\"");
+    let script = format!("ulimit -v {kib}; exec timeout 60 \"$0\" \"$@\"");
     let mut shell = Command::new("sh");
     shell.args(["-c", &script, PROGRAM]).args(args);
     Run::of(shell.output().expect("the shell runs"))
@@ -137,6 +137,22 @@ fn memory_too_short_for_a_unit_leaves_the_folder_as_it_was() {
         "{line}"
     );
     assert!(!Path::new(folder).exists());
+}
+
+/// Among these there is memory for the stack of a thread, 2 MiB, and for nothing more.
+#[test]
+fn memory_for_little_more_or_less_than_a_thread() {
+    let scratch = Scratch::new();
+    let folder = &scratch.join("units");
+    let path = &scratch.file("many.blk", &lone_blocks(1000).bytes);
+    let run = |kib: u64| with_memory(kib, &["units", path, "-o", folder]);
+    let done = |run: &Run| run.status == Some(0);
+    let least = (3 << 10..).step_by(64).find(|&kib| done(&run(kib)));
+    let thread = least.expect("a bound") + (2 << 10);
+    for kib in (thread - 128..thread + 512).step_by(16) {
+        let run = run(kib);
+        assert!(done(&run), "{kib} KiB: {run:?}");
+    }
 }
 
 #[test]
