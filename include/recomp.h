@@ -1,4 +1,4 @@
-/* The calls of librecomp.a: block files to plans, exits, listings and C units.
+/* The calls of librecomp.a: block files to plans, exits, listings, pages and C units.
  *
  * `rt staticlib recomp` proves the library and writes target/staticlib/librecomp.a; lib/ keeps one
  * (`lib/archive take FILE`). What is said here in words is proved of every call and every input,
@@ -16,7 +16,7 @@
  *     6  the blocks' instruction counts do not sum to the trailer's
  *     7  instruction i: a rule of its record is broken
  *     8  fewer than four work numbers for each block are lent
- *     9  there is no such block or unit
+ *     9  there is no such block, page or unit
  *    10  the lent result is too short
  *   The first that applies is given. A call gives those of them that can apply to it, and gives
  *   1 to 7 exactly as recomp_check does.
@@ -67,6 +67,35 @@ uint32_t recomp_plan(const uint8_t *file, size_t file_len, uint32_t *work, size_
  * Refusals 1 to 8 and 10. Definition: `listingCall` in crates/call_listing/specs/Calls.antt. */
 uint32_t recomp_listing(const uint8_t *file, size_t file_len, uint32_t *work, size_t work_len,
                         uint8_t *text, size_t text_len, uint64_t *at, uint64_t *length);
+
+/* Pages: the plan for print, up to 60 blocks a page, in the order of emission. They are numbered
+ * from 1; the last has the blocks that are left, and a file without blocks has no page. Every line
+ * has 64 characters and a newline. The first of a page has its number, in decimal, at the right;
+ * each of the others has, for a block:
+ *     columns 1 to 8    its key, in hexadecimal
+ *     columns 10 to 15  its group, from 0, in decimal at the right
+ *     columns 17 to 22  how many instructions it has, likewise
+ *     columns 24 to 40  the keys that it can statically go to, with a blank between two of them
+ * and blanks elsewhere. So a page with n blocks has 65 * (1 + n) bytes of ASCII, at most 3,965, and
+ * all pages of a file have 65 * (pages + blocks). It is proved, as a promise of both calls, that
+ * each line has its width, that no field is cut, and that the pages have each block of the plan
+ * once, in the order of emission: `PageClaims` in crates/call_pages/specs/Claims.antt. */
+
+/* The text of page `page`: `*length` bytes, with no zero byte after it.
+ * Refusals 1 to 10; 9 for page 0 and for every page above the last. Definition: `pageCall` in
+ * crates/call_pages/specs/Calls.antt. */
+uint32_t recomp_page(const uint8_t *file, size_t file_len, uint64_t page,
+                     uint32_t *work, size_t work_len, uint8_t *text, size_t text_len,
+                     uint64_t *at, uint64_t *length);
+
+/* The texts of pages `first`, `first` + 1 and so on, one after another in the front of `text`: as
+ * many whole pages as fit. `*count` is how many they are, `*length` the bytes of all their texts. A
+ * call with `first` + `*count` gives those after, or 9 where there are none.
+ * Refusals 1 to 10; 9: there is no page `first`; 10: page `first` does not fit. Definition:
+ * `pagesCall` in crates/call_pages/specs/Calls.antt. */
+uint32_t recomp_pages(const uint8_t *file, size_t file_len, uint64_t first,
+                      uint32_t *work, size_t work_len, uint8_t *text, size_t text_len,
+                      uint64_t *at, uint64_t *count, uint64_t *length);
 
 /* Units: the C text is cut into units, each closed once it has `max_bytes` bytes after a group.
  * They are numbered from 0. Every accepted file has a last unit, at every size; refusal 9 is given

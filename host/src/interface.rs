@@ -74,6 +74,47 @@ pub fn listing(file: &[u8], work: &mut [u32], text: &mut [u8]) -> (u32, [u64; 2]
     (number, [at, length])
 }
 
+pub fn page(file: &[u8], page: u64, work: &mut [u32], text: &mut [u8]) -> (u32, [u64; 2]) {
+    let [mut at, mut length] = [UNWRITTEN; 2];
+    // SAFETY: the three slices and the two numbers are apart and outlive the call, which keeps none
+    // of them.
+    let number = unsafe {
+        recomp_page(
+            file.as_ptr(),
+            file.len(),
+            page,
+            work.as_mut_ptr(),
+            work.len(),
+            text.as_mut_ptr(),
+            text.len(),
+            &mut at,
+            &mut length,
+        )
+    };
+    (number, [at, length])
+}
+
+pub fn pages(file: &[u8], first: u64, work: &mut [u32], text: &mut [u8]) -> (u32, [u64; 3]) {
+    let [mut at, mut count, mut length] = [UNWRITTEN; 3];
+    // SAFETY: the three slices and the three numbers are apart and outlive the call, which keeps
+    // none of them.
+    let number = unsafe {
+        recomp_pages(
+            file.as_ptr(),
+            file.len(),
+            first,
+            work.as_mut_ptr(),
+            work.len(),
+            text.as_mut_ptr(),
+            text.len(),
+            &mut at,
+            &mut count,
+            &mut length,
+        )
+    };
+    (number, [at, count, length])
+}
+
 pub fn unit(
     file: &[u8],
     max_bytes: u64,
@@ -203,6 +244,31 @@ extern "C" {
         text: *mut u8,
         text_len: usize,
         at: *mut u64,
+        length: *mut u64,
+    ) -> u32;
+
+    fn recomp_page(
+        file: *const u8,
+        file_len: usize,
+        page: u64,
+        work: *mut u32,
+        work_len: usize,
+        text: *mut u8,
+        text_len: usize,
+        at: *mut u64,
+        length: *mut u64,
+    ) -> u32;
+
+    fn recomp_pages(
+        file: *const u8,
+        file_len: usize,
+        first: u64,
+        work: *mut u32,
+        work_len: usize,
+        text: *mut u8,
+        text_len: usize,
+        at: *mut u64,
+        count: *mut u64,
         length: *mut u64,
     ) -> u32;
 

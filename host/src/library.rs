@@ -19,6 +19,15 @@ pub struct Counts {
     pub instructions: u64,
 }
 
+/// What is said of several pages beside their texts.
+#[derive(Clone, Copy, Debug, PartialEq, Eq)]
+pub struct Pages {
+    /// How many they are.
+    pub count: u64,
+    /// Bytes of all their texts, in the front of the text lent.
+    pub length: u64,
+}
+
 /// What is said of a unit beside its text.
 #[derive(Clone, Copy, Debug, PartialEq, Eq)]
 pub struct Unit {
@@ -84,6 +93,19 @@ pub fn plan(file: &[u8], work: &mut [u32], plan: &mut [u32]) -> Result<u64, Refu
 pub fn listing(file: &[u8], work: &mut [u32], text: &mut [u8]) -> Result<u64, Refused> {
     let (number, [at, length]) = interface::listing(file, work, text);
     answer(number, at, length)
+}
+
+/// The length of page `page` of the plan, from 1; `text` then has it in its front.
+pub fn page(file: &[u8], page: u64, work: &mut [u32], text: &mut [u8]) -> Result<u64, Refused> {
+    let (number, [at, length]) = interface::page(file, page, work, text);
+    answer(number, at, length)
+}
+
+/// Pages `first`, `first` + 1 and so on of the plan, as many whole ones as fit `text`; `text` then
+/// has them one after another in its front.
+pub fn pages(file: &[u8], first: u64, work: &mut [u32], text: &mut [u8]) -> Result<Pages, Refused> {
+    let (number, [at, count, length]) = interface::pages(file, first, work, text);
+    answer(number, at, Pages { count, length })
 }
 
 /// Unit `unit`, from 0, of those that are closed from `max_bytes` bytes on; `text` then has its
