@@ -27,6 +27,10 @@ pub enum Command {
     Plan {
         file: OsString,
     },
+    Page {
+        file: OsString,
+        page: Option<u64>,
+    },
     Exits {
         file: OsString,
         block: Option<u64>,
@@ -61,6 +65,7 @@ pub fn parse(args: impl Iterator<Item = OsString>) -> Result<Command, Failure> {
         "units" => (help::UNITS, 1),
         "check" => (help::CHECK, 1),
         "plan" => (help::PLAN, 1),
+        "page" => (help::PAGE, 2),
         "exits" => (help::EXITS, 2),
         "listing" => (help::LISTING, 1),
         "verify" => (help::VERIFY, 1),
@@ -139,9 +144,13 @@ fn build(command: &str, words: Words) -> Result<Command, Failure> {
         }
         "check" => Command::Check { file },
         "plan" => Command::Plan { file },
+        "page" => Command::Page {
+            file,
+            page: parse_number(command, plain.next(), "page number, as 1 is")?,
+        },
         "exits" => Command::Exits {
             file,
-            block: plain.next().map(|block| parse_block(&block)).transpose()?,
+            block: parse_number(command, plain.next(), "block number, as 0 is")?,
         },
         "listing" => Command::Listing { file },
         _ => Command::Verify {
@@ -150,10 +159,14 @@ fn build(command: &str, words: Words) -> Result<Command, Failure> {
     })
 }
 
-fn parse_block(text: &OsStr) -> Result<u64, Failure> {
+/// The number of what a command is to print alone, if one is given.
+fn parse_number(command: &str, text: Option<OsString>, what: &str) -> Result<Option<u64>, Failure> {
+    let Some(text) = text else {
+        return Ok(None);
+    };
     let text = text.to_string_lossy();
-    let none = || wrong("exits", &format!("{text} is no block number, as 0 is"));
-    digits(&text).ok_or_else(none)
+    let none = || wrong(command, &format!("{text} is no {what}"));
+    digits(&text).map(Some).ok_or_else(none)
 }
 
 fn parse_size(text: &OsStr) -> Result<u64, Failure> {

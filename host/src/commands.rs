@@ -7,6 +7,7 @@ use crate::input::{self, Input};
 use crate::lent::{Lent, NoResult};
 use crate::library;
 use crate::output::{self, print};
+use crate::pages::{self, Pages};
 use crate::progress::Progress;
 use crate::refusal;
 use crate::units::Units;
@@ -27,6 +28,10 @@ pub fn run(command: Command) -> Result<(), Failure> {
         } => units(&file, &folder, size, memory),
         Command::Check { file } => check(&file),
         Command::Plan { file } => plan(&file),
+        Command::Page { file, page } => match page {
+            Some(number) => page_of(&file, number),
+            None => pages(&file),
+        },
         Command::Exits { file, block } => match block {
             Some(block) => exits_of(&file, block),
             None => exits(&file),
@@ -70,6 +75,32 @@ fn plan(file: &OsStr) -> Result<(), Failure> {
 
 fn push(text: &mut String, more: std::fmt::Arguments) {
     text.write_fmt(more).expect("a string takes all");
+}
+
+/// One page.
+fn page_of(file: &OsStr, number: u64) -> Result<(), Failure> {
+    let input = input::read(file)?;
+    let mut lent = Lent::new(&input.bytes).map_err(|nothing| failed(&input, nothing))?;
+    let page = pages::page(&mut lent, number).map_err(|nothing| match nothing {
+        NoResult::Refused(refused) => {
+            let pages = pages::count(lent.counts.blocks);
+            Failure::refused(refusal::line_for_page(&input.name, refused, number, pages))
+        }
+        no_memory => failed(&input, no_memory),
+    })?;
+    print(&page)
+}
+
+/// All pages; a file without blocks has none.
+fn pages(file: &OsStr) -> Result<(), Failure> {
+    let input = input::read(file)?;
+    let failed = |nothing| failed(&input, nothing);
+    let pages = Lent::new(&input.bytes).and_then(Pages::new);
+    let mut pages = pages.map_err(failed)?;
+    while let Some(texts) = pages.hand_out().map_err(failed)? {
+        print(texts)?;
+    }
+    Ok(())
 }
 
 const EXITS: &str = "block exits\n";

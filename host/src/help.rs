@@ -8,6 +8,7 @@ usage: recomp COMMAND ...
   recomp units FILE -o DIR [OPTIONS]   write the C units
   recomp check FILE                    say whether the file is accepted
   recomp plan FILE                     print which blocks are emitted together
+  recomp page FILE [NUMBER]            print the plan by pages of 60 blocks
   recomp exits FILE [BLOCK]            print where blocks can statically go
   recomp listing FILE                  print key, group and exits of each block
   recomp verify DIR                    say whether units are as they were written
@@ -50,6 +51,20 @@ Prints the plan of a block file: group and block, both from 0, in the order of e
 usage: recomp plan FILE
 
   FILE  a block file, or - for standard input
+";
+
+pub const PAGE: &str = "\
+Prints the plan of a block file by pages: up to 60 blocks each, in the order of emission. A page
+begins with a line for its number and has one for each block: its key (the address, plus 1 for
+Thumb), its group, how many instructions it has, and the keys that it can statically go to. Every
+line has 64 characters.
+
+usage: recomp page FILE [NUMBER]
+
+  FILE    a block file, or - for standard input
+  NUMBER  the number of a page, from 1; all pages unless given
+
+A file without blocks has no page: nothing is printed, and every NUMBER is refused.
 ";
 
 pub const EXITS: &str = "\

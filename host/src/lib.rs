@@ -12,6 +12,7 @@ pub mod library;
 mod manifest;
 mod names;
 pub mod output;
+mod pages;
 mod progress;
 mod promised;
 mod refusal;

@@ -18,6 +18,19 @@ pub fn line_for_block(name: &str, refused: Refused, block: u64) -> String {
     with_rule(name, refused, &rule)
 }
 
+/// The line for a refusal of a call that named a page, of a file that has so many.
+pub fn line_for_page(name: &str, refused: Refused, page: u64, pages: u64) -> String {
+    let rule = match (refused.number, pages) {
+        (9, 0) => format!(
+            "there is no page {page}, nor any other, as there are no blocks; name another file"
+        ),
+        (9, 1) => format!("there is no page {page}; name page 1, the only one"),
+        (9, _) => format!("there is no page {page}; name one of pages 1 to {pages}"),
+        _ => rule(refused),
+    };
+    with_rule(name, refused, &rule)
+}
+
 fn with_rule(name: &str, Refused { number, at }: Refused, rule: &str) -> String {
     format!("refused {number} at {at}: {name}: {rule}")
 }
@@ -52,7 +65,7 @@ fn rule(Refused { number, at }: Refused) -> String {
              it again"
         ),
         8 => "fewer than four work numbers for each block were lent; lend more".into(),
-        9 => "there is no such block or unit; name one that the file has".into(),
+        9 => "there is no such block, page or unit; name one that the file has".into(),
         10 => "what was lent for the result is too short; lend more".into(),
         _ => "this program does not know the refusal; build it again with its library".into(),
     }

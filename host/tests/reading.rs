@@ -75,7 +75,7 @@ fn exits_prints_all_blocks_or_one() {
 fn paths_are_read_as_standard_input_is() {
     let path = sample("three_blocks.blk");
     let bytes = fs::read(&path).expect("the sample");
-    for command in ["check", "plan", "exits", "listing"] {
+    for command in ["check", "plan", "page", "exits", "listing"] {
         assert_eq!(
             recomp(&[command, &path]),
             recomp_on(&bytes, &[command, "-"])
@@ -88,7 +88,7 @@ fn files_that_are_not_there_and_folders() {
     let scratch = Scratch::new();
     let folder = scratch.path().to_str().expect("a path in UTF-8");
     let missing = scratch.join("missing.blk");
-    for command in ["check", "plan", "exits", "listing"] {
+    for command in ["check", "plan", "page", "exits", "listing"] {
         let line = recomp(&[command, &missing]).failed(2);
         assert!(
             line.starts_with(&format!("recomp: cannot read {missing}: ")),
@@ -184,7 +184,7 @@ fn files_longer_than_any_block_file_are_not_read() {
     for length in [100 << 30, 1 << 32] {
         let path = sparse(&scratch, length);
         let long = "is longer than 4294967295 bytes, as no block file is; name a block file";
-        for command in ["check", "plan", "exits", "listing", "units"] {
+        for command in ["check", "plan", "page", "exits", "listing", "units"] {
             let args = [command, &path, "-o", &folder];
             let args = if command == "units" {
                 &args[..]

@@ -27,6 +27,8 @@ fn the_example_of_the_readme() {
         let printed = recomp(&[command, &sample]).printed();
         has(&format!("$ recomp {command} {SAMPLE}\n{printed}"));
     }
+    let page = recomp(&["page", &sample]).printed().replace('\n', "|\n");
+    has(&format!("$ recomp page {SAMPLE} | sed 's/$/|/'\n{page}"));
     let scratch = Scratch::new();
     let folder = scratch.join("out");
     let totals = recomp(&["units", &sample, "-o", &folder]).printed();

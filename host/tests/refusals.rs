@@ -4,7 +4,7 @@
 mod common;
 
 use common::{lone, lone_blocks, recomp, recomp_on, Scratch};
-use recomp_host::library::{self, Made, Measured, Refused};
+use recomp_host::library::{self, Made, Measured, Pages, Refused};
 use recomp_tools::file::{block, build, trailer, File};
 use recomp_tools::record::Record;
 
@@ -66,6 +66,8 @@ fn every_command_refuses_with_number_place_and_rule() {
         let runs = [
             recomp(&["check", &file]),
             recomp(&["plan", &file]),
+            recomp(&["page", &file]),
+            recomp(&["page", &file, "0"]),
             recomp(&["exits", &file]),
             recomp(&["exits", &file, "0"]),
             recomp(&["listing", &file]),
@@ -83,7 +85,7 @@ fn every_command_refuses_with_number_place_and_rule() {
 
 #[test]
 fn standard_input_is_refused_by_that_name() {
-    for command in ["check", "plan", "exits", "listing"] {
+    for command in ["check", "plan", "page", "exits", "listing"] {
         let line = recomp_on(&[], &[command, "-"]).failed(1);
         assert!(
             line.starts_with("refused 1 at 0: standard input: "),
@@ -128,11 +130,28 @@ fn no_such_unit() {
 }
 
 #[test]
+fn no_such_page() {
+    let file = lone_blocks(2).bytes;
+    let text = &mut [7; 8192];
+    for page in [0, 2, u64::MAX] {
+        let work = &mut [7; 9];
+        assert_eq!(library::page(&file, page, work, text), Err(refusal(9)));
+        assert_eq!((work[..8].to_vec(), work[8]), (vec![0; 8], 7));
+        let work = &mut [7; 9];
+        assert_eq!(library::pages(&file, page, work, text), Err(refusal(9)));
+        assert_eq!((work[..8].to_vec(), work[8]), (vec![0; 8], 7));
+    }
+    assert_eq!(text, &[7; 8192]);
+}
+
+#[test]
 fn too_few_work_numbers() {
     let file = lone_blocks(2).bytes;
     let (work, text, plan) = (&mut [7; 7], &mut [7; 8192], &mut [7; 4]);
     assert_eq!(library::plan(&file, work, plan), Err(refusal(8)));
     assert_eq!(library::listing(&file, work, text), Err(refusal(8)));
+    assert_eq!(library::page(&file, 1, work, text), Err(refusal(8)));
+    assert_eq!(library::pages(&file, 1, work, text), Err(refusal(8)));
     assert_eq!(library::unit(&file, 0, 0, work, text), Err(refusal(8)));
     let lengths = &mut [7; 3];
     let answer = library::units(&file, 0, 0, work, text, lengths);
@@ -165,6 +184,45 @@ fn too_short_a_result() {
     let answer = library::lengths(&file, 0, 0, work, &mut []);
     assert_eq!(answer, Err(refusal(10)));
     assert_eq!(text, &[7; 8192]);
+}
+
+#[test]
+fn too_short_a_page() {
+    let file = lone_blocks(2).bytes;
+    for room in [0, 65, 194] {
+        let (work, text) = (&mut [7; 8], &mut [7; 194][..room]);
+        assert_eq!(library::page(&file, 1, work, text), Err(refusal(10)));
+        assert_eq!(*work, [0; 8]);
+        let work = &mut [7; 8];
+        assert_eq!(library::pages(&file, 1, work, text), Err(refusal(10)));
+        assert_eq!((*work, &*text), ([0; 8], &[7; 194][..room]));
+    }
+}
+
+/// Pages of 60, 60 and 1 blocks, with room for two and a bit, then for the last exactly.
+#[test]
+fn as_many_pages_as_fit() {
+    const FULL: usize = 61 * 65;
+    let file = lone_blocks(121).bytes;
+    let (mut work, mut text) = ([7; 4 * 121 + 1], [7; 3 * FULL]);
+    let mut page = |number| {
+        let length = library::page(&file, number, &mut work, &mut text);
+        let length = length.expect("a page") as usize;
+        text[..length].to_vec()
+    };
+    let pages = [1, 2, 3].map(&mut page);
+    assert_eq!([FULL, FULL, 130], [0, 1, 2].map(|n| pages[n].len()));
+    let mut text = [7; 2 * FULL + 129];
+    let made = library::pages(&file, 1, &mut work, &mut text);
+    let [count, length] = [2, 2 * FULL as u64];
+    assert_eq!(made, Ok(Pages { count, length }));
+    assert_eq!(text[..], [&pages[0][..], &pages[1], &[7; 129]].concat());
+    assert_eq!((work[..484].to_vec(), work[484]), (vec![0; 484], 7));
+    let mut text = [7; FULL + 130];
+    let made = library::pages(&file, 2, &mut work, &mut text);
+    let [count, length] = [2, FULL as u64 + 130];
+    assert_eq!(made, Ok(Pages { count, length }));
+    assert_eq!(text[..], [&pages[1][..], &pages[2]].concat());
 }
 
 /// Two units of three, with room for two and a bit, then for two lengths.

@@ -20,7 +20,7 @@ fn commands(scratch: &Scratch) -> Vec<Vec<String>> {
     let path = sample("three_blocks.blk");
     let done = scratch.join("done");
     recomp(&["units", &path, "-o", &done]).printed();
-    let mut commands: Vec<_> = ["check", "plan", "exits", "listing"]
+    let mut commands: Vec<_> = ["check", "plan", "page", "exits", "listing"]
         .map(|command| vec![command.into(), path.clone()])
         .into();
     commands.push(vec!["verify".into(), done]);
@@ -100,15 +100,20 @@ fn output_that_nobody_reads_ends_the_run_as_others_are_ended() {
 #[test]
 fn a_reader_that_ends_early_ends_the_run_silently() {
     let scratch = Scratch::new();
-    // A listing longer than what a pipe holds.
+    // What is printed is longer than what a pipe holds.
     let path = scratch.file("many.blk", &lone_blocks(20_000).bytes);
-    let script = "{ \"$0\" listing \"$1\"; echo $? >\"$2\"; } | head -n 1";
+    let script = "{ \"$0\" \"$1\" \"$2\"; echo $? >\"$3\"; } | head -n 1";
     let status = scratch.join("status");
-    let mut shell = Command::new("sh");
-    shell.args(["-c", script, PROGRAM, &path, &status]);
-    let run = Run::of(shell.output().expect("the shell runs"));
-    assert_eq!(run.printed(), "key group exits\n");
-    assert_eq!(fs::read_to_string(status).expect("the status"), "141\n");
+    for (command, line) in [
+        ("listing", "key group exits"),
+        ("page", &format!("{:>64}", 1)),
+    ] {
+        let mut shell = Command::new("sh");
+        shell.args(["-c", script, PROGRAM, command, &path, &status]);
+        let run = Run::of(shell.output().expect("the shell runs"));
+        assert_eq!(run.printed(), format!("{line}\n"));
+        assert_eq!(fs::read_to_string(&status).expect("the status"), "141\n");
+    }
 }
 
 /// Statuses 0, 1 and 2, whatever becomes of the line on standard error.

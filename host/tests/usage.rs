@@ -4,10 +4,11 @@ mod common;
 
 use common::{recomp, sample};
 
-const COMMANDS: [&str; 6] = [
+const COMMANDS: [&str; 7] = [
     "units FILE",
     "check FILE",
     "plan FILE",
+    "page FILE",
     "exits FILE",
     "listing FILE",
     "verify DIR",
@@ -42,7 +43,7 @@ fn help_of_each_command() {
 #[test]
 fn wrong_uses() {
     let file = &sample("three_blocks.blk");
-    let cases: [(&[&str], &str); 20] = [
+    let cases: [(&[&str], &str); 25] = [
         (&[], "no command is given; run recomp --help"),
         (&["unit", file], "unit is no command; run recomp --help"),
         (
@@ -92,6 +93,26 @@ fn wrong_uses() {
         (
             &["plan", file, "--all"],
             "plan: there is no option --all; run recomp plan --help",
+        ),
+        (
+            &["page", file, "one"],
+            "page: one is no page number, as 1 is; run recomp page --help",
+        ),
+        (
+            &["page", file, ""],
+            "page:  is no page number, as 1 is; run recomp page --help",
+        ),
+        (
+            &["page", file, "+1"],
+            "page: +1 is no page number, as 1 is; run recomp page --help",
+        ),
+        (
+            &["page", file, "18446744073709551616"],
+            "page: 18446744073709551616 is no page number, as 1 is; run recomp page --help",
+        ),
+        (
+            &["page", file, "1", "2"],
+            "page: 2 is one argument too many; run recomp page --help",
         ),
         (
             &["listing", file, "b"],
