@@ -86,7 +86,6 @@ short-line l =
     omega (
       arith,
       ap length (l .ended),
-      length-append (replicate 63 32) (10 ∷ []),
       length-append (l .characters) (10 ∷ []),
       l .width,
     )
@@ -95,7 +94,7 @@ short-line l =
 cut-number : AtRight (decimal 1234567) (columns 10 15 (replicate 9 32 ++ decimal 1234567)) → ⊥
 unfolding decimal numeral
 cut-number a =
-    omega (arith, ap length (a .same), length-append (replicate (a .blanks) 32) (decimal 1234567))
+    omega (arith, ap length (a .same), length-append {A = ℕ} (replicate (a .blanks) 32) (decimal 1234567))
 
 -- eleven work numbers are too few
 page-8 : pageCall partLimit 1 (Parsed.accepted threeBlocks) (replicate 11 5) []
