@@ -177,7 +177,7 @@ module _ (k : ℕ) (small : length (decimal k) ≤ 64) where
       record {
         characters = print (rightIn 64 (dec k));
         width = right-width 64 k small;
-        none = plain-right 64 k;
+        unbroken = plain-right 64 k;
         ended = refl;
       }
 
@@ -235,7 +235,7 @@ module _ (key group n : ℕ) (keys : List ℕ) (g : group < 1000000) (c : n < 10
               exits-width,
               length-spaces 24,
             );
-        none =
+        unbroken =
             plain-flatten fields (
               plain-hex8 key,
               (

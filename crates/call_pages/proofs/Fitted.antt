@@ -22,7 +22,8 @@ use Rattle.call_pages.specs.Page.{Row, rowsOf, rowLine, Page, perPage, p
 use Rattle.call_pages.specs.Page.{headLine, pageLength}
 use Rattle.call_pages.specs.Claims.{IsLine, RowWhole}
 use Rattle.call_pages.specs.Steps.{pageOn, Begins, pagesAsked, PutPages}
-use Rattle.call_pages.proofs.Claims.{row-whole, head-whole}
+use Rattle.call_pages.proofs.Claims.{row-whole}
+use Rattle.call_pages.proofs.Fields.{head-line}
 use Rattle.call_pages.proofs.Paging.{pages-none, first-page, page-rows, page-on-inside, asked-some}
 use Rattle.call_pages.proofs.Rows.{rows-n}
 
@@ -71,7 +72,7 @@ module _ {f : List ℕ} {n limit : ℕ} {work : List ℕ} (ready : HoldsPlan f n
       omega (
         arith,
         length-append (print (headLine k)) (print (each (rowLine bs) (on .rows))),
-        line-length (head-whole k .line),
+        line-length (head-line k (omega (arith, length-most (dec k)))),
         lines-length bs (on .rows)
             (λ r m. row-whole f bs (ready .accepted) limit r (page-on-inside limit bs k p r m)),
         page-rows ready k p,

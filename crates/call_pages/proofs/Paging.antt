@@ -8,6 +8,7 @@ use native.Mathlib.Omega.{arith}
 use lib.ListN.{length, getD, take, drop, length-take, length-drop, take-append-drop}
 use lib.ListN.{drop-of-length-le}
 use lib.Seq.{getD-take, getD-drop, drop-drop, drop-nil}
+use Rattle.base_lists.specs.Lists.{range}
 use Rattle.file_blocks.specs.Parse.{Block, blocksOf}
 use Rattle.plan_groups.specs.Plan.{plan}
 use Rattle.plan_members.specs.Prepared.{HoldsPlan}
@@ -91,6 +92,31 @@ pub pages-rows : (limit : ℕ) (bs : List Block)
     → flatten (map rowsIn (pages limit bs)) ≡ rowsOf (plan limit bs)
 unfolding pages
 pages-rows limit bs = pages-flat (length (rowsOf (plan limit bs))) 1 _ (omega arith)
+
+-- they are counted on from the first, and are no more than the rows
+numbers-from : (m k : ℕ) (rows : List Row)
+    → map (λ (p : Page). p .number) (pagesFrom m k rows) ≡ range (length (pagesFrom m k rows)) k
+unfolding pagesFrom
+numbers-from zero k rows = refl
+numbers-from (suc m) k [] = refl
+numbers-from (suc m) k (r ∷ rows) =
+    ap (λ (ns : List ℕ). k ∷ ns) (numbers-from m (suc k) (drop perPage (r ∷ rows)))
+
+few-from : (m k : ℕ) (rows : List Row) → length (pagesFrom m k rows) ≤ m
+unfolding pagesFrom
+few-from zero k rows = omega arith
+few-from (suc m) k [] = omega arith
+few-from (suc m) k (r ∷ rows) = omega (arith, few-from m (suc k) (drop perPage (r ∷ rows)))
+
+pub pages-numbers : (limit : ℕ) (bs : List Block)
+    → map (λ (p : Page). p .number) (pages limit bs) ≡ range (length (pages limit bs)) 1
+unfolding pages
+pages-numbers limit bs = numbers-from (length (rowsOf (plan limit bs))) 1 (rowsOf (plan limit bs))
+
+pub pages-few : (limit : ℕ) (bs : List Block)
+    → length (pages limit bs) ≤ length (rowsOf (plan limit bs))
+unfolding pages
+pages-few limit bs = few-from (length (rowsOf (plan limit bs))) 1 (rowsOf (plan limit bs))
 
 -- a row of one of some pages is one of their rows
 in-flatten : (ps : List Page) (p : Page) → List·Memᴰ p ps → (r : Row) → List·Memᴰ r (p .rows)

@@ -30,6 +30,7 @@ use Rattle.plan_groups.proofs.GroupLaws.{group-some, groups-once, groups-only}
 use Rattle.plan_groups.proofs.PlanLength.{groups-length}
 use Rattle.plan_members.specs.Prepared.{HoldsPlan}
 use Rattle.call_pages.specs.Page.{pageLine, blockLine, Row, rowsOf, rowLine}
+use Rattle.call_pages.specs.Claims.{rowNumbers}
 use Rattle.call_pages.specs.Steps.{rowAt}
 
 -- the block of a row
@@ -61,6 +62,22 @@ unfolding rowsOf rowsFrom flatten
 blocks-from g [] = refl
 blocks-from g (is ∷ gs) =
     blocks-here g is (rowsFrom (suc g) gs) ∙ ap (λ (js : List ℕ). is ++ js) (blocks-from (suc g) gs)
+
+-- with their groups they are the plan's numbers
+numbers-here : (g : ℕ) (is rest : List ℕ)
+    → flatten (map rowNumbers (rowsOf (groupRows g is ++ rest)))
+    ≡ groupRows g is ++ flatten (map rowNumbers (rowsOf rest))
+unfolding rowsOf flatten
+numbers-here g [] rest = refl
+numbers-here g (i ∷ is) rest = ap (λ (ns : List ℕ). g ∷ i ∷ ns) (numbers-here g is rest)
+
+numbers-from : (g : ℕ) (gs : List (List ℕ))
+    → flatten (map rowNumbers (rowsOf (rowsFrom g gs))) ≡ rowsFrom g gs
+unfolding rowsOf rowsFrom flatten
+numbers-from g [] = refl
+numbers-from g (is ∷ gs) =
+    numbers-here g is (rowsFrom (suc g) gs)
+    ∙ ap (λ (ns : List ℕ). groupRows g is ++ ns) (numbers-from (suc g) gs)
 
 -- their groups are below the number of groups
 groups-here : (g m : ℕ) (is rest : List ℕ) → g < m
@@ -110,6 +127,10 @@ module _ (limit : ℕ) (bs : List Block) where
   pub rows-blocks : map blockIn (rowsOf (plan limit bs)) ≡ flatten (groups limit bs)
   unfolding plan
   rows-blocks = blocks-from 0 (groups limit bs)
+
+  pub rows-numbers : flatten (map rowNumbers (rowsOf (plan limit bs))) ≡ plan limit bs
+  unfolding plan
+  rows-numbers = numbers-from 0 (groups limit bs)
 
   -- one row for each block
   pub rows-all : length (rowsOf (plan limit bs)) ≡ length bs

@@ -2,7 +2,7 @@
 -- Each is lent work numbers and a text.
 use Prim.Native.Nat.{ℕ, zero, suc}
 use mathlib.Core.List.{List, [], _∷_}
-use mathlib.Core.Option.{Option, none}
+use mathlib.Core.Option.{none}
 use lib.ListN.{length, getD, drop, getElem?}
 use Rattle.base_fitting.specs.Fitting.{fitting}
 use Rattle.base_text.specs.Doc.{print, each}
@@ -80,6 +80,7 @@ pagesCall limit k p work text = callFrame (asksPages limit k) p work (text ∷ [
 abbrev pub pageNumbers : Outcome ℕ → Handed
 pageNumbers = handed 1 (λ (n : ℕ). n ∷ [])
 
--- what the call for pages hands over: the number of pages, and the bytes in all
+-- what the call for pages hands over: after the numbers of every answer how many pages are written,
+-- and their bytes in all
 abbrev pub pagesNumbers : Outcome PagesValues → Handed
 pagesNumbers = handed 2 (λ (v : PagesValues). v .count ∷ v .length ∷ [])

@@ -1,5 +1,5 @@
--- To be believed: the plan on pages (document 02, request 1): a line for each block, sixty blocks on
--- a page.
+-- To be believed: the plan on pages of paper (document 02, request 1): a line for each block, sixty
+-- blocks on a page.
 use Prim.Native.Nat.{ℕ, zero, suc, _-_}
 use mathlib.Core.Bool.{cond}
 use mathlib.Core.List.{List, [], _∷_, map}
@@ -10,11 +10,12 @@ use Rattle.file_blocks.specs.Parse.{Block, blockKey}
 use Rattle.plan_exits.specs.Exits.{exits}
 use Rattle.plan_groups.specs.Plan.{plan}
 
--- a text at the left of a field, with blanks after it up to the field's width
+-- a text at the left of a field, with blanks after it up to the field's width; a wider text is not
+-- cut
 abbrev pub leftIn : ℕ → Doc → Doc
 leftIn width d = d ▸ spaces (width - length (print d))
 
--- a text at the right of a field, with blanks before it
+-- a text at the right of a field, with blanks before it; a wider text is not cut
 abbrev pub rightIn : ℕ → Doc → Doc
 rightIn width d = spaces (width - length (print d)) ▸ d
 
@@ -65,14 +66,15 @@ pub record Page : Type 0 where
 abbrev pub perPage : ℕ
 perPage = 60
 
--- at most m pages of some rows, of which the first is page k; the last has the rows that are left
+-- the pages of some rows, of which the first is page k: sixty rows on each, and on the last those
+-- that are left; m is at least as many as they are
 unfoldable pub pagesFrom : ℕ → ℕ → List Row → List Page
 pagesFrom zero k rows = []
 pagesFrom (suc m) k rows =
     cond (isEmpty rows) []
     (record { number = k; rows = take perPage rows } ∷ pagesFrom m (suc k) (drop perPage rows))
 
--- the pages of some blocks, grouped by a limit, from page 1 on; there are no more of them than rows
+-- the pages of some blocks, grouped by a limit, from page 1 on; they are no more than the rows
 unfoldable pub pages : ℕ → List Block → List Page
 pages limit bs = pagesFrom (length (rowsOf (plan limit bs))) 1 (rowsOf (plan limit bs))
 

@@ -74,8 +74,8 @@ fn make_page(
     answer
 }
 
-// Page k of a file, its blocks grouped by a limit: its text in the front of `text`. What is claimed
-// of pages holds of them all.
+// Page k of a file, its blocks grouped by a limit: its text in the front of `text`. What
+// `PageClaims` says holds of all pages of the file.
 pub fn page_of(file: &[u8], limit: u64, k: u64, work: &mut [u32], text: &mut [u8]) -> PageAnswer
     ensures answer { λ r. ⌜
         record {

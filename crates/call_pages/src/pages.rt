@@ -23,7 +23,7 @@ ghost use Rattle.call_pages.specs.Steps.{AnswersPages};
 
 // The answer of the call for pages.
 pub enum PagesAnswer {
-    // How many pages there are, and how many bytes their texts have.
+    // How many pages are written, and how many bytes their texts have.
     Pages { count: u64, length: u64 },
     // The number of the refusal, and i or 0.
     Refused { number: u32, at: u64 },
@@ -76,7 +76,7 @@ fn make_pages(
 }
 
 // The pages from page k on of a file, its blocks grouped by a limit: as many whole ones as fit, one
-// after another in the front of `text`. What is claimed of pages holds of them all.
+// after another in the front of `text`. What `PageClaims` says holds of all pages of the file.
 pub fn pages_of(file: &[u8], limit: u64, k: u64, work: &mut [u32], text: &mut [u8]) -> PagesAnswer
     ensures answer { λ r. ⌜
         record {
