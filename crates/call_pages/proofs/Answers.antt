@@ -56,13 +56,14 @@ module _ {f : List ℕ} {n limit : ℕ} {work : List ℕ} (ready : HoldsPlan f n
     unfolding pageAnswer
     page-9 = λ work.
         refused-own _
-        (ap (λ (ps : List Page). ifFound (madePage bs) (getElem? ps 0)) (asked-none ready k past)) work
-        (text ∷ [])
+        (ap (λ (ps : List Page). ifFound (madePage bs) (getElem? ps 0)) (asked-none ready k past))
+        work (text ∷ [])
 
     pub pages-9 : AnswersPages limit k f (PagesAnswer.Refused 9 0) text text
     unfolding pagesAnswer
     pages-9 = λ work.
-        refused-own _ (decided-9 (madePages bs) fit asked (asked-none ready k past)) work (text ∷ [])
+        refused-own _ (decided-9 (madePages bs) fit asked (asked-none ready k past)) work
+        (text ∷ [])
 
   module _ {p : ℕ} (begins : Begins n k p) where
     -- the page that is asked for
@@ -109,7 +110,8 @@ module _ {f : List ℕ} {n limit : ℕ} {work : List ℕ} (ready : HoldsPlan f n
         handed-over _ _ found work text _ _ size (omega arith) (whole w (omega arith) .0)
 
     -- where nothing fits, the text is too short for it
-    too-short : fit asked ≡ [] → length text < length (print (each (pageText bs) (first .first ∷ [])))
+    too-short : fit asked ≡ []
+        → length text < length (print (each (pageText bs) (first .first ∷ [])))
     unfolding print
     too-short nothing =
         elim (decLe (pageLength bs (first .first)) (length text)) [

@@ -72,7 +72,8 @@ module _ (f : List ℕ) (bs : List Block) (ok : AcceptedAs f bs) where
 
     block-line : IsLine (print (blockLine group b))
     unfolding blockLine
-    block-line = line-line (blockKey b) group (length (b .instrs)) (exits b) few instrs (exits-few b)
+    block-line =
+        line-line (blockKey b) group (length (b .instrs)) (exits b) few instrs (exits-few b)
 
     block-fields : FieldsWhole group b (print (blockLine group b))
     unfolding blockLine
@@ -80,7 +81,8 @@ module _ (f : List ℕ) (bs : List Block) (ok : AcceptedAs f bs) where
         record {
           keys = keys;
           key = key-at (blockKey b) group (length (b .instrs)) (exits b) few instrs (exits-few b);
-          after-key = gap-1 (blockKey b) group (length (b .instrs)) (exits b) few instrs (exits-few b);
+          after-key =
+              gap-1 (blockKey b) group (length (b .instrs)) (exits b) few instrs (exits-few b);
           group-whole =
               subst (AtRight _)
               (sym (group-at (blockKey b) group (length (b .instrs)) (exits b) few instrs

@@ -24,7 +24,8 @@ use Rattle.call_pages.specs.Claims.{IsLine, RowWhole}
 use Rattle.call_pages.specs.Steps.{pageOn, Begins, pagesAsked, PutPages}
 use Rattle.call_pages.proofs.Claims.{row-whole}
 use Rattle.call_pages.proofs.Fields.{head-line}
-use Rattle.call_pages.proofs.Paging.{pages-none, first-page, page-rows, page-on-inside, asked-some}
+use Rattle.call_pages.proofs.Paging.{pages-none, first-page, page-rows, page-on-inside}
+use Rattle.call_pages.proofs.Paging.{asked-some}
 use Rattle.call_pages.proofs.Rows.{rows-n}
 
 -- a line has 65 bytes
@@ -123,13 +124,15 @@ module _ {f : List ℕ} {n limit : ℕ} {work : List ℕ} (ready : HoldsPlan f n
           record {
             made = put .made;
             fits = fits;
-            texts = record { same = whole (put .wrote) (omega (arith, put .bytes, put .within)) .0 };
+            texts =
+                record { same = whole (put .wrote) (omega (arith, put .bytes, put .within)) .0 };
             count = put .counted;
             bytes = put .bytes;
           }
 
       -- no row is left
-      pub putting-end : n ≤ p → PutPages f limit k text₀ text (record { count = count; length = at })
+      pub putting-end : n ≤ p
+          → PutPages f limit k text₀ text (record { count = count; length = at })
       putting-end over =
           done (fit-all (pageLength bs) _ _ _
           (subst (FitSoFar (pageLength bs) (length text₀) (length (pagesAsked limit k f))
@@ -143,9 +146,13 @@ module _ {f : List ℕ} {n limit : ℕ} {work : List ℕ} (ready : HoldsPlan f n
         abbrev next : Page
         next = pageOn limit bs (k + count) p
 
+        -- those after it
+        abbrev later : List Page
+        later = pagesFrom (put .left - 1) (k + (count + 1)) (drop (p + perPage) rows)
+
         -- it is the first of the rest
         rest-is : pagesFrom (put .left) (k + count) (drop p rows)
-            ≡ next ∷ pagesFrom (put .left - 1) (k + (count + 1)) (drop (p + perPage) rows)
+            ≡ next ∷ later
         rest-is =
             first-page (put .left) (k + count) (drop p rows)
             (omega (arith, length-drop p rows, rows-n ready))
@@ -155,15 +162,12 @@ module _ {f : List ℕ} {n limit : ℕ} {work : List ℕ} (ready : HoldsPlan f n
             (drop-drop perPage p rows)
 
         so-next : FitSoFar (pageLength bs) (length text₀) (length (pagesAsked limit k f))
-            (pagesAsked limit k f) (put .made)
-            (next ∷ pagesFrom (put .left - 1) (k + (count + 1)) (drop (p + perPage) rows))
+            (pagesAsked limit k f) (put .made) (next ∷ later)
         so-next =
             subst (FitSoFar (pageLength bs) (length text₀) (length (pagesAsked limit k f))
             (pagesAsked limit k f) (put .made)) rest-is (put .so)
 
-        all-next : pagesAsked limit k f
-            ≡ put .made
-            ++ (next ∷ pagesFrom (put .left - 1) (k + (count + 1)) (drop (p + perPage) rows))
+        all-next : pagesAsked limit k f ≡ put .made ++ (next ∷ later)
         all-next = put .all ∙ ap (λ (ps : List Page). put .made ++ ps) rest-is
 
         -- it does not fit
@@ -197,8 +201,7 @@ module _ {f : List ℕ} {n limit : ℕ} {work : List ℕ} (ready : HoldsPlan f n
                   (omega (
                     arith,
                     ap length all-next,
-                    length-append (put .made)
-                        (next ∷ pagesFrom (put .left - 1) (k + (count + 1)) (drop (p + perPage) rows)),
+                    length-append (put .made) (next ∷ later),
                   ))
                   (omega (
                     arith,

@@ -45,7 +45,8 @@ pages-none (suc m) k = refl
 -- the first page of some rows
 pub first-page : (m k : ℕ) (rows : List Row) → 0 < length rows → length rows ≤ m
     → pagesFrom m k rows
-    ≡ record { number = k; rows = take perPage rows } ∷ pagesFrom (m - 1) (suc k) (drop perPage rows)
+    ≡ record { number = k; rows = take perPage rows }
+    ∷ pagesFrom (m - 1) (suc k) (drop perPage rows)
 unfolding pagesFrom
 first-page m k [] some enough = absurd (omega arith)
 first-page zero k (r ∷ rows) some enough = absurd (omega arith)

@@ -167,7 +167,8 @@ module _ (limit : ℕ) (bs : List Block) where
 module _ {f : List ℕ} {n limit : ℕ} {work : List ℕ} (ready : HoldsPlan f n limit work) where
   -- as many rows as blocks
   pub rows-n : length (rowsOf (plan limit (blocksOf f))) ≡ n
-  rows-n = rows-all limit (blocksOf f) ∙ length-of f (blocksOf f) (ready .accepted) ∙ sym (ready .all)
+  rows-n =
+      rows-all limit (blocksOf f) ∙ length-of f (blocksOf f) (ready .accepted) ∙ sym (ready .all)
 
   module _ (p : ℕ) (inside : p < n) where
     -- row p in the work numbers

@@ -1,4 +1,4 @@
--- To be believed: what is claimed of the pages of every accepted file (document 02, request 1): each
+-- To be believed: what is claimed of the pages of an accepted file (document 02, request 1): each
 -- line has its width, no field is cut, and the pages hold each block of the plan once, in emission
 -- order.
 use Prim.Native.Nat.{ℕ, suc, _-_, _<_, _^_}

@@ -1,5 +1,5 @@
--- Examples: pages of document 01's three blocks and the calls for them, pages of more rows, and what
--- is no line, or no whole field, computed.
+-- Examples: pages of document 01's three blocks and the calls for them, pages of more rows, and
+-- what is no line, or no whole field, computed.
 use Prim.Native.Nat.{ℕ, zero, suc, _^_}
 use mathlib.Core.Path.{_≡_, refl, sym, ap, _∙_}
 use mathlib.Core.Bool.{Bool, true, false, _||_, true≢false}
@@ -76,7 +76,8 @@ six-digits : print (rightIn 6 (dec 123456)) ≡ print (text "123456")
 unfolding print decimal numeral
 six-digits = refl
 
-last-head : print (headLine 1093) ≡ print (text "                                                            1093\n")
+last-head : print (headLine 1093)
+    ≡ print (text "                                                            1093\n")
 unfolding print decimal numeral
 last-head = refl
 
@@ -116,14 +117,17 @@ no-pages = refl
 
 -- 63 characters are no line, nor are 65
 short-line : IsLine (replicate 63 32 ++ (10 ∷ [])) → ⊥
-short-line l = omega (arith, ap length (l .ended), length-append (l .characters) (10 ∷ []), l .width)
+short-line l =
+    omega (arith, ap length (l .ended), length-append (l .characters) (10 ∷ []), l .width)
 
 long-line : IsLine (replicate 65 32 ++ (10 ∷ [])) → ⊥
-long-line l = omega (arith, ap length (l .ended), length-append (l .characters) (10 ∷ []), l .width)
+long-line l =
+    omega (arith, ap length (l .ended), length-append (l .characters) (10 ∷ []), l .width)
 
 -- nor are 64 of which one is a newline
 broken-line : IsLine (10 ∷ replicate 63 32 ++ (10 ∷ [])) → ⊥
-broken-line l = go (l .characters) (l .width) (l .unbroken) (ap (λ (s : List ℕ). getD s 0 0) (l .ended))
+broken-line l =
+    go (l .characters) (l .width) (l .unbroken) (ap (λ (s : List ℕ). getD s 0 0) (l .ended))
   where
     go : (cs : List ℕ) → length cs ≡ 64 → among 10 cs ≡ false → 10 ≡ getD (cs ++ (10 ∷ [])) 0 0 → ⊥
     go [] w u e = omega arith
@@ -165,9 +169,9 @@ page-8 = refl
 page-9 : pageCall partLimit 2 (Parsed.accepted threeBlocks) (replicate 13 5) (replicate 300 7)
     ≡ record
     { answer = refusal 9 0; work = replicate 12 0 ++ (5 ∷ []); results = replicate 300 7 ∷ [] }
-unfolding callFrame callOnBlocks print decimal hexadecimal8 numeral lastDigits pages pagesFrom rowsOf
-    pageText rowLine blockLine threeBlocks armBlock plan rowsFrom groups groupsFrom parts sortByKey
-    insert withRoot parents joinBlocks joinExits target follow exits instrExits
+unfolding callFrame callOnBlocks print decimal hexadecimal8 numeral lastDigits pages pagesFrom
+    rowsOf pageText rowLine blockLine threeBlocks armBlock plan rowsFrom groups groupsFrom parts
+    sortByKey insert withRoot parents joinBlocks joinExits target follow exits instrExits
 page-9 = refl
 
 page-0 : pageCall partLimit 0 (Parsed.accepted threeBlocks) (replicate 12 5) (replicate 300 7)
@@ -183,17 +187,17 @@ page-none = refl
 -- the page has 260 bytes: 259 are too few, and in 261 the last one is left
 page-10 : pageCall partLimit 1 (Parsed.accepted threeBlocks) (replicate 12 5) (replicate 259 7)
     ≡ record { answer = refusal 10 0; work = replicate 12 0; results = replicate 259 7 ∷ [] }
-unfolding callFrame callOnBlocks print decimal hexadecimal8 numeral lastDigits pages pagesFrom rowsOf
-    pageText rowLine blockLine threeBlocks armBlock plan rowsFrom groups groupsFrom parts sortByKey
-    insert withRoot parents joinBlocks joinExits target follow exits instrExits
+unfolding callFrame callOnBlocks print decimal hexadecimal8 numeral lastDigits pages pagesFrom
+    rowsOf pageText rowLine blockLine threeBlocks armBlock plan rowsFrom groups groupsFrom parts
+    sortByKey insert withRoot parents joinBlocks joinExits target follow exits instrExits
 page-10 = refl
 
 page-made : pageCall partLimit 1 (Parsed.accepted threeBlocks) (replicate 12 5) (replicate 261 7)
     ≡ record
     { answer = value 260; work = replicate 12 0; results = (onePage ++ (7 ∷ [])) ∷ [] }
-unfolding callFrame callOnBlocks print decimal hexadecimal8 numeral lastDigits pages pagesFrom rowsOf
-    pageText rowLine blockLine threeBlocks armBlock plan rowsFrom groups groupsFrom parts sortByKey
-    insert withRoot parents joinBlocks joinExits target follow exits instrExits
+unfolding callFrame callOnBlocks print decimal hexadecimal8 numeral lastDigits pages pagesFrom
+    rowsOf pageText rowLine blockLine threeBlocks armBlock plan rowsFrom groups groupsFrom parts
+    sortByKey insert withRoot parents joinBlocks joinExits target follow exits instrExits
 page-made = refl
 
 -- the pages from the first on, in a text that is exactly full
@@ -203,9 +207,9 @@ pages-made : pagesCall partLimit 1 (Parsed.accepted threeBlocks) (replicate 12 5
       work = replicate 12 0;
       results = onePage ∷ [];
     }
-unfolding callFrame callOnBlocks print decimal hexadecimal8 numeral lastDigits pages pagesFrom rowsOf
-    pageText rowLine blockLine threeBlocks armBlock plan rowsFrom groups groupsFrom parts sortByKey
-    insert withRoot parents joinBlocks joinExits target follow exits instrExits fitting
+unfolding callFrame callOnBlocks print decimal hexadecimal8 numeral lastDigits pages pagesFrom
+    rowsOf pageText rowLine blockLine threeBlocks armBlock plan rowsFrom groups groupsFrom parts
+    sortByKey insert withRoot parents joinBlocks joinExits target follow exits instrExits fitting
 pages-made = refl
 
 -- two pages, of one row and of two

@@ -94,8 +94,8 @@ pub fn pages_of(file: &[u8], limit: u64, k: u64, work: &mut [u32], text: &mut [u
     }
 }
 
-// The pages from page k on of a file, and the numbers of the answer, of which 0 or the number of the
-// refusal is returned.
+// The pages from page k on of a file, and the numbers of the answer, of which 0 or the number of
+// the refusal is returned.
 pub fn pages_numbers(
     file: &[u8],
     limit: u64,

@@ -35,8 +35,8 @@ pub extern "C" fn recomp_page(
 }
 
 // The texts of the pages from `first` on, as many whole ones as fit, one after another; how many
-// they are, and their bytes in all. The answer is 0, or the number of the refusal. The same holds of
-// every page of that file as above.
+// they are, and their bytes in all. The answer is 0, or the number of the refusal. The same holds
+// of every page of that file as above.
 #[no_mangle]
 pub extern "C" fn recomp_pages(
     file: &[u8],

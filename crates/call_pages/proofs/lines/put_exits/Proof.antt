@@ -11,19 +11,24 @@ use Rattle.call_pages.proofs.lines.put_exits.Tie as tie
 returns : tie.Need-returns
 unfolding print
 returns c =
-    rw (c .before .before .before .before .before .enum-told .given .1) (wrote-as (c .before .before .put .ensures) refl)
+    let put = c .before .before in
+    rw (put .before .before .before .enum-told .given .1) (wrote-as (put .put .ensures) refl)
 
 returns-2 : tie.Need-returns-2
 returns-2 c =
-    rw (c .before .before .before .before .before .before .before .before .before .before .exits .given .1)
-    (wrote-as (seq (c .before .before .before .before .before .before .before .put-hex8 .ensures) (c .before .before .put2 .ensures))
-    (one-key _))
+    let put = c .before .before in
+    let key = put .before .before .before .before .before in
+    rw (key .before .before .before .exits .given .1)
+    (wrote-as (seq (key .put-hex8 .ensures) (put .put2 .ensures)) (one-key _))
 
 returns-3 : tie.Need-returns-3
 returns-3 c =
-    rw (c .before .before .before .before .before .before .before .before .before .before .before .before .before .before .before .exits2 .given .1)
-    (wrote-as (seq (c .before .before .before .before .before .before .before .before .before .before .before .before .put-hex82 .ensures)
-    (seq (c .before .before .before .before .before .before .before .put-then-hex8 .ensures) (c .before .before .put3 .ensures)))
+    let put = c .before .before in
+    let second = put .before .before .before .before .before in
+    let first = second .before .before .before .before .before in
+    rw (first .before .before .before .exits2 .given .1)
+    (wrote-as (seq (first .put-hex82 .ensures)
+    (seq (second .put-then-hex8 .ensures) (put .put3 .ensures)))
     (two-keys _ _))
 
 pub put-exits-spec : {M : Type 1} → statement M

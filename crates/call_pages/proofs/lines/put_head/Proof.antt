@@ -8,7 +8,9 @@ use Rattle.call_pages.proofs.lines.put_head.Tie as tie
 
 returns : tie.Need-returns
 returns c =
-    wrote-as (seq (c .before .before .before .before .before .before .before .put-right .ensures) (c .before .before .put .ensures)) refl
+    let put = c .before .before in
+    let number = put .before .before .before .before .before in
+    wrote-as (seq (number .put-right .ensures) (put .put .ensures)) refl
 
 pub put-head-spec : {M : Type 1} → statement M
 put-head-spec =

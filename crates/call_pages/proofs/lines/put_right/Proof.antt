@@ -16,9 +16,11 @@ returns c =
 
 returns-2 : tie.Need-returns-2
 returns-2 c =
-    let digits = c .before .before .before .before .before .before .before .before .before .before in
+    let put = c .before .before in
+    let blanks = put .before .before .before .before in
+    let digits = blanks .before .before .before .before in
     let a = digits .before .before .before .args in
-    wrote-as (seq (c .before .before .before .before .before .before .put-spaces .ensures) (c .before .before .put-dec3 .ensures))
+    wrote-as (seq (blanks .put-spaces .ensures) (put .put-dec3 .ensures))
     (right-some (a .width) (a .n) _ (digits .put-dec .ensures .next))
 
 pub put-right-spec : {M : Type 1} → statement M

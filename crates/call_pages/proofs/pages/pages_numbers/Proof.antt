@@ -8,12 +8,14 @@ use Rattle.call_pages.proofs.pages.pages_numbers.Tie as tie
 returns : tie.Need-returns
 unfolding pagesAnswer
 returns c =
-    let made = c .before .before .before .before .before .before .before .pages-of .ensures in (rw (← made .0, c .before .c .given .1), made .1)
+    let made = c .before .before .before .before .before .before .before .pages-of .ensures in
+    (rw (← made .0, c .before .c .given .1), made .1)
 
 returns-2 : tie.Need-returns-2
 unfolding pagesAnswer
 returns-2 c =
-    let made = c .before .before .before .before .before .before .before .pages-of .ensures in (rw (← made .0, c .before .number .given .1), made .1)
+    let made = c .before .before .before .before .before .before .before .pages-of .ensures in
+    (rw (← made .0, c .before .number .given .1), made .1)
 
 pub pages-numbers-spec : {M : Type 1} → statement M
 pages-numbers-spec =

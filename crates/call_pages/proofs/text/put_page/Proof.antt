@@ -1,5 +1,5 @@
--- `put_page` writes a page. The loop's invariant: the lines of the rows before row i of the page are
--- written. Assumes nothing.
+-- `put_page` writes a page. The loop's invariant: the lines of its rows before row i are written.
+-- Assumes nothing.
 use Prim.Native.Nat.{ℕ, _-_, _≤_, _<_, min}
 use borrow.Author.Needs.{needs}
 use lib.ListN.{length, take}

@@ -48,7 +48,9 @@ add-put-page c =
     omega (arith, loop .loop .inv .2, start .pre .0 .1, start .pre .1 .here)
 
 put-page-requires : tie.Need-put-page-requires Inv-loop μ-loop
-put-page-requires c κs = (c .before .before .before .before .before .before .before .before .pre .0, omega arith)
+put-page-requires c κs =
+    let start = c .before .before .before .before .before .before .before .before in
+    (start .pre .0, omega arith)
 
 add-count : tie.Need-add-count Inv-loop μ-loop
 add-count c =
@@ -58,13 +60,17 @@ add-count c =
 
 add-length : tie.Need-add-length Inv-loop μ-loop
 add-length c =
-    let start = c .before .before .before .before .before .before .before .before .before .before .before in
-    let inv = c .before .before .before .before .before .before .before .loop .inv in
+    let loop = c .before .before .before .before .before .before .before in
+    let inv = loop .loop .inv in
+    let start = loop .before .before .before .before in
     let small : size (start .args .text .now) ≤ 18446744073709551615 = search needs in
     omega (arith, inv .0, inv .1)
 
 add-row : tie.Need-add-row Inv-loop μ-loop
-add-row c = omega (arith, c .before .before .before .before .before .before .before .before .before .before .before .pre .0 .1)
+add-row c =
+    let loop = c .before .before .before .before .before .before .before in
+    let start = loop .before .before .before .before in
+    omega (arith, start .pre .0 .1)
 
 loop-again : tie.Need-loop-again Inv-loop μ-loop
 loop-again c =
