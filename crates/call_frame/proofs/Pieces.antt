@@ -2,6 +2,8 @@
 -- Assumes nothing.
 use mathlib.Core.Path.{_≡_, refl, sym, ap, _∙_}
 use mathlib.Core.List.{List, [], _∷_}
+use native.Mathlib.Omega.{arith}
+use lib.ListN.{length}
 use Rattle.base_fitting.specs.Fitting.{orFirst}
 use Rattle.call_frame.specs.Frame.{Decision, refuses, numbered}
 use Rattle.call_frame.specs.Pieces.{ofThoseThatFit}
@@ -11,6 +13,11 @@ pub record Some {X : Type 0} (xs : List X) : Type 0 where
   pub first : X
   pub others : List X
   pub is : xs ≡ first ∷ others
+
+-- pieces that are none
+pub none-of : {X : Type 0} (xs : List X) → length xs ≡ 0 → xs ≡ []
+none-of [] e = refl
+none-of (x ∷ xs) e = absurd (omega (arith, e))
 
 -- pieces that are not none
 pub some-of : {X : Type 0} (xs : List X) → (xs ≡ [] → ⊥) → Some xs

@@ -16,7 +16,8 @@ use Rattle.file_blocks.specs.Parse.{Block, blocksOf}
 use Rattle.plan_groups.specs.Plan.{plan}
 use Rattle.plan_members.specs.Prepared.{HoldsPlan}
 use Rattle.call_frame.specs.Frame.{ifFound, numbered, refusedWith}
-use Rattle.call_frame.proofs.Pieces.{Some, some-of, decided-9, decided-first, decided-front}
+use Rattle.call_frame.proofs.Pieces.{Some, none-of, some-of, decided-9, decided-first}
+use Rattle.call_frame.proofs.Pieces.{decided-front}
 use Rattle.call_frame.proofs.Settling.{refused-own, refused-10, handed-over}
 use Rattle.call_pages.specs.declared.text.Front.{Front}
 use Rattle.call_pages.specs.declared.page.PageAnswer.{PageAnswer}
@@ -28,11 +29,6 @@ use Rattle.call_pages.specs.Steps.{AnswersPages}
 use Rattle.call_pages.proofs.Fitted.{page-size, total-texts}
 use Rattle.call_pages.proofs.Paging.{first-page, asked-none, asked-some}
 use Rattle.call_pages.proofs.Rows.{rows-n}
-
--- a list of no elements
-none-of : {X : Type 0} (xs : List X) → length xs ≡ 0 → xs ≡ []
-none-of [] e = refl
-none-of (x ∷ xs) e = absurd (omega (arith, e))
 
 -- the values of an answer
 abbrev valuesOf : ℕ → ℕ → PagesValues

@@ -4,7 +4,7 @@ use Prim.Native.Nat.{ℕ, zero, suc, _+_, _*_, _^_, _≤_, _<_}
 use mathlib.Core.Path.{_≡_, refl, sym, ap, _∙_, subst}
 use mathlib.Core.Bool.{Bool, true, false}
 use mathlib.Core.List.{List, [], _∷_, _++_, map, flatten, List·Memᴰ, List·Memᴰ·not-nil}
-use mathlib.Core.List.{List·Memᴰ·cases-cons}
+use mathlib.Core.List.{List·Memᴰ·cases-cons, Memᴰ·map}
 use mathlib.Core.Logic.{_⊎_, inl, inr}
 use mathlib.Core.Option.{some}
 use native.Mathlib.Nat.{le-of-suc-le-suc}
@@ -32,7 +32,7 @@ use Rattle.call_pages.proofs.Fields.{line-line, key-at, gap-1, group-at
 use Rattle.call_pages.proofs.Fields.{gap-3, exits-at, blanks-at, at-right, at-left}
 use Rattle.call_pages.proofs.Fields.{head-line, head-number}
 use Rattle.call_pages.proofs.Blanks.{print-spaces}
-use Rattle.call_pages.proofs.Rows.{blockIn, made-in, rows-all, rows-once}
+use Rattle.call_pages.proofs.Rows.{blockIn, rows-all, rows-once}
 use Rattle.call_pages.proofs.Rows.{rows-numbers, row-inside, row-group}
 use Rattle.call_pages.proofs.Paging.{pages-rows, pages-numbers, pages-few}
 use Rattle.call_pages.proofs.Paging.{page-inside}
@@ -164,7 +164,7 @@ number-small limit bs few p at =
       rows-all limit bs,
       in-range (length (pages limit bs)) 1 (p .number)
           (subst (List·Memᴰ (p .number)) (pages-numbers limit bs)
-          (made-in (λ (q : Page). q .number) (pages limit bs) p at)),
+          (Memᴰ·map (λ (q : Page). q .number) at)),
     )
 
 -- what is claimed of the pages of every file

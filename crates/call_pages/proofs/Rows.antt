@@ -3,7 +3,7 @@
 use Prim.Native.Nat.{ℕ, zero, suc, _+_, _*_, _≤_, _<_}
 use mathlib.Core.Path.{_≡_, refl, sym, ap, ap₂, _∙_, subst}
 use mathlib.Core.List.{List, [], _∷_, _++_, map, flatten, List·Memᴰ, List·Memᴰ·head}
-use mathlib.Core.List.{List·Memᴰ·tail, List·Memᴰ·not-nil, List·Memᴰ·cases-cons}
+use mathlib.Core.List.{List·Memᴰ·tail, List·Memᴰ·not-nil, List·Memᴰ·cases-cons, Memᴰ·map}
 use mathlib.Core.Logic.{_⊎_, inl, inr}
 use native.Mathlib.Nat.{le-of-suc-le-suc}
 use native.Mathlib.Omega.{arith}
@@ -114,12 +114,6 @@ groups-few (g ∷ gs) h =
       length-append g (flatten gs),
     )
 
--- the members of what a function makes
-pub made-in : {A B : Type 0} (f : A → B) (xs : List A) (x : A) → List·Memᴰ x xs
-    → List·Memᴰ (f x) (map f xs)
-made-in f (y ∷ xs) x (List·Memᴰ·head e) = List·Memᴰ·head (ap f e)
-made-in f (y ∷ xs) x (List·Memᴰ·tail m) = List·Memᴰ·tail (made-in f xs x m)
-
 module _ (limit : ℕ) (bs : List Block) where
   abbrev rows : List Row
   rows = rowsOf (plan limit bs)
@@ -149,7 +143,7 @@ module _ (limit : ℕ) (bs : List Block) where
             arith,
             groups-only limit bs (r .block) (omega arith),
             ap (count (r .block)) rows-blocks,
-            counted (made-in blockIn rows r at),
+            counted (Memᴰ·map blockIn at),
           ))
         ]
 

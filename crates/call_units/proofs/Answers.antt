@@ -21,7 +21,8 @@ use Rattle.emit_units.specs.Units.{StartsAt}
 use Rattle.emit_units.specs.Fronts.{PutUnits, PutLengths}
 use Rattle.emit_units.proofs.Cuts.{units-some}
 use Rattle.emit_units.proofs.Fitted.{total-texts}
-use Rattle.call_frame.proofs.Pieces.{Some, some-of, decided-9, decided-first, decided-front}
+use Rattle.call_frame.proofs.Pieces.{Some, none-of, some-of, decided-9, decided-first}
+use Rattle.call_frame.proofs.Pieces.{decided-front}
 use Rattle.call_frame.proofs.Settling.{refused-own, refused-10, refused-short, handed-over}
 use Rattle.call_frame.proofs.Settling.{handed-all}
 use Rattle.call_frame.specs.Frame.{numbered, refusedWith, tooShort}
@@ -51,11 +52,6 @@ either-true false b h = ap (λ (c : Bool). c || false) (h refl)
 
 both-false : (a b : Bool) → a ≡ false → b ≡ false → a || (b || false) ≡ false
 both-false a b p q = ap₂ (λ (c d : Bool). c || (d || false)) p q
-
--- a list of no elements
-none-of : {X : Type 0} (xs : List X) → length xs ≡ 0 → xs ≡ []
-none-of [] e = refl
-none-of (x ∷ xs) e = absurd (omega (arith, e))
 
 -- which number stands for no unit does not matter where there is one
 done-any : (n m : ℕ) (us : List TranslationUnit) → 0 < length us → doneWith n us ≡ doneWith m us
