@@ -1,6 +1,6 @@
-//! Block files in plain Rust: a builder, a check, exits, plan, listing and the answers for units, a
-//! generator, damage and the stored vectors; and what is read off the sources: the list of crates, the
-//! definitions to be believed, and weakenings of them.
+//! Block files in plain Rust: a builder, a check, exits, plan, listing, pages and the answers for
+//! units, a generator, damage and the stored vectors; and what is read off the sources: the list of
+//! crates, the definitions to be believed, and weakenings of them.
 
 pub mod believed;
 pub mod check;
@@ -13,6 +13,7 @@ pub mod lent;
 pub mod listing;
 pub mod model;
 pub mod original;
+pub mod pages;
 pub mod record;
 pub mod rng;
 pub mod samples;

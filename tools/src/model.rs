@@ -1,8 +1,10 @@
-//! Exits, plan and listing of an accepted block file, written from document 01 ('Exits and plan').
+//! Exits, plan, listing and pages of an accepted block file, written from document 01 ('Exits and
+//! plan'); the texts have modules of their own.
 
 use crate::check::{check, words};
 use crate::file::{self, RECORD, TRAILER};
 use crate::listing::{self, Row};
+use crate::pages;
 use std::collections::HashMap;
 
 /// Edges join blocks of this address page only.
@@ -133,14 +135,28 @@ pub fn plan(file: &[u8]) -> Vec<[u32; 2]> {
     out
 }
 
-/// The text of the listing.
-pub fn listing(file: &[u8]) -> String {
+/// Key and exits of every block.
+fn rows(blocks: &[Block]) -> Vec<Row> {
     let row = |block: &Block| Row {
         key: block.key(),
         exits: block.exits(),
     };
-    let rows: Vec<Row> = blocks(file).iter().map(row).collect();
-    listing::text(&rows, &plan(file))
+    blocks.iter().map(row).collect()
+}
+
+/// The text of the listing.
+pub fn listing(file: &[u8]) -> String {
+    listing::text(&rows(&blocks(file)), &plan(file))
+}
+
+/// How many instructions each block has.
+pub fn counts(file: &[u8]) -> Vec<u32> {
+    blocks(file).iter().map(|block| block.count).collect()
+}
+
+/// The pages of the plan.
+pub fn pages(file: &[u8]) -> Vec<String> {
+    pages::texts(&rows(&blocks(file)), &counts(file), &plan(file))
 }
 
 /// The answer for a block's exits as the C interface gives it: numbers it does not have are 0.

@@ -4,6 +4,8 @@
 pub mod units;
 
 use crate::listing::{self, Row};
+use crate::model;
+use crate::pages;
 use crate::units::Unit;
 use std::path::{Path, PathBuf};
 use std::process::Command;
@@ -100,6 +102,12 @@ impl Original {
     /// The text that follows from its plan and exits; it prints no listing of its own.
     pub fn listing(&self, file: &[u8]) -> String {
         listing::text(&self.rows(file), &self.plan(file))
+    }
+
+    /// The pages that follow from its plan and exits, and from how many instructions the file gives
+    /// each block; it prints none of its own.
+    pub fn pages(&self, file: &[u8]) -> Vec<String> {
+        pages::texts(&self.rows(file), &model::counts(file), &self.plan(file))
     }
 
     /// The units that the program writes at this size.

@@ -1,4 +1,4 @@
-//! The generated files that exits, plan, listing and units are compared on.
+//! The generated files that exits, plan, listing, pages and units are compared on.
 
 use crate::file::File;
 use crate::generate::closings::{self, Closings};
@@ -58,6 +58,28 @@ pub fn limits(files: u64, first: u64) -> impl Iterator<Item = Trial> {
         0 | 1 => Trial::Scattered(Params::components(seed)),
         2 => Trial::Scattered(Params::long(seed)),
         _ => Trial::Linked(Linked::limit(seed)),
+    })
+}
+
+/// So many blocks that the last page of the plan, after none or a few others, has one line, is full
+/// or lacks one line.
+const ON_PAGES: [usize; 12] = [1, 59, 60, 61, 119, 120, 121, 179, 180, 181, 600, 601];
+
+/// `files` files at the edges of pages: half of them linked, half of them scattered, which have some
+/// blocks fewer where a key was drawn twice.
+pub fn on_pages(files: u64, first: u64) -> impl Iterator<Item = Trial> {
+    (first..first + files).map(|seed| {
+        let blocks = ON_PAGES[seed as usize / 2 % ON_PAGES.len()];
+        match seed % 2 {
+            0 => Trial::Linked(Linked {
+                blocks,
+                ..Linked::small(seed)
+            }),
+            _ => Trial::Scattered(Params {
+                blocks,
+                ..Params::small(seed)
+            }),
+        }
     })
 }
 

@@ -1,9 +1,10 @@
-//! The files that exits, plan, listing and units are compared on: all are accepted, and what they are for occurs.
+//! The files that exits, plan, listing, pages and units are compared on: all are accepted, and what
+//! they are for occurs.
 
 use recomp_tools::check::check;
 use recomp_tools::generate::linked::{Graph, Linked};
 use recomp_tools::model::{blocks, exits, plan};
-use recomp_tools::trials::{large, largest, limits, most_text, small};
+use recomp_tools::trials::{large, largest, limits, most_text, on_pages, small};
 
 /// The sizes of a plan's groups.
 fn group_sizes(plan: &[[u32; 2]]) -> Vec<usize> {
@@ -73,6 +74,30 @@ fn large_files() {
         }
     }
     assert!(full > 20 && over > 20, "{full} {over}");
+}
+
+/// Last pages with one line, with all lines and with one fewer, after none, one and two others; and
+/// groups of three digits.
+#[test]
+fn files_on_pages() {
+    let mut edges = [[0; 3]; 3];
+    let mut many_groups = 0;
+    for trial in on_pages(480, 0) {
+        let file = trial.file();
+        assert!(check(&file.bytes).is_ok(), "{trial:?}");
+        let before = file.blocks.saturating_sub(1) / 60;
+        if let Some(edges) = edges.get_mut(before) {
+            match file.blocks - 60 * before {
+                1 => edges[0] += 1,
+                59 => edges[1] += 1,
+                60 => edges[2] += 1,
+                _ => {}
+            }
+        }
+        many_groups += (group_sizes(&plan(&file.bytes)).len() > 100) as usize;
+    }
+    assert!(edges.as_flattened().iter().all(|&n| n >= 20), "{edges:?}");
+    assert!(many_groups > 50, "{many_groups}");
 }
 
 #[test]
