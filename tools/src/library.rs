@@ -10,6 +10,7 @@ use recomp_tools::check::Numbers;
 use recomp_tools::fronts::FrontNumbers;
 use recomp_tools::listing::ListingNumbers;
 use recomp_tools::model::{ExitNumbers, PlanNumbers};
+use recomp_tools::pages::{Asked, PageNumbers};
 use recomp_tools::units::UnitNumbers;
 
 pub fn check(file: &[u8]) -> Numbers {
@@ -41,6 +42,26 @@ pub fn plan(file: &[u8], work: &mut [u32], plan: &mut [u32]) -> PlanNumbers {
 pub fn listing(file: &[u8], work: &mut [u32], text: &mut [u8]) -> ListingNumbers {
     let (number, [at, length]) = interface::listing(file, work, text);
     ListingNumbers { number, at, length }
+}
+
+/// One page, or the pages from one on, as many whole ones as fit.
+pub fn pages(file: &[u8], asked: Asked, work: &mut [u32], text: &mut [u8]) -> PageNumbers {
+    let (number, at, count, length) = match asked {
+        Asked::Page(page) => {
+            let (number, [at, length]) = interface::page(file, page, work, text);
+            (number, at, None, length)
+        }
+        Asked::From(first) => {
+            let (number, [at, count, length]) = interface::pages(file, first, work, text);
+            (number, at, Some(count), length)
+        }
+    };
+    PageNumbers {
+        number,
+        at,
+        count,
+        length,
+    }
 }
 
 /// Unit `unit` of those that are handed on from `max_bytes` bytes on.

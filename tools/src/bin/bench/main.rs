@@ -1,9 +1,10 @@
-//! Times the proved library against plain Rust, or against the original, in one run: a command for
-//! each of its calls.
+//! Times the proved library against plain Rust, the original or another of its calls, in one run: a
+//! command for each of its calls.
 
 mod check;
 #[path = "../../library.rs"]
 mod library;
+mod pages;
 mod plan;
 
 use std::process::ExitCode;
@@ -14,18 +15,21 @@ const ROUNDS: usize = 31;
 fn main() -> ExitCode {
     let words: Vec<String> = std::env::args().skip(1).collect();
     let words: Vec<&str> = words.iter().map(String::as_str).collect();
-    match words[..] {
-        [] | ["check"] => check::run(),
-        ["plan"] => {
-            if let Err(reason) = plan::run() {
-                eprintln!("{reason}");
-                return ExitCode::FAILURE;
-            }
+    let timed = match words[..] {
+        [] | ["check"] => {
+            check::run();
+            Ok(())
         }
+        ["plan"] => plan::run(),
+        ["pages"] => pages::run(),
         _ => {
-            eprintln!("usage: bench [check | plan]");
+            eprintln!("usage: bench [check | plan | pages]");
             return ExitCode::from(2);
         }
+    };
+    if let Err(reason) = timed {
+        eprintln!("{reason}");
+        return ExitCode::FAILURE;
     }
     ExitCode::SUCCESS
 }

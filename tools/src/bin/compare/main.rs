@@ -5,6 +5,7 @@ mod exits;
 #[path = "../../library.rs"]
 mod library;
 mod listing;
+mod pages;
 mod plan;
 
 use recomp_tools::original::Original;
@@ -15,11 +16,12 @@ use std::process::ExitCode;
 /// where its words are not understood.
 type Command = (&'static str, &'static str, fn(&[String]) -> Option<u64>);
 
-const COMMANDS: [Command; 4] = [
+const COMMANDS: [Command; 5] = [
     ("check", "[FILES] [FIRST_SEED]", check::run),
     ("exits", "[FILES] [FIRST_SEED]", exits::run),
     ("plan", "[FILES] [FIRST_SEED]", plan::run),
     ("listing", "[FILES] [FIRST_SEED]", listing::run),
+    ("pages", "[FILES] [FIRST_SEED]", pages::run),
 ];
 
 /// How many small files, from which seed on, and the original, whose place the environment names.
