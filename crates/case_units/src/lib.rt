@@ -23,7 +23,8 @@ ghost use Prim.Native.Nat.{_≤_};
 ghost use Rattle.file_blocks.specs.Parse.{parse};
 ghost use Rattle.plan_groups.specs.Limit.{partLimit};
 ghost use Rattle.call_unit.specs.Calls.{unitCall, unitNumbers};
-ghost use Rattle.case_units.specs.UnitCases.{unitCallLeaves, sameUnit};
+ghost use Rattle.case_lent.specs.Left.{sameLeft};
+ghost use Rattle.case_units.specs.UnitCases.{unitCallLeaves};
 
 // What a vector asks for, and how much it lends.
 struct Asked {
@@ -79,7 +80,7 @@ fn is_right(
 ) -> bool
     requires { ⌜ (asked .work ≤ 576) × (asked .text ≤ 65600) ⌝ }
     ensures { λ r. ⌜
-        r ≡ sameUnit (now (expected .entry)) «expected_work» «expected_text»
+        r ≡ sameLeft (now (expected .entry)) «expected_work» «expected_text»
         (unitCallLeaves (asked .size) (asked .unit) (asked .work) (asked .text)
         (now (file .entry)) work text)
         ⌝ }

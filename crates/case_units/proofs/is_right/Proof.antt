@@ -8,7 +8,7 @@ use borrow.Author.Tests.{not-true, not-false}
 use Rattle.file_blocks.specs.Parse.{parse}
 use Rattle.plan_groups.specs.Limit.{partLimit}
 use Rattle.call_unit.specs.Calls.{unitCall, unitNumbers}
-use Rattle.case_units.proofs.Compared.{compared}
+use Rattle.case_lent.proofs.Compared.{compared}
 use borrow.Author.Needs.{needs}
 use Rattle.case_units.proofs.is_right.Statement.{statement}
 use Rattle.case_units.proofs.is_right.Tie as tie

@@ -1,2 +1,2 @@
 -- The laws that proofs cite.
-mod Compared
+pub mod Compared

@@ -1,0 +1,2 @@
+-- The definitions that promises on vectors name.
+pub mod Left
