@@ -6,6 +6,7 @@ pub mod grouping;
 mod instructions;
 mod long;
 mod order;
+pub mod pages;
 mod trailer;
 pub mod units;
 

@@ -2,9 +2,11 @@
 
 use recomp_tools::check::check;
 use recomp_tools::fronts::{FrontNumbers, Lent};
+use recomp_tools::pages::{Asked, PageNumbers};
 use recomp_tools::units::{Unit, UnitNumbers};
 use recomp_tools::vectors::fronts::{encode_fronts, FrontVector};
 use recomp_tools::vectors::grouping::{encode_exits, encode_plans, exits, plans, PlanVector};
+use recomp_tools::vectors::pages::{encode_pages, page, pages, PageVector};
 use recomp_tools::vectors::units::{encode_units, UnitVector};
 use recomp_tools::vectors::{all, encode};
 
@@ -73,6 +75,69 @@ fn beyond(v: &PlanVector) -> [i64; 2] {
         v.work_len as i64 - 4 * blocks,
         v.plan_len as i64 - 2 * blocks,
     ]
+}
+
+/// Vectors of either call with an answer of this number, for files with so many blocks.
+fn page_vectors(vectors: &[PageVector], number: u32, blocks: u64) -> Vec<&PageVector> {
+    let of = |v: &&PageVector| {
+        let checked = check(&v.file);
+        v.expected.number == number && checked.is_ok_and(|counts| counts.blocks == blocks)
+    };
+    vectors.iter().filter(of).collect()
+}
+
+/// A text exactly full and a byte short, pages that there are not, and too few work numbers, for as
+/// many blocks as fill a page, for one fewer and for one more.
+#[test]
+fn page_numbers_and_sizes() {
+    for vectors in [page(), pages()] {
+        for blocks in [1, 3, 59, 60, 61, 120, 121] {
+            let lent = |number: u32, room: [i64; 2]| {
+                let of = page_vectors(&vectors, number, blocks);
+                let is = |v: &&&PageVector| {
+                    let needed = 4 * blocks as i64;
+                    let work = v.work_len as i64 - needed;
+                    let text = v.text_len as i64 - v.expected.length as i64;
+                    [work, text] == room
+                };
+                of.iter().filter(is).count()
+            };
+            let answered = lent(0, [0, 0]) + lent(0, [1, 0]);
+            assert!(answered >= 1, "{blocks} blocks");
+            let refused = |number| page_vectors(&vectors, number, blocks).len();
+            assert!(refused(8) >= 4 && refused(9) >= 4 && refused(10) >= 2);
+        }
+        assert_eq!(page_vectors(&vectors, 9, 0).len(), 4);
+        let sized = encode_pages(&vectors).len();
+        assert!(sized < 500_000, "{sized}");
+    }
+}
+
+/// Lines with no exit, one and two; groups of up to three digits and counts of up to three; keys
+/// that do not rise; and pages with every number of lines at an edge, up to three in one text.
+#[test]
+fn lines_of_page_vectors() {
+    let texts: Vec<String> = pages().into_iter().map(|v| v.text).collect();
+    let lines = || texts.iter().flat_map(|text| text.lines());
+    let blocks = || lines().filter(|line| !line.starts_with(' '));
+    for width in [0, 8, 17] {
+        let exits = |line: &&str| line[23..].trim_end().len() == width;
+        assert!(blocks().filter(exits).count() >= 50, "{width}");
+    }
+    for digits in 1..=3 {
+        let of = |line: &&str, field: std::ops::Range<usize>| line[field].trim().len() == digits;
+        assert!(blocks().any(|line| of(&line, 9..15)), "{digits}");
+        assert!(blocks().any(|line| of(&line, 16..22)), "{digits}");
+    }
+    let falls = |text: &&String| {
+        let keys: Vec<&str> = text.lines().filter(|l| !l.starts_with(' ')).collect();
+        keys.windows(2).any(|two| two[0] > two[1])
+    };
+    assert!(texts.iter().filter(falls).count() >= 10);
+    let lengths: Vec<usize> = texts.iter().map(|text| text.len() / 65).collect();
+    for lines in [2, 60, 61, 63, 122, 124] {
+        assert!(lengths.contains(&lines), "{lines}");
+    }
 }
 
 /// The original, which makes the texts of the stored vectors, is not at hand here.
@@ -149,4 +214,34 @@ fn encoded_fronts() {
         words(&[3, 2]),
     ];
     assert_eq!(encode_fronts(&[front(None, None)]), lengths.concat());
+}
+
+#[test]
+fn encoded_pages() {
+    let vector = |asked, count| PageVector {
+        asked,
+        work_len: 4,
+        text_len: 5,
+        cleared: 6,
+        expected: PageNumbers {
+            number: 7,
+            at: 8,
+            count,
+            length: 3,
+        },
+        text: "abc".to_string(),
+        file: vec![0xff, 0xfe],
+    };
+    let number = (3 << 32) + 2;
+    let both = [
+        vector(Asked::Page(number), None),
+        vector(Asked::From(number), Some(9)),
+    ];
+    let mut expected = 2u32.to_le_bytes().to_vec();
+    for count in [0, 9] {
+        let numbers: [u32; 10] = [2, 3, 4, 5, 6, 7, 8, count, 3, 2];
+        expected.extend(numbers.iter().flat_map(|n| n.to_le_bytes()));
+        expected.extend_from_slice(&[0xff, 0xfe, b'a', b'b', b'c']);
+    }
+    assert_eq!(encode_pages(&both), expected);
 }

@@ -33,6 +33,12 @@ fn name(section: Section) {
         Section::Lengths => {
             text(b"lengths");
         }
+        Section::Page => {
+            text(b"page");
+        }
+        Section::Pages => {
+            text(b"pages");
+        }
     }
 }
 

@@ -9,6 +9,8 @@ pub enum Section {
     Units,
     Fronts,
     Lengths,
+    Page,
+    Pages,
 }
 
 // What became of a vector.

@@ -26,6 +26,12 @@ fn main() {
     if !sections::replay(Section::Lengths) {
         return;
     }
+    if !sections::replay(Section::Page) {
+        return;
+    }
+    if !sections::replay(Section::Pages) {
+        return;
+    }
     if !input::at_end() {
         report::goes_on();
     }

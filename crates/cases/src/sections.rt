@@ -18,6 +18,8 @@ fn replay_one(section: Section, k: u64) -> Verdict {
         Section::Units => case_units::replay_one(k),
         Section::Fronts => units_cases::replay_one(k),
         Section::Lengths => lengths_cases::replay_one(k),
+        Section::Page => case_pages::replay_one(k, false),
+        Section::Pages => case_pages::replay_one(k, true),
     }
 }
 

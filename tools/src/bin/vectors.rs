@@ -4,6 +4,7 @@
 use recomp_tools::original::Original;
 use recomp_tools::vectors::fronts::{encode_fronts, fronts, lengths};
 use recomp_tools::vectors::grouping::{encode_exits, encode_plans, exits, plans};
+use recomp_tools::vectors::pages::{encode_pages, page, pages};
 use recomp_tools::vectors::units::{encode_units, units};
 use recomp_tools::vectors::{all, encode};
 use std::process::ExitCode;
@@ -11,42 +12,28 @@ use std::process::ExitCode;
 /// A section's bytes, and the number of the answer of each of its vectors.
 type Section = (Vec<u8>, Vec<u32>);
 
-const USAGE: &str = "usage: vectors PATH [check | exits | plan | units | fronts | lengths]...";
+const USAGE: &str =
+    "usage: vectors PATH [check | exits | plan | units | fronts | lengths | page | pages]...";
+
+/// The section of some vectors.
+fn encoded<V>(vectors: Vec<V>, number: fn(&V) -> u32, encode: fn(&[V]) -> Vec<u8>) -> Section {
+    let numbers = vectors.iter().map(number).collect();
+    (encode(&vectors), numbers)
+}
 
 fn section(name: &str) -> Result<Section, String> {
-    match name {
-        "check" => {
-            let vectors = all();
-            let numbers = vectors.iter().map(|v| v.expected.number).collect();
-            Ok((encode(&vectors), numbers))
-        }
-        "exits" => {
-            let vectors = exits();
-            let numbers = vectors.iter().map(|v| v.expected.number).collect();
-            Ok((encode_exits(&vectors), numbers))
-        }
-        "plan" => {
-            let vectors = plans();
-            let numbers = vectors.iter().map(|v| v.expected.number).collect();
-            Ok((encode_plans(&vectors), numbers))
-        }
-        "units" => {
-            let vectors = units(&Original::new()?.build("units")?);
-            let numbers = vectors.iter().map(|v| v.expected.number).collect();
-            Ok((encode_units(&vectors), numbers))
-        }
-        "fronts" => {
-            let vectors = fronts(&Original::new()?.build("units")?);
-            let numbers = vectors.iter().map(|v| v.expected.number).collect();
-            Ok((encode_fronts(&vectors), numbers))
-        }
-        "lengths" => {
-            let vectors = lengths(&Original::new()?.build("units")?);
-            let numbers = vectors.iter().map(|v| v.expected.number).collect();
-            Ok((encode_fronts(&vectors), numbers))
-        }
-        _ => Err(USAGE.to_string()),
-    }
+    let original = || Original::new()?.build("units");
+    Ok(match name {
+        "check" => encoded(all(), |v| v.expected.number, encode),
+        "exits" => encoded(exits(), |v| v.expected.number, encode_exits),
+        "plan" => encoded(plans(), |v| v.expected.number, encode_plans),
+        "units" => encoded(units(&original()?), |v| v.expected.number, encode_units),
+        "fronts" => encoded(fronts(&original()?), |v| v.expected.number, encode_fronts),
+        "lengths" => encoded(lengths(&original()?), |v| v.expected.number, encode_fronts),
+        "page" => encoded(page(), |v| v.expected.number, encode_pages),
+        "pages" => encoded(pages(), |v| v.expected.number, encode_pages),
+        _ => return Err(USAGE.to_string()),
+    })
 }
 
 fn print(name: &str, bytes: &[u8], numbers: &[u32]) {

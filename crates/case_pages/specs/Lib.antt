@@ -1,0 +1,2 @@
+-- The definitions that the crate's promises name.
+pub mod PageCases
