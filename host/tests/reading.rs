@@ -42,6 +42,18 @@ fn plan_prints_group_and_block() {
 }
 
 #[test]
+fn page_prints_all_pages_or_one() {
+    for file in files() {
+        let pages = model::pages(&file);
+        assert_eq!(recomp_on(&file, &["page", "-"]).printed(), pages.concat());
+        for (before, page) in pages.iter().enumerate().rev().take(5) {
+            let one = recomp_on(&file, &["page", "-", &(before + 1).to_string()]);
+            assert_eq!(one.printed(), *page);
+        }
+    }
+}
+
+#[test]
 fn listing_prints_the_listing() {
     for file in files() {
         let text = model::listing(&file);
