@@ -72,7 +72,7 @@ uint32_t recomp_listing(const uint8_t *file, size_t file_len, uint32_t *work, si
  * from 1; the last has the blocks that are left, and a file without blocks has no page. Every line
  * has 64 characters and a newline. The first of a page has its number, in decimal, at the right;
  * each of the others has, for a block:
- *     columns 1 to 8    its key, in hexadecimal
+ *     columns 1 to 8    its key, as 8 lower-case hexadecimal digits
  *     columns 10 to 15  its group, from 0, in decimal at the right
  *     columns 17 to 22  how many instructions it has, likewise
  *     columns 24 to 40  the keys that it can statically go to, with a blank between two of them

@@ -55,8 +55,8 @@ asksPage limit k =
           ifFound (madePage bs) (getElem? (fromPage k (pages limit bs)) 0);
     }
 
--- what the call for pages makes: from page k on as many whole pages as fit the text, or 9 where
--- there is no page k
+-- what the call for pages makes: from page k on as many whole pages as fit the text (page k alone
+-- where not even that does, for which the text is then too short), or 9 where there is no page k
 abbrev pub asksPages : ℕ → ℕ → Call PagesValues
 asksPages limit k =
     record {

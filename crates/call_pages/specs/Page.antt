@@ -67,7 +67,7 @@ abbrev pub perPage : ℕ
 perPage = 60
 
 -- the pages of some rows, of which the first is page k: sixty rows on each, and on the last those
--- that are left; m is at least as many as they are
+-- that are left; m is at least the number of these pages
 unfoldable pub pagesFrom : ℕ → ℕ → List Row → List Page
 pagesFrom zero k rows = []
 pagesFrom (suc m) k rows =
