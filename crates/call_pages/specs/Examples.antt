@@ -3,10 +3,11 @@
 use Prim.Native.Nat.{ℕ, zero, suc, _^_}
 use mathlib.Core.Path.{_≡_, refl, sym, ap, _∙_}
 use mathlib.Core.Bool.{Bool, true, false, _||_, true≢false}
-use mathlib.Core.List.{List, [], _∷_, _++_, map, List·Memᴰ·head}
+use mathlib.Core.List.{List, [], _∷_, _++_, map, List·Memᴰ·head, List·Memᴰ·tail}
+use mathlib.Core.Option.{some, Option·some-injective}
 use native.Mathlib.Omega.{arith}
 use borrow.Author.Tests.{eq-eqb}
-use lib.ListN.{length, getD, replicate, length-append}
+use lib.ListN.{length, getD, drop, replicate, length-append}
 use Rattle.call_frame.specs.Answer.{refusal, value}
 use Rattle.call_frame.specs.Frame.{Outcome, settle, callOnBlocks, callFrame}
 use Rattle.call_frame.specs.Pieces.{ofThoseThatFit}
@@ -15,7 +16,8 @@ use Rattle.base_forest.specs.Roots.{follow}
 use Rattle.base_lists.specs.Lists.{among}
 use Rattle.base_text.specs.Digits.{numeral, lastDigits}
 use Rattle.base_text.specs.Doc.{Doc, text, dec, _▸_, decimal, hexadecimal8, print, each}
-use Rattle.file_blocks.specs.Parse.{Parsed}
+use Rattle.armv4t.specs.declared.Op.the-variants.{Branch}
+use Rattle.file_blocks.specs.Parse.{Block, Parsed}
 use Rattle.plan_search.specs.Target.{target}
 use Rattle.plan_exits.specs.Examples.{armBlock, threeBlocks}
 use Rattle.plan_exits.specs.Exits.{exits, instrExits}
@@ -24,7 +26,8 @@ use Rattle.plan_groups.specs.Plan.{joinExits, joinBlocks, parents, withRoot, in
 use Rattle.plan_groups.specs.Plan.{parts, groupsFrom, groups, rowsFrom, plan}
 use Rattle.call_pages.specs.Page.{rightIn, pageLine, blockLine, Row, rowsOf, rowLine}
 use Rattle.call_pages.specs.Page.{Page, pagesFrom, pages, headLine, pageText, pageLength}
-use Rattle.call_pages.specs.Claims.{IsLine, columns, AtRight, AtLeft, Words}
+use Rattle.call_pages.specs.Claims.{IsLine, columns, AtRight, AtLeft, Words, FieldsWhole}
+use Rattle.call_pages.specs.Claims.{RowWhole, HeadWhole}
 use Rattle.call_pages.specs.Calls.{PagesValues, fromPage, madePages, pageCall}
 use Rattle.call_pages.specs.Calls.{pagesCall, pageNumbers, pagesNumbers}
 
@@ -134,6 +137,15 @@ broken-line l =
     go (c ∷ cs) w u e =
         true≢false (sym (ap (λ (b : Bool). b || among 10 cs) (eq-eqb 10 c e)) ∙ u)
 
+-- nor are 65 characters, the last of which is no newline
+unended-line : IsLine (replicate 65 32) → ⊥
+unended-line l = go 65 (l .characters) (l .ended)
+  where
+    go : (n : ℕ) (cs : List ℕ) → replicate n 32 ≡ cs ++ (10 ∷ []) → ⊥
+    go zero cs e = omega (arith, ap length e, length-append cs (10 ∷ []))
+    go (suc n) [] e = omega (arith, ap (λ (s : List ℕ). getD s 0 0) e)
+    go (suc n) (c ∷ cs) e = go n cs (ap (drop 1) e)
+
 -- a number of seven digits is not whole in six columns
 cut-number : AtRight (decimal 1234567) (columns 10 15 (replicate 9 32 ++ decimal 1234567)) → ⊥
 unfolding decimal numeral
@@ -155,9 +167,99 @@ not-right a = go (a .blanks) (a .same)
 not-left : AtLeft (55 ∷ []) (32 ∷ 55 ∷ []) → ⊥
 not-left a = omega (arith, ap (λ (s : List ℕ). getD s 0 0) (a .same))
 
+-- nor is a text whole where more than blanks stands before it, or after it
+after-more : AtRight (55 ∷ []) (56 ∷ 55 ∷ []) → ⊥
+after-more a = go (a .blanks) (a .same)
+  where
+    go : (k : ℕ) → _≡_ {A = List ℕ} (56 ∷ 55 ∷ []) (replicate k 32 ++ (55 ∷ [])) → ⊥
+    go zero e = omega (arith, ap length e)
+    go (suc k) e = omega (arith, ap (λ (s : List ℕ). getD s 0 0) e)
+
+before-more : AtLeft (55 ∷ []) (55 ∷ 56 ∷ []) → ⊥
+before-more a = go (a .blanks) (a .same)
+  where
+    go : (k : ℕ) → _≡_ {A = List ℕ} (55 ∷ 56 ∷ []) (55 ∷ replicate k 32) → ⊥
+    go zero e = omega (arith, ap length e)
+    go (suc k) e = omega (arith, ap (λ (s : List ℕ). getD s 1 0) e)
+
 -- eight digits do not hold 2^32
 no-word : Words (2 ^ 32 ∷ []) → ⊥
 no-word w = omega (arith, w (2 ^ 32) (List·Memᴰ·head refl))
+
+-- a block at an address, with a branch to another
+abbrev branching : ℕ → ℕ → Block
+branching at to = armBlock at (Branch false to)
+
+-- a key of 33 bits is not whole in its eight digits, nor is such an exit
+wide-key : FieldsWhole 1 (branching (2 ^ 32) 8)
+    (print (text "00000000      1      1 00000008                                 \n"))
+    → ⊥
+unfolding armBlock
+wide-key w = omega (arith, w .keys (2 ^ 32) (List·Memᴰ·head refl))
+
+wide-exit : FieldsWhole 1 (branching 8 (2 ^ 32))
+    (print (text "00000008      1      1 00000000                                 \n"))
+    → ⊥
+unfolding armBlock exits instrExits
+wide-exit w = omega (arith, w .keys (2 ^ 32) (List·Memᴰ·tail (List·Memᴰ·head refl)))
+
+-- a line with the fields of the first of three blocks, in group 1
+abbrev Whole : Doc → Type 0
+Whole d = FieldsWhole 1 (branching 0x0800_0000 0x0800_0008) (print d)
+
+-- a line that has something else in one place has not these fields
+other-key : Whole (text "08000001      1      1 08000008                                 \n") → ⊥
+unfolding print hexadecimal8 lastDigits armBlock
+other-key w = omega (arith, ap (λ (s : List ℕ). getD s 7 0) (w .key))
+
+no-gap-1 : Whole (text "08000000-     1      1 08000008                                 \n") → ⊥
+unfolding print
+no-gap-1 w = omega (arith, ap (λ (s : List ℕ). getD s 0 0) (w .after-key))
+
+other-group : Whole (text "08000000 111111      1 08000008                                 \n") → ⊥
+unfolding print decimal numeral
+other-group w = go (w .group-whole .blanks) (w .group-whole .same)
+  where
+    go : (k : ℕ) → print (text "111111") ≡ replicate k 32 ++ decimal 1 → ⊥
+    go zero e = omega (arith, ap length e)
+    go (suc k) e = omega (arith, ap (λ (s : List ℕ). getD s 0 0) e)
+
+no-gap-2 : Whole (text "08000000      1-     1 08000008                                 \n") → ⊥
+unfolding print
+no-gap-2 w = omega (arith, ap (λ (s : List ℕ). getD s 0 0) (w .after-group))
+
+other-count : Whole (text "08000000      1 111111 08000008                                 \n") → ⊥
+unfolding print decimal numeral armBlock
+other-count w = go (w .count-whole .blanks) (w .count-whole .same)
+  where
+    go : (k : ℕ) → print (text "111111") ≡ replicate k 32 ++ decimal 1 → ⊥
+    go zero e = omega (arith, ap length e)
+    go (suc k) e = omega (arith, ap (λ (s : List ℕ). getD s 0 0) e)
+
+no-gap-3 : Whole (text "08000000      1      1-08000008                                 \n") → ⊥
+unfolding print
+no-gap-3 w = omega (arith, ap (λ (s : List ℕ). getD s 0 0) (w .after-count))
+
+other-exit : Whole (text "08000000      1      1 08000009                                 \n") → ⊥
+unfolding print hexadecimal8 lastDigits armBlock exits instrExits
+other-exit w = omega (arith, ap (λ (s : List ℕ). getD s 7 0) (w .exits-whole .same))
+
+more-after : Whole (text "08000000      1      1 08000008                                -\n") → ⊥
+unfolding print
+more-after w = omega (arith, ap (λ (s : List ℕ). getD s 23 0) (w .after-exits))
+
+-- a row's block is the one at its place, even where another has the same line
+abbrev sameLines : List Block
+sameLines =
+    branching 8 8
+    ∷ record { addr = 8; thumb = false; code = some []; instrs = branching 8 8 .instrs } ∷ []
+
+row-block : (w : RowWhole sameLines (record { group = 0; block = 0 })) → w .block ≡ branching 8 8
+row-block w = sym (Option·some-injective _ _ (w .is))
+
+-- 20 digits do not hold 10^20
+wide-head : HeadWhole (10 ^ 20) → ⊥
+wide-head h = omega (arith, h .small)
 
 -- eleven work numbers are too few
 page-8 : pageCall partLimit 1 (Parsed.accepted threeBlocks) (replicate 11 5) []
