@@ -45,6 +45,12 @@ madePages bs ps =
     makes (record { count = length ps; length = length (print (each (pageText bs) ps)) })
     (print (each (pageText bs) ps) ∷ [])
 
+-- what is made of some pages, by the text that is lent: as many whole ones as fit it
+abbrev pub fittingPages : List Block → List ℕ → List Page → Decision PagesValues
+fittingPages bs rooms =
+    ofThoseThatFit (madePages bs)
+    (λ (ps : List Page). fitting (pageLength bs) (getD rooms 0 0) (length ps) ps)
+
 -- what the call for one page makes: page k, or 9 where there is none
 abbrev pub asksPage : ℕ → ℕ → Call ℕ
 asksPage limit k =
@@ -63,9 +69,7 @@ asksPages limit k =
       early = none;
       perBlock = 4;
       own = λ (bs : List Block) (rooms : List ℕ).
-          ofThoseThatFit (madePages bs)
-          (λ (ps : List Page). fitting (pageLength bs) (getD rooms 0 0) (length ps) ps)
-          (fromPage k (pages limit bs));
+          fittingPages bs rooms (fromPage k (pages limit bs));
     }
 
 -- the call for page k of a file, by the work numbers and the text that are lent

@@ -72,24 +72,24 @@ rowNumbers r = r .group ∷ r .block ∷ []
 abbrev pub rowsOn : List Page → List Row
 rowsOn ps = flatten (map (λ (p : Page). p .rows) ps)
 
--- what is claimed of the pages of some blocks, grouped by a limit
-pub record PagesHold (limit : ℕ) (bs : List Block) : Type 0 where
+-- what is claimed of pages, as those of some blocks, grouped by a limit
+pub record PagesHold (limit : ℕ) (bs : List Block) (ps : List Page) : Type 0 where
   -- they are counted from 1
-  pub numbers : map (λ (p : Page). p .number) (pages limit bs) ≡ range (length (pages limit bs)) 1
+  pub numbers : map (λ (p : Page). p .number) ps ≡ range (length ps) 1
   -- the text of each is its head and the lines of its rows, one after another
-  pub texts : (p : Page) → List·Memᴰ p (pages limit bs)
+  pub texts : (p : Page) → List·Memᴰ p ps
       → print (pageText bs p)
       ≡ print (headLine (p .number)) ++ flatten (map (λ (r : Row). print (rowLine bs r)) (p .rows))
   -- each head and each of these lines has its width, and no field of it is cut
-  pub heads : (p : Page) → List·Memᴰ p (pages limit bs) → HeadWhole (p .number)
-  pub lines : (p : Page) → List·Memᴰ p (pages limit bs) → (r : Row) → List·Memᴰ r (p .rows)
+  pub heads : (p : Page) → List·Memᴰ p ps → HeadWhole (p .number)
+  pub lines : (p : Page) → List·Memᴰ p ps → (r : Row) → List·Memᴰ r (p .rows)
       → RowWhole bs r
   -- the rows are those of the plan, in its order
-  pub order : flatten (map rowNumbers (rowsOn (pages limit bs))) ≡ plan limit bs
+  pub order : flatten (map rowNumbers (rowsOn ps)) ≡ plan limit bs
   -- each block has one of them
   pub once : (i : ℕ) → i < length bs
-      → count i (map (λ (r : Row). r .block) (rowsOn (pages limit bs))) ≡ 1
+      → count i (map (λ (r : Row). r .block) (rowsOn ps)) ≡ 1
 
--- the same of the pages of a file, where it is accepted
+-- the pages of a file are such, where it is accepted
 abbrev pub PageClaims : ℕ → List ℕ → Type 0
-PageClaims limit f = (bs : List Block) → AcceptedAs f bs → PagesHold limit bs
+PageClaims limit f = (bs : List Block) → AcceptedAs f bs → PagesHold limit bs (pages limit bs)

@@ -3,21 +3,20 @@
 use Prim.Native.Nat.{ℕ, zero, suc, _^_}
 use mathlib.Core.Path.{_≡_, refl, sym, ap, _∙_}
 use mathlib.Core.Bool.{Bool, true, false, _||_, true≢false}
-use mathlib.Core.List.{List, [], _∷_, _++_, map, List·Memᴰ·head, List·Memᴰ·tail}
+use mathlib.Core.List.{List, [], _∷_, _++_, map, flatten, List·Memᴰ·head, List·Memᴰ·tail}
 use mathlib.Core.Option.{some, Option·some-injective}
 use native.Mathlib.Omega.{arith}
 use borrow.Author.Tests.{eq-eqb}
 use lib.ListN.{length, getD, drop, replicate, length-append}
 use Rattle.call_frame.specs.Answer.{refusal, value}
 use Rattle.call_frame.specs.Frame.{Outcome, settle, callOnBlocks, callFrame}
-use Rattle.call_frame.specs.Pieces.{ofThoseThatFit}
 use Rattle.base_fitting.specs.Fitting.{fitting}
 use Rattle.base_forest.specs.Roots.{follow}
-use Rattle.base_lists.specs.Lists.{among}
+use Rattle.base_lists.specs.Lists.{among, count}
 use Rattle.base_text.specs.Digits.{numeral, lastDigits}
 use Rattle.base_text.specs.Doc.{Doc, text, dec, _▸_, decimal, hexadecimal8, print, each}
 use Rattle.armv4t.specs.declared.Op.the-variants.{Branch}
-use Rattle.file_blocks.specs.Parse.{Block, Parsed}
+use Rattle.file_blocks.specs.Parse.{Block, blockKey, Parsed}
 use Rattle.plan_search.specs.Target.{target}
 use Rattle.plan_exits.specs.Examples.{armBlock, threeBlocks}
 use Rattle.plan_exits.specs.Exits.{exits, instrExits}
@@ -25,10 +24,10 @@ use Rattle.plan_groups.specs.Limit.{partLimit}
 use Rattle.plan_groups.specs.Plan.{joinExits, joinBlocks, parents, withRoot, insert, sortByKey}
 use Rattle.plan_groups.specs.Plan.{parts, groupsFrom, groups, rowsFrom, plan}
 use Rattle.call_pages.specs.Page.{rightIn, pageLine, blockLine, Row, rowsOf, rowLine}
-use Rattle.call_pages.specs.Page.{Page, pagesFrom, pages, headLine, pageText, pageLength}
+use Rattle.call_pages.specs.Page.{Page, pagesFrom, pages, headLine, pageText}
 use Rattle.call_pages.specs.Claims.{IsLine, columns, AtRight, AtLeft, Words, FieldsWhole}
-use Rattle.call_pages.specs.Claims.{RowWhole, HeadWhole}
-use Rattle.call_pages.specs.Calls.{PagesValues, fromPage, madePages, pageCall}
+use Rattle.call_pages.specs.Claims.{RowWhole, HeadWhole, PagesHold}
+use Rattle.call_pages.specs.Calls.{PagesValues, fromPage, fittingPages, pageCall}
 use Rattle.call_pages.specs.Calls.{pagesCall, pageNumbers, pagesNumbers}
 
 -- the lines of three blocks
@@ -261,6 +260,36 @@ row-block w = sym (Option·some-injective _ _ (w .is))
 wide-head : HeadWhole (10 ^ 20) → ⊥
 wide-head h = omega (arith, h .small)
 
+-- some rows, each by its group and its block, on one page
+abbrev pageOf : ℕ → List (ℕ × ℕ) → Page
+pageOf k rs =
+    record { number = k; rows = map (λ (r : ℕ × ℕ). record { group = r .0; block = r .1 }) rs }
+
+-- the rows of three blocks are not their pages with the number 0, nor in another order, nor where
+-- one is lost
+page-of-0 : PagesHold partLimit threeBlocks (pageOf 0 ((0, 1) ∷ (1, 0) ∷ (1, 2) ∷ []) ∷ []) → ⊥
+page-of-0 h = omega (arith, ap (λ (ks : List ℕ). getD ks 0 0) (h .numbers))
+
+file-order : PagesHold partLimit threeBlocks (pageOf 1 ((1, 0) ∷ (0, 1) ∷ (1, 2) ∷ []) ∷ []) → ⊥
+unfolding flatten threeBlocks armBlock plan rowsFrom groups groupsFrom parts sortByKey insert
+    withRoot parents joinBlocks joinExits target follow exits instrExits
+file-order h = omega (arith, ap (λ (ns : List ℕ). getD ns 0 0) (h .order))
+
+row-lost : PagesHold partLimit threeBlocks (pageOf 1 ((0, 1) ∷ (1, 0) ∷ []) ∷ []) → ⊥
+unfolding flatten count threeBlocks
+row-lost h = omega (arith, h .once 2 (omega arith))
+
+-- nor is a page one of a block with a key of 33 bits
+row-wide : PagesHold partLimit (branching (2 ^ 32) 8 ∷ []) (pageOf 1 ((0, 0) ∷ []) ∷ []) → ⊥
+unfolding armBlock
+row-wide h =
+    let w = h .lines (pageOf 1 ((0, 0) ∷ [])) (List·Memᴰ·head refl) _ (List·Memᴰ·head refl) in
+    omega (
+      arith,
+      w .fields .keys (blockKey (w .block)) (List·Memᴰ·head refl),
+      ap blockKey (Option·some-injective _ _ (w .is)),
+    )
+
 -- eleven work numbers are too few
 page-8 : pageCall partLimit 1 (Parsed.accepted threeBlocks) (replicate 11 5) []
     ≡ record { answer = refusal 8 0; work = replicate 11 5; results = [] ∷ [] }
@@ -326,11 +355,7 @@ twoPages =
 
 -- what the call for pages leaves of some pages, by a text
 abbrev leaves : List Page → List ℕ → Outcome PagesValues
-leaves ps lent =
-    settle
-    (ofThoseThatFit (madePages threeBlocks)
-    (λ (qs : List Page). fitting (pageLength threeBlocks) (length lent) (length qs) qs) ps) []
-    (lent ∷ [])
+leaves ps lent = settle (fittingPages threeBlocks (length lent ∷ []) ps) [] (lent ∷ [])
 
 -- there is none
 pages-9 : leaves [] (7 ∷ []) ≡ record { answer = refusal 9 0; work = []; results = (7 ∷ []) ∷ [] }
