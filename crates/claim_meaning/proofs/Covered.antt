@@ -1,14 +1,18 @@
--- A covered record that is native, or half of a BL, is one of which the manual says what it does.
+-- A covered record that is native, or half of a BL, is one of which the manual says what it does;
+-- which records are covered without exception.
 use Prim.Native.Nat.{ℕ}
 use mathlib.Core.Path.{_≡_, refl, sym}
 use mathlib.Core.Bool.{Bool, true, false, not, _&&_, _||_, true≢false}
+use Rattle.armv4t.specs.declared.Cond.{Cond}
+use Rattle.armv4t.specs.declared.Op.the-variants.{BlockMem}
 use Rattle.armv4t.specs.declared.Instr.{Instr}
 use Rattle.file_instrs.specs.declared.decode.TimedInstr.{TimedInstr}
 use Rattle.armv4t_manual.specs.Unsaid.{noInstruction, unpredictable, isNv}
 use Rattle.lower_forms.specs.Block.{emitInstr}
 use Rattle.lower_forms.specs.Differs.{differsIn}
 use Rattle.lower_forms.proofs.Body.{or-l, or-r}
-use Rattle.claim_meaning.specs.Block.{isNative, isHalf, isSaid, isCovered}
+use Rattle.claim_meaning.specs.Block.{isNative, isNativeRecord, isHalf, isSaid}
+use Rattle.claim_meaning.specs.Block.{isCovered}
 
 -- the manual says what an instruction does, and it is no named difference
 pub record Said (i : Instr) : Type 0 where
@@ -38,6 +42,28 @@ said-of i e =
           or-r (noInstruction i || unpredictable (i .op) || isNv (i .cond)) (differsIn i (i .op))
           all;
     }
+
+or-true : (b : Bool) → (b || true) ≡ true
+or-true true = refl
+or-true false = refl
+
+-- no load or store of several registers is excepted from the claim on blocks, but under NV
+module _ (a cost : ℕ) (c : Cond) (thumb ld : Bool) (rn rlist : ℕ) (pre up s-bit writeback : Bool)
+  where
+    abbrev blockMem : TimedInstr
+    blockMem =
+        record {
+          instr = record {
+            addr = a;
+            cond = c;
+            op = BlockMem ld rn rlist pre up s-bit writeback;
+            thumb = thumb;
+          };
+          cost = cost;
+        }
+
+    pub block-mem-covered : (region : ℕ) → isNv c ≡ false → isCovered region blockMem ≡ true
+    block-mem-covered region e = rw e (or-true (not (isNativeRecord region blockMem) && true))
 
 native-said : (n h s : Bool) → n ≡ true → ((not n && not h) || s) ≡ true → s ≡ true
 native-said true h s e p = p

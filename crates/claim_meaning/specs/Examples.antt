@@ -1,13 +1,14 @@
--- Examples: that T agrees with the key needs records that are covered. The halves of a Thumb BL in
--- an ARM block are not, and the text of the pair leads to a Thumb key with T clear.
+-- Examples: a store of a base that is not the lowest is covered. That T agrees with the key needs
+-- records that are covered: the halves of a Thumb BL in an ARM block are not, and the text of the
+-- pair leads to a Thumb key with T clear.
 use Prim.Native.Nat.{ℕ}
 use mathlib.Core.Path.{_≡_, refl}
-use mathlib.Core.Bool.{false}
+use mathlib.Core.Bool.{true, false}
 use mathlib.Core.List.{[], _∷_}
 use mathlib.Core.Option.{some}
 use Rattle.armv4t.specs.declared.Cond.the-variants.{Al}
 use Rattle.armv4t.specs.declared.Op.{Op}
-use Rattle.armv4t.specs.declared.Op.the-variants.{ThumbBlHigh, ThumbBlLow}
+use Rattle.armv4t.specs.declared.Op.the-variants.{ThumbBlHigh, ThumbBlLow, BlockMem}
 use Rattle.armv4t.specs.declared.Fused.the-variants.{Pair}
 use Rattle.armv4t.specs.Fused.{fuse}
 use Rattle.file_instrs.specs.declared.decode.TimedInstr.{TimedInstr}
@@ -16,15 +17,24 @@ use Rattle.c_meaning.specs.State.{bind, State, empty}
 use Rattle.c_meaning.specs.Eval.{eval, evalAs}
 use Rattle.c_meaning.specs.Exec.{Goes, back, exec, step, runs}
 use Rattle.c_meaning.specs.Helpers.{run}
-use Rattle.lower_forms.specs.InlineBody.{inlineBody}
+use Rattle.lower_forms.specs.InlineBody.{listed, inlineBody}
 use Rattle.lower_forms.specs.Block.{emitInstr, emitPair}
 use Rattle.lower_units.specs.Block.{transfer, nativeText}
-use Rattle.claim_meaning.specs.Block.{isCovered}
+use Rattle.claim_meaning.specs.Block.{isNativeRecord, isCovered}
 
 -- a record of an ARM block
 abbrev armRecord : ℕ → Op → TimedInstr
 armRecord a op =
     record { instr = record { addr = a; cond = Al; op = op; thumb = false }; cost = 1 }
+
+-- STMIA r1, {r0, r1}, without writeback
+abbrev stmia : TimedInstr
+stmia = armRecord 0x08000100 (BlockMem false 1 3 false true false false)
+
+-- it is native, and covered, so that the claim on a whole block is made of blocks with it
+store-covered : (isNativeRecord 8 stmia ≡ true) × (isCovered 8 stmia ≡ true)
+unfolding emitInstr inlineBody listed
+store-covered = (refl, refl)
 
 -- the halves of a call of 0x0800010a, from an ARM block
 abbrev high : TimedInstr

@@ -35,4 +35,4 @@ blockBody i m =
 
 -- what a store stores of a register
 abbrev pub storedOf : Stored → ℕ → Expr
-storedOf s = storedReg (s .i) (s .rn) (s .lowest) (movedBase (s .up) (s .total))
+storedOf s = storedReg (s .i) (s .rn) (s .writeback) (s .lowest) (movedBase (s .up) (s .total))

@@ -125,6 +125,7 @@ fn put_block_stores(out: &mut [u8], at: usize, i: Instr, m: BlockTransfer, total
     let stored = Stored {
         i,
         rn: m.rn,
+        writeback: m.writeback,
         lowest: lowest_listed(m.rlist),
         up: m.up,
         total,

@@ -5,6 +5,7 @@ use base_text::put;
 use base_text::put_then_dec;
 use emit_operands::put_place;
 use emit_operands::put_word;
+ghost use mathlib.Core.Path.{_≡_};
 ghost use mathlib.Core.Bool.{cond};
 ghost use mathlib.Core.List.{[], _∷_};
 ghost use Rattle.base_text.specs.Wrote.{Wrote};
@@ -14,7 +15,8 @@ ghost use Prim.Native.Nat.{_+_, _%_, _^_};
 ghost use Rattle.armv4t.specs.Instr.{pcValue};
 ghost use Rattle.c_tree.specs.Expr.{word, lit};
 ghost use Rattle.c_tree.specs.Print.{exprText, codeText};
-ghost use Rattle.lower_forms.specs.InlineBody.{listIf, listed, loads, movedBase, stores};
+ghost use Rattle.lower_forms.specs.InlineBody.{listIf, listed, loads, movedBase, storesMoved};
+ghost use Rattle.lower_forms.specs.InlineBody.{stores};
 ghost use Rattle.armv4t.specs.RegisterList.{isListed};
 ghost use Rattle.lower_units.specs.Block.{lines};
 ghost use Rattle.lower_units.specs.Lines.{linesText};
@@ -101,14 +103,25 @@ fn put_stored_pc(out: &mut [u8], at: usize, i: Instr) -> usize
     put_word(out, at, pc)
 }
 
-// What a store of registers stores depends on: the instruction, its base, the lowest register
-// listed, and the base after the store, up or down by total bytes.
+// What a store of registers stores depends on: the instruction, its base, whether that is written
+// back, the lowest register listed, and the base after the store, up or down by total bytes.
 pub(crate) struct Stored {
     pub i: Instr,
     pub rn: u8,
+    pub writeback: bool,
     pub lowest: u8,
     pub up: bool,
     pub total: u32,
+}
+
+// Whether the base is stored as it is after: it is written back, and is not the lowest listed.
+fn stores_moved(writeback: bool, lowest: u8, rn: u8) -> bool
+    ensures { λ b. ⌜ b ≡ storesMoved writeback lowest rn ⌝ }
+{
+    if writeback {
+        return rn != lowest;
+    }
+    false
 }
 
 // What is stored of a register.
@@ -120,10 +133,10 @@ fn put_stored(out: &mut [u8], at: usize, s: Stored, r: u8) -> usize
         return put_stored_pc(out, at, i);
     }
     if r == s.rn {
-        if r == s.lowest {
-            return put(out, at, b"base");
+        if stores_moved(s.writeback, s.lowest, r) {
+            return put_moved(out, at, s.up, s.total);
         }
-        return put_moved(out, at, s.up, s.total);
+        return put(out, at, b"base");
     }
     put_place(out, at, r)
 }

@@ -44,8 +44,8 @@ use Rattle.lower_forms.specs.InlineBody.{listIf, eachOnLine, let32, setR
 use Rattle.lower_forms.specs.InlineBody.{logical, sum, alu, aluBody, mulBody, mulLongBody}
 use Rattle.lower_forms.specs.InlineBody.{baseExpr, shiftedOffset, offsetExpr, addOrSub}
 use Rattle.lower_forms.specs.InlineBody.{loaded, stored, access, memBody, listed, loads}
-use Rattle.lower_forms.specs.InlineBody.{movedBase, start, storedReg, stores, loadsOrStores}
-use Rattle.lower_forms.specs.InlineBody.{blockMemBody, opBody, inlineBody}
+use Rattle.lower_forms.specs.InlineBody.{movedBase, start, storesMoved, storedReg, stores}
+use Rattle.lower_forms.specs.InlineBody.{loadsOrStores, blockMemBody, opBody, inlineBody}
 use Rattle.armv4t.specs.RegisterList.{isListed}
 use Rattle.lower_forms.specs.Block.{flushTicks, setWord, emitShell, emitPair, emitPop}
 use Rattle.lower_forms.specs.Block.{emitBranch, emitLines, emitStraight, bodyOf, pcLine}
@@ -409,11 +409,12 @@ start-binds false false total = refl
 abbrev Whole : Expr → Type 0
 Whole e = binds false e ≡ true
 
-storedReg-binds : (i : Instr) (rn lowest : ℕ) (moved : Expr) → Whole moved → (r : ℕ)
-    → Whole (storedReg i rn lowest moved r)
+storedReg-binds : (i : Instr) (rn : ℕ) (writeback : Bool) (lowest : ℕ) (moved : Expr) → Whole moved
+    → (r : ℕ) → Whole (storedReg i rn writeback lowest moved r)
 unfolding binds
-storedReg-binds i rn lowest moved h r =
-    either Whole (eqb r 15) refl (either Whole (eqb r rn) (either Whole (eqb r lowest) refl h) refl)
+storedReg-binds i rn writeback lowest moved h r =
+    either Whole (eqb r 15) refl
+    (either Whole (eqb r rn) (either Whole (storesMoved writeback lowest r) h refl) refl)
 
 transfers-bound : (load : Bool) (i : Instr) (rn : ℕ) (writeback inList : Bool) (moved : Expr)
     (regs : List ℕ) → Whole moved → Bound (loadsOrStores load i rn writeback inList moved regs)
@@ -422,7 +423,7 @@ transfers-bound true i rn writeback inList moved regs h =
     lines-append (each-on-line-bound (list-if-plains (writeback && not inList) (setReg rn moved) h))
     (loads-bound regs)
 transfers-bound false i rn writeback inList moved regs h =
-    lines-append (stores-bound _ (storedReg-binds i rn (getD regs 0 16) moved h) regs)
+    lines-append (stores-bound _ (storedReg-binds i rn writeback (getD regs 0 16) moved h) regs)
     (each-on-line-bound (list-if-plains writeback (setReg rn moved) h))
 
 blockMem-bound : (i : Instr) (load : Bool) (rn : ℕ) (inList pre up writeback : Bool) (regs : List ℕ)

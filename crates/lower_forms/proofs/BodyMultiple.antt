@@ -1,14 +1,13 @@
 -- What the lines of load and store multiple mean.
 use mathlib.Core.Path.{_≡_, refl, sym, ap, _∙_, subst}
-use mathlib.Core.Bool.{Bool, true, false, not, cond, _&&_, _||_}
+use mathlib.Core.Bool.{Bool, true, false, cond, _&&_, _||_}
 use mathlib.Core.List.{List}
 use mathlib.Core.Option.{none, some}
 use Prim.Native.Nat.{ℕ, _*_, _≤_, _<_}
 use native.Mathlib.Omega.{arith}
-use lib.Dec.{T, eqb, eqb-refl}
+use lib.Dec.{eqb}
 use lib.ListN.{length}
 use Rattle.base_words.specs.Word.{bit}
-use Rattle.base_words.proofs.Bits.{is-true}
 use Rattle.armv4t.specs.declared.Op.the-variants.{BlockMem}
 use Rattle.armv4t.specs.declared.Instr.{Instr}
 use Rattle.armv4t.specs.Instr.{pcValue}
@@ -21,12 +20,11 @@ use Rattle.armv4t_manual.specs.Machine.{Machine, Sound}
 use Rattle.armv4t_manual.specs.Machine as M
 use Rattle.armv4t.specs.InRange.{InRange}
 use Rattle.armv4t_manual.specs.Transfer.{moved}
-use Rattle.armv4t_manual.specs.Multiple.{listed, start, loadAll, loadMultiple, lowest}
-use Rattle.armv4t_manual.specs.Multiple.{storeMultiple}
+use Rattle.armv4t_manual.specs.Multiple.{listed, start, loadAll, loadMultiple, storeMultiple}
 use Rattle.armv4t_manual.specs.Execute.{onward, loadMultiplePc}
 use Rattle.lower_forms.specs.Agree.{Agrees}
 use Rattle.lower_forms.specs.Means.{Makes, statements, Leads, OpMeans}
-use Rattle.lower_forms.proofs.Operands.{same-of, under}
+use Rattle.lower_forms.proofs.Operands.{under}
 use Rattle.lower_forms.proofs.Body.{some-same, not-none, or-l, or-r}
 use Rattle.lower_forms.proofs.Listed.{listed-same, listed-length, listed-15, Named}
 use Rattle.lower_forms.proofs.Listed.{listed-named, member, named-member}
@@ -64,40 +62,17 @@ module _ (i : Instr) {z : State} {m : Machine} (s : Sound m) (a : Agrees z m) (r
       named : isListed rlist rn ≡ true → member rn (listed rlist 16) ≡ true
       named e = named-member rlist 16 rn (omega (arith, hn)) e
 
-  -- STM, where a base that is listed and not written is the lowest
-  store-lines : (wb ≡ false → bit rlist rn ≡ true → eqb (lowest rlist) rn ≡ true)
-      → Makes (statements (blockMemBody i false rn (isListed rlist rn) pre up wb (listed rlist 16)))
+  -- STM
+  store-lines : Makes
+      (statements (blockMemBody i false rn (isListed rlist rn) pre up wb (listed rlist 16)))
       (enter z) (storeMultiple up pre wb rn rlist (pcValue i) m)
-  store-lines low =
+  store-lines =
       store-multiple-ok s a i rn hn (listed rlist 16) (four _ (listed-length rlist 16)) up pre wb
       (isListed rlist rn)
-      (each-map (Named rlist 16) _ each (listed rlist 16) (listed-named rlist 16))
+      (each-map (Named rlist 16) _ at-most (listed rlist 16) (listed-named rlist 16))
     where
-      at-most : (j : ℕ) → j < 16 → j ≤ 15
-      at-most j h = omega arith
-
-      same : (j : ℕ) → j ≡ rn → lowest rlist ≡ rn → eqb j (lowest rlist) ≡ true
-      same j p q =
-          is-true (eqb j (lowest rlist)) (subst (λ (l : ℕ). T (eqb j l)) (p ∙ sym q) (eqb-refl j))
-
-      each : (j : ℕ) → Named rlist 16 j
-          → (j ≤ 15) × (wb ≡ false → eqb j rn ≡ true → eqb j (lowest rlist) ≡ true)
-      each j h = (
-        at-most j (h .0),
-        λ w e.
-            let p : j ≡ rn = same-of j rn e in
-            same j p
-            (same-of (lowest rlist) rn
-            (low w (subst (λ (k : ℕ). bit rlist k ≡ true) p (h .1)))),
-      )
-
--- a base that is listed and not written is the lowest, where the text is no named difference
-low-base : (wb inList low : Bool) → (not wb && inList && not low) ≡ false → wb ≡ false
-    → inList ≡ true → low ≡ true
-low-base wb inList true q w e = refl
-low-base true inList false q w e = sym w
-low-base false true false q w e = sym q
-low-base false false false q w e = e
+      at-most : (j : ℕ) → Named rlist 16 j → j ≤ 15
+      at-most j h = omega (arith, h .0)
 
 -- BlockMem
 pub block-mem-means : (i : Instr) (ld : Bool) (rn rlist : ℕ) (pre up s-bit wb : Bool)
@@ -115,19 +90,13 @@ block-mem-means i ld rn rlist pre up s-bit wb r ls q z m s a bad d next o =
     body : Bool → Lines
     body l = blockMemBody i l rn (isListed rlist rn) pre up wb (listed rlist 16)
 
-    means : (l : Bool) → rn < 15 → (l && isListed rlist 15) ≡ false
-        → (not l && not wb && bit rlist rn && not (eqb (lowest rlist) rn)) ≡ false
-        → Leads i (body l) z (out l)
-    means true hn pc d =
+    means : (l : Bool) → rn < 15 → (l && isListed rlist 15) ≡ false → Leads i (body l) z (out l)
+    means true hn pc =
         subst (λ (b : Bool). Leads i (body true) z
         (cond b (loadMultiplePc i up pre wb rn rlist m)
         (onward i (loadMultiple up pre wb rn rlist m)))) (sym pc)
         (load-lines i s a rn hn rlist pre up wb pc, refl)
-    means false hn pc d = (
-      store-lines i s a rn hn rlist pre up wb
-          (low-base wb (bit rlist rn) (eqb (lowest rlist) rn) d),
-      refl,
-    )
+    means false hn pc = (store-lines i s a rn hn rlist pre up wb, refl)
 
     split : (b : Bool) → (s-bit || eqb rlist 0 || eqb rn 15 || (ld && isListed rlist 15)) ≡ b
         → cond b none
@@ -145,4 +114,4 @@ block-mem-means i ld rn rlist pre up s-bit wb r ls q z m s a bad d next o =
         (subst (λ (k : Lines). Leads i k z (out ld))
         (ap (λ (is : List ℕ). blockMemBody i ld rn (isListed rlist rn) pre up wb is)
         (sym (listed-same rlist 16)) ∙ some-same q)
-        (means ld hn (or-r (s-bit || eqb rlist 0 || eqb rn 15) (ld && isListed rlist 15) e) d))
+        (means ld hn (or-r (s-bit || eqb rlist 0 || eqb rn 15) (ld && isListed rlist 15) e)))

@@ -42,9 +42,9 @@ use Rattle.lower_forms.specs.Operands.{condExpr, regExpr, shiftExprs, op
 use Rattle.lower_forms.specs.InlineBody.{listIf, eachOnLine, setReg, result, logical, sum}
 use Rattle.lower_forms.specs.InlineBody.{alu, aluBody, mulBody, mulLongBody, baseExpr}
 use Rattle.lower_forms.specs.InlineBody.{shiftedOffset, offsetExpr, loaded, stored, access}
-use Rattle.lower_forms.specs.InlineBody.{memBody, listed, loads, movedBase, start, storedReg}
-use Rattle.lower_forms.specs.InlineBody.{stores, loadsOrStores, blockMemBody, opBody}
-use Rattle.lower_forms.specs.InlineBody.{inlineBody}
+use Rattle.lower_forms.specs.InlineBody.{memBody, listed, loads, movedBase, start}
+use Rattle.lower_forms.specs.InlineBody.{storesMoved, storedReg, stores, loadsOrStores}
+use Rattle.lower_forms.specs.InlineBody.{blockMemBody, opBody, inlineBody}
 use Rattle.armv4t.specs.RegisterList.{isListed}
 use Rattle.lower_forms.specs.Block.{flushTicks, setWord, emitShell, emitPair, emitPop}
 use Rattle.lower_forms.specs.Block.{emitBranch, emitLines, emitStraight, bodyOf, pcLine}
@@ -315,12 +315,12 @@ start-short true false total = record { short = omega arith }
 start-short false true total = record { short = omega arith }
 start-short false false total = record { short = omega arith }
 
-storedReg-short : (i : Instr) (rn lowest : ℕ) (moved : Expr) → Short 28 moved → (r : ℕ)
-    → Short 28 (storedReg i rn lowest moved r)
-storedReg-short i rn lowest moved h r =
+storedReg-short : (i : Instr) (rn : ℕ) (writeback : Bool) (lowest : ℕ) (moved : Expr)
+    → Short 28 moved → (r : ℕ) → Short 28 (storedReg i rn writeback lowest moved r)
+storedReg-short i rn writeback lowest moved h r =
     either (Short 28) (eqb r 15) (record { short = omega arith })
     (either (Short 28) (eqb r rn)
-    (either (Short 28) (eqb r lowest) (record { short = omega arith }) h)
+    (either (Short 28) (storesMoved writeback lowest r) h (record { short = omega arith }))
     (record { short = omega arith }))
 
 transfers-within : (load : Bool) (i : Instr) (rn : ℕ) (writeback inList : Bool) (moved : Expr)
@@ -337,11 +337,11 @@ transfers-within true i rn writeback inList moved regs h l =
 transfers-within false i rn writeback inList moved regs h l =
     omega (
       arith,
-      lines-append (stores (storedReg i rn (getD regs 0 16) moved) regs)
+      lines-append (stores (storedReg i rn writeback (getD regs 0 16) moved) regs)
           (eachOnLine (listIf writeback (setReg rn moved))),
       list-if-within writeback (setReg rn moved) 60 (omega (arith, h .short)),
-      stores-within (storedReg i rn (getD regs 0 16) moved)
-          (storedReg-short i rn (getD regs 0 16) moved h) regs,
+      stores-within (storedReg i rn writeback (getD regs 0 16) moved)
+          (storedReg-short i rn writeback (getD regs 0 16) moved h) regs,
       l,
     )
 

@@ -6,8 +6,9 @@ use mathlib.Core.Option.{some}
 use Prim.Native.Nat.{ℕ, _+_, _-_, _*_, _/_, _%_, _≤_, _<_}
 use native.Mathlib.Nat.{mod-lt, mod-add-mod}
 use native.Mathlib.Omega.{arith}
-use lib.Dec.{T, eqb, lit<}
+use lib.Dec.{eqb, eqb-refl, lit<}
 use lib.ListN.{length, getD}
+use Rattle.base_words.proofs.Bits.{is-true}
 use Rattle.armv4t.specs.declared.Instr.{Instr}
 use Rattle.armv4t.specs.Instr.{pcValue}
 use Rattle.c_tree.specs.Expr.{u32, word, Name, x-base, x-addr, var, reg, w32, Expr, lit, get}
@@ -34,6 +35,11 @@ use Rattle.lower_forms.proofs.Listed.{member, load-over}
 use Rattle.lower_forms.proofs.Steps.{step, stop, opened, given, within, do-declare, do-plus}
 use Rattle.lower_forms.proofs.Steps.{do-reg, with-scopes, with-reg}
 use Rattle.base_lists.proofs.Each.{Each, each-map}
+
+-- without writeback each register is stored in the text that it has as the lowest listed
+pub stored-as-lowest : (i : Instr) (rn lowest : ℕ) (after : Expr) (r : ℕ)
+    → storedReg i rn false lowest after r ≡ storedReg i rn true r after r
+stored-as-lowest i rn lowest after r = rw (is-true (eqb r r) (eqb-refl r)) refl
 
 -- a local of the innermost scope
 pub in-scope : (x : Name) (f : Scope) (fs : List Scope) (z : State) {k : ℕ}
@@ -160,16 +166,13 @@ module _ {z : State} {m : Machine} (s : Sound m) (a : Agrees z m) (i : Instr) (r
       cond (wb && eqb j rn && not (eqb j (getD regs 0 16))) (moved up (m .r rn) (length regs * 4))
       (R m ((pcValue i + 4) % 4294967296) j)
 
-  -- a register as the text stores it, where a base that is not written is the lowest
-  abbrev Stored : Bool → ℕ → Type 0
-  Stored wb j = (j ≤ 15) × (wb ≡ false → eqb j rn ≡ true → eqb j (getD regs 0 16) ≡ true)
-
-  stored-reads : (up wb : Bool) (j : ℕ) → Stored wb j → (u : State) → Regs u m
+  -- a register as the text stores it
+  stored-reads : (up wb : Bool) (j : ℕ) → j ≤ 15 → (u : State) → Regs u m
       → value (var (u32, x-base)) u ≡ some (m .r rn)
-      → Reads (storedReg i rn (getD regs 0 16) (movedBase up (length regs * 4)) j) u
+      → Reads (storedReg i rn wb (getD regs 0 16) (movedBase up (length regs * 4)) j) u
       (storedValue up wb j)
   stored-reads up wb j h u g q =
-      go wb (eqb j 15) refl (eqb j rn) refl (eqb j (getD regs 0 16)) (h .1)
+      go wb (eqb j 15) refl (eqb j rn) refl (eqb j (getD regs 0 16))
     where
       pc : ℕ
       pc = (pcValue i + 4) % 4294967296
@@ -182,25 +185,24 @@ module _ {z : State} {m : Machine} (s : Sound m) (a : Agrees z m) (i : Instr) (r
 
       held : eqb j 15 ≡ false → Reads (get (reg j)) u (m .r j)
       held p =
-          r-reg j (omega (arith, h .0)) (g j (under j (h .0) p)) (s .words j (under j (h .0) p))
+          r-reg j (omega (arith, h)) (g j (under j h p)) (s .words j (under j h p))
 
       based : eqb j rn ≡ true → Reads (v32 x-base) u (m .r j)
       based r = to (ap (m .r) (sym (same-of j rn r))) (base-in s rn hn (length regs) hk u q)
 
       go : (w b : Bool) → eqb j 15 ≡ b → (c : Bool) → eqb j rn ≡ c → (d : Bool)
-          → (w ≡ false → c ≡ true → d ≡ true)
           → Reads (cond b (lit word pc)
-          (cond c (cond d (v32 x-base) (movedBase up (length regs * 4))) (get (reg j)))) u
+          (cond c (cond (w && not d) (movedBase up (length regs * 4)) (v32 x-base)) (get (reg j))))
+          u
           (cond (w && c && not d) (moved up (m .r rn) (length regs * 4)) (cond b pc (m .r j)))
-      go w true p true r d t = absurd (not-pc rn hn (same-of j 15 p) (same-of j rn r))
-      go true true p false r d t = ahead
-      go false true p false r d t = ahead
-      go true false p true r true t = based r
-      go true false p true r false t = moved-reads s rn hn (length regs) hk up u q
-      go false false p true r true t = based r
-      go false false p true r false t = absurd (subst T (sym (t refl refl)) tt)
-      go true false p false r d t = held p
-      go false false p false r d t = held p
+      go w true p true r d = absurd (not-pc rn hn (same-of j 15 p) (same-of j rn r))
+      go true true p false r d = ahead
+      go false true p false r d = ahead
+      go true false p true r true = based r
+      go true false p true r false = moved-reads s rn hn (length regs) hk up u q
+      go false false p true r d = based r
+      go true false p false r d = held p
+      go false false p false r d = held p
 
   -- a->write32(m, addr & ~3u, e); addr += 4u; for each register, e giving v of it, and what stands
   -- after
@@ -229,8 +231,8 @@ module _ {z : State} {m : Machine} (s : Sound m) (a : Agrees z m) (i : Instr) (r
         memory = ap (store w32 (k / 4 * 4) (v j)) (b .memory);
       }) q refl (mod-lt (k + 4) (lit< tt)) next))
 
-  -- STM, where a base that is listed and not written is the lowest
-  pub store-multiple-ok : (up pre wb inList : Bool) → Each (Stored wb) regs
+  -- STM
+  pub store-multiple-ok : (up pre wb inList : Bool) → Each (λ j. j ≤ 15) regs
       → Makes (statements (blockMemBody i false rn inList pre up wb regs)) (enter z)
       (let m1 : Machine =
       M.setMem
@@ -243,7 +245,8 @@ module _ {z : State} {m : Machine} (s : Sound m) (a : Agrees z m) (i : Instr) (r
       (eachOnLine (listIf wb (setReg rn (movedBase up (length regs * 4))))) regs
       (placedScope up pre)
       (z .scopes) z (m .mem)
-      (MM.start up pre (m .r rn) (length regs)) (each-map (Stored wb) _ (stored-reads up wb) regs h)
+      (MM.start up pre (m .r rn) (length regs))
+      (each-map (λ j. j ≤ 15) _ (stored-reads up wb) regs h)
       (record { regs = a .regs; flags = a .flags; memory = a .memory }) refl refl (start-lt up pre)
       (go wb))
     where

@@ -105,7 +105,6 @@ same-13 : (a : ℕ) (op : Opcode13) (immed : ℕ) → Same a (format-13 op immed
 same-13 a add-7 immed = refl
 same-13 a sub-4 immed = refl
 
--- PUSH, and STMIA below, write their base
 same-14 : (a : ℕ) (op : Opcode14) (r : Bool) (list : ℕ) → Same a (format-14 op r list)
 same-14 a push r list = refl
 same-14 a pop r list = refl

@@ -1,5 +1,5 @@
--- Examples: an instruction of each class, with the lines that emit.rs prints for it, and the forms
--- and cycles of a few blocks, computed.
+-- Examples: an instruction of each class, with the lines that emit.rs prints for it, and a saved
+-- base as request 2 has it; the forms and cycles of a few blocks, computed.
 use Prim.Native.Nat.{ℕ}
 use mathlib.Core.Path.{_≡_, refl}
 use mathlib.Core.Bool.{Bool, true, false}
@@ -151,6 +151,25 @@ stmdb : print
     "        uint32_t base = c[4];\n        uint32_t addr = base - 12u;\n        a->write32(m, addr & ~3u, c[0]); addr += 4u;\n        a->write32(m, addr & ~3u, base - 12u); addr += 4u;\n        a->write32(m, addr & ~3u, 0x0800000cu); addr += 4u;\n        c[4] = base - 12u;\n")
 unfolding inlineBody listed print decimal numeral hexadecimal8 lastDigits
 stmdb = refl
+
+-- stmia r1, {r0, r1}: the base that is not written back is stored as it was, though it is not the
+-- lowest
+stmia-kept : print
+    (bodyText (inlineBody false (always false (BlockMem false 1 3 false true false false))))
+    ≡ print
+    (text
+    "        uint32_t base = c[1];\n        uint32_t addr = base;\n        a->write32(m, addr & ~3u, c[0]); addr += 4u;\n        a->write32(m, addr & ~3u, base); addr += 4u;\n")
+unfolding inlineBody listed print decimal numeral
+stmia-kept = refl
+
+-- stmia r1!, {r1, r2}: a lowest base, in the same text
+stmia-lowest : print
+    (bodyText (inlineBody false (always false (BlockMem false 1 6 false true false true))))
+    ≡ print
+    (text
+    "        uint32_t base = c[1];\n        uint32_t addr = base;\n        a->write32(m, addr & ~3u, base); addr += 4u;\n        a->write32(m, addr & ~3u, c[2]); addr += 4u;\n        c[1] = base + 8u;\n")
+unfolding inlineBody listed print decimal numeral
+stmia-lowest = refl
 
 -- left to the interpreter: PC as the result, a shift by a register, RRX of an offset, PC loaded,
 -- user registers, no register

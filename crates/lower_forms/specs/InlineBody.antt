@@ -1,5 +1,5 @@
 -- To be believed: the statements that an instruction is lowered to, without its condition:
--- inline_body, class by class.
+-- inline_body, class by class, but for the saved base of request 2.
 use Prim.Native.Nat.{ℕ, zero, suc, _+_, _*_, _/_, _%_, _^_}
 use mathlib.Core.Bool.{Bool, true, false, not, cond, _&&_, _||_}
 use mathlib.Core.List.{List, [], _∷_, _++_}
@@ -224,12 +224,17 @@ start true true total = bin add (v32 x-base) (lit udec 4)
 start false false total = bin add (bin sub (v32 x-base) (lit udec total)) (lit udec 4)
 start false true total = bin sub (v32 x-base) (lit udec total)
 
--- what a BlockMem stores of a register, given its base register, the lowest register listed and the
--- base after it
-abbrev pub storedReg : Instr → ℕ → ℕ → Expr → ℕ → Expr
-storedReg i rn lowest moved r =
+-- whether a BlockMem stores its base as it is after the instruction, and not as it was before: the
+-- base is written back, and is not the lowest register listed (request 2)
+abbrev pub storesMoved : Bool → ℕ → ℕ → Bool
+storesMoved writeback lowest rn = writeback && not (eqb rn lowest)
+
+-- what a BlockMem stores of a register, given its base register, whether that is written back, the
+-- lowest register listed and the base after it
+abbrev pub storedReg : Instr → ℕ → Bool → ℕ → Expr → ℕ → Expr
+storedReg i rn writeback lowest moved r =
     cond (eqb r 15) (lit word ((pcValue i + 4) % 2 ^ 32))
-    (cond (eqb r rn) (cond (eqb r lowest) (v32 x-base) moved) (get (reg r)))
+    (cond (eqb r rn) (cond (storesMoved writeback lowest r) moved (v32 x-base)) (get (reg r)))
 
 -- the stores of a BlockMem, a line for each register
 abbrev pub stores : (ℕ → Expr) → List ℕ → Lines
@@ -242,7 +247,7 @@ abbrev pub loadsOrStores : Bool → Instr → ℕ → Bool → Bool → Expr →
 loadsOrStores true i rn writeback inList moved regs =
     eachOnLine (listIf (writeback && not inList) (setReg rn moved)) ++ loads regs
 loadsOrStores false i rn writeback inList moved regs =
-    stores (storedReg i rn (getD regs 0 16) moved) regs
+    stores (storedReg i rn writeback (getD regs 0 16) moved) regs
     ++ eachOnLine (listIf writeback (setReg rn moved))
 
 -- BlockMem: the base, the lowest address, and the loads or stores; inList: its base register is

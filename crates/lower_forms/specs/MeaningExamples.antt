@@ -101,6 +101,13 @@ cases =
     ∷ (4, Mem false Word false 4 4 (MemOffset.Imm 8) true false true, (0x3c, 0x20000000, 0x44))
     -- stmdb r4!, {r1, r2}: r1 at the lowest address
     ∷ (4, BlockMem false 4 6 true false false true, (0x3c, 0x20000000, 0x80000003))
+    -- stmdb r4, {r0, r4, r5}: r4 as it was, though it is not the lowest
+    ∷ (4, BlockMem false 4 0x31 true false false false, (0x44, 0x20000000, 0x44))
+    -- stmdb r4!, {r0, r4, r5}: r4 as it is after, which the manual leaves open (`storedFor` in
+    -- Multiple)
+    ∷ (4, BlockMem false 4 0x31 true false false true, (0x38, 0x20000000, 0x38))
+    -- stmda r4!, {r4, r5, r6}: r4 as it was, as it is the lowest
+    ∷ (4, BlockMem false 4 0x70 false false false true, (0x38, 0x20000000, 0x44))
     ∷ []
 
 -- each case is so by the text, and by the manual
@@ -117,6 +124,22 @@ small-instructions = (
   (
     refl,
     refl,
-    (refl, refl, (refl, refl, (refl, refl, (refl, refl, (refl, refl, (refl, refl, tt)))))),
+    (
+      refl,
+      refl,
+      (
+        refl,
+        refl,
+        (
+          refl,
+          refl,
+          (
+            refl,
+            refl,
+            (refl, refl, (refl, refl, (refl, refl, (refl, refl, (refl, refl, tt))))),
+          ),
+        ),
+      ),
+    ),
   ),
 )

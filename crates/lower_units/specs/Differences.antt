@@ -1,4 +1,4 @@
--- Examples: differences 1 to 3 of docs/DIFFERENCES.md, which the claim on records excepts, each by
+-- Examples: differences 1 and 2 of docs/DIFFERENCES.md, which the claim on records excepts, each by
 -- the smallest record that shows it: what `execute` and what the text makes of it, computed.
 use Prim.Native.Nat.{ℕ}
 use mathlib.Core.Path.{_≡_, refl}
@@ -11,22 +11,18 @@ use Rattle.armv4t.specs.declared.Operand2.{Operand2}
 use Rattle.armv4t.specs.declared.Cond.{Cond}
 use Rattle.armv4t.specs.declared.Cond.the-variants.{Al, Nv}
 use Rattle.armv4t.specs.declared.Op.{Op}
-use Rattle.armv4t.specs.declared.Op.the-variants.{Alu, BlockMem}
+use Rattle.armv4t.specs.declared.Op.the-variants.{Alu}
 use Rattle.file_instrs.specs.declared.decode.TimedInstr.{TimedInstr}
-use Rattle.c_tree.specs.Expr.{w32}
 use Rattle.c_tree.specs.Stmt.{common, end}
-use Rattle.c_meaning.specs.State.{bind, State, empty, load}
+use Rattle.c_meaning.specs.State.{bind, State, empty}
 use Rattle.c_meaning.specs.Eval.{eval, evalAs}
 use Rattle.c_meaning.specs.Exec.{Outcome, exec, others, asks, step, runs}
 use Rattle.c_meaning.specs.Perform.{execs}
 use Rattle.c_meaning.specs.Helpers.{rotated, called, run}
 use Rattle.armv4t_manual.specs.Machine.{Machine}
-use Rattle.armv4t_manual.specs.Transfer.{Memory4}
-use Rattle.armv4t_manual.specs.Multiple as M
 use Rattle.armv4t_manual.specs.Execute.{execute}
 use Rattle.lower_forms.specs.Forms.{Form, native, shell}
 use Rattle.lower_forms.specs.InlineBody.{inlineBody}
-use Rattle.lower_forms.specs.InlineBody as F
 use Rattle.lower_forms.specs.Block.{emitInstr}
 use Rattle.lower_units.specs.Block.{nativeText}
 use Rattle.lower_units.specs.Records.{isNamedDifference}
@@ -57,63 +53,44 @@ abbrev does : Form → Outcome
 does (native r) = run (nativeText [] 0 common r end) state
 does (shell high t k) = none
 
--- c[0] and the word at 4 after the text of a record, in a block of region 8 and with no cycles
--- pending
-abbrev text-has : TimedInstr → Option (ℕ × ℕ)
-text-has x =
-    bind (does (emitInstr (x .instr .thumb) 8 0 x .0)) λ q. some (q .0 .c 0, load w32 (q .0 .mem) 4)
+-- c[0] after the text of a record, in a block of region 8 and with no cycles pending
+abbrev text-has : TimedInstr → Option ℕ
+text-has x = bind (does (emitInstr (x .instr .thumb) 8 0 x .0)) λ q. some (q .0 .c 0)
 
--- register 0 and the word at 4 after the record's instruction, by the manual
-abbrev manual-has : TimedInstr → Option (ℕ × ℕ)
-manual-has x = bind (execute (x .instr) machine) λ q. some (q .0 .r 0, Memory4 (q .0 .mem) 4)
+-- register 0 after the record's instruction, by the manual
+abbrev manual-has : TimedInstr → Option ℕ
+manual-has x = bind (execute (x .instr) machine) λ q. some (q .0 .r 0)
 
--- 1. STMIA r1, {r0, r1}: the manual stores the old base, 0, and the text the advanced one
-abbrev store-of-base : TimedInstr
-store-of-base = record-of 0x08000000 false Al (BlockMem false 1 3 false true false false)
-
-manual-1 : manual-has store-of-base ≡ some (0, 0)
-unfolding execute M.listed
-manual-1 = refl
-
-text-1 : text-has store-of-base ≡ some (0, 8)
-unfolding emitInstr inlineBody F.listed nativeText run runs step asks execs exec others evalAs eval
-    rotated called AND OR EOR
-text-1 = refl
-
-named-1 : isNamedDifference (store-of-base .instr) machine ≡ true
-unfolding M.listed
-named-1 = refl
-
--- 2. ADD r0, pc, #0 of Thumb where PC has bit 1, with the value not folded: the manual takes PC
+-- 1. ADD r0, pc, #0 of Thumb where PC has bit 1, with the value not folded: the manual takes PC
 -- without it, and the text with it
 abbrev add-of-pc : TimedInstr
 add-of-pc = record-of 0x08000002 true Al (Alu Add false 0 15 (Operand2.Imm 0 0))
 
-manual-2 : manual-has add-of-pc ≡ some (0x08000004, 0)
+manual-1 : manual-has add-of-pc ≡ some 0x08000004
 unfolding execute
-manual-2 = refl
+manual-1 = refl
 
-text-2 : text-has add-of-pc ≡ some (0x08000006, 0)
-unfolding emitInstr inlineBody F.listed nativeText run runs step asks execs exec others evalAs eval
+text-1 : text-has add-of-pc ≡ some 0x08000006
+unfolding emitInstr inlineBody nativeText run runs step asks execs exec others evalAs eval
     rotated called AND OR EOR
-text-2 = refl
+text-1 = refl
 
-named-2 : isNamedDifference (add-of-pc .instr) machine ≡ true
-named-2 = refl
+named-1 : isNamedDifference (add-of-pc .instr) machine ≡ true
+named-1 = refl
 
--- 3. MOV r0, #1 under NV: unpredictable (A3.2.1); `passed` never passes it, and the text carries it
+-- 2. MOV r0, #1 under NV: unpredictable (A3.2.1); `passed` never passes it, and the text carries it
 -- out
 abbrev mov-under-nv : TimedInstr
 mov-under-nv = record-of 0x08000000 false Nv (Alu Mov false 0 0 (Operand2.Imm 1 0))
 
-manual-3 : manual-has mov-under-nv ≡ some (0, 0)
+manual-2 : manual-has mov-under-nv ≡ some 0
 unfolding execute
-manual-3 = refl
+manual-2 = refl
 
-text-3 : text-has mov-under-nv ≡ some (1, 0)
-unfolding emitInstr inlineBody F.listed nativeText run runs step asks execs exec others evalAs eval
+text-2 : text-has mov-under-nv ≡ some 1
+unfolding emitInstr inlineBody nativeText run runs step asks execs exec others evalAs eval
     rotated called AND OR EOR
-text-3 = refl
+text-2 = refl
 
-named-3 : isNamedDifference (mov-under-nv .instr) machine ≡ true
-named-3 = refl
+named-2 : isNamedDifference (mov-under-nv .instr) machine ≡ true
+named-2 = refl

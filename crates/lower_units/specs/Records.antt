@@ -52,8 +52,8 @@ isTransfer (Undefined raw) = false
 abbrev pub isTaken : Instr → Machine → Bool
 isTaken i m = passed (i .cond) m && isTransfer (i .op)
 
--- differences 1 to 3 of docs/DIFFERENCES.md, which are excepted here: the condition NV; and, where
--- the condition passes, those of the operation
+-- differences 1 and 2 of docs/DIFFERENCES.md, which are excepted here: the condition NV; and, where
+-- the condition passes, that of the operation
 abbrev pub isNamedDifference : Instr → Machine → Bool
 isNamedDifference i m = isNv (i .cond) || (passed (i .cond) m && differsIn i (i .op))
 

@@ -21,8 +21,9 @@ returns c =
     let a = c1 .before .before .args in
     let m = a .m in
     let first : Lines =
-    stores (storedReg (a .i) (m .rn) (c1 .lowest-listed .result) (movedBase (m .up) (a .total)))
-    (listed (m .rlist) 16) in
+    stores
+    (storedReg (a .i) (m .rn) (m .writeback) (c1 .lowest-listed .result)
+    (movedBase (m .up) (a .total))) (listed (m .rlist) 16) in
     let back : Lines = baseBack (m .writeback) m (a .total) in
     rw (sym (c1 .lowest-listed .ensures))
     (wrote-as (seq (c2 .put-stores .ensures) (c3 .put-store-back .ensures))
