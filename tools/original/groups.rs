@@ -1,12 +1,13 @@
 //! Times the grouping of the original Rust on a block file. It is built against the libraries of
 //! the original, not by cargo: `bench plan` does that.
 //!
-//!   groups FILE
+//!   groups FILE [CHANGES OF DOCUMENT 02]
 //!
 //! FILE must be accepted. For every line of standard input the blocks are grouped once, and the
 //! nanoseconds that it took are printed; after the last line, `group block` for each block.
 
 mod decode;
+mod mends;
 
 use recomp_core::emit::oracle_groups;
 use std::hint::black_box;
@@ -14,7 +15,9 @@ use std::io::{stdin, stdout, BufRead, Write};
 use std::time::Instant;
 
 fn main() {
-    let path = std::env::args().nth(1).expect("FILE");
+    let mut words = std::env::args().skip(1);
+    let path = words.next().expect("FILE");
+    mends::set(words);
     let file = std::fs::read(path).expect("FILE can be read");
     let blocks = decode::blocks(&file);
     let mut out = stdout();

@@ -59,6 +59,13 @@ impl File {
         self.code_len + RECORD * i
     }
 
+    /// All instruction records.
+    pub fn records(&self) -> impl Iterator<Item = Record> + '_ {
+        let records = self.code_len..self.instruction_at(self.instructions);
+        let record = |bytes: &[u8]| Record(bytes.try_into().expect("16 bytes"));
+        self.bytes[records].chunks(RECORD).map(record)
+    }
+
     /// Offset of word `word` of block record `i`.
     pub fn block_at(&self, i: usize, word: usize) -> usize {
         self.instruction_at(self.instructions) + RECORD * i + 4 * word

@@ -13,6 +13,10 @@ use std::process::Command;
 /// Names the directory.
 pub const DIRECTORY: &str = "RECOMP_ORACLE";
 
+/// What document 02 changes in the original so far, as options of `oracle`; the programs of
+/// `original/` take the same.
+pub const MENDS: [&str; 1] = ["--base-mend"];
+
 pub struct Original {
     directory: PathBuf,
     /// Where the file to be read is laid down.
@@ -64,6 +68,7 @@ impl Original {
     pub fn run(&self, mode: &str, file: &[u8], more: &[&str]) -> String {
         let path = self.lay_down(file);
         let out = Command::new(self.directory.join("oracle"))
+            .args(MENDS)
             .arg(mode)
             .arg(path)
             .args(more)

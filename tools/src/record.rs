@@ -62,6 +62,35 @@ pub enum Offset {
     Register(Shifted),
 }
 
+/// A native store of several registers that lists its base: whether the base is the lowest of them
+/// and is written back, whether addresses go up and pass over the base, and whether there is a
+/// condition.
+#[derive(Clone, Copy, Debug, PartialEq, Eq, Hash)]
+pub struct StoredBase {
+    pub lowest: bool,
+    pub writeback: bool,
+    pub up: bool,
+    pub pre: bool,
+    pub conditional: bool,
+}
+
+impl StoredBase {
+    /// How many there are.
+    pub const COUNT: usize = 32;
+
+    /// A number below that for each.
+    pub fn number(self) -> usize {
+        let flags = [
+            self.lowest,
+            self.writeback,
+            self.up,
+            self.pre,
+            self.conditional,
+        ];
+        flags.iter().fold(0, |n, &flag| 2 * n + flag as usize)
+    }
+}
+
 /// One record. Constructors store what they are given: whether it is in range is for the check.
 #[derive(Clone, Copy, Debug, PartialEq, Eq)]
 pub struct Record(pub [u8; 16]);
@@ -132,6 +161,20 @@ impl Record {
 
     pub fn block_mem(flags: u8, rn: u8, rlist: u16) -> Record {
         Record::new(9, &[flags, 0, rn], rlist.into())
+    }
+
+    /// What a store of a listed base is like, if this is one.
+    pub fn stored_base(&self) -> Option<StoredBase> {
+        let (kind, cond, flags, rn) = (self.0[0], self.0[1], self.0[4], self.0[6]);
+        let rlist = u16::from_le_bytes([self.0[12], self.0[13]]);
+        let store = kind == 9 && flags & (block_mem::LOAD | block_mem::S_BIT) == 0;
+        (store && rn != 15 && rlist >> rn & 1 == 1).then(|| StoredBase {
+            lowest: rlist.trailing_zeros() == rn.into(),
+            writeback: flags & block_mem::WRITEBACK != 0,
+            up: flags & block_mem::UP != 0,
+            pre: flags & block_mem::PRE != 0,
+            conditional: cond != AL,
+        })
     }
 
     pub fn free(kind: FreeKind, rest: [u8; 12]) -> Record {

@@ -3,6 +3,7 @@
 use recomp_tools::check::check;
 use recomp_tools::file::Block;
 use recomp_tools::generate::forms::{all, parts, Forms};
+use recomp_tools::record::{block_mem, Record, StoredBase};
 use std::collections::HashSet;
 
 /// As long as a stored vector's file may be.
@@ -64,6 +65,52 @@ fn kinds_and_forms() {
         let conditions = count(&|r| vec![r[1]]);
         assert!(conditions == 16 || !conditional, "{conditions}");
     }
+}
+
+/// Stores of a listed base, lowest or not, written back or not, up and down, from it and past it,
+/// always and not, in blocks whose text they enter.
+#[test]
+fn stored_bases() {
+    for thumb in [false, true] {
+        let turns = [(false, 0), (true, 0), (false, 1), (true, 1)];
+        let blocks = turns.map(|(conditional, turn)| blocks(thumb, conditional, turn));
+        let printed = |b: &&Block| matches!(b.address >> 24, 0 | 8) || b.code.is_some();
+        let records = blocks.iter().flatten().filter(printed);
+        let records = records.flat_map(|b| &b.records);
+        let different: HashSet<_> = records.filter_map(|r| r.stored_base()).collect();
+        assert_eq!(different.len(), StoredBase::COUNT, "{different:?}");
+    }
+}
+
+/// What is told of a record: up, past the base and so on are not exchanged.
+#[test]
+fn a_stored_base() {
+    let store = Record::block_mem(block_mem::UP, 1, 0b11);
+    let told = StoredBase {
+        lowest: false,
+        writeback: false,
+        up: true,
+        pre: false,
+        conditional: false,
+    };
+    assert_eq!(store.stored_base(), Some(told));
+    let down = Record::block_mem(block_mem::PRE | block_mem::WRITEBACK, 1, 0b110).with_cond(0);
+    let other = StoredBase {
+        lowest: true,
+        writeback: true,
+        up: false,
+        pre: true,
+        conditional: true,
+    };
+    assert_eq!(down.stored_base(), Some(other));
+    assert_eq!(told.number() + other.number(), StoredBase::COUNT - 1);
+    let load = Record::block_mem(block_mem::LOAD, 1, 0b11);
+    let others = [
+        load,
+        Record::block_mem(0, 2, 0b11),
+        Record::block_mem(block_mem::S_BIT, 1, 0b11),
+    ];
+    assert!(others.iter().all(|record| record.stored_base().is_none()));
 }
 
 #[test]

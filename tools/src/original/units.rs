@@ -1,7 +1,7 @@
 //! The original's emitter on many files in one process, by the program of `original/units.rs`, where
 //! the questions and answers are described.
 
-use super::Program;
+use super::{Program, MENDS};
 use crate::units::Unit;
 use std::io::{BufReader, Read, Write};
 use std::process::{Child, ChildStdout, Command, Stdio};
@@ -29,6 +29,7 @@ pub struct Timed {
 impl Emitter {
     pub fn start(program: &Program, files: &[&[u8]]) -> Emitter {
         let mut child = Command::new(program.path())
+            .args(MENDS)
             .stdin(Stdio::piped())
             .stdout(Stdio::piped())
             .spawn()

@@ -6,7 +6,7 @@
 
 use crate::{library, ROUNDS, WARM_UP};
 use recomp_tools::file::File;
-use recomp_tools::original::{Original, Program};
+use recomp_tools::original::{Original, Program, MENDS};
 use recomp_tools::timing::median_and_best;
 use recomp_tools::trials;
 use std::hint::black_box;
@@ -90,6 +90,7 @@ impl Groups {
     fn start(program: &Program, file: &Path) -> Result<Groups, String> {
         let mut child = Command::new(program.path())
             .arg(file)
+            .args(MENDS)
             .stdin(Stdio::piped())
             .stdout(Stdio::piped())
             .spawn()

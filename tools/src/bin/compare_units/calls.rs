@@ -5,6 +5,8 @@ use recomp_tools::check::{check, Accepted, Refused};
 use recomp_tools::file::File;
 use recomp_tools::lent;
 use recomp_tools::original::units::Emitter;
+use recomp_tools::original::MENDS;
+use recomp_tools::record::StoredBase;
 use recomp_tools::trials::Trial;
 use recomp_tools::units::{outcome, reached, Unit};
 
@@ -50,6 +52,8 @@ pub struct Tally {
     pub fronts: [u64; 11],
     pub lengths: [u64; 11],
     pub mismatches: u64,
+    /// Records of the files that store a listed base, by what they are like.
+    stored_bases: [u64; StoredBase::COUNT],
 }
 
 impl Tally {
@@ -86,6 +90,9 @@ impl Tally {
         self.files += 1;
         let checked = check(&file.bytes);
         assert!(checked.is_ok(), "{trial:?}");
+        for stored in file.records().filter_map(|record| record.stored_base()) {
+            self.stored_bases[stored.number()] += 1;
+        }
         for size in sizes(emitter, at, sort, self.files as usize) {
             let emitted = Emitted {
                 trial,
@@ -190,10 +197,27 @@ impl Tally {
             "{} sizes, {} units, {} bytes of text",
             self.sizes, self.units, self.bytes
         );
+        self.print_stored_bases();
         println!(
-            "units: {} files, {} mismatches",
-            self.files, self.mismatches
+            "units: {} files, {} mismatches, against the original with {}",
+            self.files,
+            self.mismatches,
+            MENDS.join(" ")
         );
+    }
+
+    /// A row by whether the base is the lowest and is written back, a column by the other three,
+    /// which are the low bits of a number.
+    fn print_stored_bases(&self) {
+        println!("records that store a listed base:");
+        let columns = ["DA", "DA if", "DB", "DB if", "IA", "IA if", "IB", "IB if"];
+        println!("{:28}{}", "", columns.map(|c| format!("{c:>7}")).concat());
+        for (row, counts) in self.stored_bases.chunks(columns.len()).enumerate() {
+            let lowest = ["not lowest", "lowest"][row / 2];
+            let writeback = ["without writeback", "with writeback"][row % 2];
+            let counts: Vec<String> = counts.iter().map(|n| format!("{n:7}")).collect();
+            println!("{lowest:>10}, {writeback:16}{}", counts.concat());
+        }
     }
 }
 
