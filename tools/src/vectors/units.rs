@@ -178,8 +178,26 @@ fn named() -> Vec<File> {
             ),
             thumb(0x0800_0004, None, &[Record::thumb_bl_low(9)]),
         ]),
+        saved_bases(),
     ]);
     files
+}
+
+/// Stores of a base that is not the lowest listed, without writeback and with it, and of one that
+/// is, down and up.
+fn saved_bases() -> File {
+    let store = |flags, rn, rlist| Record::block_mem(flags, rn, rlist).with_cost(2);
+    let [down_before, up, back] = [block_mem::PRE, block_mem::UP, block_mem::WRITEBACK];
+    let first = [store(up, 1, 0b11), store(up | back, 1, 0b11)];
+    let last = [
+        store(down_before | back, 4, 0x31),
+        store(up | back, 1, 0b110),
+    ];
+    build(&[
+        arm(0x0800_0000, &first),
+        arm(0x0800_0008, &[store(down_before, 4, 0x8031).with_cond(1)]),
+        arm(0x0800_000c, &last),
+    ])
 }
 
 /// Those files, and generated ones of either sort, each with a turn.
