@@ -1,25 +1,7 @@
-/* A stub runtime that emitted units are linked with: it calls every function of the block table some
-   times and prints, for each, its key and a digest of all that came of the calls. The types are those
-   that every unit declares. */
-#include <stdint.h>
+/* A stub runtime that emitted units are linked with: it calls every function of the block table
+   some times and prints, for each, its key and a digest of all that came of the calls. */
+#include "units.h"
 #include <stdio.h>
-
-typedef struct {
-    uint32_t (*interp_one)(void*);
-    uint32_t (*read8)(void*, uint32_t);
-    uint32_t (*read16)(void*, uint32_t);
-    uint32_t (*read32)(void*, uint32_t);
-    void (*write8)(void*, uint32_t, uint32_t);
-    void (*write16)(void*, uint32_t, uint32_t);
-    void (*write32)(void*, uint32_t, uint32_t);
-    void (*tick)(void*, uint32_t);
-    uint32_t (*guard)(void*, uint32_t, uint32_t, uint64_t);
-    uint32_t (*chain_gate)(void*);
-} RtApi;
-typedef struct { uint32_t key; uint32_t (*fn)(const RtApi*, void*); } RcgBlock;
-
-extern const RcgBlock rcg_blocks[];
-extern const uint64_t rcg_block_count;
 
 /* Calls of each function, which differ in registers and in what the stubs answer. */
 enum { TURNS = 12 };

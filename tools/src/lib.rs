@@ -1,6 +1,7 @@
 //! Block files in plain Rust: a builder, a check, exits, plan, listing, pages and the answers for
-//! units, a generator, damage and the stored vectors; and what is read off the sources: the list of
-//! crates, the definitions to be believed, and weakenings of them.
+//! units, a generator, damage and the stored vectors; what stores of several registers do; and what
+//! is read off the sources: the list of crates, the definitions to be believed, and weakenings of
+//! them.
 
 pub mod believed;
 pub mod check;
@@ -17,6 +18,7 @@ pub mod pages;
 pub mod record;
 pub mod rng;
 pub mod samples;
+pub mod stores;
 pub mod timing;
 pub mod trials;
 pub mod units;

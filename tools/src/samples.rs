@@ -3,6 +3,7 @@
 use crate::file::{build, Block};
 use crate::generate::{self, Params};
 use crate::record::{Operand, Record};
+use crate::stores;
 
 /// Name and bytes of each sample.
 pub fn all() -> Vec<(&'static str, Vec<u8>)> {
@@ -10,6 +11,7 @@ pub fn all() -> Vec<(&'static str, Vec<u8>)> {
         ("three_blocks.blk", three_blocks()),
         ("count_down.blk", count_down()),
         ("ram_and_thumb.blk", ram_and_thumb()),
+        ("saved_base.blk", stores::title().0.bytes),
         (
             "generated.blk",
             generate::file(&Params::small(GENERATED)).bytes,

@@ -40,8 +40,20 @@ impl Directory {
         Ok(Directory(directory))
     }
 
-    /// Compiles and links the units and runs the program: key and digest of every block.
+    /// Key and digest of every block, as `runtime/table.c` prints them.
     pub fn run(&self, compiler: &Compiler, units: &[Unit]) -> Result<Vec<(u32, u64)>, String> {
+        let text = self.printed(compiler, "table.c", units)?;
+        let row = |line: &str| row(line).ok_or_else(|| format!("printed {line:?}"));
+        text.lines().map(row).collect()
+    }
+
+    /// Compiles the units and links them with a runtime: what the program prints.
+    pub fn printed(
+        &self,
+        compiler: &Compiler,
+        runtime: &str,
+        units: &[Unit],
+    ) -> Result<String, String> {
         let program = self.0.join(compiler.name);
         let blocks = units.last().map_or(0, |unit| unit.done);
         let mut command = Command::new(compiler.name);
@@ -50,7 +62,8 @@ impl Directory {
             _ => compiler.flags,
         });
         command.arg("-o").arg(&program);
-        command.arg(Path::new(env!("CARGO_MANIFEST_DIR")).join("runtime/table.c"));
+        let folder = Path::new(env!("CARGO_MANIFEST_DIR")).join("runtime");
+        command.arg(folder.join(runtime));
         for (k, unit) in units.iter().enumerate() {
             let path = self.0.join(format!("unit_{k}.c"));
             std::fs::write(&path, &unit.text).map_err(|error| error.to_string())?;
@@ -58,9 +71,7 @@ impl Directory {
         }
         finished(&mut command)?;
         let out = finished(&mut Command::new(&program))?;
-        let text = String::from_utf8(out.stdout).map_err(|error| error.to_string())?;
-        let row = |line: &str| row(line).ok_or_else(|| format!("printed {line:?}"));
-        text.lines().map(row).collect()
+        String::from_utf8(out.stdout).map_err(|error| error.to_string())
     }
 }
 

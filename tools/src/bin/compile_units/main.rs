@@ -1,6 +1,6 @@
 //! Compiles the units of generated files with three compilers, links them with a stub runtime and
 //! runs the block table: its keys must be the file's, and what comes of its functions must not
-//! depend on the compiler.
+//! depend on the compiler. Stores of several registers must store the words that the manual says.
 
 mod compilers;
 #[cfg(feature = "library")]
@@ -11,6 +11,7 @@ mod source;
 use compilers::{Directory, COMPILERS};
 use recomp_tools::generate::{closings, forms, Params};
 use recomp_tools::model;
+use recomp_tools::stores;
 use recomp_tools::trials::{self, Trial};
 use source::Source;
 use std::process::ExitCode;
@@ -31,6 +32,7 @@ struct Tally {
     units: usize,
     bytes: usize,
     programs: u64,
+    stores: usize,
     failures: u64,
 }
 
@@ -64,10 +66,39 @@ impl Tally {
         }
     }
 
+    /// Stores of several registers, held against the manual's word by word.
+    fn compile_stores(&mut self, source: &Source, directory: &Directory) {
+        let all = stores::all();
+        let (file, expected) = stores::file(&all);
+        let units = source.units(&file.bytes, u64::MAX);
+        self.stores = all.len();
+        for compiler in &COMPILERS {
+            self.programs += 1;
+            let reason = match directory.printed(compiler, "stores.c", &units) {
+                Ok(printed) if printed == expected => continue,
+                Ok(printed) => other_stores(&expected, &printed),
+                Err(reason) => reason,
+            };
+            self.failures += 1;
+            println!("stores, {}: {reason}", compiler.name);
+        }
+    }
+
     fn fail(&mut self, trial: &Trial, size: u64, reason: &str) {
         self.failures += 1;
         println!("{trial:?} at {size}: {reason}");
     }
+}
+
+/// How many lines were printed of how many, and those that differ.
+fn other_stores(expected: &str, printed: &str) -> String {
+    let [all, own] = [expected, printed].map(|text| text.lines().count());
+    let mut out = format!("{own} lines of {all}");
+    let pairs = expected.lines().zip(printed.lines());
+    for (manual, text) in pairs.filter(|(manual, text)| manual != text) {
+        out += &format!("\n  the manual {manual}\n  the text   {text}");
+    }
+    out
 }
 
 /// No blocks, every kind and form, closings, small files and some at the limit of a part.
@@ -96,6 +127,7 @@ fn run(words: &[String]) -> Result<Tally, String> {
     for (trial, &size) in trials(files, first).zip(SIZES.iter().cycle()) {
         tally.compile(&trial, size, &source, &directory);
     }
+    tally.compile_stores(&source, &directory);
     Ok(tally)
 }
 
@@ -109,8 +141,8 @@ fn main() -> ExitCode {
         }
     };
     println!(
-        "{} files, {} units, {} bytes of text, {} programs, {} failures",
-        tally.files, tally.units, tally.bytes, tally.programs, tally.failures
+        "{} files, {} units, {} bytes of text, {} stores, {} programs, {} failures",
+        tally.files, tally.units, tally.bytes, tally.stores, tally.programs, tally.failures
     );
     match tally.failures {
         0 => ExitCode::SUCCESS,
