@@ -109,11 +109,12 @@ uint32_t recomp_pages(const uint8_t *file, size_t file_len, uint64_t first,
  * crates/claim_ways/specs/Applies.antt; and that the text of each block, read by C99, does what
  * the ARM manual says of the instructions that are lowered to C, and what interp_one does for the
  * others (supposed to be a step of the machine that leaves in c[15] the address of the key which
- * it answers), but for the records that docs/DIFFERENCES.md names and, as a whole, the blocks
- * that hold one: `MeaningOf` in crates/claim_meaning/specs/Meaning.antt; and that every execution
- * of a block's function by C99 is such a way, that from one state there is one, and that, where
- * no block of its group holds such a record, it carries out blocks of the group one after the
- * other as their text means. crates/claim_units/specs/Claims.antt lists all.
+ * it answers), but for the records that docs/DIFFERENCES.md names as differences from the manual
+ * or as left out and, as a whole, the blocks that hold one: `MeaningOf` in
+ * crates/claim_meaning/specs/Meaning.antt; and that every execution of a block's function by C99 is
+ * such a way, that from one state there is one, and that, where no block of its group holds such a
+ * record, it carries out blocks of the group one after the other as their text means.
+ * crates/claim_units/specs/Claims.antt lists all.
  * Not proved, as no promise speaks of time: each call goes through the file from its start, so its
  * time does not depend on earlier calls. It measures the units before the first that is asked for;
  * of all units of a file, with all their text lent, each is measured at most once and written
