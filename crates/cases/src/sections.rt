@@ -15,7 +15,7 @@ fn replay_one(section: Section, k: u64) -> Verdict {
         Section::Check => check_cases::replay_one(k),
         Section::Exits => exits_cases::replay_one(k),
         Section::Plan => case_plan::replay_one(k),
-        Section::Units => case_units::replay_one(k),
+        Section::Units => case_unit::replay_one(k),
         Section::Fronts => units_cases::replay_one(k),
         Section::Lengths => lengths_cases::replay_one(k),
         Section::Page => case_pages::replay_one(k, false),

@@ -10,8 +10,8 @@ use Rattle.plan_groups.specs.Limit.{partLimit}
 use Rattle.call_unit.specs.Calls.{unitCall, unitNumbers}
 use Rattle.case_lent.proofs.Compared.{compared}
 use borrow.Author.Needs.{needs}
-use Rattle.case_units.proofs.is_right.Statement.{statement}
-use Rattle.case_units.proofs.is_right.Tie as tie
+use Rattle.case_unit.proofs.is_right.Statement.{statement}
+use Rattle.case_unit.proofs.is_right.Tie as tie
 
 array-borrow-prefix-work : tie.Need-array-borrow-prefix-work
 array-borrow-prefix-work c = search needs

@@ -24,7 +24,7 @@ ghost use Rattle.file_blocks.specs.Parse.{parse};
 ghost use Rattle.plan_groups.specs.Limit.{partLimit};
 ghost use Rattle.call_unit.specs.Calls.{unitCall, unitNumbers};
 ghost use Rattle.case_lent.specs.Left.{sameLeft};
-ghost use Rattle.case_units.specs.UnitCases.{unitCallLeaves};
+ghost use Rattle.case_unit.specs.UnitCases.{unitCallLeaves};
 
 // What a vector asks for, and how much it lends.
 struct Asked {

@@ -3,8 +3,8 @@
 use mathlib.Core.Path.{sym}
 use lib.Seq.{length-take-le}
 use borrow.Author.Needs.{needs}
-use Rattle.case_units.proofs.replay_file.Statement.{statement}
-use Rattle.case_units.proofs.replay_file.Tie as tie
+use Rattle.case_unit.proofs.replay_file.Statement.{statement}
+use Rattle.case_unit.proofs.replay_file.Tie as tie
 
 array-share-prefix-buffer : tie.Need-array-share-prefix-buffer
 array-share-prefix-buffer c =

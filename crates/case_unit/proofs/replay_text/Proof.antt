@@ -3,8 +3,8 @@
 use mathlib.Core.Path.{sym}
 use lib.Seq.{length-take-le}
 use borrow.Author.Needs.{needs}
-use Rattle.case_units.proofs.replay_text.Statement.{statement}
-use Rattle.case_units.proofs.replay_text.Tie as tie
+use Rattle.case_unit.proofs.replay_text.Statement.{statement}
+use Rattle.case_unit.proofs.replay_text.Tie as tie
 
 array-borrow-prefix-expected-text : tie.Need-array-borrow-prefix-expected-text
 array-borrow-prefix-expected-text c = search needs
