@@ -3,8 +3,8 @@
  * `rt staticlib recomp` proves the library and writes target/staticlib/librecomp.a; lib/ keeps one
  * (`lib/archive take FILE`). What is said here in words is proved of every call and every input,
  * but for what is marked as not proved; the definitions are named at each call. What every call
- * leaves: `callFrame` in crates/call_frame/specs/Frame.antt; the numbers handed over: `numbersOf` in
- * Numbers.antt there.
+ * leaves: `callFrame` in crates/call_frame/specs/Frame.antt; the numbers handed over: `numbersOf`
+ * in Numbers.antt there.
  *
  * For all calls:
  * - The return value is 0, or the number of a refusal:
@@ -18,12 +18,14 @@
  *     8  fewer than four work numbers for each block are lent
  *     9  there is no such block, page or unit
  *    10  the lent result is too short
- *   The first that applies is given. A call gives those of them that can apply to it, and gives
- *   1 to 7 exactly as recomp_check does.
+ *    11  a value given for the unit is not the unit's
+ *   The first that applies is given, in the order of the numbers but for 11, which comes after 9
+ *   and before 10. A call gives those of them that can apply to it, and gives 1 to 7 exactly as
+ *   recomp_check does.
  * - `*at` is i for 4, 5 and 7, counted from 0 through the file, else 0. The other numbers handed
  *   over are 0 on refusal. All of them are written on every return.
- * - Work numbers: the first 4 * blocks are 0 after success and after 9 and 10, and are as they were
- *   after 1 to 8. What they hold before a call does not matter. Those after are never changed.
+ * - Work numbers: the first 4 * blocks are 0 after success and after 9, 10 and 11, and are as they
+ *   were after 1 to 8. What they hold before a call does not matter. Those after are never changed.
  * - A lent plan, text or slice of lengths is changed on success only, and only in its front, as far
  *   as the result reaches.
  * - Nothing is allocated, kept or read beyond what is lent.
@@ -100,8 +102,8 @@ uint32_t recomp_pages(const uint8_t *file, size_t file_len, uint64_t first,
 /* Units: the C text is cut into units, each closed once it has `max_bytes` bytes after a group.
  * They are numbered from 0. Every accepted file has a last unit, at every size; refusal 9 is given
  * for every number above that unit's. Of the units at every size it is proved, as a promise of
- * recomp_unit and of recomp_units, that along every way through them at most 8,192 instructions are
- * carried out between two calls of the chain gate in a group of several blocks, that a block
+ * recomp_write and of recomp_units, that along every way through them at most 8,192 instructions
+ * are carried out between two calls of the chain gate in a group of several blocks, that a block
  * alone in its group carries out no instruction twice, and that native code of a block outside
  * ROM and BIOS is reached only after the guard said yes to it: `Demand3Of` in
  * crates/claim_ways/specs/Demand3.antt; that each block has one function, and such a way from it
@@ -116,16 +118,34 @@ uint32_t recomp_pages(const uint8_t *file, size_t file_len, uint64_t first,
  * record, it carries out blocks of the group one after the other as their text means.
  * crates/claim_units/specs/Claims.antt lists all.
  * Not proved, as no promise speaks of time: each call goes through the file from its start, so its
- * time does not depend on earlier calls. It measures the units before the first that is asked for;
- * of all units of a file, with all their text lent, each is measured at most once and written
- * once. */
+ * time does not depend on earlier calls. It measures the units before the first that is asked for.
+ * recomp_units, with the text of all units of a file lent, measures each at most once and writes it
+ * once; recomp_measure and recomp_write each measure the unit that is asked for too. */
 
-/* The text of unit `unit`: `*length` bytes of UTF-8, with no zero byte after it. `*done` is the
- * number of blocks in it and in all units before it, `*last` is 1 for the last unit and 0 for the
- * others. Refusals 1 to 10. Definition: `unitCall` in crates/call_unit/specs/Calls.antt. */
-uint32_t recomp_unit(const uint8_t *file, size_t file_len, uint64_t max_bytes, uint64_t unit,
-                     uint32_t *work, size_t work_len, uint8_t *text, size_t text_len,
-                     uint64_t *at, uint64_t *length, uint64_t *done, uint64_t *last);
+/* One unit is measured, then written. What is told of unit `unit` before it is written: `*number`
+ * is its number, `*length` the bytes of its text, `*done` the number of blocks in it and in all
+ * units before it, `*last` 1 for the last unit and 0 for the others. No text is lent. Refusals 1 to
+ * 9. Definition: `measureCall` in crates/call_unit/specs/Calls.antt. Before there were these two,
+ * one call, recomp_unit, did both; docs/changes/CR-03.md says what its callers change. */
+uint32_t recomp_measure(const uint8_t *file, size_t file_len, uint64_t max_bytes, uint64_t unit,
+                        uint32_t *work, size_t work_len, uint64_t *at, uint64_t *number,
+                        uint64_t *length, uint64_t *done, uint64_t *last);
+
+/* The text of unit `unit`, given back what recomp_measure told of it: `length` bytes of UTF-8, with
+ * no zero byte after it. The three values `length`, `done` and `last` are worked out afresh for
+ * this file, size and unit. 11: one of them differs from what was given, as a `last` of 2 always
+ * does; it is tested after 9 and before 10. Equal values are all that is asked: with an answer kept
+ * from another file or size, whose three values are those of the unit that it names here, the unit
+ * of this file and size is written.
+ * Refusals 1 to 11. Definition: `writeCall` in crates/call_unit/specs/Calls.antt.
+ * Where recomp_measure returns 0, recomp_write with what it told, on the same file and size, leaves
+ * what one call would, 8 and 10 included. Lent the same work numbers as recomp_measure, it gives 11
+ * with anything else for that unit, and is refused alike where recomp_measure is refused. This is
+ * proved, as a promise of both calls: `MeasureThenWrite` in crates/call_unit/specs/Claims.antt;
+ * `unitCall` in Calls.antt there is that one call, as document 01 asks for the unit. */
+uint32_t recomp_write(const uint8_t *file, size_t file_len, uint64_t max_bytes, uint64_t unit,
+                      uint64_t length, uint64_t done, uint64_t last, uint32_t *work,
+                      size_t work_len, uint8_t *text, size_t text_len, uint64_t *at);
 
 /* The texts of units `first`, `first` + 1 and so on, one after another in the front of `text`, and
  * the length of each in the front of `lengths`: as many whole units as fit both. `*count` is how

@@ -115,33 +115,57 @@ pub fn pages(file: &[u8], first: u64, work: &mut [u32], text: &mut [u8]) -> (u32
     (number, [at, count, length])
 }
 
-pub fn unit(
-    file: &[u8],
-    max_bytes: u64,
-    unit: u64,
-    work: &mut [u32],
-    text: &mut [u8],
-) -> (u32, [u64; 4]) {
-    let [mut at, mut length, mut done, mut last] = [UNWRITTEN; 4];
-    // SAFETY: the three slices and the four numbers are apart and outlive the call, which keeps none
+/// What is handed over: the place, the unit's number, its length, the blocks done, the last mark.
+pub fn measure(file: &[u8], max_bytes: u64, unit: u64, work: &mut [u32]) -> (u32, [u64; 5]) {
+    let [mut at, mut number, mut length, mut done, mut last] = [UNWRITTEN; 5];
+    // SAFETY: the two slices and the five numbers are apart and outlive the call, which keeps none
     // of them.
-    let number = unsafe {
-        recomp_unit(
+    let answer = unsafe {
+        recomp_measure(
             file.as_ptr(),
             file.len(),
             max_bytes,
             unit,
             work.as_mut_ptr(),
             work.len(),
-            text.as_mut_ptr(),
-            text.len(),
             &mut at,
+            &mut number,
             &mut length,
             &mut done,
             &mut last,
         )
     };
-    (number, [at, length, done, last])
+    (answer, [at, number, length, done, last])
+}
+
+/// What was told of the unit: its number, its length, the blocks done, the last mark.
+pub fn write(
+    file: &[u8],
+    max_bytes: u64,
+    [unit, length, done, last]: [u64; 4],
+    work: &mut [u32],
+    text: &mut [u8],
+) -> (u32, [u64; 1]) {
+    let mut at = UNWRITTEN;
+    // SAFETY: the three slices and the number are apart and outlive the call, which keeps none of
+    // them.
+    let number = unsafe {
+        recomp_write(
+            file.as_ptr(),
+            file.len(),
+            max_bytes,
+            unit,
+            length,
+            done,
+            last,
+            work.as_mut_ptr(),
+            work.len(),
+            text.as_mut_ptr(),
+            text.len(),
+            &mut at,
+        )
+    };
+    (number, [at])
 }
 
 pub fn units(
@@ -185,8 +209,8 @@ pub fn lengths(
     lengths: &mut [u64],
 ) -> (u32, [u64; 4]) {
     let [mut at, mut count, mut done, mut last] = [UNWRITTEN; 4];
-    // SAFETY: the three slices and the four numbers are apart and outlive the call, which keeps none
-    // of them.
+    // SAFETY: the three slices and the four numbers are apart and outlive the call, which keeps
+    // none of them.
     let number = unsafe {
         recomp_lengths(
             file.as_ptr(),
@@ -272,19 +296,33 @@ extern "C" {
         length: *mut u64,
     ) -> u32;
 
-    fn recomp_unit(
+    fn recomp_measure(
         file: *const u8,
         file_len: usize,
         max_bytes: u64,
         unit: u64,
         work: *mut u32,
         work_len: usize,
-        text: *mut u8,
-        text_len: usize,
         at: *mut u64,
+        number: *mut u64,
         length: *mut u64,
         done: *mut u64,
         last: *mut u64,
+    ) -> u32;
+
+    fn recomp_write(
+        file: *const u8,
+        file_len: usize,
+        max_bytes: u64,
+        unit: u64,
+        length: u64,
+        done: u64,
+        last: u64,
+        work: *mut u32,
+        work_len: usize,
+        text: *mut u8,
+        text_len: usize,
+        at: *mut u64,
     ) -> u32;
 
     fn recomp_units(

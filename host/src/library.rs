@@ -3,7 +3,7 @@
 //! proved.
 
 #[path = "interface.rs"]
-mod interface;
+pub mod interface;
 
 /// The number of a refusal and the block or instruction that it names, or 0.
 #[derive(Clone, Copy, Debug, PartialEq, Eq)]
@@ -28,14 +28,17 @@ pub struct Pages {
     pub length: u64,
 }
 
-/// What is said of a unit beside its text.
+/// What measuring tells of a unit, and writing it takes back.
 #[derive(Clone, Copy, Debug, PartialEq, Eq)]
-pub struct Unit {
-    /// Bytes of its text, in the front of the text lent.
+pub struct Told {
+    /// Its number.
+    pub unit: u64,
+    /// Bytes of its text.
     pub length: u64,
     /// Blocks in it and in all units before it.
     pub done: u64,
-    pub last: bool,
+    /// 1 for the file's last unit, 0 for the others. It is given back as it was told.
+    pub last: u64,
 }
 
 /// What is said of several units beside their texts and the length of each.
@@ -108,22 +111,31 @@ pub fn pages(file: &[u8], first: u64, work: &mut [u32], text: &mut [u8]) -> Resu
     answer(number, at, Pages { count, length })
 }
 
-/// Unit `unit`, from 0, of those that are closed from `max_bytes` bytes on; `text` then has its
-/// text in its front.
-pub fn unit(
-    file: &[u8],
-    max_bytes: u64,
-    unit: u64,
-    work: &mut [u32],
-    text: &mut [u8],
-) -> Result<Unit, Refused> {
-    let (number, [at, length, done, last]) = interface::unit(file, max_bytes, unit, work, text);
-    let values = Unit {
+/// What is told of unit `unit`, from 0, of those that are closed from `max_bytes` bytes on.
+pub fn measure(file: &[u8], max_bytes: u64, unit: u64, work: &mut [u32]) -> Result<Told, Refused> {
+    let (refusal, [at, number, length, done, last]) =
+        interface::measure(file, max_bytes, unit, work);
+    let told = Told {
+        unit: number,
         length,
         done,
-        last: last != 0,
+        last,
     };
-    answer(number, at, values)
+    answer(refusal, at, told)
+}
+
+/// Writes the unit of which this was told, at the same `max_bytes`; `text` then has its text in its
+/// front.
+pub fn write(
+    file: &[u8],
+    max_bytes: u64,
+    told: Told,
+    work: &mut [u32],
+    text: &mut [u8],
+) -> Result<(), Refused> {
+    let told = [told.unit, told.length, told.done, told.last];
+    let (number, [at]) = interface::write(file, max_bytes, told, work, text);
+    answer(number, at, ())
 }
 
 /// Units `first`, `first` + 1 and so on, as many whole ones as fit `text` and have a place among

@@ -31,6 +31,19 @@ pub fn line_for_page(name: &str, refused: Refused, page: u64, pages: u64) -> Str
     with_rule(name, refused, &rule)
 }
 
+/// The line for a refusal of a call that named a unit, of a file that has so many at this size.
+pub fn line_for_unit(name: &str, refused: Refused, unit: u64, units: u64) -> String {
+    let rule = match (refused.number, units) {
+        (9, 1) => format!("there is no unit {unit}; name unit 0, the only one at this size"),
+        (9, _) => format!(
+            "there is no unit {unit} among the {units} at this size; name one of units 0 to {}",
+            units.saturating_sub(1)
+        ),
+        _ => rule(refused),
+    };
+    with_rule(name, refused, &rule)
+}
+
 fn with_rule(name: &str, Refused { number, at }: Refused, rule: &str) -> String {
     format!("refused {number} at {at}: {name}: {rule}")
 }
@@ -67,6 +80,7 @@ fn rule(Refused { number, at }: Refused) -> String {
         8 => "fewer than four work numbers for each block were lent; lend more".into(),
         9 => "there is no such block, page or unit; name one that the file has".into(),
         10 => "what was lent for the result is too short; lend more".into(),
+        11 => "a value given for the unit is not the unit's; measure the unit again".into(),
         _ => "this program does not know the refusal; build it again with its library".into(),
     }
 }

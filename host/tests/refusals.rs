@@ -1,9 +1,10 @@
-//! Every refusal: 1 to 7 and 9 as the program prints them, 8 and 10 as the library's calls give
-//! them to a caller that lends too little.
+//! Every refusal: 1 to 7 and 9 as the program prints them, 8, 10 and 11 as the library's calls give
+//! them to a caller that lends too little, or gives values that are not the unit's.
 
 mod common;
 
-use common::{lone, lone_blocks, recomp, recomp_on, Scratch};
+use common::{lone, lone_blocks, recomp, recomp_on, Scratch, READING};
+use recomp_host::library::interface;
 use recomp_host::library::{self, Made, Measured, Pages, Refused};
 use recomp_tools::file::{block, build, trailer, File};
 use recomp_tools::record::Record;
@@ -64,16 +65,13 @@ fn every_command_refuses_with_number_place_and_rule() {
         let file = scratch.file("refused.blk", &bytes);
         let folder = scratch.join("units");
         let runs = [
-            recomp(&["check", &file]),
-            recomp(&["plan", &file]),
-            recomp(&["page", &file]),
+            recomp(&["measure", &file, "0"]),
             recomp(&["page", &file, "0"]),
-            recomp(&["exits", &file]),
             recomp(&["exits", &file, "0"]),
-            recomp(&["listing", &file]),
             recomp(&["units", &file, "-o", &folder]),
         ];
-        for run in runs {
+        let all = READING.map(|command| recomp(&[command, &file]));
+        for run in runs.into_iter().chain(all) {
             let line = run.failed(1);
             let start = format!("refused {number} at {at}: {file}: ");
             assert!(line.starts_with(&start), "{line}");
@@ -85,7 +83,7 @@ fn every_command_refuses_with_number_place_and_rule() {
 
 #[test]
 fn standard_input_is_refused_by_that_name() {
-    for command in ["check", "plan", "page", "exits", "listing"] {
+    for command in READING {
         let line = recomp_on(&[], &[command, "-"]).failed(1);
         assert!(
             line.starts_with("refused 1 at 0: standard input: "),
@@ -109,24 +107,157 @@ fn refusal(number: u32) -> Refused {
     Refused { number, at: 0 }
 }
 
+/// Nine work numbers that were 7, after a call on two blocks that zeroed theirs.
+const ZEROED: [u32; 9] = [0, 0, 0, 0, 0, 0, 0, 0, 7];
+
 #[test]
 fn no_such_unit() {
     let file = lone_blocks(2).bytes;
-    let (work, text) = (&mut [7; 9], &mut [7; 8192]);
+    let (text, lengths) = (&mut [7; 8192], &mut [7; 4]);
     // Each of the two blocks has its unit, and the last has the table.
-    let answer = library::unit(&file, 0, 3, work, text);
-    assert_eq!(answer, Err(refusal(9)));
-    assert_eq!((work[..8].to_vec(), work[8]), (vec![0; 8], 7));
-    assert_eq!(text, &[7; 8192]);
-    let (work, lengths) = (&mut [7; 8], &mut [7; 4]);
-    for first in [3, u64::MAX] {
-        let answer = library::units(&file, 0, first, work, text, lengths);
-        assert_eq!(answer, Err(refusal(9)));
-        let answer = library::lengths(&file, 0, first, work, lengths);
-        assert_eq!(answer, Err(refusal(9)));
+    for unit in [3, u64::MAX] {
+        let work = &mut [7; 9];
+        assert_eq!(interface::measure(&file, 0, unit, work), (9, [0; 5]));
+        assert_eq!(*work, ZEROED);
+        let work = &mut [7; 9];
+        let answer = library::units(&file, 0, unit, work, text, lengths);
+        assert_eq!((answer, *work), (Err(refusal(9)), ZEROED));
+        let work = &mut [7; 9];
+        let answer = library::lengths(&file, 0, unit, work, lengths);
+        assert_eq!((answer, *work), (Err(refusal(9)), ZEROED));
     }
-    assert_eq!((*work, *lengths), ([0; 8], [7; 4]));
+    assert_eq!(*lengths, [7; 4]);
     assert_eq!(text, &[7; 8192]);
+}
+
+/// Whatever is given for it, and whether or not any text is lent: 9 comes before 11 and 10.
+#[test]
+fn no_such_unit_to_write() {
+    let file = lone_blocks(2).bytes;
+    for mut given in [[0; 4], told(&file, 2)] {
+        for (unit, room) in [(3, 0), (3, 8192), (u64::MAX, 8192)] {
+            let (work, text) = (&mut [7; 9], &mut [7; 8192][..room]);
+            given[0] = unit;
+            assert_eq!(interface::write(&file, 0, given, work, text), (9, [0]));
+            assert_eq!((*work, &*text), (ZEROED, &[7; 8192][..room]));
+        }
+    }
+}
+
+/// What measuring tells of a unit at size 0: number, length, blocks done, last mark.
+fn told(file: &[u8], unit: u64) -> [u64; 4] {
+    let (number, [at, told @ ..]) = interface::measure(file, 0, unit, &mut [7; 9]);
+    assert_eq!((number, at), (0, 0));
+    told
+}
+
+/// The texts of three units at size 0, by one call.
+fn three_units(file: &[u8]) -> [Vec<u8>; 3] {
+    let (work, text, lengths) = (&mut [7; 9], &mut [7; 16384], &mut [7; 3]);
+    let made = library::units(file, 0, 0, work, text, lengths).expect("units");
+    assert_eq!((made.count, made.last), (3, true));
+    let mut rest = &text[..];
+    lengths.map(|length| rest.split_off(..length as usize).expect("its text").into())
+}
+
+#[test]
+fn a_unit_is_measured_then_written() {
+    let file = lone_blocks(2).bytes;
+    let units = three_units(&file);
+    for (unit, done, last) in [(0, 1, 0), (1, 2, 0), (2, 2, 1)] {
+        let expected = &units[unit as usize];
+        let work = &mut [7; 9];
+        let values = [unit, expected.len() as u64, done, last];
+        let (number, [at, told @ ..]) = interface::measure(&file, 0, unit, work);
+        assert_eq!((number, at, told, *work), (0, 0, values, ZEROED));
+        for more in [0, 1, 100] {
+            let work = &mut [7; 9];
+            let mut text = vec![7; expected.len() + more];
+            let answer = interface::write(&file, 0, told, work, &mut text);
+            assert_eq!((answer, *work), ((0, [0]), ZEROED));
+            assert_eq!(text, [&expected[..], &[7; 100][..more]].concat());
+        }
+    }
+}
+
+/// Answers of which one of the three values is another, by little or in its upper half alone. A
+/// last mark of 2 is among them, whichever is told.
+fn with_one_off(told: [u64; 4]) -> Vec<[u64; 4]> {
+    let mut all = vec![];
+    for place in 1..4 {
+        let value = told[place];
+        for other in [value + 1, value + 2, value.wrapping_sub(1), value | 1 << 32] {
+            let mut given = told;
+            given[place] = other;
+            all.push(given);
+        }
+    }
+    all
+}
+
+/// The text may be too short as well: 11 comes before 10.
+#[test]
+fn a_value_that_is_not_the_units() {
+    let file = lone_blocks(2).bytes;
+    for unit in 0..3 {
+        let told = told(&file, unit);
+        let length = told[1] as usize;
+        for given in with_one_off(told) {
+            for room in [0, length - 1, length, 8192] {
+                let (work, text) = (&mut [7; 9], &mut [7; 8192][..room]);
+                let answer = interface::write(&file, 0, given, work, text);
+                assert_eq!(answer, (11, [0]), "{given:?}");
+                assert_eq!((*work, &*text), (ZEROED, &[7; 8192][..room]));
+            }
+        }
+    }
+}
+
+/// Of another unit, at another size, and of a file without blocks, which needs no work numbers.
+#[test]
+fn an_answer_for_something_else() {
+    let [file, empty] = [2, 0].map(|blocks| lone_blocks(blocks).bytes);
+    let [first, mut second] = [0, 1].map(|unit| told(&file, unit));
+    second[0] = 0;
+    for (file, size, given, left) in [
+        (&file, 0, second, ZEROED),
+        (&file, 1 << 20, first, ZEROED),
+        (&empty, 0, first, [7; 9]),
+    ] {
+        let (work, text) = (&mut [7; 9], &mut [7; 8192]);
+        let answer = interface::write(file, size, given, work, text);
+        assert_eq!((answer, *work), ((11, [0]), left), "{given:?}");
+        assert_eq!(text, &[7; 8192]);
+    }
+}
+
+/// Equal values are all that is asked: the unit is that of the file and size that were given.
+#[test]
+fn an_answer_of_another_file_with_equal_values_writes() {
+    let file = lone_blocks(2).bytes;
+    let at = |address| lone(address, Record::bx(14));
+    let other = build(&[at(0x0800_1000), at(0x0800_1010)]).bytes;
+    for (unit, expected) in (0..).zip(three_units(&file)) {
+        let kept = told(&other, unit);
+        assert_eq!(kept, told(&file, unit));
+        assert_ne!(three_units(&other)[unit as usize], expected);
+        let mut text = vec![7; expected.len()];
+        let answer = interface::write(&file, 0, kept, &mut [7; 9], &mut text);
+        assert_eq!((answer, text), ((0, [0]), expected));
+    }
+}
+
+#[test]
+fn measuring_and_writing_refuse_a_file_as_the_check_does() {
+    for (number, at, _, file) in refused_files() {
+        let (work, text) = (&mut [7; 9], &mut [7; 8192]);
+        let answer = interface::measure(&file, 0, 0, work);
+        assert_eq!(answer, (number, [at, 0, 0, 0, 0]));
+        let answer = interface::write(&file, 0, [0; 4], work, text);
+        assert_eq!(answer, (number, [at]));
+        assert_eq!(*work, [7; 9]);
+        assert_eq!(text, &[7; 8192]);
+    }
 }
 
 #[test]
@@ -152,7 +283,12 @@ fn too_few_work_numbers() {
     assert_eq!(library::listing(&file, work, text), Err(refusal(8)));
     assert_eq!(library::page(&file, 1, work, text), Err(refusal(8)));
     assert_eq!(library::pages(&file, 1, work, text), Err(refusal(8)));
-    assert_eq!(library::unit(&file, 0, 0, work, text), Err(refusal(8)));
+    // Whether there is such a unit, and what is given for it, is not looked at.
+    for unit in [0, 3] {
+        assert_eq!(interface::measure(&file, 0, unit, work), (8, [0; 5]));
+        let given = [unit, 0, 0, 0];
+        assert_eq!(interface::write(&file, 0, given, work, text), (8, [0]));
+    }
     let lengths = &mut [7; 3];
     let answer = library::units(&file, 0, 0, work, text, lengths);
     assert_eq!(answer, Err(refusal(8)));
@@ -169,7 +305,6 @@ fn too_short_a_result() {
     assert_eq!(library::plan(&file, &mut [7; 8], plan), Err(refusal(10)));
     let work = &mut [7; 8];
     assert_eq!(library::listing(&file, work, text), Err(refusal(10)));
-    assert_eq!(library::unit(&file, 0, 0, work, text), Err(refusal(10)));
     assert_eq!((*work, *plan), ([0; 8], [7; 3]));
     assert_eq!(text, &[7; 40]);
     let (work, lengths) = (&mut [7; 8], &mut [7; 3]);
@@ -184,6 +319,19 @@ fn too_short_a_result() {
     let answer = library::lengths(&file, 0, 0, work, &mut []);
     assert_eq!(answer, Err(refusal(10)));
     assert_eq!(text, &[7; 8192]);
+}
+
+#[test]
+fn too_short_a_text_for_a_unit() {
+    let file = lone_blocks(2).bytes;
+    for unit in 0..3 {
+        let told = told(&file, unit);
+        for room in [0, 1, told[1] as usize - 1] {
+            let (work, text) = (&mut [7; 9], &mut [7; 8192][..room]);
+            assert_eq!(interface::write(&file, 0, told, work, text), (10, [0]));
+            assert_eq!((*work, &*text), (ZEROED, &[7; 8192][..room]));
+        }
+    }
 }
 
 #[test]

@@ -12,6 +12,7 @@ pub mod fronts;
 pub mod generate;
 pub mod lent;
 pub mod listing;
+pub mod misled;
 pub mod model;
 pub mod original;
 pub mod pages;

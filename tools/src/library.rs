@@ -11,7 +11,7 @@ use recomp_tools::fronts::FrontNumbers;
 use recomp_tools::listing::ListingNumbers;
 use recomp_tools::model::{ExitNumbers, PlanNumbers};
 use recomp_tools::pages::{Asked, PageNumbers};
-use recomp_tools::units::UnitNumbers;
+use recomp_tools::units::{MeasureNumbers, Told, WriteNumbers};
 
 pub fn check(file: &[u8]) -> Numbers {
     let (number, [at, blocks, instructions]) = interface::check(file);
@@ -64,22 +64,29 @@ pub fn pages(file: &[u8], asked: Asked, work: &mut [u32], text: &mut [u8]) -> Pa
     }
 }
 
-/// Unit `unit` of those that are handed on from `max_bytes` bytes on.
-pub fn unit(
-    file: &[u8],
-    max_bytes: u64,
-    unit: u64,
-    work: &mut [u32],
-    text: &mut [u8],
-) -> UnitNumbers {
-    let (number, [at, length, done, last]) = interface::unit(file, max_bytes, unit, work, text);
-    UnitNumbers {
-        number,
-        at,
+/// What is told of unit `unit` of those that are handed on from `max_bytes` bytes on.
+pub fn measure(file: &[u8], max_bytes: u64, unit: u64, work: &mut [u32]) -> MeasureNumbers {
+    let (number, [at, unit, length, done, last]) = interface::measure(file, max_bytes, unit, work);
+    let told = Told {
+        unit,
         length,
         done,
         last,
-    }
+    };
+    MeasureNumbers { number, at, told }
+}
+
+/// Writes the unit of which this was told.
+pub fn write(
+    file: &[u8],
+    max_bytes: u64,
+    told: Told,
+    work: &mut [u32],
+    text: &mut [u8],
+) -> WriteNumbers {
+    let told = [told.unit, told.length, told.done, told.last];
+    let (number, [at]) = interface::write(file, max_bytes, told, work, text);
+    WriteNumbers { number, at }
 }
 
 /// The units from `first` on, as many whole ones as fit, and the length of each.

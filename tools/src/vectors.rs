@@ -4,11 +4,14 @@ mod blocks;
 pub mod fronts;
 pub mod grouping;
 mod instructions;
+mod kept;
 mod long;
+pub mod measure;
 mod order;
 pub mod pages;
 mod trailer;
-pub mod units;
+mod units;
+pub mod write;
 
 use crate::check::{check, Accepted, Numbers, Refused};
 use crate::file::{Block, File};
@@ -17,6 +20,11 @@ use std::collections::HashSet;
 
 /// The reader of the vectors has buffers of fixed size.
 const LONGEST_FILE: usize = 4_096;
+const LONGEST_TEXT: usize = 65_536;
+const MOST_WORK: usize = 575;
+
+/// Work numbers lent for files whose blocks are not looked at.
+const AMPLE_WORK: usize = 508;
 
 pub struct Vector {
     pub expected: Numbers,
@@ -90,6 +98,11 @@ fn push_numbers(out: &mut Vec<u8>, numbers: &[u64]) {
         let number = u32::try_from(number).expect("numbers of vectors have 32 bits");
         out.extend_from_slice(&number.to_le_bytes());
     }
+}
+
+/// The low half of a number, and the high one.
+fn halves(n: u64) -> [u64; 2] {
+    [n & 0xffff_ffff, n >> 32]
 }
 
 fn push_file(out: &mut Vec<u8>, file: &[u8]) {

@@ -1,13 +1,8 @@
 //! The stored vectors: enough of each number, in the sizes that their reader has room for.
 
 use recomp_tools::check::check;
-use recomp_tools::fronts::{FrontNumbers, Lent};
-use recomp_tools::pages::{Asked, PageNumbers};
-use recomp_tools::units::{Unit, UnitNumbers};
-use recomp_tools::vectors::fronts::{encode_fronts, FrontVector};
 use recomp_tools::vectors::grouping::{encode_exits, encode_plans, exits, plans, PlanVector};
 use recomp_tools::vectors::pages::{encode_pages, page, pages, PageVector};
-use recomp_tools::vectors::units::{encode_units, UnitVector};
 use recomp_tools::vectors::{all, encode};
 
 #[test]
@@ -138,110 +133,4 @@ fn lines_of_page_vectors() {
     for lines in [2, 60, 61, 63, 122, 124] {
         assert!(lengths.contains(&lines), "{lines}");
     }
-}
-
-/// The original, which makes the texts of the stored vectors, is not at hand here.
-#[test]
-fn encoded_units() {
-    let vector = UnitVector {
-        max_bytes: u64::MAX - 1,
-        unit: (3 << 32) + 2,
-        work_len: 4,
-        text_len: 5,
-        cleared: 6,
-        expected: UnitNumbers {
-            number: 7,
-            at: 8,
-            length: 3,
-            done: 9,
-            last: 1,
-        },
-        text: b"abc".to_vec(),
-        file: vec![0xff, 0xfe],
-    };
-    let numbers: [u32; 14] = [1, 0xffff_fffe, 0xffff_ffff, 2, 3, 4, 5, 6, 7, 8, 3, 9, 1, 2];
-    let mut expected: Vec<u8> = numbers.iter().flat_map(|n| n.to_le_bytes()).collect();
-    expected.extend_from_slice(&[0xff, 0xfe, b'a', b'b', b'c']);
-    assert_eq!(encode_units(&[vector]), expected);
-}
-
-/// Two units, as a vector of the call for units or of the one for lengths.
-fn front(text: Option<usize>, length: Option<u64>) -> FrontVector {
-    let unit = |text: &str, done| Unit {
-        text: text.into(),
-        done,
-    };
-    FrontVector {
-        max_bytes: u64::MAX - 1,
-        first: (3 << 32) + 2,
-        lent: Lent {
-            work: 4,
-            text,
-            lengths: 6,
-        },
-        cleared: 7,
-        expected: FrontNumbers {
-            number: 8,
-            at: 9,
-            count: 2,
-            length,
-            done: 10,
-            last: 1,
-        },
-        units: vec![unit("abc", 9), unit("de", 10)],
-        file: vec![0xff],
-    }
-}
-
-#[test]
-fn encoded_fronts() {
-    let words = |numbers: &[u32]| -> Vec<u8> {
-        let bytes = numbers.iter().flat_map(|n| n.to_le_bytes());
-        bytes.collect()
-    };
-    let asked = [1, 0xffff_fffe, 0xffff_ffff, 2, 3, 4];
-    let units = [
-        words(&asked),
-        words(&[5, 6, 7, 8, 9, 2, 5, 10, 1, 1]),
-        b"\xffabcde".to_vec(),
-        words(&[3, 2]),
-    ];
-    assert_eq!(encode_fronts(&[front(Some(5), Some(5))]), units.concat());
-    let lengths = [
-        words(&asked),
-        words(&[6, 7, 8, 9, 2, 10, 1, 1]),
-        vec![0xff],
-        words(&[3, 2]),
-    ];
-    assert_eq!(encode_fronts(&[front(None, None)]), lengths.concat());
-}
-
-#[test]
-fn encoded_pages() {
-    let vector = |asked, count| PageVector {
-        asked,
-        work_len: 4,
-        text_len: 5,
-        cleared: 6,
-        expected: PageNumbers {
-            number: 7,
-            at: 8,
-            count,
-            length: 3,
-        },
-        text: "abc".to_string(),
-        file: vec![0xff, 0xfe],
-    };
-    let number = (3 << 32) + 2;
-    let both = [
-        vector(Asked::Page(number), None),
-        vector(Asked::From(number), Some(9)),
-    ];
-    let mut expected = 2u32.to_le_bytes().to_vec();
-    for count in [0, 9] {
-        let numbers: [u32; 10] = [2, 3, 4, 5, 6, 7, 8, count, 3, 2];
-        expected.extend(numbers.iter().flat_map(|n| n.to_le_bytes()));
-        expected.extend_from_slice(&[0xff, 0xfe, b'a', b'b', b'c']);
-    }
-    assert_eq!(encode_pages(&both), expected);
 }

@@ -1,39 +1,35 @@
--- What an answer tells of the room.
+-- What an answer of writing tells of the values and of the room.
 -- Assumes nothing.
 use Prim.Native.Nat.{ℕ, _≤_, _<_}
-use mathlib.Core.Path.{_≡_, refl, _∙_}
+use mathlib.Core.Path.{_≡_, refl}
 use mathlib.Core.Bool.{Bool, true, false, cond}
-use native.Mathlib.Omega.{arith}
-use borrow.Author.Tests.{ltb-true, ltb-false, lt-ltb, le-ltb}
+use borrow.Author.Tests.{ltb-true, ltb-false}
 use lib.Dec.{ltb}
-use Rattle.call_answers.specs.declared.UnitAnswer.{UnitAnswer}
+use Rattle.call_answers.specs.declared.Told.{Told}
+use Rattle.call_answers.specs.declared.WriteAnswer.{WriteAnswer}
+use Rattle.call_answers.specs.Values.{sameValues}
 use Rattle.call_answers.specs.Answers.{answerIn}
 
-module _ (room length done : ℕ) (last : Bool) (r : UnitAnswer)
-    (is : r ≡ answerIn room length done last) where
-  -- a refusal: there is too little
-  pub short : (n i : ℕ) → r ≡ UnitAnswer.Refused n i → room < length
-  short n i e = go (ltb room length) refl is
+-- which of the three answers it is, and why
+pub data Why (given found : Told) (room : ℕ) : WriteAnswer → Type 0 where
+  differs : sameValues given found ≡ false → Why given found room (WriteAnswer.Refused 11 0)
+  short : sameValues given found ≡ true → room < found .length
+      → Why given found room (WriteAnswer.Refused 10 0)
+  fits : sameValues given found ≡ true → found .length ≤ room
+      → Why given found room WriteAnswer.Written
+
+module _ (given found : Told) (room : ℕ) where
+  by-room : (t : Bool) → ltb room (found .length) ≡ t → sameValues given found ≡ true
+      → Why given found room (cond t (WriteAnswer.Refused 10 0) WriteAnswer.Written)
+  by-room true h same = short same (ltb-true _ _ h)
+  by-room false h same = fits same (ltb-false _ _ h)
+
+  pub why : Why given found room (answerIn given found room)
+  why = go (sameValues given found) refl
     where
-      go : (t : Bool) → ltb room length ≡ t
-          → r ≡ cond t (UnitAnswer.Refused 10 0) (UnitAnswer.Unit length done last)
-          → room < length
-      go true h p = ltb-true _ _ h
-      go false h p = absurd (let z : _≡_ {A = ℕ} 0 1 = cc in omega arith)
-
-  -- the values: there is enough
-  pub enough : (n d : ℕ) (l : Bool) → r ≡ UnitAnswer.Unit n d l → length ≤ room
-  enough n d l e = go (ltb room length) refl is
-    where
-      go : (t : Bool) → ltb room length ≡ t
-          → r ≡ cond t (UnitAnswer.Refused 10 0) (UnitAnswer.Unit length done last)
-          → length ≤ room
-      go true h p = absurd (let z : _≡_ {A = ℕ} 0 1 = cc in omega arith)
-      go false h p = ltb-false _ _ h
-
-  -- and so which answer it is
-  pub refused : room < length → r ≡ UnitAnswer.Refused 10 0
-  refused h = is ∙ rw (lt-ltb _ _ h)
-
-  pub made : length ≤ room → r ≡ UnitAnswer.Unit length done last
-  made h = is ∙ rw (le-ltb _ _ h)
+      go : (s : Bool) → sameValues given found ≡ s
+          → Why given found room
+          (cond s (cond (ltb room (found .length)) (WriteAnswer.Refused 10 0) WriteAnswer.Written)
+          (WriteAnswer.Refused 11 0))
+      go true same = by-room (ltb room (found .length)) refl same
+      go false other = differs other

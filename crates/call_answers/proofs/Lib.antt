@@ -1,2 +1,3 @@
--- The laws by which the proof of the call reads an answer.
+-- The laws that the proofs of calls for a unit share.
 pub mod Answers
+pub mod Values

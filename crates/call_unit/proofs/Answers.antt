@@ -1,75 +1,124 @@
--- The answers of the call for a unit.
+-- The answers of the calls for a unit.
 -- Assumes nothing.
-use Prim.Native.Nat.{ℕ, _≤_, _<_}
+use Prim.Native.Nat.{ℕ, _≤_}
 use mathlib.Core.Path.{_≡_, refl, sym, ap, ap₂, _∙_, subst}
-use mathlib.Core.Bool.{Bool}
+use mathlib.Core.Bool.{Bool, true, false}
 use mathlib.Core.List.{List, [], _∷_, _++_}
 use mathlib.Core.Option.{none}
 use native.Mathlib.Omega.{arith}
 use lib.ListN.{length, drop, getElem?}
 use Rattle.base_hash.specs.Fnv.{hashMultiplier}
 use Rattle.file_blocks.specs.Parse.{blocksOf}
-use Rattle.lower_units.specs.Units.{UnitValues, textOf, units}
+use Rattle.lower_units.specs.Units.{unitValues, textOf, units}
 use Rattle.emit_units.specs.declared.extents.Extent.{Extent}
 use Rattle.emit_units.specs.Units.{IsUnit}
-use Rattle.call_frame.proofs.Settling.{refused-own, refused-10, handed-over}
-use Rattle.call_answers.specs.declared.UnitAnswer.{UnitAnswer}
-use Rattle.call_answers.specs.Answers.{answerIn, answerNumbers}
-use Rattle.call_answers.proofs.Answers.{short, enough, refused, made}
-use Rattle.call_unit.specs.Calls.{unitAnswer, madeUnit, unitValueNumbers}
-use Rattle.call_frame.specs.Frame.{ifFound}
+use Rattle.call_frame.specs.Frame.{ifFound, numbered}
 use Rattle.call_frame.specs.Numbers.{numbersOf}
-use Rattle.call_unit.specs.Steps.{AnswersUnit}
+use Rattle.call_frame.proofs.Settling.{refused-own, refused-10, handed-over, handed-all}
+use Rattle.call_answers.specs.declared.MeasureAnswer.{MeasureAnswer}
+use Rattle.call_answers.specs.declared.Told.{Told}
+use Rattle.call_answers.specs.declared.WriteAnswer.{WriteAnswer}
+use Rattle.call_answers.specs.Answers.{answerIn, measureNumbersOf, writeNumbersOf}
+use Rattle.call_answers.specs.Values.{toldOf, sameValues}
+use Rattle.call_answers.proofs.Answers.{Why, differs, short, fits, why}
+use Rattle.call_unit.specs.Calls.{measureAnswer, writeAnswer, toldOfUnit, measures, writes}
+use Rattle.call_unit.specs.Steps.{AnswersMeasure, AnswersWrite}
 
--- the values of an answer
-abbrev valuesOf : ℕ → ℕ → Bool → UnitValues
-valuesOf n d l = record { length = n; done = d; last = l }
+-- what is told of an extent is what is told of its unit
+told-same : (f : List ℕ) (limit max k : ℕ) {e : Extent} (is : IsUnit f limit max k e)
+    → toldOf k (e .length) (e .end) (e .last) ≡ toldOfUnit k (unitValues (is .unit))
+told-same f limit max k {e} is =
+    ap₂ (λ (n d : ℕ). toldOf k n d (e .last)) (is .bytes) (is .done)
+    ∙ ap (toldOf k (length (textOf (is .unit .tree))) (is .unit .done)) (is .last)
 
-module _ (f : List ℕ) (limit max k : ℕ) (text : List ℕ) where
+module _ (f : List ℕ) (limit max k : ℕ) where
   -- there is no such unit
-  pub unit-none : getElem? (units hashMultiplier limit max (blocksOf f)) k ≡ none
-      → AnswersUnit limit max k f (UnitAnswer.Refused 9 0) text text
-  unfolding unitAnswer
-  unit-none e = λ work. refused-own _ (ap (ifFound madeUnit) e) work (text ∷ [])
+  pub measure-none : getElem? (units hashMultiplier limit max (blocksOf f)) k ≡ none
+      → AnswersMeasure limit max k f (MeasureAnswer.Refused 9 0)
+  unfolding measureAnswer
+  measure-none e = λ work. refused-own _ (ap (ifFound (measures k)) e) work []
 
-  module _ {e : Extent} (is : IsUnit f limit max k e) (r : UnitAnswer)
-      (told : r ≡ answerIn (length text) (e .length) (e .end) (e .last)) where
-    -- its text is too long
-    pub unit-long : (n i : ℕ) → r ≡ UnitAnswer.Refused n i
-        → AnswersUnit limit max k f r text text
-    unfolding unitAnswer
-    unit-long n i known =
-        let long : length text < e .length = short _ _ _ _ r told n i known in
-        subst (λ (a : UnitAnswer). AnswersUnit limit max k f a text text)
-        (sym (refused _ _ _ _ r told long))
-        (λ work. refused-10 _ (textOf (is .unit .tree)) (ap (ifFound madeUnit) (is .found)) work
-        text (omega (arith, is .bytes)))
+  -- what is told of it
+  pub measure-told : {e : Extent} (is : IsUnit f limit max k e) (t : Told)
+      → t ≡ toldOf k (e .length) (e .end) (e .last)
+      → AnswersMeasure limit max k f (MeasureAnswer.Told t)
+  unfolding measureAnswer
+  measure-told is t told = λ work.
+      handed-all _ [] (ap (ifFound (measures k)) (is .found)) work [] t []
+      (told ∙ told-same f limit max k is) refl refl
 
-    -- its text fits
-    pub unit-fits : (n d : ℕ) (l : Bool) → r ≡ UnitAnswer.Unit n d l
-        → length (textOf (is .unit .tree)) ≤ length text
-    unit-fits n d l known =
-        let fits : e .length ≤ length text = enough _ _ _ _ r told n d l known in
-        omega (arith, is .bytes)
+module _ (f : List ℕ) (limit max : ℕ) (given : Told) (text : List ℕ) where
+  -- there is no such unit
+  pub write-none : getElem? (units hashMultiplier limit max (blocksOf f)) (given .unit) ≡ none
+      → AnswersWrite limit max given f (WriteAnswer.Refused 9 0) text text
+  unfolding writeAnswer
+  write-none e = λ work. refused-own _ (ap (ifFound (writes given)) e) work (text ∷ [])
 
-    -- and is in the front
-    pub unit-made : (n d : ℕ) (l : Bool) → r ≡ UnitAnswer.Unit n d l → (text′ : List ℕ)
-        → text′ ≡ textOf (is .unit .tree) ++ drop (length (textOf (is .unit .tree))) text
-        → AnswersUnit limit max k f r text text′
-    unfolding unitAnswer
-    unit-made n d l known text′ put =
-        let fits : e .length ≤ length text = enough _ _ _ _ r told n d l known in
-        let same : valuesOf (e .length) (e .end) (e .last)
-        ≡ valuesOf (length (textOf (is .unit .tree))) (is .unit .done) (is .unit .last) =
-        ap₂ (λ (m j : ℕ). valuesOf m j (e .last)) (is .bytes) (is .done)
-        ∙ ap (valuesOf (length (textOf (is .unit .tree))) (is .unit .done)) (is .last) in
-        subst (λ (a : UnitAnswer). AnswersUnit limit max k f a text text′)
-        (sym (made _ _ _ _ r told fits))
-        (λ work. handed-over _ (textOf (is .unit .tree)) (ap (ifFound madeUnit) (is .found)) work
-        text _ text′ same (unit-fits n d l known) put)
+  module _ {e : Extent} (is : IsUnit f limit max (given .unit) e) (found : Told)
+      (told : found ≡ toldOf (given .unit) (e .length) (e .end) (e .last)) where
+    -- by whether the values are the same
+    decided : (b : Bool) → sameValues given found ≡ b
+        → sameValues given (toldOfUnit (given .unit) (unitValues (is .unit))) ≡ b
+    decided b same =
+        ap (sameValues given) (sym (told ∙ told-same f limit max (given .unit) is)) ∙ same
+
+    module _ (r : WriteAnswer) (answered : r ≡ answerIn given found (length text)) where
+      by-why : Why given found (length text) r
+      by-why = subst (Why given found (length text)) (sym answered) (why given found (length text))
+
+      refused : {a : WriteAnswer} → Why given found (length text) a → (n i : ℕ)
+          → a ≡ WriteAnswer.Refused n i → AnswersWrite limit max given f a text text
+      unfolding writeAnswer
+      refused (differs other) n i known = λ work.
+          refused-own (numbered 11)
+          (ap (ifFound (writes given)) (is .found) ∙ rw (decided false other)) work (text ∷ [])
+      refused (short same long) n i known = λ work.
+          refused-10 tt (textOf (is .unit .tree))
+          (ap (ifFound (writes given)) (is .found) ∙ rw (decided true same)) work text
+          (omega (arith, long, ap (λ (t : Told). t .length) told, is .bytes))
+      refused (fits same enough) n i known =
+          absurd (let z : _≡_ {A = ℕ} 0 1 = cc in omega arith)
+
+      -- a value differs, or its text is too long
+      pub write-refused : (n i : ℕ) → r ≡ WriteAnswer.Refused n i
+          → AnswersWrite limit max given f r text text
+      write-refused = refused by-why
+
+      written : {a : WriteAnswer} → Why given found (length text) a → a ≡ WriteAnswer.Written
+          → (sameValues given found ≡ true) × (found .length ≤ length text)
+      written (differs other) known = absurd (let z : _≡_ {A = ℕ} 0 1 = cc in omega arith)
+      written (short same long) known = absurd (let z : _≡_ {A = ℕ} 0 1 = cc in omega arith)
+      written (fits same enough) known = (same, enough)
+
+      -- its text fits
+      pub write-fits : r ≡ WriteAnswer.Written
+          → length (textOf (is .unit .tree)) ≤ length text
+      write-fits known =
+          let enough = written by-why known .1 in
+          omega (arith, enough, ap (λ (t : Told). t .length) told, is .bytes)
+
+      -- and is in the front
+      pub write-made : r ≡ WriteAnswer.Written → (text′ : List ℕ)
+          → text′ ≡ textOf (is .unit .tree) ++ drop (length (textOf (is .unit .tree))) text
+          → AnswersWrite limit max given f r text text′
+      unfolding writeAnswer
+      write-made known text′ put =
+          subst (λ (a : WriteAnswer). AnswersWrite limit max given f a text text′) (sym known)
+          (λ work.
+          handed-over tt (textOf (is .unit .tree))
+          (ap (ifFound (writes given)) (is .found) ∙ rw (decided true (written by-why known .0)))
+          work text tt text′ refl (write-fits known) put)
 
 -- the numbers of an answer are those that are handed over for it
-pub numbers-of : (a : UnitAnswer) → answerNumbers a ≡ numbersOf 3 unitValueNumbers (unitAnswer a)
-unfolding unitAnswer
-numbers-of (UnitAnswer.Unit n d l) = refl
-numbers-of (UnitAnswer.Refused n i) = refl
+pub measure-numbers : (a : MeasureAnswer)
+    → measureNumbersOf a
+    ≡ numbersOf 4 (λ (t : Told). t .unit ∷ t .length ∷ t .done ∷ t .last ∷ []) (measureAnswer a)
+unfolding measureAnswer
+measure-numbers (MeasureAnswer.Told t) = refl
+measure-numbers (MeasureAnswer.Refused n i) = refl
+
+pub write-numbers : (a : WriteAnswer)
+    → writeNumbersOf a ≡ numbersOf 0 (λ (written : Unit). []) (writeAnswer a)
+unfolding writeAnswer
+write-numbers WriteAnswer.Written = refl
+write-numbers (WriteAnswer.Refused n i) = refl

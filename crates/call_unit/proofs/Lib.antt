@@ -1,2 +1,3 @@
 -- The laws that the functions' proofs share.
 pub mod Answers
+pub mod Claims

@@ -1,5 +1,6 @@
--- The definitions that the crate's promises name: Calls says what document 01 says, Steps what a
--- step of the code answers.
+-- The definitions that the crate's promises name: Calls and Claims say what document 02 says, Steps
+-- what a step of the code answers.
 pub mod Calls
+pub mod Claims
 mod Examples
 pub mod Steps

@@ -1,6 +1,11 @@
-// The public call for a unit.
-mod calls;
+// The public calls for a unit: one measures it, one writes it by what was measured.
+mod measure;
+mod write;
 
-pub use call_answers::UnitAnswer;
-pub use calls::unit_numbers;
-pub use calls::unit_of;
+pub use call_answers::MeasureAnswer;
+pub use call_answers::Told;
+pub use call_answers::WriteAnswer;
+pub use measure::measure_numbers;
+pub use measure::measure_of;
+pub use write::write_numbers;
+pub use write::write_of;

@@ -24,8 +24,11 @@ fn name(section: Section) {
         Section::Plan => {
             text(b"plan");
         }
-        Section::Units => {
-            text(b"units");
+        Section::Measure => {
+            text(b"measure");
+        }
+        Section::Write => {
+            text(b"write");
         }
         Section::Fronts => {
             text(b"fronts");

@@ -17,7 +17,10 @@ fn main() {
     if !sections::replay(Section::Plan) {
         return;
     }
-    if !sections::replay(Section::Units) {
+    if !sections::replay(Section::Measure) {
+        return;
+    }
+    if !sections::replay(Section::Write) {
         return;
     }
     if !sections::replay(Section::Fronts) {

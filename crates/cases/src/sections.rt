@@ -8,6 +8,8 @@ use case_io::input::Read;
 use case_io::report;
 use case_io::verdict::Section;
 use case_io::verdict::Verdict;
+use case_unit::measure_cases;
+use case_unit::write_cases;
 
 // Reads vector `k` of a section and tries it.
 fn replay_one(section: Section, k: u64) -> Verdict {
@@ -15,7 +17,8 @@ fn replay_one(section: Section, k: u64) -> Verdict {
         Section::Check => check_cases::replay_one(k),
         Section::Exits => exits_cases::replay_one(k),
         Section::Plan => case_plan::replay_one(k),
-        Section::Units => case_unit::replay_one(k),
+        Section::Measure => measure_cases::replay_one(k),
+        Section::Write => write_cases::replay_one(k),
         Section::Fronts => units_cases::replay_one(k),
         Section::Lengths => lengths_cases::replay_one(k),
         Section::Page => case_pages::replay_one(k, false),

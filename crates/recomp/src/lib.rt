@@ -14,6 +14,7 @@ pub use c_listing::recomp_listing;
 pub use c_pages::recomp_page;
 pub use c_pages::recomp_pages;
 pub use c_plan::recomp_plan;
-pub use c_unit::recomp_unit;
+pub use c_unit::recomp_measure;
+pub use c_unit::recomp_write;
 pub use c_units::recomp_lengths;
 pub use c_units::recomp_units;

@@ -134,18 +134,20 @@ pub fn names(folder: &str) -> Vec<String> {
     names
 }
 
-/// The units of a file at a size, from the library's calls alone.
+/// The units of a file at a size, from the library's calls alone: each is measured, then written.
 pub fn expected(file: &[u8], size: u64) -> Vec<Vec<u8>> {
     let counts = library::check(file).expect("an accepted file");
     let mut work = vec![0; 4 * counts.blocks as usize];
-    let mut text = vec![0; 32 << 20];
     let mut units = vec![];
     loop {
-        let unit = library::unit(file, size, units.len() as u64, &mut work, &mut text);
-        let unit = unit.expect("a unit");
-        units.push(text[..unit.length as usize].to_vec());
-        if unit.last {
-            assert_eq!(unit.done, counts.blocks);
+        let told = library::measure(file, size, units.len() as u64, &mut work);
+        let told = told.expect("a unit");
+        let mut text = vec![0; told.length as usize];
+        let written = library::write(file, size, told, &mut work, &mut text);
+        assert_eq!(written, Ok(()));
+        units.push(text);
+        if told.last == 1 {
+            assert_eq!(told.done, counts.blocks);
             return units;
         }
     }

@@ -4,16 +4,19 @@
 use recomp_tools::original::Original;
 use recomp_tools::vectors::fronts::{encode_fronts, fronts, lengths};
 use recomp_tools::vectors::grouping::{encode_exits, encode_plans, exits, plans};
+use recomp_tools::vectors::measure::{encode_measures, measures};
 use recomp_tools::vectors::pages::{encode_pages, page, pages};
-use recomp_tools::vectors::units::{encode_units, units};
+use recomp_tools::vectors::write::{encode_writes, writes};
 use recomp_tools::vectors::{all, encode};
 use std::process::ExitCode;
 
 /// A section's bytes, and the number of the answer of each of its vectors.
 type Section = (Vec<u8>, Vec<u32>);
 
-const USAGE: &str =
-    "usage: vectors PATH [check | exits | plan | units | fronts | lengths | page | pages]...";
+const USAGE: &str = concat!(
+    "usage: vectors PATH ",
+    "[check | exits | plan | measure | write | fronts | lengths | page | pages]..."
+);
 
 /// The section of some vectors.
 fn encoded<V>(vectors: Vec<V>, number: fn(&V) -> u32, encode: fn(&[V]) -> Vec<u8>) -> Section {
@@ -27,7 +30,12 @@ fn section(name: &str) -> Result<Section, String> {
         "check" => encoded(all(), |v| v.expected.number, encode),
         "exits" => encoded(exits(), |v| v.expected.number, encode_exits),
         "plan" => encoded(plans(), |v| v.expected.number, encode_plans),
-        "units" => encoded(units(&original()?), |v| v.expected.number, encode_units),
+        "measure" => encoded(
+            measures(&original()?),
+            |v| v.expected.number,
+            encode_measures,
+        ),
+        "write" => encoded(writes(&original()?), |v| v.expected.number, encode_writes),
         "fronts" => encoded(fronts(&original()?), |v| v.expected.number, encode_fronts),
         "lengths" => encoded(lengths(&original()?), |v| v.expected.number, encode_fronts),
         "page" => encoded(page(), |v| v.expected.number, encode_pages),
@@ -37,7 +45,7 @@ fn section(name: &str) -> Result<Section, String> {
 }
 
 fn print(name: &str, bytes: &[u8], numbers: &[u32]) {
-    for number in 0..=10 {
+    for number in 0..=11 {
         match (number, numbers.iter().filter(|&&n| n == number).count()) {
             (_, 0) => {}
             (0, count) => println!("answered   {count:5}"),

@@ -2,17 +2,16 @@
 //! original's, made as they are written.
 
 use super::grouping::{cut_files, damaged_files};
-use super::units::{emitted, files, halves, Emitted, LONGEST_TEXT};
-use super::{push_file, push_numbers};
+use super::units::{at_sizes, emitted, files, Emitted};
+use super::{halves, push_file, push_numbers, AMPLE_WORK, LONGEST_TEXT};
 use crate::fronts::{outcome, total, FrontNumbers, Lent};
 use crate::original::Program;
-use crate::units::{reached, Unit};
+use crate::units::Unit;
 
 /// The reader of the vectors has so many places for a length, and lends fewer.
 const PLACES: usize = 32;
 
-/// Work numbers and places lent for files whose blocks are not looked at.
-const AMPLE_WORK: usize = 508;
+/// Places lent for files whose blocks are not looked at.
 const AMPLE_PLACES: usize = 20;
 
 /// A file, what is asked of it and how much is lent, with how many work numbers become 0, the
@@ -50,17 +49,6 @@ fn lend(work: usize, lents: &[(Option<usize>, usize)]) -> Vec<Lent> {
         lengths,
     };
     lents.iter().enumerate().map(lend).collect()
-}
-
-/// A size that the first unit meets exactly after one of its groups, but for the last where there
-/// is another, so that the next unit has groups too.
-fn exact(file: &[u8], program: &Program, turn: usize) -> u64 {
-    let ends = emitted(program, file, &[0, u64::MAX]);
-    let reached = reached(&ends[0].units, &ends[1].units[0]);
-    match reached.len() {
-        0 => ends[1].units[0].text.len() as u64,
-        groups => reached[turn % groups.saturating_sub(1).max(1)] as u64,
-    }
 }
 
 /// Units from the first on, from a middle one or from the last: a text exactly full, a byte short,
@@ -149,8 +137,8 @@ fn damaged(program: &Program, texts: [Option<usize>; 2]) -> Vec<FrontVector> {
 pub fn fronts(program: &Program) -> Vec<FrontVector> {
     let mut out = vec![];
     for (turn, file) in files() {
-        let exact = exact(&file.bytes, program, turn);
-        let sizes = emitted(program, &file.bytes, &[0, exact, u64::MAX]);
+        let [at_0, _, at_exact, _, at_most] = at_sizes(program, &file.bytes, turn);
+        let sizes = [at_0, at_exact, at_most];
         for (n, file) in sizes.iter().enumerate() {
             out.extend(units_of(file, turn + n));
         }
@@ -164,9 +152,8 @@ pub fn fronts(program: &Program) -> Vec<FrontVector> {
 pub fn lengths(program: &Program) -> Vec<FrontVector> {
     let mut out = vec![];
     for (turn, file) in files() {
-        let exact = exact(&file.bytes, program, turn);
-        let sizes = [0, 1, exact, exact + 1, u64::MAX];
-        for (n, file) in emitted(program, &file.bytes, &sizes).iter().enumerate() {
+        let sizes = at_sizes(program, &file.bytes, turn);
+        for (n, file) in sizes.iter().enumerate() {
             out.extend(lengths_of(file, turn + n));
             out.extend(refusals(file, [None, None]));
         }

@@ -1,8 +1,7 @@
 //! Vectors for the calls for one page of the plan and for the pages from one on.
 
 use super::grouping::{arm, cut_files, damaged_files};
-use super::units::{halves, LONGEST_TEXT};
-use super::{push_file, push_numbers, units};
+use super::{halves, push_file, push_numbers, units, AMPLE_WORK, LONGEST_TEXT};
 use crate::check::{check, Accepted, Refused};
 use crate::file::{build, File};
 use crate::generate::linked::{Graph, Linked, Sets};
@@ -11,8 +10,7 @@ use crate::model;
 use crate::pages::{outcome, total, Asked, PageNumbers};
 use crate::record::Record;
 
-/// Work numbers and bytes lent for files whose blocks are not looked at.
-const AMPLE_WORK: usize = 508;
+/// Bytes lent for files whose blocks are not looked at.
 const AMPLE_TEXT: usize = 9_000;
 
 /// A file, what is asked of it, and how many numbers and bytes are lent, with how many work numbers

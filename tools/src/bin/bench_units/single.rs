@@ -1,4 +1,4 @@
-//! Single units, one call each, and all units of a file in that way.
+//! Single units, measured and then written, and all units of a file in that way.
 //!
 //! The original hands on one unit after the other, so a unit of it costs all those before it: it is
 //! timed up to the unit that the library is asked for, and as a whole.
@@ -9,19 +9,28 @@ use recomp_tools::original::units::{Emitter, Timed};
 use recomp_tools::original::Original;
 use recomp_tools::timing::median_and_best;
 use recomp_tools::trials;
+use recomp_tools::units::Told;
 use std::hint::black_box;
 use std::time::Instant;
 
 const SIZES: [u64; 2] = [MIB, 4 * MIB];
 
 const COLUMNS: &str = concat!(
-    "  unit         bytes |  library ms   best   MB/s |",
-    " original ms   best   MB/s |  ratio   best  whole"
+    "  unit         bytes |  measure ms      best  whole |    write ms      best   MB/s |",
+    " original ms      best   MB/s |  ratio   best  whole"
 );
 
 /// Rounds unless told otherwise: for single units, and for all units of a file.
 pub const ROUNDS: u64 = 11;
 pub const ROUNDS_OF_ALL: u64 = 3;
+
+/// Seconds of the two calls for a unit, or for some, and the bytes that they made.
+#[derive(Clone, Copy, Default)]
+struct Calls {
+    measure: f64,
+    write: f64,
+    bytes: u64,
+}
 
 /// The library with all that it is lent.
 struct Library<'a> {
@@ -40,33 +49,45 @@ impl Library<'_> {
         }
     }
 
-    /// Seconds and length of one unit.
-    fn unit(&mut self, size: u64, unit: u64) -> (f64, u64) {
+    /// Seconds of the call that measures, and what it told.
+    fn measure(&mut self, size: u64, unit: u64) -> (f64, Told) {
         let start = Instant::now();
-        let file = black_box(self.file);
-        let answer = library::unit(file, size, unit, &mut self.work, &mut self.text);
+        let answer = library::measure(black_box(self.file), size, unit, &mut self.work);
         let seconds = start.elapsed().as_secs_f64();
         assert_eq!(answer.number, 0, "unit {unit} at {size}");
-        (seconds, answer.length)
+        (seconds, answer.told)
     }
 
-    /// Seconds of a call that is lent a byte too few: it checks, groups and measures, and writes
-    /// nothing.
-    fn refused(&mut self, size: u64, unit: u64, length: u64) -> f64 {
-        let short = &mut self.text[..length as usize - 1];
+    /// Seconds of the call that writes, lent so many bytes, where it must answer this number.
+    fn write(&mut self, size: u64, told: Told, lent: usize, number: u32) -> f64 {
+        let text = &mut self.text[..lent];
         let start = Instant::now();
         let file = black_box(self.file);
-        let answer = library::unit(file, size, unit, &mut self.work, short);
+        let answer = library::write(file, size, told, &mut self.work, text);
         let seconds = start.elapsed().as_secs_f64();
-        assert_eq!(answer.number, 10, "unit {unit} at {size}, a byte short");
+        assert_eq!(answer.number, number, "{told:?} at {size}");
         seconds
     }
 
-    /// Seconds and length of all units, one call each.
-    fn all(&mut self, size: u64, units: u64) -> (f64, u64) {
+    /// One unit: measured, then written.
+    fn unit(&mut self, size: u64, unit: u64) -> Calls {
+        let (measure, told) = self.measure(size, unit);
+        let bytes = told.length;
+        let write = self.write(size, told, bytes as usize, 0);
+        Calls {
+            measure,
+            write,
+            bytes,
+        }
+    }
+
+    /// All units, one after the other.
+    fn all(&mut self, size: u64, units: u64) -> Calls {
         let each = (0..units).map(|unit| self.unit(size, unit));
-        each.fold((0.0, 0), |(seconds, bytes), (s, b)| {
-            (seconds + s, bytes + b)
+        each.fold(Calls::default(), |all, unit| Calls {
+            measure: all.measure + unit.measure,
+            write: all.write + unit.write,
+            bytes: all.bytes + unit.bytes,
         })
     }
 }
@@ -74,37 +95,38 @@ impl Library<'_> {
 /// Seconds of either side, and the bytes that they made.
 #[derive(Default)]
 struct Times {
-    library: Vec<f64>,
+    measure: Vec<f64>,
+    write: Vec<f64>,
     original: Vec<f64>,
     bytes: u64,
     original_bytes: u64,
 }
 
 impl Times {
-    fn add(&mut self, (library, bytes): (f64, u64), original: Timed) {
-        self.library.push(library);
+    fn add(&mut self, library: Calls, original: Timed) {
+        self.measure.push(library.measure);
+        self.write.push(library.write);
         self.original.push(original.seconds);
-        (self.bytes, self.original_bytes) = (bytes, original.bytes);
+        (self.bytes, self.original_bytes) = (library.bytes, original.bytes);
     }
 
     fn print(self, name: &str, whole: f64) {
-        let [library, best] = median_and_best(self.library);
-        let [original, original_best] = median_and_best(self.original);
+        let sides = [self.measure, self.write, self.original];
+        let [measure, write, original] = sides.map(median_and_best);
+        let times = |[median, best]: [f64; 2]| format!("{:11.2} {:9.2}", 1e3 * median, 1e3 * best);
         let rate = |bytes: u64, seconds: f64| bytes as f64 / seconds / 1e6;
-        let sides = [
-            (library, best, rate(self.bytes, library)),
-            (original, original_best, rate(self.original_bytes, original)),
-        ];
-        let [library_column, original_column] = sides.map(|(median, best, rate)| {
-            let [median, best] = [median, best].map(|seconds| 1e3 * seconds);
-            format!("{median:9.2} {best:9.2} {rate:6.0}")
-        });
         println!(
-            "  {name:7} {:10} | {library_column} | {original_column} | {:6.2} {:6.2} {:6.2}",
+            "  {name:7} {:10} | {} {:6.2} | {} {:6.0} | {} {:6.0} | {:6.2} {:6.2} {:6.2}",
             self.bytes,
-            library / original,
-            best / original_best,
-            library / whole
+            times(measure),
+            measure[0] / whole,
+            times(write),
+            rate(self.bytes, write[0]),
+            times(original),
+            rate(self.original_bytes, original[0]),
+            write[0] / original[0],
+            write[1] / original[1],
+            write[0] / whole
         );
     }
 }
@@ -141,27 +163,26 @@ fn measure(library: &mut Library, emitter: &mut Emitter, size: u64, [rounds, of_
     all.print("all", whole);
 }
 
-/// The writing alone, of the whole file as one unit: how much longer the call takes than one that is
-/// refused for want of a byte. The original's rate is that of its whole run.
+/// The writing alone, of the whole file as one unit: how much longer the call takes than one that
+/// is refused for want of a byte. The original's rate is that of its whole run.
 fn measure_writing(library: &mut Library, emitter: &mut Emitter, rounds: u64) {
-    let whole = emitter.time(0, u64::MAX, u64::MAX);
-    library.text.resize(whole.bytes as usize, 0);
-    let mut written = Vec::new();
-    let mut refused = Vec::new();
-    let mut original = Vec::new();
+    let size = u64::MAX;
+    let whole = emitter.time(0, size, u64::MAX);
+    let bytes = whole.bytes as usize;
+    library.text.resize(bytes, 0);
+    let (_, told) = library.measure(size, 0);
+    assert_eq!(told.length, whole.bytes, "bytes of the file as one unit");
+    let [mut written, mut refused, mut original] = [vec![], vec![], vec![]];
     for _ in 0..rounds {
-        let (seconds, length) = library.unit(u64::MAX, 0);
-        assert_eq!(length, whole.bytes, "bytes of the file as one unit");
-        written.push(seconds);
-        refused.push(library.refused(u64::MAX, 0, length));
-        original.push(emitter.time(0, u64::MAX, u64::MAX).seconds);
+        written.push(library.write(size, told, bytes, 0));
+        refused.push(library.write(size, told, bytes - 1, 10));
+        original.push(emitter.time(0, size, u64::MAX).seconds);
     }
     let [[written, _], [refused, _], [original, _]] =
         [written, refused, original].map(median_and_best);
     let rate = |seconds: f64| whole.bytes as f64 / seconds / 1e6;
     println!(
-        "  as one unit of {} bytes: library {:.2} ms, {:.2} ms without writing; writing alone {:.0} MB/s, original {:.0} MB/s, ratio {:.2}",
-        whole.bytes,
+        "  as one unit of {bytes} bytes: library {:.2} ms, {:.2} ms without writing; writing alone {:.0} MB/s, original {:.0} MB/s, ratio {:.2}",
         1e3 * written,
         1e3 * refused,
         rate(written - refused),
@@ -170,8 +191,8 @@ fn measure_writing(library: &mut Library, emitter: &mut Emitter, rounds: u64) {
     );
 }
 
-/// Ratios are library / original: of medians, of best rounds, and the library's median against the
-/// original's for the whole file.
+/// Ratios of writing are library / original: of medians, of best rounds, and the library's median
+/// against the original's for the whole file, which measuring is held against alone.
 pub fn run(original: &Original, rounds: [u64; 2]) -> Result<(), String> {
     let program = original.build("units")?;
     println!(

@@ -1,7 +1,8 @@
 //! The calls for the units from a given one on, and for their lengths, that are made for a file.
 
-use crate::calls::{Emitted, Tally, MIB, PRINTED, SPARE_TEXT, SPARE_WORK};
+use crate::calls::{Emitted, MIB, SPARE_TEXT, SPARE_WORK};
 use crate::library;
+use crate::tally::{Call, Tally};
 use recomp_tools::check::Accepted;
 use recomp_tools::fronts::{outcome, total, FrontNumbers, Lent};
 use recomp_tools::lent;
@@ -22,7 +23,7 @@ struct Left {
 fn ask(file: &Emitted, first: u64, lent: Lent) -> Left {
     let (mut work, mut lengths) = (lent::work(lent.work), lent::lengths(lent.lengths));
     let mut text = lent::text(lent.text.unwrap_or(0));
-    let (bytes, size) = (file.bytes, file.size);
+    let (bytes, size) = (file.tried.bytes, file.size);
     let numbers = match lent.text {
         Some(_) => library::units(bytes, size, first, &mut work, &mut text, &mut lengths),
         None => library::lengths(bytes, size, first, &mut work, &mut lengths),
@@ -49,29 +50,25 @@ impl Tally {
             lent::wrong_byte(&left.text, &front),
             lent::wrong_length(&left.lengths, &lengths),
         ];
-        let answers = match lent.text {
-            Some(_) => &mut self.fronts,
-            None => &mut self.lengths,
+        let call = match lent.text {
+            Some(_) => Call::Units,
+            None => Call::Lengths,
         };
-        answers[expected.numbers.number as usize] += 1;
-        if left.numbers == expected.numbers && wrong == [None; 3] {
-            return;
+        self.count(call, expected.numbers.number);
+        let right = left.numbers == expected.numbers && wrong == [None; 3];
+        if !right && self.mismatch() {
+            let (size, trial) = (file.size, file.tried.trial);
+            println!("units from {first} on at {size} of {trial:?},");
+            println!("  {lent:?}:");
+            println!("  library {:?},", left.numbers);
+            println!("  expected {:?}", expected.numbers);
+            println!("  first wrong work number, byte and length: {wrong:?}");
         }
-        self.mismatches += 1;
-        if self.mismatches > PRINTED {
-            return;
-        }
-        let size = file.size;
-        println!("units from {first} on at {size} of {:?},", file.trial);
-        println!("  {lent:?}:");
-        println!("  library {:?},", left.numbers);
-        println!("  expected {:?}", expected.numbers);
-        println!("  first wrong work number, byte and length: {wrong:?}");
     }
 
     /// All units, and those from the first, a middle or the last one on, in turns.
-    pub fn fronts(&mut self, file: &Emitted, work: usize) {
-        let count = file.units.len();
+    pub fn fronts(&mut self, file: &Emitted) {
+        let (count, work) = (file.units.len(), file.work());
         let all = total(&file.units);
         let roomy = all + longest_unit(file);
         let all_units = [
@@ -92,16 +89,16 @@ impl Tally {
         for lent in lents(&file.units[first..], work) {
             self.front(file, first as u64, lent);
         }
-        self.no_first(file, work);
+        self.no_first(file);
         if work > 0 {
-            self.short_work_for_fronts(file, work - 1);
+            self.short_work_for_fronts(file);
         }
     }
 
     /// Numbers past the last unit, of which one would name the last by its low 32 bits alone; with
     /// room for all units, for one, and none.
-    fn no_first(&mut self, file: &Emitted, work: usize) {
-        let count = file.units.len();
+    fn no_first(&mut self, file: &Emitted) {
+        let (count, work) = (file.units.len(), file.work());
         let last = file.units[count - 1].text.len();
         let asked = [
             (count as u64, total(&file.units), count),
@@ -121,9 +118,9 @@ impl Tally {
     }
 
     /// Too few work numbers: whatever unit is named, and whatever else is lent.
-    fn short_work_for_fronts(&mut self, file: &Emitted, work: usize) {
+    fn short_work_for_fronts(&mut self, file: &Emitted) {
         let count = file.units.len() as u64;
-        let text = file.units[0].text.len();
+        let (work, text) = (file.work() - 1, file.units[0].text.len());
         for (first, text, lengths) in [(0, text, 1), (count, 0, 0)] {
             for text in [Some(text), None] {
                 let lent = Lent {
@@ -137,11 +134,11 @@ impl Tally {
     }
 
     /// A damaged copy, which may be accepted, is lent enough, and nothing.
-    pub fn fronts_of_damaged(&mut self, file: &Emitted, work: usize) {
+    pub fn fronts_of_damaged(&mut self, file: &Emitted) {
         let (count, text) = (file.units.len(), total(&file.units));
         for text in [Some(text + SPARE_TEXT), None] {
             let lent = Lent {
-                work: work + SPARE_WORK,
+                work: file.work() + SPARE_WORK,
                 text,
                 lengths: count + 1,
             };

@@ -1,13 +1,15 @@
-//! Compares the units of generated files with the original's, one by one and many at once, and
-//! every byte and number lent. It is a program of its own, so that the others link without the
-//! calls for units.
+//! Compares the units of generated files with the original's, measured and written one by one and
+//! many at once, and every byte and number lent. It is a program of its own, so that the others
+//! link without the calls for units.
 
 mod calls;
 mod fronts;
 #[path = "../../library.rs"]
 mod library;
+mod single;
+mod tally;
 
-use calls::{Sort, Tally};
+use calls::{Sort, Tried};
 use recomp_tools::check::check;
 use recomp_tools::damage::damaged_copy;
 use recomp_tools::file::File;
@@ -16,6 +18,7 @@ use recomp_tools::original::units::Emitter;
 use recomp_tools::original::{Original, Program};
 use recomp_tools::trials::{self, Trial};
 use std::process::ExitCode;
+use tally::Tally;
 
 /// How many files there are of each sort, and the first seed.
 struct Words {
@@ -99,13 +102,14 @@ impl Comparison {
         let accepted = |copy: &&Vec<u8>| check(copy).is_ok();
         taken.extend(copies.iter().filter(accepted).map(|copy| &copy[..]));
         let mut emitter = Emitter::start(&self.program, &taken);
-        for (at, (trial, file)) in trials.iter().zip(&files).enumerate() {
-            self.tally.compare(trial, file, &mut emitter, at, sort);
-        }
         let mut places = files.len()..;
-        for (trial, copy) in trials.iter().zip(&copies) {
+        for (at, trial) in trials.iter().enumerate() {
+            let tried = |bytes| Tried { trial, sort, bytes };
+            let (file, copy) = (&files[at], &copies[at]);
+            self.tally.count_stored_bases(file);
+            self.tally.compare(tried(&file.bytes), &mut emitter, at);
             let place = accepted(&copy).then(|| places.next()).flatten();
-            self.tally.compare_damaged(trial, copy, &mut emitter, place);
+            self.tally.compare_damaged(tried(copy), &mut emitter, place);
         }
     }
 

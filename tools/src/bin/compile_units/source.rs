@@ -32,25 +32,24 @@ impl Source {
     }
 }
 
-/// One call for each unit, and another where the text was too short.
+/// Each unit is measured, then written.
 #[cfg(feature = "library")]
 fn library_units(file: &[u8], max_bytes: u64) -> Vec<Unit> {
     use crate::library;
     let blocks = library::check(file).blocks as usize;
-    let (mut work, mut text) = (vec![0; 4 * blocks], vec![0; 1 << 16]);
+    let mut work = vec![0; 4 * blocks];
     let mut units = vec![];
     loop {
         let named = units.len() as u64;
-        let answer = library::unit(file, max_bytes, named, &mut work, &mut text);
-        match answer.number {
-            0 => units.push(Unit {
-                text: text[..answer.length as usize].to_vec(),
-                done: answer.done,
-            }),
-            10 => text.resize(2 * text.len(), 0),
-            _ => panic!("unit {named}: {answer:?}"),
-        }
-        if answer.last == 1 {
+        let measured = library::measure(file, max_bytes, named, &mut work);
+        assert_eq!(measured.number, 0, "unit {named}: {measured:?}");
+        let told = measured.told;
+        let mut text = vec![0; told.length as usize];
+        let written = library::write(file, max_bytes, told, &mut work, &mut text);
+        assert_eq!(written.number, 0, "{told:?}: {written:?}");
+        let done = told.done;
+        units.push(Unit { text, done });
+        if told.last == 1 {
             return units;
         }
     }

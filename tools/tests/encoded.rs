@@ -1,0 +1,142 @@
+//! How stored vectors of the calls for units and pages are encoded, number by number. The original,
+//! which makes the texts of those for units, is not at hand here.
+
+use recomp_tools::fronts::{FrontNumbers, Lent};
+use recomp_tools::pages::{Asked, PageNumbers};
+use recomp_tools::units::{MeasureNumbers, Told, Unit, WriteNumbers};
+use recomp_tools::vectors::fronts::{encode_fronts, FrontVector};
+use recomp_tools::vectors::measure::{encode_measures, MeasureVector};
+use recomp_tools::vectors::pages::{encode_pages, PageVector};
+use recomp_tools::vectors::write::{encode_writes, WriteVector};
+
+/// Numbers of 32 bits, as a vector has them.
+fn words(numbers: &[u32]) -> Vec<u8> {
+    numbers.iter().flat_map(|n| n.to_le_bytes()).collect()
+}
+
+#[test]
+fn encoded_measures() {
+    let told = Told {
+        unit: (3 << 32) + 2,
+        length: 8,
+        done: 9,
+        last: 1,
+    };
+    let vector = MeasureVector {
+        max_bytes: u64::MAX - 1,
+        unit: (5 << 32) + 4,
+        work_len: 10,
+        cleared: 11,
+        expected: MeasureNumbers {
+            number: 6,
+            at: 7,
+            told,
+        },
+        file: vec![0xff, 0xfe],
+    };
+    let asked = words(&[1, 0xffff_fffe, 0xffff_ffff, 4, 5, 10, 11]);
+    let answer = words(&[6, 7, 2, 3, 8, 9, 1]);
+    let file = [words(&[2]), vec![0xff, 0xfe]].concat();
+    assert_eq!(encode_measures(&[vector]), [asked, answer, file].concat());
+}
+
+#[test]
+fn encoded_writes() {
+    let told = Told {
+        unit: (3 << 32) + 2,
+        length: (5 << 32) + 4,
+        done: (7 << 32) + 6,
+        last: (9 << 32) + 8,
+    };
+    let vector = WriteVector {
+        max_bytes: u64::MAX - 1,
+        told,
+        work_len: 10,
+        text_len: 11,
+        cleared: 12,
+        expected: WriteNumbers { number: 13, at: 14 },
+        text: b"abc".to_vec(),
+        file: vec![0xff, 0xfe],
+    };
+    let asked = words(&[1, 0xffff_fffe, 0xffff_ffff, 2, 3, 4, 5, 6, 7, 8, 9]);
+    let lent_and_answer = words(&[10, 11, 12, 13, 14, 3]);
+    let file_and_text = [words(&[2]), b"\xff\xfeabc".to_vec()].concat();
+    let expected = [asked, lent_and_answer, file_and_text].concat();
+    assert_eq!(encode_writes(&[vector]), expected);
+}
+
+/// Two units, as a vector of the call for units or of the one for lengths.
+fn front(text: Option<usize>, length: Option<u64>) -> FrontVector {
+    let unit = |text: &str, done| Unit {
+        text: text.into(),
+        done,
+    };
+    FrontVector {
+        max_bytes: u64::MAX - 1,
+        first: (3 << 32) + 2,
+        lent: Lent {
+            work: 4,
+            text,
+            lengths: 6,
+        },
+        cleared: 7,
+        expected: FrontNumbers {
+            number: 8,
+            at: 9,
+            count: 2,
+            length,
+            done: 10,
+            last: 1,
+        },
+        units: vec![unit("abc", 9), unit("de", 10)],
+        file: vec![0xff],
+    }
+}
+
+#[test]
+fn encoded_fronts() {
+    let asked = [1, 0xffff_fffe, 0xffff_ffff, 2, 3, 4];
+    let units = [
+        words(&asked),
+        words(&[5, 6, 7, 8, 9, 2, 5, 10, 1, 1]),
+        b"\xffabcde".to_vec(),
+        words(&[3, 2]),
+    ];
+    assert_eq!(encode_fronts(&[front(Some(5), Some(5))]), units.concat());
+    let lengths = [
+        words(&asked),
+        words(&[6, 7, 8, 9, 2, 10, 1, 1]),
+        vec![0xff],
+        words(&[3, 2]),
+    ];
+    assert_eq!(encode_fronts(&[front(None, None)]), lengths.concat());
+}
+
+#[test]
+fn encoded_pages() {
+    let vector = |asked, count| PageVector {
+        asked,
+        work_len: 4,
+        text_len: 5,
+        cleared: 6,
+        expected: PageNumbers {
+            number: 7,
+            at: 8,
+            count,
+            length: 3,
+        },
+        text: "abc".to_string(),
+        file: vec![0xff, 0xfe],
+    };
+    let number = (3 << 32) + 2;
+    let both = [
+        vector(Asked::Page(number), None),
+        vector(Asked::From(number), Some(9)),
+    ];
+    let mut expected = words(&[2]);
+    for count in [0, 9] {
+        expected.extend(words(&[2, 3, 4, 5, 6, 7, 8, count, 3, 2]));
+        expected.extend_from_slice(&[0xff, 0xfe, b'a', b'b', b'c']);
+    }
+    assert_eq!(encode_pages(&both), expected);
+}
