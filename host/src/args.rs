@@ -2,7 +2,7 @@
 
 use crate::failure::Failure;
 use crate::help;
-use std::ffi::{OsStr, OsString};
+use std::ffi::OsString;
 use std::path::PathBuf;
 
 /// The size of units unless one is given.
@@ -20,6 +20,11 @@ pub enum Command {
         folder: PathBuf,
         size: u64,
         memory: u64,
+    },
+    Measure {
+        file: OsString,
+        unit: Option<u64>,
+        size: u64,
     },
     Check {
         file: OsString,
@@ -63,6 +68,7 @@ pub fn parse(args: impl Iterator<Item = OsString>) -> Result<Command, Failure> {
         "--help" | "-h" => return Ok(Command::Say(help::RECOMP.into())),
         "--version" => return Ok(Command::Say(version())),
         "units" => (help::UNITS, 1),
+        "measure" => (help::MEASURE, 2),
         "check" => (help::CHECK, 1),
         "plan" => (help::PLAN, 1),
         "page" => (help::PAGE, 2),
@@ -107,9 +113,9 @@ fn words(command: &str, mut args: impl Iterator<Item = OsString>) -> Result<Word
             ("--help" | "-h", _) => words.help = true,
             ("--", _) => words.plain.extend(args.by_ref()),
             ("-o", "units") => words.folder = value("a folder")?,
-            ("--unit-size", "units") => words.size = value("a size")?,
+            ("--unit-size", "units" | "measure") => words.size = value("a size")?,
             ("--memory", "units") => words.memory = value("a size")?,
-            (option, "units") if option.starts_with("--unit-size=") => {
+            (option, "units" | "measure") if option.starts_with("--unit-size=") => {
                 words.size = option.strip_prefix("--unit-size=").map(OsString::from)
             }
             (option, "units") if option.starts_with("--memory=") => {
@@ -132,16 +138,17 @@ fn build(command: &str, words: Words) -> Result<Command, Failure> {
     };
     let file = plain.next().ok_or_else(|| wrong(command, nothing))?;
     Ok(match command {
-        "units" => {
-            let none = || wrong(command, "no folder is given; add -o DIR");
-            let folder = words.folder.filter(|folder| !folder.is_empty());
-            Command::Units {
-                file,
-                folder: folder.ok_or_else(none)?.into(),
-                size: words.size.map_or(Ok(UNIT_SIZE), |size| parse_size(&size))?,
-                memory: words.memory.map_or(Ok(MEMORY), |size| parse_size(&size))?,
-            }
-        }
+        "units" => Command::Units {
+            file,
+            folder: parse_folder(command, words.folder)?,
+            size: parse_size(command, words.size, UNIT_SIZE)?,
+            memory: parse_size(command, words.memory, MEMORY)?,
+        },
+        "measure" => Command::Measure {
+            file,
+            unit: parse_number(command, plain.next(), "unit number, as 0 is")?,
+            size: parse_size(command, words.size, UNIT_SIZE)?,
+        },
         "check" => Command::Check { file },
         "plan" => Command::Plan { file },
         "page" => Command::Page {
@@ -169,11 +176,22 @@ fn parse_number(command: &str, text: Option<OsString>, what: &str) -> Result<Opt
     digits(&text).map(Some).ok_or_else(none)
 }
 
-fn parse_size(text: &OsStr) -> Result<u64, Failure> {
+/// The folder that a command is to write to.
+fn parse_folder(command: &str, folder: Option<OsString>) -> Result<PathBuf, Failure> {
+    let folder = folder.filter(|folder| !folder.is_empty());
+    let none = || wrong(command, "no folder is given; add -o DIR");
+    folder.map(PathBuf::from).ok_or_else(none)
+}
+
+/// A size, or what it is unless given.
+fn parse_size(command: &str, text: Option<OsString>, unless: u64) -> Result<u64, Failure> {
+    let Some(text) = text else {
+        return Ok(unless);
+    };
     let text = text.to_string_lossy();
     let none = || {
         let what = format!("{text} is no size; give bytes, as 1048576, 1024K or 1M");
-        wrong("units", &what)
+        wrong(command, &what)
     };
     size(&text).ok_or_else(none)
 }

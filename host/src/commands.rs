@@ -10,7 +10,8 @@ use crate::output::{self, print};
 use crate::pages::{self, Pages};
 use crate::progress::Progress;
 use crate::refusal;
-use crate::units::Units;
+use crate::totals::Totals;
+use crate::units::{self, Units};
 use crate::verify;
 use std::ffi::OsStr;
 use std::fmt::Write;
@@ -26,6 +27,10 @@ pub fn run(command: Command) -> Result<(), Failure> {
             size,
             memory,
         } => units(&file, &folder, size, memory),
+        Command::Measure { file, unit, size } => match unit {
+            Some(unit) => measure_of(&file, unit, size),
+            None => measure(&file, size),
+        },
         Command::Check { file } => check(&file),
         Command::Plan { file } => plan(&file),
         Command::Page { file, page } => match page {
@@ -165,6 +170,38 @@ fn write_units(input: &Input, units: &mut Units, folder: &mut Folder) -> Result<
         folder.write(&texts, |length| progress.add(length))?;
     }
     Ok(())
+}
+
+/// What is told of one unit. How many there are is asked for only where there is no such unit.
+fn measure_of(file: &OsStr, unit: u64, size: u64) -> Result<(), Failure> {
+    let input = input::read(file)?;
+    let failed = |nothing| failed(&input, nothing);
+    let mut lent = Lent::new(&input.bytes).map_err(failed)?;
+    let told = match library::measure(lent.file, size, unit, &mut lent.work) {
+        Ok(told) => told,
+        Err(refused) => {
+            let all = units::measured(&mut lent, size).map_err(failed)?;
+            let line = refusal::line_for_unit(&input.name, refused, unit, all.len() as u64);
+            return Err(Failure::refused(line));
+        }
+    };
+    let line = format!("{} {} {} {}", told.unit, told.length, told.done, told.last);
+    print(format!("unit length done last\n{line}\n").as_bytes())
+}
+
+/// The length of each unit, and the totals.
+fn measure(file: &OsStr, size: u64) -> Result<(), Failure> {
+    let input = input::read(file)?;
+    let failed = |nothing| failed(&input, nothing);
+    let mut lent = Lent::new(&input.bytes).map_err(failed)?;
+    let lengths = units::measured(&mut lent, size).map_err(failed)?;
+    let mut text = String::from("unit length\n");
+    for (unit, length) in lengths.iter().enumerate() {
+        push(&mut text, format_args!("{unit} {length}\n"));
+    }
+    let totals = Totals::of(lengths.into_iter(), lent.counts.blocks);
+    push(&mut text, format_args!("{totals}\n"));
+    print(text.as_bytes())
 }
 
 fn verify(folder: &Path) -> Result<(), Failure> {

@@ -6,6 +6,7 @@ Translates block files (decoded ARM and Thumb blocks) to C units.
 usage: recomp COMMAND ...
 
   recomp units FILE -o DIR [OPTIONS]   write the C units
+  recomp measure FILE [UNIT] [OPTION]  print how long the units will be
   recomp check FILE                    say whether the file is accepted
   recomp plan FILE                     print which blocks are emitted together
   recomp page FILE [NUMBER]            print the plan by pages of 60 blocks
@@ -35,6 +36,23 @@ reserved first. DIR is locked meanwhile: a second run in it fails at once. units
 verify` reads, is removed before the first unit is written and is there again once all units have
 their names; a run that ends early leaves none. Files of DIR that are named like further units, left
 by an older run, are removed, and no others but the .tmp files of a run that was interrupted.
+";
+
+pub const MEASURE: &str = "\
+Prints how many bytes the C units of a block file will have, and writes nothing: for whoever
+reserves disk before `recomp units` writes them.
+
+usage: recomp measure FILE [UNIT] [--unit-size BYTES]
+
+  FILE               a block file, or - for standard input
+  UNIT               the number of a unit, from 0; all units unless given
+  --unit-size BYTES  close a unit once it has so many bytes (1M unless given; K is 1024, M is 1024K)
+
+The size has to be that which the units will be written with. Of all units there is a line for each,
+with number and length, then the totals as `recomp units` will print them; units.txt, which it
+writes too, is not counted, and has at most 128 bytes for each unit and 256 more. Of one unit there
+are number, length, how many blocks it and all units before it have, and 1 if it is the last unit, 0
+if not.
 ";
 
 pub const CHECK: &str = "\

@@ -20,5 +20,6 @@ mod room;
 mod sha256;
 mod sums;
 mod threads;
+mod totals;
 mod units;
 mod verify;

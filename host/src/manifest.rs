@@ -3,6 +3,7 @@
 
 use crate::names;
 use crate::sha256;
+use crate::totals::Totals;
 use std::fmt::Write;
 
 /// Instructions that a group of several blocks has at most.
@@ -43,16 +44,8 @@ impl Entry {
 }
 
 impl Manifest {
-    /// Bytes of all units.
-    pub fn bytes(&self) -> u64 {
-        let add = |sum: u64, unit: &Entry| sum.saturating_add(unit.length);
-        self.units.iter().fold(0, add)
-    }
-
-    /// The line that says what there is in all.
-    pub fn totals(&self) -> String {
-        let (units, blocks, bytes) = (self.units.len(), self.blocks, self.bytes());
-        format!("units {units}, blocks {blocks}, bytes {bytes}")
+    pub fn totals(&self) -> Totals {
+        Totals::of(self.units.iter().map(|unit| unit.length), self.blocks)
     }
 
     /// The text of the manifest.
@@ -62,7 +55,11 @@ impl Manifest {
             let name = names::unit(number as u64);
             writeln!(text, "# length {length}\n{sum}  {name}").expect("a string takes all");
         }
-        let (units, blocks, bytes) = (self.units.len(), self.blocks, self.bytes());
+        let Totals {
+            units,
+            blocks,
+            bytes,
+        } = self.totals();
         writeln!(text, "# units {units}\n# blocks {blocks}\n# bytes {bytes}")
             .expect("a string takes all");
         text
@@ -130,7 +127,8 @@ e3b0c44298fc1c149afbf4c8996fb92427ae41e4649b934ca495991b7852b855  unit_001.c
     fn print_and_parse() {
         assert_eq!(example().print(), TEXT);
         assert_eq!(Manifest::parse(TEXT), Some(example()));
-        assert_eq!(example().totals(), "units 2, blocks 3, bytes 3");
+        let totals = example().totals().to_string();
+        assert_eq!(totals, "units 2, blocks 3, bytes 3");
     }
 
     #[test]

@@ -90,7 +90,7 @@ impl<'a> Units<'a> {
 
 /// The length of each unit, by one call: a unit but the last has a group of its own, so there is at
 /// most one more than there are blocks.
-fn measured(lent: &mut Lent, size: u64) -> Result<Vec<u64>, NoResult> {
+pub fn measured(lent: &mut Lent, size: u64) -> Result<Vec<u64>, NoResult> {
     let mut lengths = zeros(lent.counts.blocks as usize + 1)?;
     let measured = library::lengths(lent.file, size, 0, &mut lent.work, &mut lengths);
     let measured = measured.map_err(NoResult::Refused)?;

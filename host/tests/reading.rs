@@ -3,7 +3,7 @@
 
 mod common;
 
-use common::{lone_blocks, program, recomp, recomp_on, sample, Run, Scratch, PROGRAM};
+use common::{lone_blocks, program, recomp, recomp_on, sample, Run, Scratch, PROGRAM, READING};
 use recomp_tools::generate::{self, Params};
 use recomp_tools::{check, model};
 use std::fmt::Write;
@@ -87,7 +87,7 @@ fn exits_prints_all_blocks_or_one() {
 fn paths_are_read_as_standard_input_is() {
     let path = sample("three_blocks.blk");
     let bytes = fs::read(&path).expect("the sample");
-    for command in ["check", "plan", "page", "exits", "listing"] {
+    for command in READING {
         assert_eq!(
             recomp(&[command, &path]),
             recomp_on(&bytes, &[command, "-"])
@@ -100,7 +100,7 @@ fn files_that_are_not_there_and_folders() {
     let scratch = Scratch::new();
     let folder = scratch.path().to_str().expect("a path in UTF-8");
     let missing = scratch.join("missing.blk");
-    for command in ["check", "plan", "page", "exits", "listing"] {
+    for command in READING {
         let line = recomp(&[command, &missing]).failed(2);
         assert!(
             line.starts_with(&format!("recomp: cannot read {missing}: ")),
@@ -196,7 +196,7 @@ fn files_longer_than_any_block_file_are_not_read() {
     for length in [100 << 30, 1 << 32] {
         let path = sparse(&scratch, length);
         let long = "is longer than 4294967295 bytes, as no block file is; name a block file";
-        for command in ["check", "plan", "page", "exits", "listing", "units"] {
+        for command in READING.into_iter().chain(["units"]) {
             let args = [command, &path, "-o", &folder];
             let args = if command == "units" {
                 &args[..]

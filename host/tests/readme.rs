@@ -29,6 +29,11 @@ fn the_example_of_the_readme() {
     }
     let page = recomp(&["page", &sample]).printed().replace('\n', "|\n");
     has(&format!("$ recomp page {SAMPLE} | sed 's/$/|/'\n{page}"));
+    let all = recomp(&["measure", &sample]).printed();
+    let one = recomp(&["measure", &sample, "0"]).printed();
+    has(&format!(
+        "$ recomp measure {SAMPLE}\n{all}$ recomp measure {SAMPLE} 0\n{one}"
+    ));
     let scratch = Scratch::new();
     let folder = scratch.join("out");
     let totals = recomp(&["units", &sample, "-o", &folder]).printed();

@@ -2,7 +2,7 @@
 
 mod common;
 
-use common::{lone_blocks, names, program, recomp, sample, Run, Scratch, PROGRAM};
+use common::{lone_blocks, names, program, recomp, sample, Run, Scratch, PROGRAM, READING};
 use std::fs::{self, File};
 use std::os::unix::process::ExitStatusExt;
 use std::process::{Command, Stdio};
@@ -20,7 +20,7 @@ fn commands(scratch: &Scratch) -> Vec<Vec<String>> {
     let path = sample("three_blocks.blk");
     let done = scratch.join("done");
     recomp(&["units", &path, "-o", &done]).printed();
-    let mut commands: Vec<_> = ["check", "plan", "page", "exits", "listing"]
+    let mut commands: Vec<_> = READING
         .map(|command| vec![command.into(), path.clone()])
         .into();
     commands.push(vec!["verify".into(), done]);

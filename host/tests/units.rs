@@ -124,12 +124,14 @@ fn short_memory_is_said_and_the_units_are_the_same() {
     assert_units(run, folder, &file, 0);
 }
 
-/// As one unit the text is longer than the memory.
+/// As one unit the text is longer than the memory, which does for measuring it.
 #[test]
 fn memory_too_short_for_a_unit_leaves_the_folder_as_it_was() {
     let scratch = Scratch::new();
     let folder = &scratch.join("units");
     let path = &scratch.file("long.blk", &long_blocks(6));
+    let measured = with_memory(14 << 10, &["measure", path, "--unit-size", "1024M"]);
+    assert!(measured.printed().contains("\nunits 1, blocks 6, bytes "));
     let args = ["units", path, "-o", folder, "--unit-size", "1024M"];
     let line = with_memory(14 << 10, &args).failed(2);
     assert!(

@@ -4,8 +4,9 @@ mod common;
 
 use common::{recomp, sample};
 
-const COMMANDS: [&str; 7] = [
+const COMMANDS: [&str; 8] = [
     "units FILE",
+    "measure FILE",
     "check FILE",
     "plan FILE",
     "page FILE",
@@ -43,7 +44,7 @@ fn help_of_each_command() {
 #[test]
 fn wrong_uses() {
     let file = &sample("three_blocks.blk");
-    let cases: [(&[&str], &str); 25] = [
+    let cases: [(&[&str], &str); 34] = [
         (&[], "no command is given; run recomp --help"),
         (&["unit", file], "unit is no command; run recomp --help"),
         (
@@ -81,6 +82,42 @@ fn wrong_uses() {
         (
             &["units", file, "-o", "x", "--memory=1G"],
             "units: 1G is no size; give bytes, as 1048576, 1024K or 1M; run recomp units --help",
+        ),
+        (
+            &["measure"],
+            "measure: no block file is given; run recomp measure --help",
+        ),
+        (
+            &["measure", file, "one"],
+            "measure: one is no unit number, as 0 is; run recomp measure --help",
+        ),
+        (
+            &["measure", file, "+0"],
+            "measure: +0 is no unit number, as 0 is; run recomp measure --help",
+        ),
+        (
+            &["measure", file, "0", "1"],
+            "measure: 1 is one argument too many; run recomp measure --help",
+        ),
+        (
+            &["measure", file, "-1"],
+            "measure: there is no option -1; run recomp measure --help",
+        ),
+        (
+            &["measure", file, "--unit-size"],
+            "measure: --unit-size needs a size after it; run recomp measure --help",
+        ),
+        (
+            &["measure", file, "--unit-size=1G"],
+            "measure: 1G is no size; give bytes, as 1048576, 1024K or 1M; run recomp measure --help",
+        ),
+        (
+            &["measure", file, "--memory", "1M"],
+            "measure: there is no option --memory; run recomp measure --help",
+        ),
+        (
+            &["measure", file, "-o", "x"],
+            "measure: there is no option -o; run recomp measure --help",
         ),
         (
             &["check", "--memory", "1M", file],

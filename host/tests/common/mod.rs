@@ -17,6 +17,9 @@ use std::sync::atomic::{AtomicU32, Ordering};
 
 pub const PROGRAM: &str = env!("CARGO_BIN_EXE_recomp");
 
+/// The commands that read a block file and print.
+pub const READING: [&str; 6] = ["measure", "check", "plan", "page", "exits", "listing"];
+
 /// What a run came to.
 #[derive(Debug, PartialEq, Eq)]
 pub struct Run {
