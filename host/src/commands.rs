@@ -180,7 +180,7 @@ fn measure_of(file: &OsStr, unit: u64, size: u64) -> Result<(), Failure> {
     let told = match library::measure(lent.file, size, unit, &mut lent.work) {
         Ok(told) => told,
         Err(refused) => {
-            let all = units::measured(&mut lent, size).map_err(failed)?;
+            let all = units::lengths_of(&mut lent, size).map_err(failed)?;
             let line = refusal::line_for_unit(&input.name, refused, unit, all.len() as u64);
             return Err(Failure::refused(line));
         }
@@ -194,7 +194,7 @@ fn measure(file: &OsStr, size: u64) -> Result<(), Failure> {
     let input = input::read(file)?;
     let failed = |nothing| failed(&input, nothing);
     let mut lent = Lent::new(&input.bytes).map_err(failed)?;
-    let lengths = units::measured(&mut lent, size).map_err(failed)?;
+    let lengths = units::lengths_of(&mut lent, size).map_err(failed)?;
     let mut text = String::from("unit length\n");
     for (unit, length) in lengths.iter().enumerate() {
         push(&mut text, format_args!("{unit} {length}\n"));

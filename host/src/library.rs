@@ -56,7 +56,7 @@ pub struct Made {
 
 /// What is said of units of which the lengths alone were asked for.
 #[derive(Clone, Copy, Debug, PartialEq, Eq)]
-pub struct Measured {
+pub struct Lengths {
     pub count: u64,
     pub done: u64,
     pub last: bool,
@@ -167,10 +167,10 @@ pub fn lengths(
     first: u64,
     work: &mut [u32],
     lengths: &mut [u64],
-) -> Result<Measured, Refused> {
+) -> Result<Lengths, Refused> {
     let (number, [at, count, done, last]) =
         interface::lengths(file, max_bytes, first, work, lengths);
-    let values = Measured {
+    let values = Lengths {
         count,
         done,
         last: last != 0,

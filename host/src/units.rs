@@ -24,7 +24,7 @@ impl<'a> Units<'a> {
     /// Has the units measured, and makes room for texts of all of them together, or of so many as
     /// `memory` bytes hold, or of the longest alone.
     pub fn new(mut lent: Lent<'a>, size: u64, memory: u64) -> Result<Units<'a>, NoResult> {
-        let lengths = measured(&mut lent, size)?;
+        let lengths = lengths_of(&mut lent, size)?;
         let longest = lengths.iter().copied().max().unwrap_or(0);
         let wished = lengths.iter().sum::<u64>().min(memory.max(longest));
         Ok(Units {
@@ -90,7 +90,7 @@ impl<'a> Units<'a> {
 
 /// The length of each unit, by one call: a unit but the last has a group of its own, so there is at
 /// most one more than there are blocks.
-pub fn measured(lent: &mut Lent, size: u64) -> Result<Vec<u64>, NoResult> {
+pub fn lengths_of(lent: &mut Lent, size: u64) -> Result<Vec<u64>, NoResult> {
     let mut lengths = zeros(lent.counts.blocks as usize + 1)?;
     let measured = library::lengths(lent.file, size, 0, &mut lent.work, &mut lengths);
     let measured = measured.map_err(NoResult::Refused)?;

@@ -5,7 +5,7 @@ mod common;
 
 use common::{lone, lone_blocks, recomp, recomp_on, Scratch, READING};
 use recomp_host::library::interface;
-use recomp_host::library::{self, Made, Measured, Pages, Refused};
+use recomp_host::library::{self, Lengths, Made, Pages, Refused};
 use recomp_tools::file::{block, build, trailer, File};
 use recomp_tools::record::Record;
 
@@ -393,7 +393,7 @@ fn as_many_units_as_fit() {
     assert_eq!(*lengths, [first as u64, second as u64, 7]);
     assert_eq!(text, [&units[0][..], &units[1], &[7]].concat());
     let measured = library::lengths(&file, 0, 1, work, lengths);
-    let rest = Measured {
+    let rest = Lengths {
         count: 2,
         done: 2,
         last: true,
