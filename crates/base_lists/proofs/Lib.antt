@@ -2,6 +2,7 @@
 pub mod Bools
 pub mod Counts
 pub mod Each
+pub mod Firsts
 pub mod Order
 pub mod Pieces
 pub mod Places

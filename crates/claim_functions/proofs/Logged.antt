@@ -24,6 +24,7 @@ use Rattle.c_meaning.specs.Helpers.{run}
 use Rattle.armv4t_manual.specs.Machine.{Machine, Sound}
 use Rattle.armv4t_manual.specs.Conditions.{passed}
 use Rattle.armv4t_manual.specs.Execute.{execute, keyAfter}
+use Rattle.lower_forms.specs.Forms.{isNative}
 use Rattle.lower_forms.specs.Forms.{Native, Form, recordsIn, Body}
 use Rattle.lower_forms.specs.Block.{flushTicks, pcLine, emitShell, emitPair, emitInstr, emitInstrs}
 use Rattle.lower_forms.specs.Block.{bodyOf}
@@ -32,7 +33,7 @@ use Rattle.lower_forms.proofs.RecordCount.{recordCount, instr-count}
 use Rattle.lower_units.specs.Block.{bodyKey, nl, sp, nativeText, shellCode, codeFrom}
 use Rattle.lower_units.specs.Text.{Leaves, Acts, continues, leaves}
 use Rattle.lower_units.specs.Records.{isTaken, RecordMeans, PairMeans}
-use Rattle.claim_meaning.specs.Block.{ActsAsStep, isNative, isNativeRecord, isCovered}
+use Rattle.claim_meaning.specs.Block.{ActsAsStep, isNativeRecord, isCovered}
 use Rattle.claim_meaning.specs.Block.{Alone, leavesBy, Ends, final, away, transfers, CarriedOut}
 use Rattle.claim_meaning.specs.Block.{byManual, byInterpreter, Sequence, last, pair, more}
 use Rattle.claim_meaning.proofs.Shells.{Emitted, as-native, as-shell, emitted, some-form}

@@ -29,6 +29,7 @@ use Rattle.armv4t.specs.InRange.{InRange}
 use Rattle.armv4t_manual.specs.Conditions.{passed}
 use Rattle.armv4t_manual.specs.Execute.{key, execute, keyAfter}
 use Rattle.armv4t_manual.proofs.Kept.{execute-sound, execute-said}
+use Rattle.lower_forms.specs.Forms.{isNative}
 use Rattle.lower_forms.specs.Forms.{Native, Form, recordsIn}
 use Rattle.lower_forms.specs.Block.{emitShell, emitPair, emitInstr, fusedOr, consForm, emitInstrs}
 use Rattle.lower_forms.specs.Block.{bodyOf}
@@ -37,7 +38,7 @@ use Rattle.lower_forms.proofs.Steps.{with-scopes}
 use Rattle.lower_units.specs.Block.{bodyKey, nl, nativeText, closing, codeFrom}
 use Rattle.lower_units.specs.Text.{Continues, Leaves, Acts, continues, leaves}
 use Rattle.lower_units.specs.Records.{isTaken, RecordMeans, PairMeans, ClosingMeans}
-use Rattle.claim_meaning.specs.Block.{ActsAsStep, Interprets, isNative, isCovered, Alone}
+use Rattle.claim_meaning.specs.Block.{ActsAsStep, Interprets, isCovered, Alone}
 use Rattle.claim_meaning.specs.Block.{leavesBy, final, away, transfers, CarriedOut, byManual}
 use Rattle.claim_meaning.specs.Block.{byInterpreter, Sequence, last, pair, more}
 use Rattle.lower_units.proofs.Exits.{with-pc}

@@ -11,7 +11,8 @@ use Rattle.armv4t_manual.specs.Unsaid.{noInstruction, unpredictable, isNv}
 use Rattle.lower_forms.specs.Block.{emitInstr}
 use Rattle.lower_forms.specs.Differs.{differsIn}
 use Rattle.lower_forms.proofs.Body.{or-l, or-r}
-use Rattle.claim_meaning.specs.Block.{isNative, isNativeRecord, isHalf, isSaid}
+use Rattle.lower_forms.specs.Forms.{isNative}
+use Rattle.claim_meaning.specs.Block.{isNativeRecord, isHalf, isSaid}
 use Rattle.claim_meaning.specs.Block.{isCovered}
 
 -- the manual says what an instruction does, and it is no named difference

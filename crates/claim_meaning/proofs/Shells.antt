@@ -23,13 +23,14 @@ use Rattle.c_meaning.specs.Exec.{back, exec, asks, step, runs}
 use Rattle.c_meaning.specs.Perform.{execs, perform}
 use Rattle.c_meaning.specs.Helpers.{run}
 use Rattle.armv4t_manual.proofs.Kept.{WrittenOut}
+use Rattle.lower_forms.specs.Forms.{isNative}
 use Rattle.lower_forms.specs.Forms.{Lines, Native, Form, Body}
 use Rattle.lower_forms.specs.InlineBody.{inlineBody}
 use Rattle.lower_forms.specs.Block.{flushTicks, emitShell, nativeExit, isPop, emitLines, emitOp}
 use Rattle.lower_forms.specs.Block.{emitInstr, fusedOr, consForm, emitPair, emitInstrs, pcLine}
 use Rattle.lower_forms.specs.Means.{statements}
 use Rattle.lower_units.specs.Block.{sp, lines, shellCode}
-use Rattle.claim_meaning.specs.Block.{isNative, isHalf}
+use Rattle.claim_meaning.specs.Block.{isHalf}
 use Rattle.lower_forms.proofs.Gives.{lt-true}
 use Rattle.lower_units.proofs.Lines.{run-lines}
 use Rattle.lower_units.proofs.Exits.{ticks-first}

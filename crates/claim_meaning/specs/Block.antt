@@ -22,7 +22,7 @@ use Rattle.c_meaning.specs.State.{Interpreter, State, interpAnswer, afterInterp
 use Rattle.armv4t_manual.specs.Machine.{Machine, Sound, thumbState}
 use Rattle.armv4t_manual.specs.Unsaid.{noInstruction, unpredictable, isNv}
 use Rattle.armv4t_manual.specs.Execute.{execute, keyAfter}
-use Rattle.lower_forms.specs.Forms.{Form, native, shell}
+use Rattle.lower_forms.specs.Forms.{isNative}
 use Rattle.lower_forms.specs.Block.{emitInstr, hashOf, bodyOf}
 use Rattle.lower_forms.specs.Agree.{Agrees}
 use Rattle.lower_forms.specs.Differs.{differsIn}
@@ -43,11 +43,6 @@ pub record ActsAsStep (step : ℕ → Machine → Machine × ℕ) (z : State) (m
 abbrev pub Interprets : (ℕ → Machine → Machine × ℕ) → Interpreter → Type 0
 Interprets step f =
     (z : State) (m : Machine) → z .interpreter 0 ≡ f → Sound m → Agrees z m → ActsAsStep step z m
-
--- whether a form is native
-abbrev pub isNative : Form → Bool
-isNative (native r) = true
-isNative (shell high t k) = false
 
 -- whether a record of a block in a region is native (document 01) where it is not fused
 abbrev pub isNativeRecord : ℕ → TimedInstr → Bool

@@ -13,7 +13,7 @@ use Rattle.c_tree.specs.Expr.{Expr}
 use Rattle.lower_forms.specs.Forms.{Lines}
 use Rattle.lower_forms.specs.Operands.{regExpr, op2Exprs, regOf, operandOf}
 use Rattle.lower_forms.specs.InlineBody.{eachOnLine, alu, aluBody, mulBody, opBody}
-use Rattle.emit_operands.specs.Operands.{isSome}
+use Rattle.base_lists.specs.Lists.{isSome}
 use Rattle.emit_operands.proofs.Operands.{operand-of}
 
 -- Alu, if it has lines

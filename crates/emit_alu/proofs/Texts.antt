@@ -15,7 +15,8 @@ use Rattle.c_tree.specs.Preamble.{v32}
 use Rattle.c_tree.specs.Print.{exprText, plainText}
 use Rattle.lower_forms.specs.InlineBody.{listIf, setReg, result, logicalC, sum, mulBody}
 use Rattle.lower_forms.specs.InlineBody.{r64, mulLongBody}
-use Rattle.emit_operands.specs.Operands.{carryText, isSome}
+use Rattle.base_lists.specs.Lists.{isSome}
+use Rattle.emit_operands.specs.Operands.{carryText}
 use Rattle.emit_alu.specs.Multiply.{product, accumulated, longProduct, longAccumulated}
 use Rattle.emit_alu.specs.Multiply.{halves}
 use Rattle.emit_alu.specs.Texts.{statementsText, before, between, after}

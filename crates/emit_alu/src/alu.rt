@@ -14,7 +14,7 @@ ghost use Rattle.armv4t.specs.declared.Instr.{Instr};
 ghost use Rattle.armv4t.specs.declared.Op.the-variants.{Alu};
 ghost use Rattle.base_text.specs.Wrote.{Wrote};
 ghost use Rattle.lower_forms.specs.InlineBody.{opBody};
-ghost use Rattle.emit_operands.specs.Operands.{isSome};
+ghost use Rattle.base_lists.specs.Lists.{isSome};
 ghost use Rattle.emit_alu.specs.Processing.{aluText};
 
 // The fields of data processing, and the PC value of its instruction.

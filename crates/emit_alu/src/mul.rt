@@ -13,7 +13,7 @@ ghost use Rattle.c_tree.specs.Preamble.{v32};
 ghost use Rattle.c_tree.specs.Print.{exprText};
 ghost use Rattle.lower_forms.specs.InlineBody.{listIf, setReg, mulBody, widened, r64};
 ghost use Rattle.lower_forms.specs.InlineBody.{mulLongBody, opBody};
-ghost use Rattle.emit_operands.specs.Operands.{isSome};
+ghost use Rattle.base_lists.specs.Lists.{isSome};
 ghost use Rattle.emit_alu.specs.Texts.{statementsText};
 ghost use Rattle.emit_alu.specs.Multiply.{product, accumulated, longProduct, longAccumulated};
 ghost use Rattle.emit_alu.specs.Multiply.{halves};

@@ -1,44 +1,23 @@
 -- The forms of a block's instructions one by one: an instruction alone, or a fused pair, and those
 -- after it. Assumes nothing.
-use Prim.Native.Nat.{ℕ, zero, suc, _+_, _<_}
+use Prim.Native.Nat.{ℕ, suc, _+_, _<_}
 use mathlib.Core.Path.{_≡_, refl, sym, ap, _∙_}
 use mathlib.Core.Bool.{Bool, true, false}
 use mathlib.Core.List.{List, [], _∷_}
-use native.Mathlib.Nat.{le-of-suc-le-suc, not-suc-le-zero}
 use native.Mathlib.Omega.{arith}
 use borrow.Author.Tests.{eqb-true, eqb-false}
 use lib.Dec.{eqb}
 use lib.ListN.{drop}
 use Rattle.armv4t.specs.declared.Fused.{Fused}
 use Rattle.armv4t.specs.Fused.{fuse}
-use Rattle.armv4t.specs.Instr.{sizeOf}
 use Rattle.file_instrs.specs.declared.decode.TimedInstr.{TimedInstr}
 use Rattle.file_blocks.specs.Parse.{instrsFrom}
-use Rattle.file_blocks.proofs.ReadInstrs.{instrAt, later, at-first}
+use Rattle.file_blocks.proofs.ReadInstrs.{instrAt, drop-instr, drop-all}
 use Rattle.lower_forms.specs.Forms.{Form}
 use Rattle.lower_forms.specs.Block.{emitPair, emitInstr, fusedOr, consForm, emitInstrs}
-use Rattle.emit_block.specs.declared.instrs.Next.{Next}
+use Rattle.file_blocks.specs.declared.next.Next.{Next}
 use Rattle.base_lists.specs.Lists.{isEmpty}
-use Rattle.emit_block.specs.Walk.{fusedNext, nextOf}
-
--- instruction j of a block, and those after it
-pub drop-instr : (f : List ℕ) (thumb : Bool) (n k addr j : ℕ) → j < n
-    → drop j (instrsFrom f n k addr thumb)
-    ≡ instrAt f k addr thumb j ∷ drop (suc j) (instrsFrom f n k addr thumb)
-drop-instr f thumb zero k addr j h = absurd (not-suc-le-zero h)
-drop-instr f thumb (suc n) k addr zero h =
-    ap (λ (x : TimedInstr). x ∷ instrsFrom f n (suc k) (addr + sizeOf thumb) thumb)
-    (at-first f thumb k addr)
-drop-instr f thumb (suc n) k addr (suc j) h =
-    drop-instr f thumb n (suc k) (addr + sizeOf thumb) j (le-of-suc-le-suc h)
-    ∙ ap (λ (x : TimedInstr). x ∷ drop (suc j) (instrsFrom f n (suc k) (addr + sizeOf thumb) thumb))
-    (later f thumb k addr j)
-
--- after the last one there is none
-pub drop-all : (f : List ℕ) (thumb : Bool) (n k addr : ℕ)
-    → drop n (instrsFrom f n k addr thumb) ≡ []
-drop-all f thumb zero k addr = refl
-drop-all f thumb (suc n) k addr = drop-all f thumb n (suc k) (addr + sizeOf thumb)
+use Rattle.file_blocks.specs.Read.{fusedNext, nextOf}
 
 module _ (thumb : Bool) (region cycles : ℕ) (x : TimedInstr) where
   -- an instruction that makes no pair

@@ -2,6 +2,5 @@
 mod Bodies
 mod FormsFrom
 mod Inside
-mod Reading
 mod Recording
 mod Walking

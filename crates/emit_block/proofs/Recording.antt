@@ -16,10 +16,11 @@ use Rattle.lower_forms.specs.Block.{emitPair, emitInstr, consForm, emitInstrs}
 use Rattle.file_blocks.specs.Address.{region}
 use Rattle.lower_forms.proofs.Cycles.{own, instr-cycles}
 use Rattle.lower_units.specs.Block.{codeFrom}
-use Rattle.emit_block.specs.declared.instrs.Next.{Next}
+use Rattle.file_blocks.specs.declared.next.Next.{Next}
 use Rattle.emit_instr.specs.declared.step.Step.{Step}
 use Rattle.emit_instr.specs.Onward.{Onward}
-use Rattle.emit_block.specs.Walk.{instrsOf, formsFrom, nextOf, Recorded}
+use Rattle.file_blocks.specs.Read.{instrsOf, nextOf}
+use Rattle.emit_block.specs.Walk.{formsFrom, Recorded}
 use Rattle.emit_block.proofs.FormsFrom.{instrs-alone, instrs-pair}
 
 own-most : (r : Form) (n : ℕ) → own r n ≤ n

@@ -23,8 +23,9 @@ use Rattle.lower_units.specs.Block.{bodyEnd, closingLines, codeFrom}
 use Rattle.emit_instr.specs.declared.step.Step.{Step}
 use Rattle.emit_instr.specs.Onward.{Onward}
 use Rattle.emit_instr.proofs.Onward.{stay, then, finish}
-use Rattle.emit_block.specs.Walk.{instrsOf, formsFrom, IsBody, Recorded, Walked}
-use Rattle.emit_block.proofs.FormsFrom.{drop-all}
+use Rattle.file_blocks.specs.Read.{instrsOf}
+use Rattle.file_blocks.proofs.ReadInstrs.{drop-all}
+use Rattle.emit_block.specs.Walk.{formsFrom, IsBody, Recorded, Walked}
 
 module _ {f : List ℕ} {r : BlockRecord} {first : ℕ} {ks : List ℕ} {b : Body} {out : List ℕ} {at : ℕ}
   where

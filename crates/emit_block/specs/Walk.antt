@@ -3,15 +3,11 @@
 use Prim.Native.Nat.{ℕ, suc, _+_, _*_, _≤_, _<_}
 use mathlib.Core.Path.{_≡_}
 use mathlib.Core.Bool.{true, false, cond}
-use mathlib.Core.List.{List, [], _∷_}
+use mathlib.Core.List.{List}
 use lib.ListN.{length, drop}
-use Rattle.armv4t.specs.declared.Instr.{Instr}
-use Rattle.armv4t.specs.declared.Fused.{Fused}
-use Rattle.armv4t.specs.Fused.{fuse}
-use Rattle.file_instrs.specs.declared.decode.TimedInstr.{TimedInstr}
 use Rattle.file_blocks.specs.declared.read.BlockRecord.{BlockRecord}
-use Rattle.file_blocks.specs.Parse.{instrsFrom, blocksOf}
-use Rattle.file_blocks.specs.Read.{IsBlock}
+use Rattle.file_blocks.specs.Parse.{blocksOf}
+use Rattle.file_blocks.specs.Read.{IsBlock, instrsOf}
 use Rattle.plan_groups.specs.Groups.{HasRoom}
 use Rattle.plan_members.specs.Members.{membersOf, keysWithin}
 use Rattle.plan_members.specs.Prepared.{HoldsPlan}
@@ -22,13 +18,8 @@ use Rattle.file_blocks.specs.Address.{region}
 use Rattle.lower_units.specs.Block.{codeFrom}
 use Rattle.emit_block.specs.declared.member.Member.{Member}
 use Rattle.emit_block.specs.declared.member.MemberBlock.{MemberBlock}
-use Rattle.emit_block.specs.declared.instrs.Next.{Next}
 use Rattle.emit_instr.specs.declared.step.Step.{Step}
 use Rattle.emit_instr.specs.Onward.{Onward}
-
--- the instructions of a block, by its record and the number of the first
-abbrev pub instrsOf : List ℕ → BlockRecord → ℕ → List TimedInstr
-instrsOf f r first = instrsFrom f (r .count) first (r .addr) (r .thumb)
 
 -- the forms of its instructions from index j on with cycles pending before them, and the cycles
 -- pending after them
@@ -63,16 +54,6 @@ pub record IsMemberBlock (f work : List ℕ) (m : MemberBlock) (ks : List ℕ) (
   pub stands : IsMember f work (m .member) ks
   pub is : IsBlock f (m .member .index) (m .block) (m .first)
   pub body : IsBody f (m .block) (m .first) b
-
--- what two instructions make, the second with a cost
-abbrev pub fusedNext : Fused → ℕ → Next
-fusedNext Fused.Nothing cost = Next.Alone
-fusedNext (Fused.Pair target ret) cost = Next.Pair target ret cost
-
--- what an instruction makes with the first of those after it
-abbrev pub nextOf : Instr → List TimedInstr → Next
-nextOf x [] = Next.Alone
-nextOf x (y ∷ ys) = fusedNext (fuse x (y .instr)) (y .cost)
 
 -- the record with index j was written, with cycles pending before it
 pub record Recorded (f : List ℕ) (r : BlockRecord) (first : ℕ) (ks : List ℕ) (b : Body)

@@ -9,7 +9,7 @@ use file_blocks::BlockRecord;
 use file_blocks::FoundBlock;
 use file_blocks::block_at;
 use file_blocks::code_bytes;
-use file_blocks::region_of;
+use file_blocks::is_guarded;
 use file_records::block_record::instrs_length;
 use plan_members::first_of;
 ghost use mathlib.Core.Path.{_≡_};
@@ -24,7 +24,6 @@ ghost use Rattle.file_blocks.specs.Parse.{blocksOf};
 ghost use Rattle.base_text.specs.Wrote.{Wrote};
 ghost use Rattle.c_tree.specs.Print.{codeText};
 ghost use Rattle.lower_forms.specs.Block.{bodyOf};
-ghost use Rattle.file_blocks.specs.Address.{outsideRomBios};
 ghost use Rattle.lower_units.specs.Block.{blockCode};
 ghost use Rattle.lower_units.specs.Units.{defaultBody};
 ghost use Rattle.lower_units.specs.Measured.{hashedIf};
@@ -32,17 +31,6 @@ ghost use Rattle.emit_block.specs.Walk.{IsMember, HasBlock};
 
 // The multiplier of the guards' hash.
 const MULTIPLIER: u64 = 4294967731;
-
-// Whether a block's code has a guard before it: its code bytes can change, outside BIOS and ROM.
-fn is_guarded(addr: u32) -> bool
-    ensures { λ r. ⌜ r ≡ outsideRomBios addr ⌝ }
-{
-    let region = region_of(addr);
-    if region == 8 {
-        return false;
-    }
-    region != 0
-}
 
 // The length of a block in bytes.
 fn length_of(block: BlockRecord) -> u64

@@ -2,10 +2,7 @@
 use crate::member::Member;
 use crate::member::MemberBlock;
 use crate::member::is_inside;
-use armv4t::Fused;
-use armv4t::Instr;
 use armv4t::Op;
-use armv4t::fuse_thumb_bl;
 use armv4t::set_bit0;
 use emit_flow::emit_pair;
 use emit_instr::Setting;
@@ -13,13 +10,15 @@ use emit_instr::Step;
 use emit_instr::emit_instr;
 use file_blocks::BlockRecord;
 use file_blocks::FoundInstr;
+use file_blocks::Next;
 use file_blocks::TimedInstr;
 use file_blocks::instr_of;
 use file_blocks::key_of;
+use file_blocks::next_of;
 use file_blocks::region_of;
 ghost use mathlib.Core.Path.{_≡_};
 ghost use mathlib.Core.Bool.{false};
-ghost use mathlib.Core.List.{List, [], _∷_};
+ghost use mathlib.Core.List.{List, _∷_};
 ghost use Prim.Native.Nat.{ℕ, suc, _*_, _≤_, _<_};
 ghost use lib.ListN.{drop};
 ghost use Rattle.file_instrs.specs.declared.decode.TimedInstr.{TimedInstr};
@@ -28,67 +27,13 @@ ghost use Rattle.c_tree.specs.Stmt.{end};
 ghost use Rattle.lower_forms.specs.Forms.{Form, Body};
 ghost use Rattle.lower_forms.specs.Block.{emitPair};
 ghost use Rattle.base_lists.specs.Lists.{among};
-ghost use Rattle.file_blocks.specs.Read.{IsBlock};
+ghost use Rattle.file_blocks.specs.Read.{instrsOf, nextOf};
 ghost use Rattle.lower_units.specs.Block.{codeFrom};
-ghost use Rattle.emit_block.specs.declared.instrs.Next.{Next};
+ghost use Rattle.file_blocks.specs.declared.next.Next.{Next};
 ghost use Rattle.emit_instr.specs.Onward.{Onward};
 ghost use Rattle.emit_instr.specs.Steps.{BranchInside};
-ghost use Rattle.emit_block.specs.Walk.{instrsOf, IsBody, IsMember, HasBlock};
-ghost use Rattle.emit_block.specs.Walk.{IsMemberBlock, nextOf, Recorded};
-
-// What an instruction makes with the one after it.
-pub(crate) enum Next {
-    // A fused pair; the cost is that of the second half.
-    Pair { target: u32, ret: u32, cost: u16 },
-    Alone,
-}
-
-// What two instructions make.
-fn fused_next(x: Instr, y: TimedInstr) -> Next
-    ensures { λ r. ⌜ r ≡ nextOf x (y ∷ []) ⌝ }
-{
-    match fuse_thumb_bl(x, y.instr) {
-        Fused::Pair { target, ret } => Next::Pair {
-            target,
-            ret,
-            cost: y.cost,
-        },
-        Fused::Nothing => Next::Alone,
-    }
-}
-
-// Whether an instruction is the first half of a Thumb BL; any other makes no pair with the one
-// after it.
-fn begins_bl(x: Instr) -> bool
-    ensures { λ r. ⌜ (r ≡ false → (ys : List TimedInstr) → nextOf x ys ≡ Next.Alone) ⌝ }
-{
-    let op = x.op;
-    match op {
-        Op::ThumbBlHigh { .. } => true,
-        _ => false,
-    }
-}
-
-// What instruction j of a block makes with the one after it. Where it cannot make a pair, that one
-// is not read.
-fn next_of(file: &[u8], block: BlockRecord, first: usize, j: u32, x: Instr) -> Next
-    requires { ⌜ j < block .count ⌝ }
-    ensures { λ r. ⌜
-        ((i : ℕ) → IsBlock (now (file .entry)) i block first
-        → r ≡ nextOf x (drop (suc j) (instrsOf (now (file .entry)) block first)))
-        ⌝ }
-{
-    if !begins_bl(x) {
-        return Next::Alone;
-    }
-    if j + 1 == block.count {
-        return Next::Alone;
-    }
-    let FoundInstr::At(y) = instr_of(file, block, first, j + 1) else {
-        return Next::Alone;
-    };
-    fused_next(x, y)
-}
+ghost use Rattle.emit_block.specs.Walk.{IsBody, IsMember, HasBlock};
+ghost use Rattle.emit_block.specs.Walk.{IsMemberBlock, Recorded};
 
 // Whether a branch goes to a block of the same group; the answer for other operations is of no use.
 fn branch_inside(file: &[u8], work: &[u32], m: Member, thumb: bool, op: Op) -> bool

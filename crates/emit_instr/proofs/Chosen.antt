@@ -2,7 +2,7 @@
 use mathlib.Core.Path.{_≡_, refl, sym}
 use mathlib.Core.Bool.{Bool, true, false, cond, true≢false}
 use mathlib.Core.Option.{Option, none, some}
-use Rattle.emit_operands.specs.Operands.{isSome}
+use Rattle.base_lists.specs.Lists.{isSome}
 
 -- one of two
 pub chosen : {A : Type 0} (t : Bool) (x y : A) → t ≡ true → x ≡ cond t x y

@@ -21,7 +21,7 @@ ghost use Rattle.base_text.specs.Wrote.{Wrote};
 ghost use Rattle.lower_forms.specs.Forms.{Lines};
 ghost use Rattle.lower_forms.specs.InlineBody.{inlineBody};
 ghost use Rattle.lower_units.specs.Lines.{linesText};
-ghost use Rattle.emit_operands.specs.Operands.{isSome};
+ghost use Rattle.base_lists.specs.Lists.{isSome};
 
 // Whether an instruction is lowered to lines, or left to the interpreter.
 pub(crate) fn is_inlined(thumb: bool, i: Instr) -> bool

@@ -21,7 +21,7 @@ use Rattle.lower_forms.specs.Forms.{Lines}
 use Rattle.lower_forms.specs.InlineBody.{baseExpr, shiftedOffset, offsetExpr, access, memBody}
 use Rattle.lower_forms.specs.InlineBody.{listed, blockMemBody, opBody, memLines}
 use Rattle.armv4t.specs.RegisterList.{isListed}
-use Rattle.emit_operands.specs.Operands.{isSome}
+use Rattle.base_lists.specs.Lists.{isSome}
 use Rattle.emit_mem.specs.Mem.{offsetOf}
 
 -- what is there, or nothing

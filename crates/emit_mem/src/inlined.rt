@@ -11,7 +11,7 @@ ghost use Prim.Native.Nat.{ℕ};
 ghost use Rattle.armv4t.specs.declared.Instr.{Instr};
 ghost use Rattle.c_tree.specs.Expr.{Expr};
 ghost use Rattle.lower_forms.specs.InlineBody.{shiftedOffset, offsetExpr};
-ghost use Rattle.emit_operands.specs.Operands.{isSome};
+ghost use Rattle.base_lists.specs.Lists.{isSome};
 
 // Whether an offset shifted by an amount is inlined: not by RRX, which is Ror with amount 0.
 fn kind_is_inlined(kind: ShiftKind, amount: u8) -> bool

@@ -19,7 +19,8 @@ use Rattle.base_text.specs.Flat.{flat}
 use Rattle.c_tree.specs.Expr.{udec, int, Expr, lit}
 use Rattle.c_tree.specs.Print.{exprText}
 use Rattle.lower_forms.specs.Operands.{bitOf, carryIn, shiftExprs, op2Exprs, operandOf}
-use Rattle.emit_operands.specs.Operands.{carryText, isSome}
+use Rattle.base_lists.specs.Lists.{isSome}
+use Rattle.emit_operands.specs.Operands.{carryText}
 
 -- constants
 pub one-text : (k : List ℕ) → flat (text "1") k ≡ flat (exprText (lit int 1)) k

@@ -1,7 +1,6 @@
 -- Steps: expressions that may be missing, and the shifts of a register: what the writers of
 -- operands write, and test for.
 use Prim.Native.Nat.{ℕ}
-use mathlib.Core.Bool.{Bool, true, false}
 use mathlib.Core.Option.{Option, none, some}
 use Rattle.base_text.specs.Doc.{Doc, nothing}
 use Rattle.c_tree.specs.Expr.{Expr}
@@ -14,11 +13,6 @@ use Rattle.emit_operands.specs.declared.Source.{Source}
 abbrev pub carryText : Option Expr → Doc
 carryText none = nothing
 carryText (some e) = exprText e
-
--- whether something is there
-abbrev pub isSome : {A : Type 0} → Option A → Bool
-isSome none = false
-isSome (some x) = true
 
 -- the register that is shifted
 abbrev pub sourceExpr : Source → Expr

@@ -18,7 +18,8 @@ ghost use Rattle.c_tree.specs.Expr.{word, reg, Expr, lit, get};
 ghost use Rattle.c_tree.specs.Print.{exprText};
 ghost use Rattle.lower_forms.specs.Operands.{condExpr, shiftExprs, op2Exprs, regOf};
 ghost use Rattle.lower_forms.specs.Operands.{operandOf};
-ghost use Rattle.emit_operands.specs.Operands.{carryText, isSome, sourceExpr};
+ghost use Rattle.base_lists.specs.Lists.{isSome};
+ghost use Rattle.emit_operands.specs.Operands.{carryText, sourceExpr};
 
 // A condition, without parentheses around it.
 pub fn put_cond_expr(out: &mut [u8], at: usize, cond: Cond) -> usize

@@ -1,55 +1,17 @@
 -- 'Given exactly if': parse refuses with a rule's number and place exactly if the rule applies, and
 -- accepts exactly if none does. Assumes nothing.
 use mathlib.Core.Path.{_≡_, refl, sym, ap, ap₂, _∙_}
-use mathlib.Core.Bool.{Bool, true, false}
-use mathlib.Core.List.{List, [], _∷_, _++_, List·Memᴰ, List·Memᴰ·head, List·Memᴰ·tail}
-use mathlib.Core.List.{List·Memᴰ·not-nil, List·Memᴰ·cases-cons}
-use mathlib.Core.Logic.{⊎-elim, _↔_}
+use mathlib.Core.List.{List, [], _∷_}
+use mathlib.Core.Logic.{_↔_}
 use mathlib.Core.Option.{Option, none, some}
 use Prim.Native.Nat.{ℕ, _-_}
 use native.Mathlib.Omega.{arith}
 use lib.ListN.{getD}
+use Rattle.base_lists.proofs.Firsts.{is-found, first-found}
 use Rattle.file_records.specs.Trailer.{blockCount}
-use Rattle.file_blocks.specs.Refusal.{Rule, number, place, broken, pick, firstBroken, rules}
-use Rattle.file_blocks.specs.Refusal.{First, Applies}
+use Rattle.file_blocks.specs.Refusal.{Rule, number, place, broken, firstBroken, rules}
+use Rattle.file_blocks.specs.Refusal.{Applies}
 use Rattle.file_blocks.specs.Parse.{Block, Parsed, blocksFrom, parsed, parse}
-
--- the first broken rule is the one found
-found-first : (f : List ℕ) (before : List Rule) (r : Rule) (after : List Rule) → broken f r ≡ true
-    → ((s : Rule) → List·Memᴰ s before → broken f s ≡ false)
-    → firstBroken f (before ++ (r ∷ after)) ≡ some r
-found-first f [] r after e kept = rw e
-found-first f (x ∷ before) r after e kept =
-    rw (kept x (List·Memᴰ·head refl))
-    (found-first f before r after e (λ s m. kept s (List·Memᴰ·tail m)))
-
--- and the one found is the first
-first-found : (f : List ℕ) (xs : List Rule) (r : Rule) → firstBroken f xs ≡ some r → First f xs r
-first-found f [] r e = absurd (let z : _≡_ {A = ℕ} 0 1 = cc in omega arith)
-first-found f (x ∷ xs) r e = go (broken f x) refl (first-found f xs) e
-  where
-    go : (b : Bool) → broken f x ≡ b → ((r : Rule) → firstBroken f xs ≡ some r → First f xs r)
-        → pick b x (firstBroken f xs) ≡ some r → First f (x ∷ xs) r
-    go true h rest e′ =
-        let same : x ≡ r = cc in
-        record {
-          before = [];
-          after = xs;
-          placed = ap (λ (s : Rule). s ∷ xs) same;
-          here = ap (broken f) (sym same) ∙ h;
-          earlier = λ s m. absurd (List·Memᴰ·not-nil m);
-        }
-    go false h rest e′ =
-        let t = rest r e′ in
-        record {
-          before = x ∷ t .before;
-          after = t .after;
-          placed = ap (λ (l : List Rule). x ∷ l) (t .placed);
-          here = t .here;
-          earlier =
-              λ s m. ⊎-elim (λ (same : s ≡ x). ap (broken f) same ∙ h)
-              (λ (m′ : List·Memᴰ s (t .before)). t .earlier s m′) (List·Memᴰ·cases-cons m);
-        }
 
 -- the rule that a number and a place name
 ruleOf : ℕ → ℕ → Rule
@@ -82,11 +44,10 @@ module _ (f : List ℕ) where
       ap some (same-rule s r n i)
 
   applies : (r : Rule) → firstBroken f (rules f) ≡ some r → Applies f r
-  applies r e = first-found f (rules f) r e
+  applies r e = first-found (broken f) (rules f) r e
 
   applied : (r : Rule) → Applies f r → firstBroken f (rules f) ≡ some r
-  applied r a =
-      ap (firstBroken f) (a .placed) ∙ found-first f (a .before) r (a .after) (a .here) (a .earlier)
+  applied r a = is-found (broken f) (rules f) r a
 
   -- a rule's refusal is given exactly if the rule applies
   pub refused-exactly : (r : Rule) → (parse f ≡ Parsed.refused (number r) (place r)) ↔ Applies f r

@@ -9,5 +9,6 @@ pub mod OwnKey
 mod Passes
 pub mod Ranges
 pub mod ReadInstrs
+pub mod ReadNext
 mod Reading
 mod Whole

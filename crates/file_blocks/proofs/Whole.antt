@@ -1,7 +1,7 @@
 -- The whole check: its passes one after the other give the first broken rule, and an accepted file
 -- has the counts of its trailer. Assumes nothing.
 use mathlib.Core.Path.{_≡_, refl, sym, ap, ap₂, _∙_}
-use mathlib.Core.Bool.{Bool, true, false}
+use mathlib.Core.Bool.{Bool, true, false, cond}
 use mathlib.Core.List.{List, [], _∷_, _++_, append-assoc, append-nil, List·Memᴰ, List·Memᴰ·head}
 use mathlib.Core.List.{List·Memᴰ·tail, List·Memᴰ·not-nil, List·Memᴰ·cases-cons, Memᴰ·cast}
 use mathlib.Core.Logic.{_⊎_, inl, inr}
@@ -16,7 +16,7 @@ use Rattle.file_blocks.specs.declared.refusal.Found.{Found}
 use Rattle.file_records.specs.Trailer.{blockCount, instrCount, blockStart, withinLimits}
 use Rattle.file_records.specs.Trailer.{trailerRight}
 use Rattle.file_records.specs.BlockRecord.{countAt, countSum}
-use Rattle.file_blocks.specs.Refusal.{Rule, broken, pick, firstBroken, blockRules, instrRules}
+use Rattle.file_blocks.specs.Refusal.{Rule, broken, firstBroken, blockRules, instrRules}
 use Rattle.file_blocks.specs.Parse.{instrsFrom, blockAt, blocksFrom, parsed, parse}
 use Rattle.file_blocks.specs.Parse.{instrTotal}
 use Rattle.file_blocks.specs.Found.{found, checked}
@@ -29,7 +29,7 @@ orElse Found.Nothing other = other
 -- one rule more in front of the first list
 one-more : (f : List ℕ) (b : Bool) (r : Rule) (o later : Option Rule) (other : Checked)
     → orElse (found o) other ≡ checked (parsed f later)
-    → orElse (found (pick b r o)) other ≡ checked (parsed f (pick b r later))
+    → orElse (found (cond b (some r) o)) other ≡ checked (parsed f (cond b (some r) later))
 unfolding checked
 one-more f true r o later other e = refl
 one-more f false r o later other e = e
@@ -62,11 +62,11 @@ total-blocks f (suc n) i k =
     let shift : i + suc n ≡ suc i + n = omega arith in
     rw (shift, ← rest, length-instrs) (sym (add-assoc _ _ _))
 
-none-first : (b : Bool) (r : Rule) (o : Option Rule) → pick b r o ≡ none → b ≡ false
+none-first : (b : Bool) (r : Rule) (o : Option Rule) → cond b (some r) o ≡ none → b ≡ false
 none-first true r o e = absurd (let z : _≡_ {A = ℕ} 0 1 = cc in omega arith)
 none-first false r o e = refl
 
-none-rest : (b : Bool) (r : Rule) (o : Option Rule) → pick b r o ≡ none → o ≡ none
+none-rest : (b : Bool) (r : Rule) (o : Option Rule) → cond b (some r) o ≡ none → o ≡ none
 none-rest true r o e = absurd (let z : _≡_ {A = ℕ} 0 1 = cc in omega arith)
 none-rest false r o e = e
 

@@ -1,21 +1,27 @@
--- Steps: single records by number, and code bytes by offset and length, whether or not the file is
--- accepted. A record that the trailer does not count, or that does not lie inside the file, is
--- Nothing; code bytes that are absent, or do not lie inside it, are the empty list.
+-- Steps: single records by number, what an instruction makes with the one after it, and code bytes
+-- by offset and length, whether or not the file is accepted. A record that the trailer does not
+-- count, or that does not lie inside the file, is Nothing; code bytes that are absent, or do not lie
+-- inside it, are the empty list.
 use Prim.Native.Nat.{ℕ, _+_, _*_, _%_, _^_}
 use mathlib.Core.Path.{_≡_}
 use mathlib.Core.Bool.{Bool, cond, _&&_}
-use mathlib.Core.List.{List, []}
+use mathlib.Core.List.{List, [], _∷_}
 use lib.ListN.{length}
 use lib.Dec.{leb, ltb}
+use Rattle.armv4t.specs.declared.Fused.{Fused}
+use Rattle.armv4t.specs.declared.Instr.{Instr}
+use Rattle.armv4t.specs.Fused.{fuse}
 use Rattle.armv4t.specs.Instr.{sizeOf}
+use Rattle.file_blocks.specs.declared.next.Next.{Next}
 use Rattle.file_blocks.specs.declared.read.BlockRecord.{BlockRecord}
 use Rattle.file_blocks.specs.declared.read.FoundBlock.{FoundBlock}
 use Rattle.file_blocks.specs.declared.read.FoundInstr.{FoundInstr}
 use Rattle.file_records.specs.Trailer.{blockCount, instrCount, blockStart, instrStart}
 use Rattle.file_records.specs.BlockRecord.{addrAt, countAt, codeOffsetAt, thumbAt, presentAt}
 use Rattle.file_records.specs.BlockRecord.{lengthOf, countSum}
+use Rattle.file_instrs.specs.declared.decode.TimedInstr.{TimedInstr}
 use Rattle.file_instrs.specs.Decode.{timedAt}
-use Rattle.file_blocks.specs.Parse.{slice, Accepted}
+use Rattle.file_blocks.specs.Parse.{instrsFrom, slice, Accepted}
 
 -- the block record at an offset
 unfoldable pub recordAt : List ℕ → ℕ → BlockRecord
@@ -47,6 +53,20 @@ foundInstr f i addr thumb =
 abbrev pub readInstr : List ℕ → BlockRecord → ℕ → ℕ → FoundInstr
 readInstr f b first j =
     foundInstr f ((first + j) % 2 ^ 64) ((b .addr + sizeOf (b .thumb) * j) % 2 ^ 32) (b .thumb)
+
+-- the instructions of a block, by its record and the number of the first
+abbrev pub instrsOf : List ℕ → BlockRecord → ℕ → List TimedInstr
+instrsOf f r first = instrsFrom f (r .count) first (r .addr) (r .thumb)
+
+-- what two instructions make, the second with a cost
+abbrev pub fusedNext : Fused → ℕ → Next
+fusedNext Fused.Nothing cost = Next.Alone
+fusedNext (Fused.Pair target ret) cost = Next.Pair target ret cost
+
+-- what an instruction makes with the first of those after it
+abbrev pub nextOf : Instr → List TimedInstr → Next
+nextOf x [] = Next.Alone
+nextOf x (y ∷ ys) = fusedNext (fuse x (y .instr)) (y .cost)
 
 -- the bytes at a block record's offset, of the block's length; none where they are absent or run
 -- past the file's end

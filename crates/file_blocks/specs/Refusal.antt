@@ -1,11 +1,11 @@
 -- To be believed: the refusal table of a file, its rules in the order of their places, and the
 -- first that is broken.
 use Prim.Native.Nat.{ℕ, zero, suc}
-use mathlib.Core.Bool.{Bool, true, false, not}
-use mathlib.Core.Path.{_≡_}
-use mathlib.Core.List.{List, [], _∷_, _++_, List·Memᴰ}
-use mathlib.Core.Option.{Option, none, some}
+use mathlib.Core.Bool.{Bool, not}
+use mathlib.Core.List.{List, [], _∷_, _++_}
+use mathlib.Core.Option.{Option}
 use lib.Dec.{eqb}
+use Rattle.base_lists.specs.Lists.{firstOf, IsFirst}
 use Rattle.file_records.specs.Trailer.{hasTrailer, withinLimits, trailerRight, blockCount}
 use Rattle.file_records.specs.Trailer.{instrCount, blockStart, instrStart}
 use Rattle.file_records.specs.BlockRecord.{blockRight, keyRises, countSum}
@@ -66,25 +66,10 @@ abbrev pub rules : List ℕ → List Rule
 rules f =
     short ∷ limits ∷ trailer ∷ blockRules (blockCount f) 0 ++ (sum ∷ instrRules (instrCount f) 0)
 
--- a rule where it is broken, or else what the later ones give
-abbrev pub pick : Bool → Rule → Option Rule → Option Rule
-pick true r later = some r
-pick false r later = later
-
 -- the first broken one of some rules
 abbrev pub firstBroken : List ℕ → List Rule → Option Rule
-firstBroken f [] = none
-firstBroken f (r ∷ rs) = pick (broken f r) r (firstBroken f rs)
-
--- the first broken one of some rules, as a fact: it stands among them, it is broken, and no earlier
--- one is
-pub record First (f : List ℕ) (xs : List Rule) (r : Rule) : Type 0 where
-  pub before : List Rule
-  pub after : List Rule
-  pub placed : xs ≡ before ++ (r ∷ after)
-  pub here : broken f r ≡ true
-  pub earlier : (s : Rule) → List·Memᴰ s before → broken f s ≡ false
+firstBroken f = firstOf (broken f)
 
 -- the table gives a rule's refusal: the rule is the first broken one of the file
 abbrev pub Applies : List ℕ → Rule → Type 0
-Applies f r = First f (rules f) r
+Applies f r = IsFirst (broken f) (rules f) r

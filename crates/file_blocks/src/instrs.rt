@@ -7,7 +7,8 @@ use armv4t::set_bit0;
 ghost use mathlib.Core.Path.{_≡_};
 ghost use Prim.Native.Nat.{_+_, _*_, _%_, _^_};
 ghost use Rattle.armv4t.specs.Instr.{sizeOf};
-ghost use Rattle.file_blocks.specs.Address.{region, keyOf, fallThrough};
+ghost use Rattle.file_blocks.specs.Address.{region, outsideRomBios, keyOf};
+ghost use Rattle.file_blocks.specs.Address.{fallThrough};
 ghost use Rattle.file_blocks.specs.Read.{readInstr};
 
 // The region of an address: its page modulo 16.
@@ -15,6 +16,17 @@ pub fn region_of(addr: u32) -> u32
     ensures { λ r. ⌜ r ≡ region addr ⌝ }
 {
     addr / 16777216 % 16
+}
+
+// Whether a block's code has a guard before it: its code bytes can change, outside BIOS and ROM.
+pub fn is_guarded(addr: u32) -> bool
+    ensures { λ r. ⌜ r ≡ outsideRomBios addr ⌝ }
+{
+    let region = region_of(addr);
+    if region == 8 {
+        return false;
+    }
+    region != 0
 }
 
 // An address with the block's Thumb bit.

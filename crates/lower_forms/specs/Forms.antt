@@ -2,7 +2,7 @@
 -- holds the expressions and plain statements that vary; the statements that a way goes by, and the
 -- layout, come with the form (the crate `lower_units`).
 use Prim.Native.Nat.{ℕ}
-use mathlib.Core.Bool.{Bool}
+use mathlib.Core.Bool.{Bool, true, false}
 use mathlib.Core.List.{List}
 use mathlib.Core.Option.{Option}
 use Rattle.c_tree.specs.Expr.{Expr}
@@ -37,6 +37,11 @@ pub data Form : Type 0 where
   -- which, where it is the block's last, the closing transfer is printed too; the lines before; the
   -- key after it
   shell : Bool → Lines → ℕ → Form
+
+-- whether a form is native
+abbrev pub isNative : Form → Bool
+isNative (native r) = true
+isNative (shell high t k) = false
 
 -- how many records a native form carries out
 abbrev pub recordsIn : Native → ℕ

@@ -12,7 +12,7 @@ use Rattle.lower_units.specs.Block.{codeFrom}
 use Rattle.base_lists.specs.Lists.{among}
 use Rattle.file_blocks.proofs.ReadInstrs.{not-missing}
 use Rattle.emit_instr.specs.Onward.{Onward}
-use Rattle.emit_block.proofs.Reading.{here-read}
+use Rattle.file_blocks.proofs.ReadNext.{here-read}
 use Rattle.emit_block.proofs.Recording.{pair-sum, pair-recorded}
 use borrow.Author.Needs.{needs}
 use Rattle.emit_block.proofs.instrs.emit_record.Statement.{statement}

@@ -1,7 +1,7 @@
 -- `bodies::is_inlined` meets its contract: an arm of one operation is given its fields, and `_`
 -- answers for all that have no lines. Assumes nothing.
 use mathlib.Core.Path.{refl, sym, ap, _∙_}
-use Rattle.emit_operands.specs.Operands.{isSome}
+use Rattle.base_lists.specs.Lists.{isSome}
 use Rattle.emit_mem.proofs.Offsets.{mem-inlined, block-mem-inlined}
 use Rattle.emit_instr.proofs.Operations.{no-lines}
 use borrow.Author.Needs.{needs}

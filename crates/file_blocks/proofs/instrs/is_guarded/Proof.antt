@@ -6,9 +6,9 @@ use mathlib.Core.Bool.{Bool, false, not, _||_}
 use borrow.Author.Needs.{needs}
 use borrow.Author.Tests.{eq-eqb, ne-eqb}
 use lib.Dec.{eqb}
 use Rattle.file_blocks.specs.Address.{outsideRomBios}
-use Rattle.emit_block.proofs.block.is_guarded.Statement.{statement}
-use Rattle.emit_block.proofs.block.is_guarded.Tie as tie
+use Rattle.file_blocks.proofs.instrs.is_guarded.Statement.{statement}
+use Rattle.file_blocks.proofs.instrs.is_guarded.Tie as tie
 
 returns : tie.Need-returns
 unfolding outsideRomBios

@@ -14,10 +14,10 @@ use Rattle.armv4t.specs.Fused.{fuse, fuseOps}
 use Rattle.armv4t.proofs.Arms.{arm, others}
 use Rattle.armv4t.proofs.Op.{enum, the-type}
 use Rattle.file_instrs.specs.declared.decode.TimedInstr.{TimedInstr}
-use Rattle.emit_block.specs.declared.instrs.Next.{Next}
-use Rattle.emit_block.specs.Walk.{fusedNext, nextOf}
-use Rattle.emit_block.proofs.instrs.begins_bl.Statement.{statement}
-use Rattle.emit_block.proofs.instrs.begins_bl.Tie as tie
+use Rattle.file_blocks.specs.declared.next.Next.{Next}
+use Rattle.file_blocks.specs.Read.{fusedNext, nextOf}
+use Rattle.file_blocks.proofs.next.begins_bl.Statement.{statement}
+use Rattle.file_blocks.proofs.next.begins_bl.Tie as tie
 
 -- an operation that is no ThumbBlHigh, number 6, makes no pair
 alone-op : (high low : Op) (addr : ℕ) → OneOf (others 15 (6 ∷ [])) (tagOf the-type high)

@@ -2,10 +2,10 @@
 -- Assumes nothing.
 use mathlib.Core.Path.{sym, ap, _∙_}
 use Rattle.armv4t.specs.declared.Fused.{Fused}
-use Rattle.emit_block.specs.Walk.{fusedNext}
+use Rattle.file_blocks.specs.Read.{fusedNext}
 use borrow.Author.Needs.{needs}
-use Rattle.emit_block.proofs.instrs.fused_next.Statement.{statement}
-use Rattle.emit_block.proofs.instrs.fused_next.Tie as tie
+use Rattle.file_blocks.proofs.next.fused_next.Statement.{statement}
+use Rattle.file_blocks.proofs.next.fused_next.Tie as tie
 
 returns : tie.Need-returns
 returns c =

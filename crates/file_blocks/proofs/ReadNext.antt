@@ -8,13 +8,11 @@ use native.Mathlib.Omega.{arith}
 use lib.ListN.{drop}
 use Rattle.armv4t.specs.declared.Instr.{Instr}
 use Rattle.file_instrs.specs.declared.decode.TimedInstr.{TimedInstr}
+use Rattle.file_blocks.specs.declared.next.Next.{Next}
 use Rattle.file_blocks.specs.declared.read.BlockRecord.{BlockRecord}
 use Rattle.file_blocks.specs.declared.read.FoundInstr.{FoundInstr}
-use Rattle.file_blocks.specs.Read.{IsBlock, readInstr}
-use Rattle.file_blocks.proofs.ReadInstrs.{instrAt, read-as}
-use Rattle.emit_block.specs.declared.instrs.Next.{Next}
-use Rattle.emit_block.specs.Walk.{instrsOf, nextOf}
-use Rattle.emit_block.proofs.FormsFrom.{drop-instr, drop-all}
+use Rattle.file_blocks.specs.Read.{IsBlock, readInstr, instrsOf, nextOf}
+use Rattle.file_blocks.proofs.ReadInstrs.{instrAt, drop-instr, drop-all, read-as}
 
 module _ {f : List ℕ} {i : ℕ} {r : BlockRecord} {first : ℕ} (is : IsBlock f i r first) (j : ℕ)
     (inside : j < r .count) where

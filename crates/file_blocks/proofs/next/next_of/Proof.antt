@@ -3,15 +3,15 @@
 use Prim.Native.Nat.{suc}
 use denote.Ref.{now}
 use lib.ListN.{drop}
-use Rattle.emit_block.specs.Walk.{instrsOf}
+use Rattle.file_blocks.specs.Read.{instrsOf}
 use mathlib.Core.Path.{sym, _∙_}
 use native.Mathlib.Omega.{arith}
 use borrow.Author.Tests.{not-true}
 use Rattle.file_blocks.proofs.ReadInstrs.{not-missing}
-use Rattle.emit_block.proofs.Reading.{next-last, next-read}
+use Rattle.file_blocks.proofs.ReadNext.{next-last, next-read}
 use borrow.Author.Needs.{needs}
-use Rattle.emit_block.proofs.instrs.next_of.Statement.{statement}
-use Rattle.emit_block.proofs.instrs.next_of.Tie as tie
+use Rattle.file_blocks.proofs.next.next_of.Statement.{statement}
+use Rattle.file_blocks.proofs.next.next_of.Tie as tie
 
 returns : tie.Need-returns
 returns c =
