@@ -1,7 +1,7 @@
 -- Steps: single records by number, what an instruction makes with the one after it, and code bytes
 -- by offset and length, whether or not the file is accepted. A record that the trailer does not
--- count, or that does not lie inside the file, is Nothing; code bytes that are absent, or do not lie
--- inside it, are the empty list.
+-- count, or that does not lie inside the file, is Nothing; code bytes that are absent, or do not
+-- lie inside it, are the empty list.
 use Prim.Native.Nat.{ℕ, _+_, _*_, _%_, _^_}
 use mathlib.Core.Path.{_≡_}
 use mathlib.Core.Bool.{Bool, cond, _&&_}

@@ -1,0 +1,1 @@
+// What is claimed of the sentences: definitions and their proofs only.
