@@ -1,0 +1,2 @@
+-- What the steps of the code tell.
+pub mod Steps

@@ -1,0 +1,2 @@
+-- What the writers of sentences are told.
+pub mod Steps
