@@ -5,6 +5,7 @@ mod c_exits;
 mod c_listing;
 mod c_pages;
 mod c_plan;
+mod c_reasons;
 mod c_unit;
 mod c_units;
 
@@ -14,6 +15,8 @@ pub use c_listing::recomp_listing;
 pub use c_pages::recomp_page;
 pub use c_pages::recomp_pages;
 pub use c_plan::recomp_plan;
+pub use c_reasons::recomp_reason;
+pub use c_reasons::recomp_reasons;
 pub use c_unit::recomp_measure;
 pub use c_unit::recomp_write;
 pub use c_units::recomp_lengths;

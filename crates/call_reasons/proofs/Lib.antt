@@ -1,0 +1,4 @@
+-- The laws that the functions' proofs share.
+mod Answers
+mod Rest
+mod Written
