@@ -42,6 +42,12 @@ fn name(section: Section) {
         Section::Pages => {
             text(b"pages");
         }
+        Section::Reason => {
+            text(b"reason");
+        }
+        Section::Reasons => {
+            text(b"reasons");
+        }
     }
 }
 

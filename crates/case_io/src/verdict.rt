@@ -12,6 +12,8 @@ pub enum Section {
     Lengths,
     Page,
     Pages,
+    Reason,
+    Reasons,
 }
 
 // What became of a vector.

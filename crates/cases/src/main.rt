@@ -35,6 +35,12 @@ fn main() {
     if !sections::replay(Section::Pages) {
         return;
     }
+    if !sections::replay(Section::Reason) {
+        return;
+    }
+    if !sections::replay(Section::Reasons) {
+        return;
+    }
     if !input::at_end() {
         report::goes_on();
     }

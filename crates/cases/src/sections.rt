@@ -23,6 +23,8 @@ fn replay_one(section: Section, k: u64) -> Verdict {
         Section::Lengths => lengths_cases::replay_one(k),
         Section::Page => case_pages::replay_one(k, false),
         Section::Pages => case_pages::replay_one(k, true),
+        Section::Reason => case_reasons::replay_one(k, false),
+        Section::Reasons => case_reasons::replay_one(k, true),
     }
 }
 
