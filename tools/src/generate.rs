@@ -6,6 +6,7 @@ pub mod forms;
 mod instructions;
 mod layout;
 pub mod linked;
+pub mod shells;
 pub mod transfers;
 
 use crate::file::{self, Block, File};
@@ -139,11 +140,19 @@ impl Params {
 
 /// The blocks of `params`, in file order.
 pub fn blocks(params: &Params) -> Vec<Block> {
+    blocks_of(params, |rng, spans, i| records(rng, spans, i, params))
+}
+
+/// Blocks that lie as `params` asks and have these records.
+fn blocks_of(
+    params: &Params,
+    records: impl Fn(&mut Rng, &[Span], usize) -> Vec<Record>,
+) -> Vec<Block> {
     let rng = &mut Rng::new(params.seed);
     let spans = layout::spans(rng, params);
     (0..spans.len())
         .map(|i| {
-            let records = records(rng, &spans, i, params);
+            let records = records(rng, &spans, i);
             let Span { address, thumb, .. } = spans[i];
             let mut block = Block {
                 address,

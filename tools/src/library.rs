@@ -11,6 +11,7 @@ use recomp_tools::fronts::FrontNumbers;
 use recomp_tools::listing::ListingNumbers;
 use recomp_tools::model::{ExitNumbers, PlanNumbers};
 use recomp_tools::pages::{Asked, PageNumbers};
+use recomp_tools::reasons::{self, ReasonNumbers};
 use recomp_tools::units::{MeasureNumbers, Told, WriteNumbers};
 
 pub fn check(file: &[u8]) -> Numbers {
@@ -60,6 +61,26 @@ pub fn pages(file: &[u8], asked: Asked, work: &mut [u32], text: &mut [u8]) -> Pa
         number,
         at,
         count,
+        length,
+    }
+}
+
+/// One sentence, or the sentences from an instruction on, as many whole lines as fit.
+pub fn reasons(file: &[u8], asked: reasons::Asked, text: &mut [u8]) -> ReasonNumbers {
+    let (number, at, next, length) = match asked {
+        reasons::Asked::One(instruction) => {
+            let (number, [at, length]) = interface::reason(file, instruction, text);
+            (number, at, None, length)
+        }
+        reasons::Asked::From(first) => {
+            let (number, [at, next, length]) = interface::reasons(file, first, text);
+            (number, at, Some(next), length)
+        }
+    };
+    ReasonNumbers {
+        number,
+        at,
+        next,
         length,
     }
 }

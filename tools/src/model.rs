@@ -86,8 +86,8 @@ fn pair(high: &[u8; RECORD], low: &[u8; RECORD]) -> Option<u32> {
     (high[0] == 6 && low[0] == 7).then(|| lr_partial.wrapping_add(2 * off))
 }
 
-/// The blocks of an accepted file, in its order.
-pub fn blocks(file: &[u8]) -> Vec<Block> {
+/// The block records of an accepted file, in its order, each with its instruction records.
+pub fn records(file: &[u8]) -> Vec<(&[u8; RECORD], &[[u8; RECORD]])> {
     let (front, trailer) = file.split_last_chunk::<TRAILER>().expect("a trailer");
     let trailer: [u32; 8] = words(trailer);
     let code_len = trailer[file::trailer::CODE] as usize;
@@ -95,19 +95,28 @@ pub fn blocks(file: &[u8]) -> Vec<Block> {
     let (mut instructions, blocks) =
         records.split_at(trailer[file::trailer::INSTRUCTIONS] as usize);
     let mut out = Vec::with_capacity(blocks.len());
-    for record in blocks {
-        let [address, flags, count, _] = words(record);
+    for block in blocks {
+        let [_, _, count, _] = words(block);
         let (own, rest) = instructions.split_at(count as usize);
         instructions = rest;
-        out.push(Block {
+        out.push((block, own));
+    }
+    out
+}
+
+/// The blocks of an accepted file, in its order.
+pub fn blocks(file: &[u8]) -> Vec<Block> {
+    let block = |(record, own): (&[u8; RECORD], &[[u8; RECORD]])| {
+        let [address, flags, count, _] = words(record);
+        Block {
             address,
             thumb: flags & 1 != 0,
             count,
             last: own[own.len() - 1],
             before: own.len().checked_sub(2).map(|n| own[n]),
-        });
-    }
-    out
+        }
+    };
+    records(file).into_iter().map(block).collect()
 }
 
 /// The exit list of every block.

@@ -32,6 +32,17 @@ pub enum FreeKind {
     Undefined = 14,
 }
 
+impl FreeKind {
+    pub const ALL: [FreeKind; 6] = [
+        FreeKind::Swap,
+        FreeKind::Mrs,
+        FreeKind::MsrReg,
+        FreeKind::MsrImm,
+        FreeKind::Swi,
+        FreeKind::Undefined,
+    ];
+}
+
 /// A register with a shift, bytes 8 to 11 of an Alu or Mem record.
 #[derive(Clone, Copy, Debug)]
 pub enum Shifted {

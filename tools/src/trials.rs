@@ -1,9 +1,10 @@
-//! The generated files that exits, plan, listing, pages and units are compared on.
+//! The generated files that exits, plan, listing, pages, sentences and units are compared on.
 
 use crate::file::File;
 use crate::generate::closings::{self, Closings};
 use crate::generate::forms::Forms;
 use crate::generate::linked::{Graph, Linked};
+use crate::generate::shells::Shells;
 use crate::generate::transfers::Transfers;
 use crate::generate::{self, Lengths, Params};
 
@@ -14,6 +15,7 @@ pub enum Trial {
     Linked(Linked),
     Closings(Closings),
     Forms(Forms),
+    Shells(Shells),
     Transfers(Transfers),
 }
 
@@ -24,6 +26,7 @@ impl Trial {
             Trial::Linked(linked) => linked.file(),
             Trial::Closings(closings) => closings.file(),
             Trial::Forms(forms) => forms.file(),
+            Trial::Shells(shells) => shells.file(),
             Trial::Transfers(transfers) => transfers.file(),
         }
     }
@@ -65,8 +68,8 @@ pub fn limits(files: u64, first: u64) -> impl Iterator<Item = Trial> {
 /// or lacks one line.
 const ON_PAGES: [usize; 12] = [1, 59, 60, 61, 119, 120, 121, 179, 180, 181, 600, 601];
 
-/// `files` files at the edges of pages: half of them linked, half of them scattered, which have some
-/// blocks fewer where a key was drawn twice.
+/// `files` files at the edges of pages: half of them linked, half of them scattered, which have
+/// some blocks fewer where a key was drawn twice.
 pub fn on_pages(files: u64, first: u64) -> impl Iterator<Item = Trial> {
     (first..first + files).map(|seed| {
         let blocks = ON_PAGES[seed as usize / 2 % ON_PAGES.len()];
@@ -81,6 +84,11 @@ pub fn on_pages(files: u64, first: u64) -> impl Iterator<Item = Trial> {
             }),
         }
     })
+}
+
+/// `files` files with many shells.
+pub fn shells(files: u64, first: u64) -> impl Iterator<Item = Trial> {
+    (first..first + files).map(|seed| Trial::Shells(Shells { seed }))
 }
 
 /// Files with as many blocks as there may be.

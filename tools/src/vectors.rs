@@ -9,6 +9,8 @@ mod long;
 pub mod measure;
 mod order;
 pub mod pages;
+pub mod reasons;
+mod shells;
 mod trailer;
 mod units;
 pub mod write;

@@ -1,12 +1,14 @@
-//! How stored vectors of the calls for units and pages are encoded, number by number. The original,
-//! which makes the texts of those for units, is not at hand here.
+//! How stored vectors of the calls for units, pages and sentences are encoded, number by number.
+//! The original, which makes the texts of those for units, is not at hand here.
 
 use recomp_tools::fronts::{FrontNumbers, Lent};
 use recomp_tools::pages::{Asked, PageNumbers};
+use recomp_tools::reasons::{self, ReasonNumbers};
 use recomp_tools::units::{MeasureNumbers, Told, Unit, WriteNumbers};
 use recomp_tools::vectors::fronts::{encode_fronts, FrontVector};
 use recomp_tools::vectors::measure::{encode_measures, MeasureVector};
 use recomp_tools::vectors::pages::{encode_pages, PageVector};
+use recomp_tools::vectors::reasons::{encode_reasons, ReasonVector};
 use recomp_tools::vectors::write::{encode_writes, WriteVector};
 
 /// Numbers of 32 bits, as a vector has them.
@@ -139,4 +141,31 @@ fn encoded_pages() {
         expected.extend_from_slice(&[0xff, 0xfe, b'a', b'b', b'c']);
     }
     assert_eq!(encode_pages(&both), expected);
+}
+
+#[test]
+fn encoded_reasons() {
+    let vector = |asked, next| ReasonVector {
+        asked,
+        text_len: 4,
+        expected: ReasonNumbers {
+            number: 5,
+            at: 6,
+            next,
+            length: 3,
+        },
+        text: "abc".to_string(),
+        file: vec![0xff, 0xfe],
+    };
+    let number = (3 << 32) + 2;
+    let both = [
+        vector(reasons::Asked::One(number), None),
+        vector(reasons::Asked::From(number), Some(7)),
+    ];
+    let mut expected = words(&[2]);
+    for next in [0, 7] {
+        expected.extend(words(&[2, 3, 4, 5, 6, next, 3, 2]));
+        expected.extend_from_slice(&[0xff, 0xfe, b'a', b'b', b'c']);
+    }
+    assert_eq!(encode_reasons(&both), expected);
 }

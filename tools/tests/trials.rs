@@ -1,10 +1,11 @@
-//! The files that exits, plan, listing, pages and units are compared on: all are accepted, and what
-//! they are for occurs.
+//! The files that exits, plan, listing, pages, sentences and units are compared on: all are
+//! accepted, and what they are for occurs.
 
 use recomp_tools::check::check;
 use recomp_tools::generate::linked::{Graph, Linked};
 use recomp_tools::model::{blocks, exits, plan};
-use recomp_tools::trials::{large, largest, limits, most_text, on_pages, small};
+use recomp_tools::reasons::{self, Fate, Kind, Reason};
+use recomp_tools::trials::{large, largest, limits, most_text, on_pages, shells, small};
 
 /// The sizes of a plan's groups.
 fn group_sizes(plan: &[[u32; 2]]) -> Vec<usize> {
@@ -98,6 +99,56 @@ fn files_on_pages() {
     }
     assert!(edges.as_flattened().iter().all(|&n| n >= 20), "{edges:?}");
     assert!(many_groups > 50, "{many_groups}");
+}
+
+/// The kinds that can have each reason.
+fn kinds_of(reason: Reason) -> &'static [Kind] {
+    use Kind::*;
+    match reason {
+        Reason::UnpairedHalf => &[ThumbBlHigh, ThumbBlLow],
+        Reason::ConditionalExit | Reason::BiosExit => &[Bx, BlockMem],
+        Reason::PcAsResult => &[Alu, Mul, Mem],
+        Reason::RegisterShift => &[Alu, Mem],
+        Reason::RotateWithExtend => &[Mem],
+        Reason::UserRegisters | Reason::EmptyList | Reason::PcAsBase | Reason::PcInLoadedList => {
+            &[BlockMem]
+        }
+        Reason::NoNativeForm => &[Swap, Mrs, MsrReg, MsrImm, Swi, Undefined],
+    }
+}
+
+/// Every reason with every kind that can have it and with no other, every fate, pairs and rests
+/// behind every kind of exit.
+#[test]
+fn files_with_shells() {
+    let mut told = vec![];
+    let mut exits = vec![];
+    for trial in shells(2_000, 0) {
+        let file = trial.file();
+        assert!(check(&file.bytes).is_ok(), "{trial:?}");
+        for block in reasons::blocks(&file.bytes) {
+            let end = block.windows(2).find(|two| two[1].fate == Fate::Dropped);
+            exits.extend(end.map(|two| two[0].kind));
+            told.extend(block);
+        }
+    }
+    for (reason, words) in Reason::ALL {
+        for kind in Kind::ALL {
+            let of = told.iter().filter(|told| told.kind == kind);
+            let count = of.filter(|told| told.fate == Fate::Shell(reason)).count();
+            let expected = kinds_of(reason).contains(&kind);
+            assert_eq!(count > 50, expected, "{kind:?} {words}: {count}");
+            assert!(expected || count == 0, "{kind:?} {words}: {count}");
+        }
+    }
+    for fate in [Fate::Native, Fate::LeftWhole, Fate::Dropped] {
+        let count = told.iter().filter(|told| told.fate == fate).count();
+        assert!(count > 2_000, "{fate:?}: {count}");
+    }
+    for kind in [Kind::Branch, Kind::Bx, Kind::BlockMem, Kind::ThumbBlLow] {
+        let count = exits.iter().filter(|&&exit| exit == kind).count();
+        assert!(count > 50, "{kind:?}: {count}");
+    }
 }
 
 #[test]

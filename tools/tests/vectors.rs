@@ -1,8 +1,10 @@
 //! The stored vectors: enough of each number, in the sizes that their reader has room for.
 
 use recomp_tools::check::check;
+use recomp_tools::reasons::{Kind, Reason, Sentence};
 use recomp_tools::vectors::grouping::{encode_exits, encode_plans, exits, plans, PlanVector};
 use recomp_tools::vectors::pages::{encode_pages, page, pages, PageVector};
+use recomp_tools::vectors::reasons::{encode_reasons, reason, reasons, ReasonVector};
 use recomp_tools::vectors::{all, encode};
 
 #[test]
@@ -133,4 +135,78 @@ fn lines_of_page_vectors() {
     for lines in [2, 60, 61, 63, 122, 124] {
         assert!(lengths.contains(&lines), "{lines}");
     }
+}
+
+/// Vectors of either call for sentences with an answer of this number.
+fn reason_vectors(vectors: &[ReasonVector], number: u32) -> Vec<&ReasonVector> {
+    let of = |v: &&ReasonVector| v.expected.number == number;
+    vectors.iter().filter(of).collect()
+}
+
+/// All refusals but 8; texts that are exactly full and a byte longer, with sentences and without;
+/// numbers that no instruction has, with a text and with none.
+#[test]
+fn reason_numbers_and_sizes() {
+    for vectors in [reason(), reasons()] {
+        for number in [0, 1, 2, 3, 4, 5, 6, 7, 9, 10] {
+            let count = reason_vectors(&vectors, number).len();
+            assert!(count >= 2, "{count} vectors with {number}");
+        }
+        assert!(reason_vectors(&vectors, 8).is_empty());
+        let answered = reason_vectors(&vectors, 0);
+        for spare in [0, 1] {
+            for empty in [true, false] {
+                let of = |v: &&&ReasonVector| {
+                    v.text_len == v.text.len() + spare && v.text.is_empty() == empty
+                };
+                let count = answered.iter().filter(of).count();
+                assert!(count >= 15, "{count} with {spare} to spare, empty {empty}");
+            }
+        }
+        let none = reason_vectors(&vectors, 9);
+        let without = none.iter().filter(|v| v.text_len == 0).count();
+        assert!(without >= 12 && none.len() - without >= 12);
+        assert!((400..700).contains(&vectors.len()));
+        let sized = encode_reasons(&vectors).len();
+        assert!(sized < 200_000, "{sized}");
+    }
+}
+
+/// Every reason, and every kind that has one, in either section.
+#[test]
+fn reasons_of_vectors() {
+    for vectors in [reason(), reasons()] {
+        let lines = vectors.iter().flat_map(|v| v.text.lines());
+        let said: Vec<Sentence> = lines
+            .map(|line| Sentence::read(line).expect(line))
+            .collect();
+        for (reason, words) in Reason::ALL {
+            let count = said.iter().filter(|said| said.reason == reason).count();
+            assert!(count >= 3, "{words}: {count}");
+        }
+        for kind in Kind::ALL {
+            let count = said.iter().filter(|said| said.kind == kind).count();
+            let never = matches!(kind, Kind::MulLong | Kind::Branch);
+            assert_eq!(count == 0, never, "{kind:?}: {count}");
+        }
+    }
+}
+
+/// Lines that end early, at the first one or a later one, and a shorter one after them that would
+/// have fitted.
+#[test]
+fn lines_of_reason_vectors() {
+    let vectors = reasons();
+    let count = |v: &ReasonVector| check(&v.file).expect("an accepted file").instructions;
+    let early = |v: &&&ReasonVector| v.expected.next.is_some_and(|next| next < count(v));
+    let answered = reason_vectors(&vectors, 0);
+    assert!(answered.iter().filter(early).count() >= 100);
+    let fits_later = |v: &&&ReasonVector| {
+        let all = recomp_tools::reasons::sentences(&v.file);
+        let next = v.expected.next.expect("the call says it") as usize;
+        let room = v.text_len - v.text.len();
+        all[next..].iter().flatten().any(|said| said.len() < room)
+    };
+    let later = answered.iter().filter(early).filter(fits_later).count();
+    assert!(later >= 20, "{later}");
 }

@@ -6,6 +6,7 @@ use recomp_tools::vectors::fronts::{encode_fronts, fronts, lengths};
 use recomp_tools::vectors::grouping::{encode_exits, encode_plans, exits, plans};
 use recomp_tools::vectors::measure::{encode_measures, measures};
 use recomp_tools::vectors::pages::{encode_pages, page, pages};
+use recomp_tools::vectors::reasons::{encode_reasons, reason, reasons};
 use recomp_tools::vectors::write::{encode_writes, writes};
 use recomp_tools::vectors::{all, encode};
 use std::process::ExitCode;
@@ -15,7 +16,8 @@ type Section = (Vec<u8>, Vec<u32>);
 
 const USAGE: &str = concat!(
     "usage: vectors PATH ",
-    "[check | exits | plan | measure | write | fronts | lengths | page | pages]..."
+    "[check | exits | plan | measure | write | fronts | lengths | page | pages | reason | ",
+    "reasons]..."
 );
 
 /// The section of some vectors.
@@ -40,6 +42,8 @@ fn section(name: &str) -> Result<Section, String> {
         "lengths" => encoded(lengths(&original()?), |v| v.expected.number, encode_fronts),
         "page" => encoded(page(), |v| v.expected.number, encode_pages),
         "pages" => encoded(pages(), |v| v.expected.number, encode_pages),
+        "reason" => encoded(reason(), |v| v.expected.number, encode_reasons),
+        "reasons" => encoded(reasons(), |v| v.expected.number, encode_reasons),
         _ => return Err(USAGE.to_string()),
     })
 }

@@ -4,15 +4,6 @@ use super::layout::Span;
 use crate::record::{block_mem, FreeKind, Offset, Operand, Record, Shifted, AL};
 use crate::rng::Rng;
 
-const FREE_KINDS: [FreeKind; 6] = [
-    FreeKind::Swap,
-    FreeKind::Mrs,
-    FreeKind::MsrReg,
-    FreeKind::MsrImm,
-    FreeKind::Swi,
-    FreeKind::Undefined,
-];
-
 /// A record that does not leave its block without a condition, except through the interpreter or as
 /// a chance pair: so that long blocks keep most of their text.
 pub fn plain(rng: &mut Rng, spans: &[Span], i: usize) -> Record {
@@ -135,7 +126,7 @@ fn mul(rng: &mut Rng) -> Record {
     Record::mul(acc, s, rd, rn, register(rng), register(rng))
 }
 
-fn mul_long(rng: &mut Rng) -> Record {
+pub fn mul_long(rng: &mut Rng) -> Record {
     let flags = [flag(rng), flag(rng), flag(rng)];
     let registers = [register(rng), register(rng), register(rng), register(rng)];
     Record::mul_long(flags, registers)
@@ -157,10 +148,11 @@ pub fn half(rng: &mut Rng) -> Record {
 /// A record of a kind whose bytes 4 to 15 are free.
 fn free(rng: &mut Rng) -> Record {
     let rest = std::array::from_fn(|_| rng.byte(256));
-    Record::free(rng.pick(&FREE_KINDS), rest)
+    Record::free(rng.pick(&FreeKind::ALL), rest)
 }
 
-/// A branch to where blocks often are: the block itself, its end, its inside, others; or to nowhere.
+/// A branch to where blocks often are: the block itself, its end, its inside, others; or to
+/// nowhere.
 pub fn branch(rng: &mut Rng, spans: &[Span], i: usize) -> Record {
     let target = target(rng, spans, i) & !1;
     let link = rng.percent(30);

@@ -44,18 +44,25 @@ const COPIES: usize = 300;
 const SHORT: usize = 400;
 
 pub fn add(out: &mut Vectors) {
-    for (n, &first) in FAULTS.iter().enumerate() {
-        let later = &FAULTS[n + 1..];
-        for &second in later {
-            broken(out, first, &[second]);
-        }
-        broken(out, first, later);
+    for (number, at, file) in broken_files() {
+        out.refuse(number, at, &file);
     }
     generated(out);
 }
 
+/// Each fault with each later one and with all of them: the refusal's number, its i, and the file.
+pub(super) fn broken_files() -> Vec<(u32, usize, File)> {
+    let mut out = vec![];
+    for (n, &first) in FAULTS.iter().enumerate() {
+        let later = &FAULTS[n + 1..];
+        out.extend(later.iter().map(|&second| broken(first, &[second])));
+        out.push(broken(first, later));
+    }
+    out
+}
+
 /// A file with all these faults, of which the first counts.
-fn broken(out: &mut Vectors, first: Fault, later: &[Fault]) {
+fn broken(first: Fault, later: &[Fault]) -> (u32, usize, File) {
     let mut file = base();
     for &(place, number) in later.iter().chain([&first]) {
         break_rule(&mut file, place, number);
@@ -64,7 +71,7 @@ fn broken(out: &mut Vectors, first: Fault, later: &[Fault]) {
         Place::Block(i) | Place::Instruction(i) => i,
         Place::Trailer | Place::AfterBlocks => 0,
     };
-    out.refuse(first.1, at, &file);
+    (first.1, at, file)
 }
 
 /// Five blocks of two instructions each.

@@ -6,6 +6,7 @@ mod check;
 mod library;
 mod pages;
 mod plan;
+mod reasons;
 
 use std::process::ExitCode;
 
@@ -22,8 +23,9 @@ fn main() -> ExitCode {
         }
         ["plan"] => plan::run(),
         ["pages"] => pages::run(),
+        ["reasons"] => reasons::run(),
         _ => {
-            eprintln!("usage: bench [check | plan | pages]");
+            eprintln!("usage: bench [check | plan | pages | reasons]");
             return ExitCode::from(2);
         }
     };

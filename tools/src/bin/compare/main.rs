@@ -1,4 +1,5 @@
-//! Compares the proved library with plain Rust, or with the original, on generated files: a command for each of its calls.
+//! Compares the proved library with plain Rust, or with the original, on generated files: a command
+//! for each of its calls.
 
 mod check;
 mod exits;
@@ -7,6 +8,7 @@ mod library;
 mod listing;
 mod pages;
 mod plan;
+mod reasons;
 
 use recomp_tools::original::Original;
 use recomp_tools::trials;
@@ -16,12 +18,17 @@ use std::process::ExitCode;
 /// where its words are not understood.
 type Command = (&'static str, &'static str, fn(&[String]) -> Option<u64>);
 
-const COMMANDS: [Command; 5] = [
+const COMMANDS: [Command; 6] = [
     ("check", "[FILES] [FIRST_SEED]", check::run),
     ("exits", "[FILES] [FIRST_SEED]", exits::run),
     ("plan", "[FILES] [FIRST_SEED]", plan::run),
     ("listing", "[FILES] [FIRST_SEED]", listing::run),
     ("pages", "[FILES] [FIRST_SEED]", pages::run),
+    (
+        "reasons",
+        "[FILES] [FIRST_SEED] [LARGE_FILES]",
+        reasons::run,
+    ),
 ];
 
 /// How many small files, from which seed on, and the original, whose place the environment names.
