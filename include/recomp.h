@@ -1,4 +1,4 @@
-/* The calls of librecomp.a: block files to plans, exits, listings, pages and C units.
+/* The calls of librecomp.a: block files to plans, exits, listings, pages, reasons and C units.
  *
  * `rt staticlib recomp` proves the library and writes target/staticlib/librecomp.a; lib/ keeps one
  * (`lib/archive take FILE`). What is said here in words is proved of every call and every input,
@@ -16,7 +16,7 @@
  *     6  the blocks' instruction counts do not sum to the trailer's
  *     7  instruction i: a rule of its record is broken
  *     8  fewer than four work numbers for each block are lent
- *     9  there is no such block, page or unit
+ *     9  there is no such block, page, unit or instruction
  *    10  the lent result is too short
  *    11  a value given for the unit is not the unit's
  *   The first that applies is given, in the order of the numbers but for 11, which comes after 9
@@ -98,6 +98,50 @@ uint32_t recomp_page(const uint8_t *file, size_t file_len, uint64_t page,
 uint32_t recomp_pages(const uint8_t *file, size_t file_len, uint64_t first,
                       uint32_t *work, size_t work_len, uint8_t *text, size_t text_len,
                       uint64_t *at, uint64_t *count, uint64_t *length);
+
+/* Reasons: where the text of a block does not lower an instruction to C, it has a shell for it, a
+ * call of the interpreter. An instruction with a shell has a sentence that says why: its address as
+ * 8 lower-case hexadecimal digits, its kind (Alu, Mul, MulLong, Swap, Bx, Branch, ThumbBlHigh,
+ * ThumbBlLow, Mem, BlockMem, Mrs, MsrReg, MsrImm, Swi or Undefined) and one reason, with a blank
+ * between two of them. The reasons, of which the first that holds is given:
+ *     unpaired half                    ThumbBlHigh that is not right before a ThumbBlLow of its
+ *                                      block, or a ThumbBlLow not right after a ThumbBlHigh
+ *     conditional exit                 Bx, or the pop of PC, under another condition than Al
+ *     BIOS exit                        Bx, or the pop of PC, in a block of the BIOS
+ *     PC as result or stored register  Alu, compares among them, Mul or Mem with rd 15
+ *     register-given shift             an operand of Alu or offset of Mem shifted by a register
+ *     rotate with extend in an offset  an offset of Mem shifted by Ror 0
+ *     user registers                   BlockMem with s_bit
+ *     empty list                       BlockMem that lists no register
+ *     PC as base                       BlockMem with rn 15
+ *     PC in a loaded list              BlockMem that loads PC, the pop under Al apart
+ *     no native form                   Swap, Mrs, MsrReg, MsrImm, Swi or Undefined
+ * The pop of PC is a BlockMem that loads PC upwards from its base, with writeback, without s_bit
+ * and with another base than PC. A sentence is ASCII, of at most 8 + 1 + 11 + 1 + 31 = 52 bytes.
+ * An instruction that is lowered to C has none, nor has one behind an unconditional native exit of
+ * its block, which is dropped, nor one of a block outside ROM and BIOS without code bytes, which is
+ * left whole to the interpreter. It is proved, as a promise of both calls, that an instruction has
+ * a sentence exactly if its shell stands in the code of its block after the guard, that the reason
+ * is the first that holds, and that a reader of the sentence gets address, kind and reason back:
+ * `ReasonClaims` in crates/claim_reasons/specs/Claims.antt. */
+
+/* The sentence of instruction `instruction`, counted from 0 through the file: `*length` bytes, with
+ * neither newline nor zero byte after it. `*length` is 0 where the instruction has none, and that
+ * is never refused with 10.
+ * Refusals 1 to 7, 9 and 10. Definition: `reasonCall` in crates/call_reasons/specs/Calls.antt. */
+uint32_t recomp_reason(const uint8_t *file, size_t file_len, uint64_t instruction,
+                       uint8_t *text, size_t text_len, uint64_t *at, uint64_t *length);
+
+/* The sentences of instruction `first` and of those after it, in file order and with a newline
+ * after each, one after another in the front of `text`: as many whole lines as fit, up to the first
+ * that does not. `*length` is the bytes of all these lines, `*next` the number of the instruction
+ * whose line did not fit or, where none is left, the number of all instructions. A call with
+ * `*next` as `first` gives those after, or 9 where there are none.
+ * Refusals 1 to 7, 9 and 10; 9: there is no instruction `first`; 10: there are lines, and the first
+ * does not fit. Definition: `reasonsCall` in crates/call_reasons/specs/Calls.antt. */
+uint32_t recomp_reasons(const uint8_t *file, size_t file_len, uint64_t first,
+                        uint8_t *text, size_t text_len,
+                        uint64_t *at, uint64_t *next, uint64_t *length);
 
 /* Units: the C text is cut into units, each closed once it has `max_bytes` bytes after a group.
  * They are numbered from 0. Every accepted file has a last unit, at every size; refusal 9 is given

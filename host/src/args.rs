@@ -43,6 +43,13 @@ pub enum Command {
     Listing {
         file: OsString,
     },
+    Reasons {
+        file: OsString,
+        instruction: Option<u64>,
+    },
+    Summary {
+        file: OsString,
+    },
     Verify {
         folder: PathBuf,
     },
@@ -56,6 +63,7 @@ struct Words {
     folder: Option<OsString>,
     size: Option<OsString>,
     memory: Option<OsString>,
+    summary: bool,
 }
 
 pub fn parse(args: impl Iterator<Item = OsString>) -> Result<Command, Failure> {
@@ -74,6 +82,7 @@ pub fn parse(args: impl Iterator<Item = OsString>) -> Result<Command, Failure> {
         "page" => (help::PAGE, 2),
         "exits" => (help::EXITS, 2),
         "listing" => (help::LISTING, 1),
+        "reasons" => (help::REASONS, 2),
         "verify" => (help::VERIFY, 1),
         _ => {
             let what = format!("{command} is no command; run recomp --help");
@@ -115,6 +124,7 @@ fn words(command: &str, mut args: impl Iterator<Item = OsString>) -> Result<Word
             ("-o", "units") => words.folder = value("a folder")?,
             ("--unit-size", "units" | "measure") => words.size = value("a size")?,
             ("--memory", "units") => words.memory = value("a size")?,
+            ("--summary", "reasons") => words.summary = true,
             (option, "units" | "measure") if option.starts_with("--unit-size=") => {
                 words.size = option.strip_prefix("--unit-size=").map(OsString::from)
             }
@@ -160,10 +170,29 @@ fn build(command: &str, words: Words) -> Result<Command, Failure> {
             block: parse_number(command, plain.next(), "block number, as 0 is")?,
         },
         "listing" => Command::Listing { file },
+        "reasons" => parse_reasons(command, file, plain.next(), words.summary)?,
         _ => Command::Verify {
             folder: file.into(),
         },
     })
+}
+
+/// One sentence, all of them or their summary.
+fn parse_reasons(
+    command: &str,
+    file: OsString,
+    instruction: Option<OsString>,
+    summary: bool,
+) -> Result<Command, Failure> {
+    let instruction = parse_number(command, instruction, "instruction number, as 0 is")?;
+    match (summary, instruction) {
+        (true, None) => Ok(Command::Summary { file }),
+        (true, Some(_)) => {
+            let what = "--summary is of all instructions; leave it out, or the number";
+            Err(wrong(command, what))
+        }
+        (false, instruction) => Ok(Command::Reasons { file, instruction }),
+    }
 }
 
 /// The number of what a command is to print alone, if one is given.

@@ -9,9 +9,12 @@ use crate::library;
 use crate::output::{self, print};
 use crate::pages::{self, Pages};
 use crate::progress::Progress;
+use crate::reasons::{self, Reasons};
 use crate::refusal;
+use crate::summary::Summary;
 use crate::totals::Totals;
 use crate::units::{self, Units};
+use crate::unprinted::{self, Why};
 use crate::verify;
 use std::ffi::OsStr;
 use std::fmt::Write;
@@ -42,6 +45,11 @@ pub fn run(command: Command) -> Result<(), Failure> {
             None => exits(&file),
         },
         Command::Listing { file } => listing(&file),
+        Command::Reasons { file, instruction } => match instruction {
+            Some(instruction) => reason_of(&file, instruction),
+            None => reasons(&file),
+        },
+        Command::Summary { file } => summary(&file),
         Command::Verify { folder } => verify(&folder),
     }
 }
@@ -145,6 +153,57 @@ fn listing(file: &OsStr) -> Result<(), Failure> {
     let input = input::read(file)?;
     let mut lent = Lent::new(&input.bytes).map_err(|nothing| failed(&input, nothing))?;
     print(&lent.listing().map_err(|nothing| failed(&input, nothing))?)
+}
+
+/// The sentence of one instruction, or a line on standard error that says why it has none.
+fn reason_of(file: &OsStr, instruction: u64) -> Result<(), Failure> {
+    let input = input::read(file)?;
+    let refused = |refused| failed(&input, NoResult::Refused(refused));
+    let counts = library::check(&input.bytes).map_err(refused)?;
+    let line = reasons::line(&input.bytes, instruction).map_err(|refused| {
+        let all = counts.instructions;
+        let line = refusal::line_for_instruction(&input.name, refused, instruction, all);
+        Failure::refused(line)
+    })?;
+    match line {
+        Some(line) => print(&line),
+        None => {
+            output::say(&without_shell(&input, instruction));
+            Ok(())
+        }
+    }
+}
+
+/// Why an instruction has no sentence.
+fn without_shell(input: &Input, instruction: u64) -> String {
+    let why = match unprinted::why(&input.bytes, instruction) {
+        None => "it is native",
+        Some(Why::Deferred) => {
+            "its block, outside ROM and BIOS and without code bytes, is left whole to the \
+             interpreter"
+        }
+        Some(Why::Dropped) => "it is dropped, behind an unconditional native exit of its block",
+    };
+    let name = &input.name;
+    format!("recomp: {name}: instruction {instruction} has no shell of its own: {why}")
+}
+
+/// The sentences of all instructions that have a shell.
+fn reasons(file: &OsStr) -> Result<(), Failure> {
+    let input = input::read(file)?;
+    let failed = |nothing| failed(&input, nothing);
+    let mut reasons = Reasons::new(&input.bytes).map_err(failed)?;
+    while let Some(lines) = reasons.hand_out().map_err(failed)? {
+        print(lines)?;
+    }
+    Ok(())
+}
+
+/// What becomes of the instructions, and how many have which sentence.
+fn summary(file: &OsStr) -> Result<(), Failure> {
+    let input = input::read(file)?;
+    let summary = Summary::of(&input.bytes).map_err(|nothing| failed(&input, nothing))?;
+    print(summary.to_string().as_bytes())
 }
 
 fn units(file: &OsStr, folder: &Path, size: u64, memory: u64) -> Result<(), Failure> {

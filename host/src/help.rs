@@ -12,6 +12,8 @@ usage: recomp COMMAND ...
   recomp page FILE [NUMBER]            print the plan by pages of 60 blocks
   recomp exits FILE [BLOCK]            print where blocks can statically go
   recomp listing FILE                  print key, group and exits of each block
+  recomp reasons FILE [INSTRUCTION]    print why instructions go to the interpreter
+  recomp reasons FILE --summary        print how many do, and how many go native
   recomp verify DIR                    say whether units are as they were written
 
 FILE is - for standard input. `recomp COMMAND --help` says more, `recomp --version` the version.
@@ -102,6 +104,42 @@ and the keys that it can statically go to, `-` for none.
 usage: recomp listing FILE
 
   FILE  a block file, or - for standard input
+";
+
+pub const REASONS: &str = "\
+Prints why instructions go to the interpreter: a line for each that has a shell of its own in the C
+text, in file order, with its address in hexadecimal, its kind and one reason.
+
+usage: recomp reasons FILE [INSTRUCTION]
+       recomp reasons FILE --summary
+
+  FILE         a block file, or - for standard input
+  INSTRUCTION  the number of an instruction, from 0 through the file; all instructions unless given
+  --summary    print counts in place of the lines, each with its percentage of all instructions
+
+An instruction that is named and has no shell of its own gets a line on standard error that says
+why, and nothing is printed. The reasons, of which the first that holds is given:
+
+  unpaired half                    a ThumbBlHigh not right before a ThumbBlLow, or the reverse
+  conditional exit                 a Bx, or a pop of PC, under another condition than Al
+  BIOS exit                        a Bx, or a pop of PC, in the BIOS
+  PC as result or stored register  an Alu (a compare too), Mul or Mem with rd 15
+  register-given shift             an operand of Alu or an offset of Mem shifted by a register
+  rotate with extend in an offset  an offset of Mem with Ror 0
+  user registers                   a BlockMem with the S bit
+  empty list                       a BlockMem that lists no register
+  PC as base                       a BlockMem with base 15
+  PC in a loaded list              a BlockMem that loads PC otherwise than by a pop
+  no native form                   Swap, Mrs, MsrReg, MsrImm, Swi, Undefined
+
+A pop of PC is a BlockMem that loads PC upwards from another base than PC, with writeback and
+without the S bit.
+
+The summary has a line for each number: the number, its percentage (`-` where there are no
+instructions), and what it counts. First what becomes of the instructions: native, those lowered to
+C; shell, those with a line here; deferred, those in blocks outside ROM and BIOS without code bytes,
+which are left whole to the interpreter; dropped, those behind an unconditional native exit of their
+block; all, the sum of these. Then the lines of each reason and kind that there are.
 ";
 
 pub const VERIFY: &str = "\

@@ -115,6 +115,45 @@ pub fn pages(file: &[u8], first: u64, work: &mut [u32], text: &mut [u8]) -> (u32
     (number, [at, count, length])
 }
 
+/// What is handed over: the place, and the length of the sentence.
+pub fn reason(file: &[u8], instruction: u64, text: &mut [u8]) -> (u32, [u64; 2]) {
+    let [mut at, mut length] = [UNWRITTEN; 2];
+    // SAFETY: the two slices and the two numbers are apart and outlive the call, which keeps none
+    // of them.
+    let number = unsafe {
+        recomp_reason(
+            file.as_ptr(),
+            file.len(),
+            instruction,
+            text.as_mut_ptr(),
+            text.len(),
+            &mut at,
+            &mut length,
+        )
+    };
+    (number, [at, length])
+}
+
+/// What is handed over: the place, the instruction to go on with, the length of all lines.
+pub fn reasons(file: &[u8], first: u64, text: &mut [u8]) -> (u32, [u64; 3]) {
+    let [mut at, mut next, mut length] = [UNWRITTEN; 3];
+    // SAFETY: the two slices and the three numbers are apart and outlive the call, which keeps none
+    // of them.
+    let number = unsafe {
+        recomp_reasons(
+            file.as_ptr(),
+            file.len(),
+            first,
+            text.as_mut_ptr(),
+            text.len(),
+            &mut at,
+            &mut next,
+            &mut length,
+        )
+    };
+    (number, [at, next, length])
+}
+
 /// What is handed over: the place, the unit's number, its length, the blocks done, the last mark.
 pub fn measure(file: &[u8], max_bytes: u64, unit: u64, work: &mut [u32]) -> (u32, [u64; 5]) {
     let [mut at, mut number, mut length, mut done, mut last] = [UNWRITTEN; 5];
@@ -293,6 +332,27 @@ extern "C" {
         text_len: usize,
         at: *mut u64,
         count: *mut u64,
+        length: *mut u64,
+    ) -> u32;
+
+    fn recomp_reason(
+        file: *const u8,
+        file_len: usize,
+        instruction: u64,
+        text: *mut u8,
+        text_len: usize,
+        at: *mut u64,
+        length: *mut u64,
+    ) -> u32;
+
+    fn recomp_reasons(
+        file: *const u8,
+        file_len: usize,
+        first: u64,
+        text: *mut u8,
+        text_len: usize,
+        at: *mut u64,
+        next: *mut u64,
         length: *mut u64,
     ) -> u32;
 

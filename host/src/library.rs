@@ -28,6 +28,15 @@ pub struct Pages {
     pub length: u64,
 }
 
+/// What is said of several sentences beside their text.
+#[derive(Clone, Copy, Debug, PartialEq, Eq)]
+pub struct Sentences {
+    /// The first instruction whose sentence did not fit, or the number of all instructions.
+    pub next: u64,
+    /// Bytes of all lines, in the front of the text lent.
+    pub length: u64,
+}
+
 /// What measuring tells of a unit, and writing it takes back.
 #[derive(Clone, Copy, Debug, PartialEq, Eq)]
 pub struct Told {
@@ -109,6 +118,20 @@ pub fn page(file: &[u8], page: u64, work: &mut [u32], text: &mut [u8]) -> Result
 pub fn pages(file: &[u8], first: u64, work: &mut [u32], text: &mut [u8]) -> Result<Pages, Refused> {
     let (number, [at, count, length]) = interface::pages(file, first, work, text);
     answer(number, at, Pages { count, length })
+}
+
+/// The length of the sentence of instruction `instruction`, from 0, or 0 where it has none; `text`
+/// then has it in its front.
+pub fn reason(file: &[u8], instruction: u64, text: &mut [u8]) -> Result<u64, Refused> {
+    let (number, [at, length]) = interface::reason(file, instruction, text);
+    answer(number, at, length)
+}
+
+/// The sentences of instruction `first` and of those after it, a newline after each, as many whole
+/// lines as fit `text`; `text` then has them one after another in its front.
+pub fn reasons(file: &[u8], first: u64, text: &mut [u8]) -> Result<Sentences, Refused> {
+    let (number, [at, next, length]) = interface::reasons(file, first, text);
+    answer(number, at, Sentences { next, length })
 }
 
 /// What is told of unit `unit`, from 0, of those that are closed from `max_bytes` bytes on.

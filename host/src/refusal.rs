@@ -44,6 +44,26 @@ pub fn line_for_unit(name: &str, refused: Refused, unit: u64, units: u64) -> Str
     with_rule(name, refused, &rule)
 }
 
+/// The line for a refusal of a call that named an instruction, of a file that has so many.
+pub fn line_for_instruction(name: &str, refused: Refused, instruction: u64, all: u64) -> String {
+    let rule = match (refused.number, all) {
+        (9, 0) => format!(
+            "there is no instruction {instruction}, nor any other, as there are no blocks; name \
+             another file"
+        ),
+        (9, 1) => {
+            format!("there is no instruction {instruction}; name instruction 0, the only one")
+        }
+        (9, _) => format!(
+            "there is no instruction {instruction} among the {all}; name one of instructions 0 to \
+             {}",
+            all - 1
+        ),
+        _ => rule(refused),
+    };
+    with_rule(name, refused, &rule)
+}
+
 fn with_rule(name: &str, Refused { number, at }: Refused, rule: &str) -> String {
     format!("refused {number} at {at}: {name}: {rule}")
 }
@@ -78,7 +98,7 @@ fn rule(Refused { number, at }: Refused) -> String {
              it again"
         ),
         8 => "fewer than four work numbers for each block were lent; lend more".into(),
-        9 => "there is no such block, page or unit; name one that the file has".into(),
+        9 => "there is no such block, page, unit or instruction; name one that the file has".into(),
         10 => "what was lent for the result is too short; lend more".into(),
         11 => "a value given for the unit is not the unit's; measure the unit again".into(),
         _ => "this program does not know the refusal; build it again with its library".into(),

@@ -5,7 +5,7 @@ mod common;
 
 use common::{lone_blocks, program, recomp, recomp_on, sample, Run, Scratch, PROGRAM, READING};
 use recomp_tools::generate::{self, Params};
-use recomp_tools::{check, model};
+use recomp_tools::{check, model, reasons};
 use std::fmt::Write;
 use std::fs::{self, File, Permissions};
 use std::os::unix::fs::{MetadataExt, PermissionsExt};
@@ -79,6 +79,21 @@ fn exits_prints_all_blocks_or_one() {
         for (block, line) in lines.iter().enumerate().rev().take(5) {
             let one = recomp_on(&file, &["exits", "-", &block.to_string()]);
             assert_eq!(one.printed(), format!("block exits\n{line}"));
+        }
+    }
+}
+
+#[test]
+fn reasons_prints_all_sentences_or_one() {
+    for file in files() {
+        let sentences = reasons::sentences(&file);
+        let all = sentences.iter().flatten();
+        let all: String = all.map(|sentence| format!("{sentence}\n")).collect();
+        assert_eq!(recomp_on(&file, &["reasons", "-"]).printed(), all);
+        for (n, sentence) in sentences.iter().enumerate().rev().take(5) {
+            let one = recomp_on(&file, &["reasons", "-", &n.to_string()]);
+            let line = sentence.as_ref().map(|sentence| format!("{sentence}\n"));
+            assert_eq!((one.status, one.out), (Some(0), line.unwrap_or_default()));
         }
     }
 }

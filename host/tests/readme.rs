@@ -18,20 +18,25 @@ fn shown(text: &str) -> String {
     text.lines().map(line).collect()
 }
 
+/// Looks for commands with what they print.
+#[track_caller]
+fn assert_shown(text: &str) {
+    let readme = fs::read_to_string(root().join("README.md")).expect("the README");
+    assert!(readme.contains(&shown(text)), "README without\n{text}");
+}
+
 #[test]
 fn the_example_of_the_readme() {
-    let readme = fs::read_to_string(root().join("README.md")).expect("the README");
-    let has = |text: &str| assert!(readme.contains(&shown(text)), "README without\n{text}");
     let sample = common::sample("count_down.blk");
     for command in ["listing", "plan"] {
         let printed = recomp(&[command, &sample]).printed();
-        has(&format!("$ recomp {command} {SAMPLE}\n{printed}"));
+        assert_shown(&format!("$ recomp {command} {SAMPLE}\n{printed}"));
     }
     let page = recomp(&["page", &sample]).printed().replace('\n', "|\n");
-    has(&format!("$ recomp page {SAMPLE} | sed 's/$/|/'\n{page}"));
+    assert_shown(&format!("$ recomp page {SAMPLE} | sed 's/$/|/'\n{page}"));
     let all = recomp(&["measure", &sample]).printed();
     let one = recomp(&["measure", &sample, "0"]).printed();
-    has(&format!(
+    assert_shown(&format!(
         "$ recomp measure {SAMPLE}\n{all}$ recomp measure {SAMPLE} 0\n{one}"
     ));
     let scratch = Scratch::new();
@@ -40,21 +45,25 @@ fn the_example_of_the_readme() {
     let unit = fs::read_to_string(format!("{folder}/unit_000.c")).expect("a unit");
     let own: Vec<_> = unit.lines().skip(53).collect();
     let own = own.join("\n");
-    has(&format!(
+    assert_shown(&format!(
         "$ recomp units {SAMPLE} -o out\n{totals}$ tail -n +54 out/unit_000.c\n{own}"
     ));
 }
 
 #[test]
+fn the_reasons_of_the_readme() {
+    let sample = common::sample("generated.blk");
+    let summary = recomp(&["reasons", &sample, "--summary"]).printed();
+    let all = recomp(&["reasons", &sample]).printed();
+    let command = "$ recomp reasons samples/generated.blk";
+    assert_shown(&format!("{command} --summary\n{summary}{command}\n{all}"));
+}
+
+#[test]
 fn the_refusal_of_the_readme() {
-    let readme = fs::read_to_string(root().join("README.md")).expect("the README");
     let bytes = fs::read(common::sample("count_down.blk")).expect("the sample");
     let line = common::recomp_on(&bytes[..100], &["check", "-"]).failed(1);
-    let command = format!("$ head -c 100 {SAMPLE} | recomp check -\n{line}");
-    assert!(
-        readme.contains(&shown(&command)),
-        "README without\n{command}"
-    );
+    assert_shown(&format!("$ head -c 100 {SAMPLE} | recomp check -\n{line}"));
 }
 
 /// The line that starts so, of those that the README sets apart as commands.

@@ -3,9 +3,9 @@
 
 mod common;
 
-use common::{lone, lone_blocks, recomp, recomp_on, Scratch, READING};
+use common::{lone, lone_blocks, lone_shells, recomp, recomp_on, Scratch, READING};
 use recomp_host::library::interface;
-use recomp_host::library::{self, Lengths, Made, Pages, Refused};
+use recomp_host::library::{self, Lengths, Made, Pages, Refused, Sentences};
 use recomp_tools::file::{block, build, trailer, File};
 use recomp_tools::record::Record;
 
@@ -68,6 +68,8 @@ fn every_command_refuses_with_number_place_and_rule() {
             recomp(&["measure", &file, "0"]),
             recomp(&["page", &file, "0"]),
             recomp(&["exits", &file, "0"]),
+            recomp(&["reasons", &file, "0"]),
+            recomp(&["reasons", &file, "--summary"]),
             recomp(&["units", &file, "-o", &folder]),
         ];
         let all = READING.map(|command| recomp(&[command, &file]));
@@ -275,6 +277,30 @@ fn no_such_page() {
     assert_eq!(text, &[7; 8192]);
 }
 
+/// Whether or not any text is lent: 9 comes before 10.
+#[test]
+fn no_such_instruction() {
+    let [file, empty] = [2, 0].map(|count| lone_shells(count).bytes);
+    for (file, instruction) in [(&file, 2), (&file, 1 << 32), (&file, u64::MAX), (&empty, 0)] {
+        for room in [0, 64] {
+            let text = &mut [7; 64][..room];
+            assert_eq!(interface::reason(file, instruction, text), (9, [0; 2]));
+            assert_eq!(interface::reasons(file, instruction, text), (9, [0; 3]));
+            assert_eq!(*text, [7; 64][..room]);
+        }
+    }
+}
+
+#[test]
+fn reasons_refuse_a_file_as_the_check_does() {
+    for (number, at, _, file) in refused_files() {
+        let text = &mut [7; 64];
+        assert_eq!(interface::reason(&file, 0, text), (number, [at, 0]));
+        assert_eq!(interface::reasons(&file, 0, text), (number, [at, 0, 0]));
+        assert_eq!(text, &[7; 64]);
+    }
+}
+
 #[test]
 fn too_few_work_numbers() {
     let file = lone_blocks(2).bytes;
@@ -344,6 +370,57 @@ fn too_short_a_page() {
         let work = &mut [7; 8];
         assert_eq!(library::pages(&file, 1, work, text), Err(refusal(10)));
         assert_eq!((*work, &*text), ([0; 8], &[7; 194][..room]));
+    }
+}
+
+#[test]
+fn too_short_a_text_for_a_sentence() {
+    let file = lone_shells(2).bytes;
+    for room in [0, 1, 26] {
+        let text = &mut [7; 26][..room];
+        assert_eq!(interface::reason(&file, 1, text), (10, [0; 2]));
+        assert_eq!(*text, [7; 26][..room]);
+    }
+    // A line has its newline too.
+    for room in [0, 1, 26, 27] {
+        let text = &mut [7; 27][..room];
+        assert_eq!(interface::reasons(&file, 1, text), (10, [0; 3]));
+        assert_eq!(*text, [7; 27][..room]);
+    }
+}
+
+#[test]
+fn no_text_is_too_short_for_no_sentence() {
+    let file = lone_blocks(2).bytes;
+    for room in [0, 64] {
+        let text = &mut [7; 64][..room];
+        assert_eq!(interface::reason(&file, 1, text), (0, [0; 2]));
+        assert_eq!(interface::reasons(&file, 1, text), (0, [0, 2, 0]));
+        assert_eq!(*text, [7; 64][..room]);
+    }
+}
+
+/// Three lines of 28 bytes, with room for two and a bit, then for the last exactly.
+#[test]
+fn as_many_sentences_as_fit() {
+    let file = lone_shells(3).bytes;
+    let sentence = |n| format!("{:08x} Swi no native form", 0x0800_0000 + 4 * n);
+    let [first, second, third] = [0, 1, 2].map(sentence);
+    let text = &mut [7; 83];
+    let [next, length] = [2, 56];
+    let made = library::reasons(&file, 0, text);
+    assert_eq!(made, Ok(Sentences { next, length }));
+    let lines = format!("{first}\n{second}\n");
+    assert_eq!(text[..], [lines.as_bytes(), &[7; 27]].concat());
+    let text = &mut [7; 28];
+    let [next, length] = [3, 28];
+    let made = library::reasons(&file, 2, text);
+    assert_eq!(made, Ok(Sentences { next, length }));
+    assert_eq!(text[..], *format!("{third}\n").as_bytes());
+    for more in [0, 1] {
+        let text = &mut [7; 28][..27 + more];
+        assert_eq!(library::reason(&file, 1, text), Ok(27));
+        assert_eq!(*text, [second.as_bytes(), &[7][..more]].concat());
     }
 }
 

@@ -2,7 +2,7 @@
 
 mod common;
 
-use common::{lone_blocks, names, program, recomp, sample, Run, Scratch, PROGRAM, READING};
+use common::{lone_shells, names, program, recomp, sample, Run, Scratch, PROGRAM, READING};
 use std::fs::{self, File};
 use std::os::unix::process::ExitStatusExt;
 use std::process::{Command, Stdio};
@@ -15,9 +15,9 @@ fn full() -> Stdio {
     full.expect("the device that is full").into()
 }
 
-/// Each command with arguments that go well, `units` with the folder.
+/// Each command with arguments that go well, `units` with the folder. All of them print.
 fn commands(scratch: &Scratch) -> Vec<Vec<String>> {
-    let path = sample("three_blocks.blk");
+    let path = sample("generated.blk");
     let done = scratch.join("done");
     recomp(&["units", &path, "-o", &done]).printed();
     let mut commands: Vec<_> = READING
@@ -101,12 +101,13 @@ fn output_that_nobody_reads_ends_the_run_as_others_are_ended() {
 fn a_reader_that_ends_early_ends_the_run_silently() {
     let scratch = Scratch::new();
     // What is printed is longer than what a pipe holds.
-    let path = scratch.file("many.blk", &lone_blocks(20_000).bytes);
+    let path = scratch.file("many.blk", &lone_shells(20_000).bytes);
     let script = "{ \"$0\" \"$1\" \"$2\"; echo $? >\"$3\"; } | head -n 1";
     let status = scratch.join("status");
     for (command, line) in [
         ("listing", "key group exits"),
         ("page", &format!("{:>64}", 1)),
+        ("reasons", "08000000 Swi no native form"),
     ] {
         let mut shell = Command::new("sh");
         shell.args(["-c", script, PROGRAM, command, &path, &status]);

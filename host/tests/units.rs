@@ -5,6 +5,7 @@ mod common;
 use common::stop::Halted;
 use common::{
     assert_units, expected, has_units, lone, lone_blocks, names, read, recomp, recomp_on, sample,
+    with_memory,
 };
 use common::{Run, Scratch, PROGRAM};
 use recomp_tools::file::{build, Block};
@@ -96,14 +97,6 @@ fn a_unit_longer_than_the_bound() {
         "1M",
     ];
     assert_units(recomp_on(&file, &args), folder, &file, 0);
-}
-
-/// The program with so many KiB of memory. One that does not end by itself is ended.
-fn with_memory(kib: u64, args: &[&str]) -> Run {
-    let script = format!("ulimit -v {kib}; exec timeout 60 \"$0\" \"$@\"");
-    let mut shell = Command::new("sh");
-    shell.args(["-c", &script, PROGRAM]).args(args);
-    Run::of(shell.output().expect("the shell runs"))
 }
 
 /// 6 units of over 2 MiB each, with memory for the file (4 MiB) and for some of them.

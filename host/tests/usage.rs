@@ -4,7 +4,7 @@ mod common;
 
 use common::{recomp, sample};
 
-const COMMANDS: [&str; 8] = [
+const COMMANDS: [&str; 9] = [
     "units FILE",
     "measure FILE",
     "check FILE",
@@ -12,6 +12,7 @@ const COMMANDS: [&str; 8] = [
     "page FILE",
     "exits FILE",
     "listing FILE",
+    "reasons FILE",
     "verify DIR",
 ];
 
@@ -44,7 +45,7 @@ fn help_of_each_command() {
 #[test]
 fn wrong_uses() {
     let file = &sample("three_blocks.blk");
-    let cases: [(&[&str], &str); 34] = [
+    let cases: [(&[&str], &str); 43] = [
         (&[], "no command is given; run recomp --help"),
         (&["unit", file], "unit is no command; run recomp --help"),
         (
@@ -162,6 +163,43 @@ fn wrong_uses() {
         (
             &["exits", file, "0", "1"],
             "exits: 1 is one argument too many; run recomp exits --help",
+        ),
+        (
+            &["reasons"],
+            "reasons: no block file is given; run recomp reasons --help",
+        ),
+        (
+            &["reasons", "--summary"],
+            "reasons: no block file is given; run recomp reasons --help",
+        ),
+        (
+            &["reasons", file, "one"],
+            "reasons: one is no instruction number, as 0 is; run recomp reasons --help",
+        ),
+        (
+            &["reasons", file, "0x10"],
+            "reasons: 0x10 is no instruction number, as 0 is; run recomp reasons --help",
+        ),
+        (
+            &["reasons", file, "0", "1"],
+            "reasons: 1 is one argument too many; run recomp reasons --help",
+        ),
+        (
+            &["reasons", file, "-1"],
+            "reasons: there is no option -1; run recomp reasons --help",
+        ),
+        (
+            &["reasons", file, "--summary=1"],
+            "reasons: there is no option --summary=1; run recomp reasons --help",
+        ),
+        (
+            &["reasons", "--summary", file, "0"],
+            "reasons: --summary is of all instructions; leave it out, or the number; \
+             run recomp reasons --help",
+        ),
+        (
+            &["check", file, "--summary"],
+            "check: there is no option --summary; run recomp check --help",
         ),
         (
             &["verify"],

@@ -18,7 +18,9 @@ use std::sync::atomic::{AtomicU32, Ordering};
 pub const PROGRAM: &str = env!("CARGO_BIN_EXE_recomp");
 
 /// The commands that read a block file and print.
-pub const READING: [&str; 6] = ["measure", "check", "plan", "page", "exits", "listing"];
+pub const READING: [&str; 7] = [
+    "measure", "check", "plan", "page", "exits", "listing", "reasons",
+];
 
 /// What a run came to.
 #[derive(Debug, PartialEq, Eq)]
@@ -67,6 +69,14 @@ pub fn program<A: AsRef<OsStr>>(args: &[A]) -> Command {
 
 pub fn recomp<A: AsRef<OsStr>>(args: &[A]) -> Run {
     Run::of(program(args).output().expect("the program runs"))
+}
+
+/// A run with so many KiB of memory. One that does not end by itself is ended.
+pub fn with_memory(kib: u64, args: &[&str]) -> Run {
+    let script = format!("ulimit -v {kib}; exec timeout 60 \"$0\" \"$@\"");
+    let mut shell = Command::new("sh");
+    shell.args(["-c", &script, PROGRAM]).args(args);
+    Run::of(shell.output().expect("the shell runs"))
 }
 
 /// A run with these bytes on standard input.
@@ -204,8 +214,17 @@ pub fn lone(address: u32, record: Record) -> Block {
 
 /// So many ARM blocks, one after the other, that lead nowhere: each is a group of its own.
 pub fn lone_blocks(count: u32) -> File {
+    lone_blocks_of(count, Record::bx(14))
+}
+
+/// The same with an instruction in each that goes to a shell: its sentence has 27 bytes.
+pub fn lone_shells(count: u32) -> File {
+    lone_blocks_of(count, Record::swi([0; 12]))
+}
+
+fn lone_blocks_of(count: u32, record: Record) -> File {
     let blocks: Vec<_> = (0..count)
-        .map(|n| lone(0x0800_0000 + 4 * n, Record::bx(14)))
+        .map(|n| lone(0x0800_0000 + 4 * n, record))
         .collect();
     build(&blocks)
 }
