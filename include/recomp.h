@@ -101,9 +101,9 @@ uint32_t recomp_pages(const uint8_t *file, size_t file_len, uint64_t first,
 
 /* Reasons: where the text of a block does not lower an instruction to C, it has a shell for it, a
  * call of the interpreter. An instruction with a shell has a sentence that says why: its address as
- * 8 lower-case hexadecimal digits, its kind (Alu, Mul, MulLong, Swap, Bx, Branch, ThumbBlHigh,
- * ThumbBlLow, Mem, BlockMem, Mrs, MsrReg, MsrImm, Swi or Undefined) and one reason, with a blank
- * between two of them. The reasons, of which the first that holds is given:
+ * 8 lower-case hexadecimal digits, its kind (Alu, Mul, Swap, Bx, ThumbBlHigh, ThumbBlLow, Mem,
+ * BlockMem, Mrs, MsrReg, MsrImm, Swi or Undefined; MulLong and Branch never have a shell) and one
+ * reason, with a blank between two of them. The reasons, of which the first that holds is given:
  *     unpaired half                    ThumbBlHigh that is not right before a ThumbBlLow of its
  *                                      block, or a ThumbBlLow not right after a ThumbBlHigh
  *     conditional exit                 Bx, or the pop of PC, under another condition than Al
