@@ -37,7 +37,7 @@ pub numeral-more : (b most n : ℕ) → b ≤ n
 unfolding numeral
 numeral-more b most n h = rw (le-ltb n b h)
 
-length-snoc : (s : List ℕ) (x : ℕ) → length (s ++ (x ∷ [])) ≡ suc (length s)
+pub length-snoc : (s : List ℕ) (x : ℕ) → length (s ++ (x ∷ [])) ≡ suc (length s)
 length-snoc s x = length-append s (x ∷ []) ∙ add-one (length s)
 
 pub length-fixed : (b k n : ℕ) → length (lastDigits b k n) ≡ k

@@ -91,6 +91,21 @@ overlay-last [] s b = refl
 overlay-last (x ∷ xs) [] b = ap (λ (r : List ℕ). b ∷ r) (overlay-none xs zero)
 overlay-last (x ∷ xs) (a ∷ s) b = ap (λ (r : List ℕ). a ∷ r) (overlay-last xs s b)
 
+-- the first byte of a text may be stored by itself
+pub overlay-first : (o : List ℕ) (at b : ℕ) (s : List ℕ)
+    → overlay (set o at b) (suc at) s ≡ overlay o at (b ∷ s)
+unfolding overlay
+overlay-first [] at b s = refl
+overlay-first (x ∷ xs) zero b s = refl
+overlay-first (x ∷ xs) (suc at) b s = ap (λ (r : List ℕ). x ∷ r) (overlay-first xs at b s)
+
+-- a byte that the text is laid over may be any
+pub overlay-over : (o : List ℕ) (b c : ℕ) (s : List ℕ)
+    → overlay (set o 0 b) 0 (c ∷ s) ≡ overlay o 0 (c ∷ s)
+unfolding overlay
+overlay-over [] b c s = refl
+overlay-over (x ∷ xs) b c s = refl
+
 -- a byte more of s
 pub overlay-more : (o : List ℕ) (at : ℕ) (s : List ℕ) (i : ℕ) → i < length s
     → set (overlay o at (take i s)) (at + i) (getD s i 0) ≡ overlay o at (take (suc i) s)

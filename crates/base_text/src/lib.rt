@@ -3,7 +3,7 @@
 mod digits;
 
 ghost use mathlib.Core.Path.{_≡_};
-ghost use Prim.Native.Nat.{_+_, _/_, _%_, _≤_, min};
+ghost use Prim.Native.Nat.{_+_, _-_, _/_, _%_, _^_, _≤_, _<_, min};
 ghost use lib.ListN.{length, set};
 ghost use Rattle.base_text.specs.Digits.{glyph, lastDigits};
 ghost use Rattle.base_text.specs.Doc.{raw, dec, hex, hex8, hex16, _▸_};
@@ -28,6 +28,13 @@ fn least(a: usize, b: usize) -> usize
     ensures { λ r. ⌜ r ≡ min a b ⌝ }
 {
     if a < b { a } else { b }
+}
+
+// `a - b`, or 0 where b is more.
+fn monus(a: usize, b: usize) -> usize
+    ensures { λ r. ⌜ r ≡ a - b ⌝ }
+{
+    if b < a { a - b } else { 0 }
 }
 
 // Stores b at index `at` of part, if part has that index.
@@ -84,6 +91,106 @@ fn last_digits(part: &mut [u8], n: u64, k: usize)
         at -= 1;
         rest = digit(part, at, rest);
     }
+}
+
+// Stores the first of the last i decimal digits of n, of which k are printed, at its index of part,
+// and answers the number that the others are. Where n has fewer than i digits that is a zero in
+// front: it goes to index 0, where the first digit of n comes later, since a test whether to store
+// it would be a branch that cannot be predicted.
+fn place(part: &mut [u8], k: usize, i: usize, n: u64) -> u64
+    requires one { ⌜ 0 < i ⌝ }
+    requires most { ⌜ i ≤ 20 ⌝ }
+    requires holds { ⌜ n < 10 ^ i ⌝ }
+    ensures stored { λ _. ⌜
+        now (part .exit) ≡ set (now (part .entry)) (k - i) (glyph (n / 10 ^ (i - 1)))
+        ⌝ }
+    ensures rest { λ r. ⌜ r ≡ n % 10 ^ (i - 1) ⌝ }
+    ensures less { λ r. ⌜ r ≤ n ⌝ }
+{
+    let d = digits::first(n, i);
+    store(part, monus(k, i), (48 + d.digit) as u8);
+    d.rest
+}
+
+// Stores the last two of the k decimal digits of n, or the only one. It and the next four have no
+// loop: in one the compiler would put a branch for each subtraction.
+fn last_two(part: &mut [u8], k: usize, n: u64)
+    requires one { ⌜ 0 < k ⌝ }
+    requires two { ⌜ n < 10 ^ 2 ⌝ }
+    requires holds { ⌜ n < 10 ^ k ⌝ }
+    ensures { λ _. ⌜
+        now (part .exit) ≡ overlay (now (part .entry)) (k - 2) (lastDigits 10 (min 2 k) n)
+        ⌝ }
+{
+    let n1 = place(part, k, 2, n);
+    store(part, k - 1, (48 + n1) as u8);
+}
+
+// Stores the last five of the k decimal digits of n, or all where it has fewer. A cost of 16 bits
+// and the number of a block have no more.
+fn last_five(part: &mut [u8], k: usize, n: u64)
+    requires one { ⌜ 0 < k ⌝ }
+    requires five { ⌜ n < 10 ^ 5 ⌝ }
+    requires holds { ⌜ n < 10 ^ k ⌝ }
+    ensures { λ _. ⌜
+        now (part .exit) ≡ overlay (now (part .entry)) (k - 5) (lastDigits 10 (min 5 k) n)
+        ⌝ }
+{
+    let n4 = place(part, k, 5, n);
+    let n3 = place(part, k, 4, n4);
+    let n2 = place(part, k, 3, n3);
+    last_two(part, k, n2);
+}
+
+// Stores the last ten of the k decimal digits of n, or all where it has fewer.
+fn last_ten(part: &mut [u8], k: usize, n: u64)
+    requires one { ⌜ 0 < k ⌝ }
+    requires ten { ⌜ n < 10 ^ 10 ⌝ }
+    requires holds { ⌜ n < 10 ^ k ⌝ }
+    ensures { λ _. ⌜
+        now (part .exit) ≡ overlay (now (part .entry)) (k - 10) (lastDigits 10 (min 10 k) n)
+        ⌝ }
+{
+    let n9 = place(part, k, 10, n);
+    let n8 = place(part, k, 9, n9);
+    let n7 = place(part, k, 8, n8);
+    let n6 = place(part, k, 7, n7);
+    let n5 = place(part, k, 6, n6);
+    last_five(part, k, n5);
+}
+
+// Stores the last fifteen of the k decimal digits of n, or all where it has fewer.
+fn last_fifteen(part: &mut [u8], k: usize, n: u64)
+    requires one { ⌜ 0 < k ⌝ }
+    requires fifteen { ⌜ n < 10 ^ 15 ⌝ }
+    requires holds { ⌜ n < 10 ^ k ⌝ }
+    ensures { λ _. ⌜
+        now (part .exit) ≡ overlay (now (part .entry)) (k - 15) (lastDigits 10 (min 15 k) n)
+        ⌝ }
+{
+    let n14 = place(part, k, 15, n);
+    let n13 = place(part, k, 14, n14);
+    let n12 = place(part, k, 13, n13);
+    let n11 = place(part, k, 12, n12);
+    let n10 = place(part, k, 11, n11);
+    last_ten(part, k, n10);
+}
+
+// Stores the last twenty of the k decimal digits of n, or all where it has fewer.
+fn last_twenty(part: &mut [u8], k: usize, n: u64)
+    requires one { ⌜ 0 < k ⌝ }
+    requires twenty { ⌜ n < 10 ^ 20 ⌝ }
+    requires holds { ⌜ n < 10 ^ k ⌝ }
+    ensures { λ _. ⌜
+        now (part .exit) ≡ overlay (now (part .entry)) (k - 20) (lastDigits 10 (min 20 k) n)
+        ⌝ }
+{
+    let n19 = place(part, k, 20, n);
+    let n18 = place(part, k, 19, n19);
+    let n17 = place(part, k, 18, n18);
+    let n16 = place(part, k, 17, n17);
+    let n15 = place(part, k, 16, n16);
+    last_fifteen(part, k, n15);
 }
 
 // Printers that are lent the part of a buffer from the place reached. Each writes to the front of
@@ -144,8 +251,7 @@ pub fn hex(part: &mut [u8], n: u64) -> usize
     k
 }
 
-// n in decimal, with no zeros in front. The digits are counted first, and then stored from the
-// last.
+// n in decimal, with no zeros in front. The digits are counted first.
 pub fn dec(part: &mut [u8], n: u64) -> usize
     ensures { λ r. ⌜ Printed (now (part .entry)) (dec n) (now (part .exit)) r ⌝ }
 {
@@ -153,12 +259,14 @@ pub fn dec(part: &mut [u8], n: u64) -> usize
     if part.len() == 0 {
         return k;
     }
-    let mut rest = n;
-    let mut at = k;
-    while 0 < at {
-        at -= 1;
-        store(part, at, (48 + rest % 10) as u8);
-        rest /= 10;
+    if n < 100 {
+        last_two(part, k, n);
+    } else if n < 100_000 {
+        last_five(part, k, n);
+    } else if n < 10_000_000_000 {
+        last_ten(part, k, n);
+    } else {
+        last_twenty(part, k, n);
     }
     k
 }

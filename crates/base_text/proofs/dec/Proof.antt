@@ -1,54 +1,101 @@
--- `text::dec` meets its contract: at each turn the digits still to come, laid over the part, give
--- what all digits laid over it would have given.
+-- `text::dec` meets its contract.
 use mathlib.Core.Path.{_≡_, refl}
-use Prim.Native.Nat.{_%_}
+use Prim.Native.Nat.{ℕ, suc, _-_, _^_, _≤_, _<_, min}
+use native.Mathlib.Nat.{lt-of-lt-of-le}
 use native.Mathlib.Omega.{arith}
+use mathlib.Core.List.{List}
 use borrow.Author.Needs.{needs}
+use lib.Dec.{lit<, lit≤}
 use lib.ListN.{length}
 use Rattle.base_text.specs.Digits.{lastDigits}
-use Rattle.base_text.specs.Doc.{decimal, print}
-use Rattle.base_text.specs.Wrote.{overlay}
-use Rattle.base_text.proofs.Numerals.{glyph-ten, store-more, store-end}
+use Rattle.base_text.specs.Doc.{dec, decimal, print}
+use Rattle.base_text.specs.Wrote.{overlay, Printed}
+use Rattle.base_text.proofs.Lengths.{numeral-short}
+use Rattle.base_text.proofs.Places.{numeral-some, numeral-holds}
 use Rattle.base_text.proofs.Printers.{measured, stored}
 use Rattle.base_text.proofs.dec.Statement.{statement}
 use Rattle.base_text.proofs.dec.Tie as tie
 
-abbrev Inv-loop : tie.InvT-loop
-Inv-loop part₀ n k rest₀ at₀ part rest at =
-    (overlay part 0 (lastDigits 10 at rest) ≡ overlay part₀ 0 (lastDigits 10 k n))
-    × (length part ≡ length part₀)
+-- twenty digits hold a u64
+below-twenty : {n : ℕ} → n < 2 ^ 64 → n < 10 ^ 20
+below-twenty h = lt-of-lt-of-le h (lit≤ tt)
 
-abbrev μ-loop : tie.MeasureT-loop
-μ-loop part₀ n k rest₀ at₀ part rest at = at
+-- a u64 has a digit, and is below the power with as many zeros as it has digits
+size : (n m : ℕ) {k : ℕ} → n < 2 ^ 64 → n < 10 ^ m → k ≡ length (decimal n)
+    → (0 < k) × ((n < 10 ^ m) × (n < 10 ^ k))
+unfolding decimal
+size n m {k} h l e =
+    (rw e (numeral-some 10 19 n), (l, rw e (numeral-holds 10 20 n (lit< tt) (below-twenty h))))
 
-returns : tie.Need-returns Inv-loop μ-loop
+-- the last j + 1 digits were stored, and there are no more
+last-stored : (n j : ℕ) {k : ℕ} {o o′ : List ℕ} → n < 10 ^ suc j → k ≡ length (decimal n)
+    → o′ ≡ overlay o (k - suc j) (lastDigits 10 (min (suc j) k) n) → Printed o (dec n) o′ k
+unfolding print decimal
+last-stored n j {k} {o} {o′} h e q =
+    let l : k ≤ suc j = rw e (numeral-short 10 20 j n (lit< tt) h) in
+    let s : k - suc j ≡ 0 = omega arith in
+    let m : min (suc j) k ≡ k = omega arith in
+    stored 10 20 n refl e (rw (s, m) at q)
+
+returns : tie.Need-returns
 unfolding print
 returns c = measured (c .if1 .taken) (c .before .decimal-length .ensures)
 
-loop-holds : tie.Need-loop-holds Inv-loop μ-loop
-loop-holds c = (refl, refl)
+last-two-requires : tie.Need-last-two-requires
+last-two-requires c κs =
+    let d = c .before .before .before in
+    let a = d .before .before in
+    size (a .args .n) 2 (a .fits .n .fits) (omega arith) (d .decimal-length .ensures)
 
-loop-again : tie.Need-loop-again Inv-loop μ-loop
-loop-again c =
-    let l = c .before .before .before .before .before .loop in
-    let e = c .before .before .store .ensures in (
-      rw (e, glyph-ten (l .rest % 10) (omega arith))
-          (store-more 10 (l .at) (l .rest) _ _ (c .before .before .before .before .loop-test .taken)
-          (l .inv .0)),
-      search needs,
-    )
+last-five-requires : tie.Need-last-five-requires
+last-five-requires c κs =
+    let d = c .before .before .before .before in
+    let a = d .before .before in
+    size (a .args .n) 5 (a .fits .n .fits) (omega arith) (d .decimal-length .ensures)
 
-returns-2 : tie.Need-returns-2 Inv-loop μ-loop
-unfolding print decimal
+last-ten-requires : tie.Need-last-ten-requires
+last-ten-requires c κs =
+    let d = c .before .before .before .before .before in
+    let a = d .before .before in
+    size (a .args .n) 10 (a .fits .n .fits) (omega arith) (d .decimal-length .ensures)
+
+last-twenty-requires : tie.Need-last-twenty-requires
+last-twenty-requires c κs =
+    let d = c .before .before .before .before .before in
+    let a = d .before .before in
+    size (a .args .n) 20 (a .fits .n .fits) (below-twenty (a .fits .n .fits)) (d .decimal-length .ensures)
+
+returns-2 : tie.Need-returns-2
 returns-2 c =
-    let l = c .before .loop in
-    stored 10 20 (c .before .before .before .before .before .args .n) refl
-    (c .before .before .before .decimal-length .ensures)
-    (store-end 10 (l .at) (l .rest) _ _ (c .loop-test .left) (l .inv .0))
+    let d = c .before .before .before .before .before .before in
+    let a = d .before .before in
+    last-stored (a .args .n) 1 (omega arith) (d .decimal-length .ensures)
+    (c .before .before .last-two .ensures)
+
+returns-3 : tie.Need-returns-3
+returns-3 c =
+    let d = c .before .before .before .before .before .before .before in
+    let a = d .before .before in
+    last-stored (a .args .n) 4 (omega arith) (d .decimal-length .ensures)
+    (c .before .before .last-five .ensures)
+
+returns-4 : tie.Need-returns-4
+returns-4 c =
+    let d = c .before .before .before .before .before .before .before .before in
+    let a = d .before .before in
+    last-stored (a .args .n) 9 (omega arith) (d .decimal-length .ensures)
+    (c .before .before .last-ten .ensures)
+
+returns-5 : tie.Need-returns-5
+returns-5 c =
+    let d = c .before .before .before .before .before .before .before .before in
+    let a = d .before .before in
+    last-stored (a .args .n) 19 (below-twenty (a .fits .n .fits)) (d .decimal-length .ensures)
+    (c .before .before .last-twenty .ensures)
 
 pub dec-spec : {M : Type 1} → statement M
 dec-spec =
     tie.close
-    (tie.spec Inv-loop μ-loop (search needs) returns loop-holds (λ c. omega arith)
-    (λ c. omega arith) (λ c. omega arith)
-    (search needs) (λ c. omega arith) loop-again (search needs) returns-2)
+    (tie.spec (search needs) returns last-two-requires last-five-requires last-ten-requires
+    last-twenty-requires (search needs) returns-2 (search needs) returns-3 (search needs) returns-4
+    (search needs) returns-5)
