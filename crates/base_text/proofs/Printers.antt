@@ -1,18 +1,20 @@
 -- The laws of `Printed`, by which the proof of a printer goes, and the one by which a printer that
 -- is lent a part writes to the whole.
 use mathlib.Core.Path.{_≡_, refl, sym, ap, _∙_}
-use Prim.Native.Nat.{ℕ, _+_, _-_, _≤_, _<_, min}
+use Prim.Native.Nat.{ℕ, suc, _+_, _-_, _^_, _≤_, _<_, min}
 use native.Mathlib.Nat.{zero-add}
 use native.Mathlib.Omega.{arith}
 use native.Mathlib.Numerals.{add-one}
 use mathlib.Core.List.{List, _++_, append-nil}
 use lib.ListN.{length, take, drop, set, getD, length-drop, drop-of-length-le}
+use lib.Dec.{lit<}
 use lib.Seq.{take-all}
 use Rattle.base_text.specs.Digits.{numeral, lastDigits}
-use Rattle.base_text.specs.Doc.{Doc, raw, print}
+use Rattle.base_text.specs.Doc.{Doc, raw, dec, decimal, print}
 use Rattle.base_text.specs.Wrote.{maxUsize, overlay, Printed, Wrote}
 use Rattle.base_text.proofs.Overlay.{overlay-past, overlay-part, overlay-stop, overlay-more}
 use Rattle.base_text.proofs.Numerals.{length-fixed, numeral-fixed}
+use Rattle.base_text.proofs.Lengths.{numeral-short}
 
 -- a loop that copies: a turn, and the end
 pub copy-more : (o d s : List ℕ) (i : ℕ) → i < length s → d ≡ overlay o 0 (take i s)
@@ -51,6 +53,16 @@ pub stored : (b most n : ℕ) {k : ℕ} {o o′ : List ℕ} {d : Doc} → print 
 stored b most n {k} {o} {o′} {d} p e q =
     spelt b k n
     (p ∙ numeral-fixed b most n ∙ ap (λ (j : ℕ). lastDigits b j n) (sym (e ∙ ap length p))) q
+
+-- the last j + 1 digits were stored, and there are no more
+pub last-stored : (n j : ℕ) {k : ℕ} {o o′ : List ℕ} → n < 10 ^ suc j → k ≡ length (decimal n)
+    → o′ ≡ overlay o (k - suc j) (lastDigits 10 (min (suc j) k) n) → Printed o (dec n) o′ k
+unfolding print decimal
+last-stored n j {k} {o} {o′} h e q =
+    let l : k ≤ suc j = rw e (numeral-short 10 20 j n (lit< tt) h) in
+    let s : k - suc j ≡ 0 = omega arith in
+    let m : min (suc j) k ≡ k = omega arith in
+    stored 10 20 n refl e (rw (s, m) at q)
 
 -- the part of o from index `at` on, or an empty one where `at` is past the end, was lent to a
 -- printer and came back

@@ -60,13 +60,22 @@ pub fn power(k: usize) -> u64
     }
 }
 
-// How many digits n has in decimal. Most numbers of a text have one or two: which of the two it is
+// How many digits n has in decimal, below 100. Most numbers of a text are: which of the two it is
 // takes no branch, since it could not be predicted.
+pub fn short_length(n: u64) -> usize
+    requires { ⌜ n < 100 ⌝ }
+    ensures count { λ r. ⌜ r ≡ length (decimal n) ⌝ }
+    ensures one { λ r. ⌜ 0 < r ⌝ }
+{
+    if n < 10 { 1 } else { 2 }
+}
+
+// How many digits n has in decimal.
 pub fn decimal_length(n: u64) -> usize
     ensures { λ r. ⌜ r ≡ length (decimal n) ⌝ }
 {
     if n < 100 {
-        return if n < 10 { 1 } else { 2 };
+        return short_length(n);
     }
     let mut k = 3;
     while k < 20 && power(k) <= n {
@@ -83,7 +92,7 @@ pub struct Digit {
 
 // Subtracts w times p, if so much is left. The compiler makes a conditional move of it, no branch:
 // the digits of a text are as good as random.
-fn subtract(d: Digit, p: u64, w: u64) -> Digit
+pub fn subtract(d: Digit, p: u64, w: u64) -> Digit
     requires many { ⌜ d .digit + w < 16 ⌝ }
     requires left { ⌜ d .rest < 2 * (w * p) ⌝ }
     requires fits { ⌜ w * p < 2 ^ 64 ⌝ }

@@ -251,6 +251,18 @@ pub fn hex(part: &mut [u8], n: u64) -> usize
     k
 }
 
+// n in decimal, below 20: ten is subtracted at most once.
+fn short(part: &mut [u8], n: u64) -> usize
+    requires { ⌜ n < 20 ⌝ }
+    ensures { λ r. ⌜ Printed (now (part .entry)) (dec n) (now (part .exit)) r ⌝ }
+{
+    let k = digits::short_length(n);
+    let d = digits::subtract(digits::Digit { digit: 0, rest: n }, 10, 1);
+    store(part, 0, (48 + d.digit) as u8);
+    store(part, k - 1, (48 + d.rest) as u8);
+    k
+}
+
 // n in decimal, with no zeros in front. The digits are counted first.
 pub fn dec(part: &mut [u8], n: u64) -> usize
     ensures { λ r. ⌜ Printed (now (part .entry)) (dec n) (now (part .exit)) r ⌝ }
@@ -311,13 +323,34 @@ pub fn put_hex(out: &mut [u8], at: usize, n: u64) -> usize
     after(at, k)
 }
 
-// n in decimal, with no zeros in front.
-pub fn put_dec(out: &mut [u8], at: usize, n: u64) -> usize
+// n in decimal, below 20. Most numbers of a text are registers: they are printed in line, and
+// others by a call, so that the test stands in both functions that print a number.
+fn put_short(out: &mut [u8], at: usize, n: u64) -> usize
+    requires { ⌜ n < 20 ⌝ }
+    ensures { λ r. ⌜ Wrote (now (out .entry)) at (dec n) (now (out .exit)) r ⌝ }
+{
+    let from = least(at, out.len());
+    let k = short(&mut out[from..], n);
+    after(at, k)
+}
+
+// n in decimal, any number.
+fn put_long(out: &mut [u8], at: usize, n: u64) -> usize
     ensures { λ r. ⌜ Wrote (now (out .entry)) at (dec n) (now (out .exit)) r ⌝ }
 {
     let from = least(at, out.len());
     let k = dec(&mut out[from..], n);
     after(at, k)
+}
+
+// n in decimal, with no zeros in front.
+pub fn put_dec(out: &mut [u8], at: usize, n: u64) -> usize
+    ensures { λ r. ⌜ Wrote (now (out .entry)) at (dec n) (now (out .exit)) r ⌝ }
+{
+    if n < 20 {
+        return put_short(out, at, n);
+    }
+    put_long(out, at, n)
 }
 
 // s and then n in decimal. A literal and the number after it in one call halve the calls, and with
@@ -328,7 +361,10 @@ pub fn put_then_dec(out: &mut [u8], at: usize, s: &[u8], n: u64) -> usize
         ⌝ }
 {
     let p = put(out, at, s);
-    put_dec(out, p, n)
+    if n < 20 {
+        return put_short(out, p, n);
+    }
+    put_long(out, p, n)
 }
 
 // s and then n with 8 hexadecimal digits.

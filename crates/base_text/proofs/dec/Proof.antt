@@ -1,18 +1,14 @@
 -- `text::dec` meets its contract.
-use mathlib.Core.Path.{_≡_, refl}
-use Prim.Native.Nat.{ℕ, suc, _-_, _^_, _≤_, _<_, min}
+use mathlib.Core.Path.{_≡_}
+use Prim.Native.Nat.{ℕ, _^_, _<_}
 use native.Mathlib.Nat.{lt-of-lt-of-le}
 use native.Mathlib.Omega.{arith}
-use mathlib.Core.List.{List}
 use borrow.Author.Needs.{needs}
 use lib.Dec.{lit<, lit≤}
 use lib.ListN.{length}
-use Rattle.base_text.specs.Digits.{lastDigits}
-use Rattle.base_text.specs.Doc.{dec, decimal, print}
-use Rattle.base_text.specs.Wrote.{overlay, Printed}
-use Rattle.base_text.proofs.Lengths.{numeral-short}
+use Rattle.base_text.specs.Doc.{decimal, print}
 use Rattle.base_text.proofs.Places.{numeral-some, numeral-holds}
-use Rattle.base_text.proofs.Printers.{measured, stored}
+use Rattle.base_text.proofs.Printers.{measured, last-stored}
 use Rattle.base_text.proofs.dec.Statement.{statement}
 use Rattle.base_text.proofs.dec.Tie as tie
 
@@ -26,16 +22,6 @@ size : (n m : ℕ) {k : ℕ} → n < 2 ^ 64 → n < 10 ^ m → k ≡ length (dec
 unfolding decimal
 size n m {k} h l e =
     (rw e (numeral-some 10 19 n), (l, rw e (numeral-holds 10 20 n (lit< tt) (below-twenty h))))
-
--- the last j + 1 digits were stored, and there are no more
-last-stored : (n j : ℕ) {k : ℕ} {o o′ : List ℕ} → n < 10 ^ suc j → k ≡ length (decimal n)
-    → o′ ≡ overlay o (k - suc j) (lastDigits 10 (min (suc j) k) n) → Printed o (dec n) o′ k
-unfolding print decimal
-last-stored n j {k} {o} {o′} h e q =
-    let l : k ≤ suc j = rw e (numeral-short 10 20 j n (lit< tt) h) in
-    let s : k - suc j ≡ 0 = omega arith in
-    let m : min (suc j) k ≡ k = omega arith in
-    stored 10 20 n refl e (rw (s, m) at q)
 
 returns : tie.Need-returns
 unfolding print
@@ -63,7 +49,8 @@ last-twenty-requires : tie.Need-last-twenty-requires
 last-twenty-requires c κs =
     let d = c .before .before .before .before .before in
     let a = d .before .before in
-    size (a .args .n) 20 (a .fits .n .fits) (below-twenty (a .fits .n .fits)) (d .decimal-length .ensures)
+    let f = a .fits .n .fits in
+    size (a .args .n) 20 f (below-twenty f) (d .decimal-length .ensures)
 
 returns-2 : tie.Need-returns-2
 returns-2 c =
