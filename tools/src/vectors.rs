@@ -1,6 +1,8 @@
-//! Stored vectors: each a file with the answer that it must get, from the check or another call.
+//! Stored vectors: each a file with the answer that it must get, from the check or another call, or
+//! a number with the digits that it must be printed with.
 
 mod blocks;
+pub mod decimal;
 pub mod fronts;
 pub mod grouping;
 mod instructions;

@@ -1,10 +1,11 @@
-//! How stored vectors of the calls for units, pages and sentences are encoded, number by number.
-//! The original, which makes the texts of those for units, is not at hand here.
+//! How stored vectors of the calls for units, pages and sentences, and of the printer, are encoded,
+//! number by number. The original, which makes the texts of those for units, is not at hand here.
 
 use recomp_tools::fronts::{FrontNumbers, Lent};
 use recomp_tools::pages::{Asked, PageNumbers};
 use recomp_tools::reasons::{self, ReasonNumbers};
 use recomp_tools::units::{MeasureNumbers, Told, Unit, WriteNumbers};
+use recomp_tools::vectors::decimal::{encode_decimals, DecimalVector};
 use recomp_tools::vectors::fronts::{encode_fronts, FrontVector};
 use recomp_tools::vectors::measure::{encode_measures, MeasureVector};
 use recomp_tools::vectors::pages::{encode_pages, PageVector};
@@ -168,4 +169,26 @@ fn encoded_reasons() {
         expected.extend_from_slice(&[0xff, 0xfe, b'a', b'b', b'c']);
     }
     assert_eq!(encode_reasons(&both), expected);
+}
+
+#[test]
+fn encoded_decimals() {
+    let vector = |text: &[u8]| DecimalVector {
+        number: (3 << 32) + 2,
+        at: (5 << 32) + 4,
+        text_len: text.len(),
+        after: u64::MAX - 1,
+        text: text.to_vec(),
+    };
+    let both = [vector(b""), vector(b"\xff1\xfd")];
+    let after = [0xffff_fffe, 0xffff_ffff];
+    let expected = [
+        words(&[2]),
+        words(&[2, 3, 4, 5, 0]),
+        words(&after),
+        words(&[2, 3, 4, 5, 3]),
+        words(&after),
+        b"\xff1\xfd".to_vec(),
+    ];
+    assert_eq!(encode_decimals(&both), expected.concat());
 }

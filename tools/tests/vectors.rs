@@ -2,10 +2,12 @@
 
 use recomp_tools::check::check;
 use recomp_tools::reasons::{Kind, Reason, Sentence};
+use recomp_tools::vectors::decimal::{decimals, encode_decimals, DecimalVector};
 use recomp_tools::vectors::grouping::{encode_exits, encode_plans, exits, plans, PlanVector};
 use recomp_tools::vectors::pages::{encode_pages, page, pages, PageVector};
 use recomp_tools::vectors::reasons::{encode_reasons, reason, reasons, ReasonVector};
 use recomp_tools::vectors::{all, encode};
+use std::collections::HashSet;
 
 #[test]
 fn numbers_and_sizes() {
@@ -209,4 +211,67 @@ fn lines_of_reason_vectors() {
     };
     let later = answered.iter().filter(early).filter(fits_later).count();
     assert!(later >= 20, "{later}");
+}
+
+/// Powers of 10 and their neighbours, powers of 2, and the largest number.
+fn edges() -> Vec<u64> {
+    let tens = (0..20).map(|k| 10u64.pow(k));
+    let tens = tens.flat_map(|n| [n - 1, n, n + 1]);
+    let twos = (0..64).map(|k| 1 << k);
+    tens.chain(twos).chain([u64::MAX]).collect()
+}
+
+/// Every edge with a text that it just fills, numbers of every length, and texts that are too
+/// short; indices after which there is no larger one.
+#[test]
+fn decimal_numbers_and_sizes() {
+    let vectors = decimals();
+    let digits = |v: &DecimalVector| v.number.to_string().into_bytes();
+    let full = |v: &DecimalVector| v.at == 0 && v.text == digits(v);
+    for number in edges() {
+        let is = |v: &DecimalVector| v.number == number && full(v);
+        let count = vectors.iter().filter(|v| is(v)).count();
+        assert_eq!(count, 1, "{number}");
+    }
+    for length in 1..=20 {
+        let of = |v: &&DecimalVector| digits(v).len() == length;
+        let count = vectors.iter().filter(of).count();
+        assert!(count >= 10, "{count} vectors of {length} digits");
+    }
+    let short = |v: &&DecimalVector| v.text_len as u64 + 1 == v.after;
+    assert!(vectors.iter().filter(short).count() >= 50);
+    assert!(vectors.iter().filter(|v| v.text_len == 0).count() >= 50);
+    let last = |v: &&DecimalVector| v.after == u64::MAX && v.at < u64::MAX;
+    let beyond = |v: &&DecimalVector| v.after - v.at < digits(v).len() as u64;
+    let saturated = vectors.iter().filter(last).filter(beyond).count();
+    assert!(saturated >= 20, "{saturated}");
+    let long = vectors.iter().filter(|v| v.text_len > 64).count();
+    assert!(long <= 2 && vectors.iter().all(|v| v.text_len <= 600));
+    let asked = vectors.iter().map(|v| (v.number, v.at, v.text_len));
+    assert_eq!(asked.collect::<HashSet<_>>().len(), vectors.len());
+    let encoded = encode_decimals(&vectors);
+    assert!(encoded.len() < 100_000, "{}", encoded.len());
+    assert_eq!(encoded[..4], (vectors.len() as u32).to_le_bytes());
+}
+
+/// Some texts by hand: cut, with bytes on either side, and past the end, where nothing is written.
+#[test]
+fn texts_of_decimal_vectors() {
+    let vectors = decimals();
+    let expect = |number, at, text: &[u8], after| {
+        let is = |v: &&DecimalVector| (v.number, v.at, v.text_len) == (number, at, text.len());
+        let found = vectors.iter().find(is).expect("a vector");
+        assert_eq!((&found.text[..], found.after), (text, after));
+    };
+    expect(0, 0, b"0", 1);
+    expect(100, 0, b"10", 3);
+    expect(100, 1, b"", 4);
+    expect(100, 1, b"\xff100\xfb\xfa\xf9", 4);
+    expect(12345, 7, b"\xff\xfe\xfd\xfc\xfb\xfa\xf91", 12);
+    let untouched = b"\xff\xfe\xfd\xfc\xfb\xfa\xf9\xf8\xf7\xf6";
+    expect(98, 11, untouched, 13);
+    expect(98, (1 << 32) + 5, untouched, (1 << 32) + 7);
+    for at in [u64::MAX - 2, u64::MAX - 1, u64::MAX] {
+        expect(98, at, untouched, u64::MAX);
+    }
 }

@@ -48,6 +48,9 @@ fn name(section: Section) {
         Section::Reasons => {
             text(b"reasons");
         }
+        Section::Decimal => {
+            text(b"decimal");
+        }
     }
 }
 

@@ -14,6 +14,7 @@ pub enum Section {
     Pages,
     Reason,
     Reasons,
+    Decimal,
 }
 
 // What became of a vector.

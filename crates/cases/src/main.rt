@@ -41,6 +41,9 @@ fn main() {
     if !sections::replay(Section::Reasons) {
         return;
     }
+    if !sections::replay(Section::Decimal) {
+        return;
+    }
     if !input::at_end() {
         report::goes_on();
     }

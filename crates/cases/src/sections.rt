@@ -25,6 +25,7 @@ fn replay_one(section: Section, k: u64) -> Verdict {
         Section::Pages => case_pages::replay_one(k, true),
         Section::Reason => case_reasons::replay_one(k, false),
         Section::Reasons => case_reasons::replay_one(k, true),
+        Section::Decimal => case_decimal::replay_one(k),
     }
 }
 

@@ -2,6 +2,7 @@
 //! vectors there are for each answer.
 
 use recomp_tools::original::Original;
+use recomp_tools::vectors::decimal::{decimals, encode_decimals};
 use recomp_tools::vectors::fronts::{encode_fronts, fronts, lengths};
 use recomp_tools::vectors::grouping::{encode_exits, encode_plans, exits, plans};
 use recomp_tools::vectors::measure::{encode_measures, measures};
@@ -17,7 +18,7 @@ type Section = (Vec<u8>, Vec<u32>);
 const USAGE: &str = concat!(
     "usage: vectors PATH ",
     "[check | exits | plan | measure | write | fronts | lengths | page | pages | reason | ",
-    "reasons]..."
+    "reasons | decimal]..."
 );
 
 /// The section of some vectors.
@@ -44,6 +45,8 @@ fn section(name: &str) -> Result<Section, String> {
         "pages" => encoded(pages(), |v| v.expected.number, encode_pages),
         "reason" => encoded(reason(), |v| v.expected.number, encode_reasons),
         "reasons" => encoded(reasons(), |v| v.expected.number, encode_reasons),
+        // A printer refuses nothing.
+        "decimal" => encoded(decimals(), |_| 0, encode_decimals),
         _ => return Err(USAGE.to_string()),
     })
 }

@@ -1,0 +1,2 @@
+-- What is compared with a vector.
+pub mod DecimalCases
