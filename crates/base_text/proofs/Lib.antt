@@ -4,4 +4,4 @@ pub mod Numerals
 pub mod Printers
 pub mod Laws
 pub mod Lengths
-pub mod Places
+pub mod FirstDigits

@@ -86,7 +86,7 @@ count-end b most k n h l = go (most - k) refl
     go (suc m) e = rw (e, numeral-one b m n h)
 
 -- a loop that stores digits from the last: a turn, and the end
-pub store-more : (b at n : ℕ) (d t : List ℕ) → 0 < at → overlay d 0 (lastDigits b at n) ≡ t
+store-more : (b at n : ℕ) (d t : List ℕ) → 0 < at → overlay d 0 (lastDigits b at n) ≡ t
     → overlay (set d (at - 1) (glyph (n % b))) 0 (lastDigits b (at - 1) (n / b)) ≡ t
 unfolding lastDigits
 store-more b zero n d t h e = absurd (not-suc-le-zero h)

@@ -1,4 +1,4 @@
-// The digits of a number: what they look like, and how many it has.
+// The digits of a number: what they look like, how many it has, and how the first is found.
 ghost use mathlib.Core.Path.{_≡_};
 ghost use Prim.Native.Nat.{_+_, _*_, _-_, _/_, _%_, _^_, _≤_, _<_};
 ghost use lib.ListN.{length};
@@ -60,9 +60,9 @@ pub fn power(k: usize) -> u64
     }
 }
 
-// How many digits n has in decimal, below 100. Most numbers of a text are: which of the two it is
-// takes no branch, since it could not be predicted.
-pub fn short_length(n: u64) -> usize
+// How many digits a number below 100 has in decimal. Most decimal numbers of a text are. The
+// compiler makes no branch of the test, which could not be predicted.
+pub fn length_below_hundred(n: u64) -> usize
     requires { ⌜ n < 100 ⌝ }
     ensures count { λ r. ⌜ r ≡ length (decimal n) ⌝ }
     ensures one { λ r. ⌜ 0 < r ⌝ }
@@ -75,7 +75,7 @@ pub fn decimal_length(n: u64) -> usize
     ensures { λ r. ⌜ r ≡ length (decimal n) ⌝ }
 {
     if n < 100 {
-        return short_length(n);
+        return length_below_hundred(n);
     }
     let mut k = 3;
     while k < 20 && power(k) <= n {
@@ -90,8 +90,8 @@ pub struct Digit {
     pub rest: u64,
 }
 
-// Subtracts w times p, if so much is left. The compiler makes a conditional move of it, no branch:
-// the digits of a text are as good as random.
+// Subtracts w times p, if so much is left. The compiler makes a conditional move of it, no branch,
+// which would often be predicted wrongly, since digits follow no pattern.
 pub fn subtract(d: Digit, p: u64, w: u64) -> Digit
     requires many { ⌜ d .digit + w < 16 ⌝ }
     requires left { ⌜ d .rest < 2 * (w * p) ⌝ }

@@ -46,6 +46,14 @@ fn store(part: &mut [u8], at: usize, b: u8)
     }
 }
 
+// Stores a decimal digit at index `at` of part, if part has that index.
+fn store_digit(part: &mut [u8], at: usize, d: u64)
+    requires { ⌜ d < 10 ⌝ }
+    ensures { λ _. ⌜ now (part .exit) ≡ set (now (part .entry)) at (glyph d) ⌝ }
+{
+    store(part, at, (48 + d) as u8);
+}
+
 // Copies s to the front of part. The compiler turns the loop into one copy, of a known size where s
 // is a literal.
 fn copy(part: &mut [u8], s: &[u8])
@@ -93,10 +101,10 @@ fn last_digits(part: &mut [u8], n: u64, k: usize)
     }
 }
 
-// Stores the first of the last i decimal digits of n, of which k are printed, at its index of part,
-// and answers the number that the others are. Where n has fewer than i digits that is a zero in
-// front: it goes to index 0, where the first digit of n comes later, since a test whether to store
-// it would be a branch that cannot be predicted.
+// Of a number that is printed with k decimal digits, n being what its last i are: stores the first
+// of these at its index of part, and answers what the others are. Where n has fewer than i digits
+// that is a zero in front: it goes to index 0, where the first digit of n comes later, since a test
+// whether to store it would be a branch that cannot be predicted.
 fn place(part: &mut [u8], k: usize, i: usize, n: u64) -> u64
     requires one { ⌜ 0 < i ⌝ }
     requires most { ⌜ i ≤ 20 ⌝ }
@@ -108,12 +116,12 @@ fn place(part: &mut [u8], k: usize, i: usize, n: u64) -> u64
     ensures less { λ r. ⌜ r ≤ n ⌝ }
 {
     let d = digits::first(n, i);
-    store(part, monus(k, i), (48 + d.digit) as u8);
+    store_digit(part, monus(k, i), d.digit);
     d.rest
 }
 
-// Stores the last two of the k decimal digits of n, or the only one. It and the next four have no
-// loop: in one the compiler would put a branch for each subtraction.
+// Stores the last two of the k decimal digits of n, or the only one. It and those for more digits
+// have no loop: in one the compiler would put a branch for each subtraction.
 fn last_two(part: &mut [u8], k: usize, n: u64)
     requires one { ⌜ 0 < k ⌝ }
     requires two { ⌜ n < 10 ^ 2 ⌝ }
@@ -123,11 +131,37 @@ fn last_two(part: &mut [u8], k: usize, n: u64)
         ⌝ }
 {
     let n1 = place(part, k, 2, n);
-    store(part, k - 1, (48 + n1) as u8);
+    store_digit(part, k - 1, n1);
 }
 
-// Stores the last five of the k decimal digits of n, or all where it has fewer. A cost of 16 bits
-// and the number of a block have no more.
+// Stores the last three of the k decimal digits of n, or all where it has fewer.
+fn last_three(part: &mut [u8], k: usize, n: u64)
+    requires one { ⌜ 0 < k ⌝ }
+    requires three { ⌜ n < 10 ^ 3 ⌝ }
+    requires holds { ⌜ n < 10 ^ k ⌝ }
+    ensures { λ _. ⌜
+        now (part .exit) ≡ overlay (now (part .entry)) (k - 3) (lastDigits 10 (min 3 k) n)
+        ⌝ }
+{
+    let n2 = place(part, k, 3, n);
+    last_two(part, k, n2);
+}
+
+// Stores the last four of the k decimal digits of n, or all where it has fewer.
+fn last_four(part: &mut [u8], k: usize, n: u64)
+    requires one { ⌜ 0 < k ⌝ }
+    requires four { ⌜ n < 10 ^ 4 ⌝ }
+    requires holds { ⌜ n < 10 ^ k ⌝ }
+    ensures { λ _. ⌜
+        now (part .exit) ≡ overlay (now (part .entry)) (k - 4) (lastDigits 10 (min 4 k) n)
+        ⌝ }
+{
+    let n3 = place(part, k, 4, n);
+    last_three(part, k, n3);
+}
+
+// Stores the last five of the k decimal digits of n, or all where it has fewer. The number
+// of a block has no more.
 fn last_five(part: &mut [u8], k: usize, n: u64)
     requires one { ⌜ 0 < k ⌝ }
     requires five { ⌜ n < 10 ^ 5 ⌝ }
@@ -137,12 +171,11 @@ fn last_five(part: &mut [u8], k: usize, n: u64)
         ⌝ }
 {
     let n4 = place(part, k, 5, n);
-    let n3 = place(part, k, 4, n4);
-    let n2 = place(part, k, 3, n3);
-    last_two(part, k, n2);
+    last_four(part, k, n4);
 }
 
-// Stores the last ten of the k decimal digits of n, or all where it has fewer.
+// Stores the last ten of the k decimal digits of n, or all where it has fewer. The ticks of a block
+// have no more: at most 65,535 costs of 16 bits.
 fn last_ten(part: &mut [u8], k: usize, n: u64)
     requires one { ⌜ 0 < k ⌝ }
     requires ten { ⌜ n < 10 ^ 10 ⌝ }
@@ -256,14 +289,15 @@ fn short(part: &mut [u8], n: u64) -> usize
     requires { ⌜ n < 20 ⌝ }
     ensures { λ r. ⌜ Printed (now (part .entry)) (dec n) (now (part .exit)) r ⌝ }
 {
-    let k = digits::short_length(n);
+    let k = digits::length_below_hundred(n);
     let d = digits::subtract(digits::Digit { digit: 0, rest: n }, 10, 1);
-    store(part, 0, (48 + d.digit) as u8);
-    store(part, k - 1, (48 + d.rest) as u8);
+    store_digit(part, 0, d.digit);
+    store_digit(part, k - 1, d.rest);
     k
 }
 
-// n in decimal, with no zeros in front. The digits are counted first.
+// n in decimal, with no zeros in front. The digits are counted first, and then found from the first
+// on: powers of ten are subtracted, since request 5 wants no division and no remainder.
 pub fn dec(part: &mut [u8], n: u64) -> usize
     ensures { λ r. ⌜ Printed (now (part .entry)) (dec n) (now (part .exit)) r ⌝ }
 {
@@ -273,10 +307,16 @@ pub fn dec(part: &mut [u8], n: u64) -> usize
     }
     if n < 100 {
         last_two(part, k, n);
+    } else if n < 1_000 {
+        last_three(part, k, n);
+    } else if n < 10_000 {
+        last_four(part, k, n);
     } else if n < 100_000 {
         last_five(part, k, n);
     } else if n < 10_000_000_000 {
         last_ten(part, k, n);
+    } else if n < 1_000_000_000_000_000 {
+        last_fifteen(part, k, n);
     } else {
         last_twenty(part, k, n);
     }
@@ -323,8 +363,9 @@ pub fn put_hex(out: &mut [u8], at: usize, n: u64) -> usize
     after(at, k)
 }
 
-// n in decimal, below 20. Most numbers of a text are registers: they are printed in line, and
-// others by a call, so that the test stands in both functions that print a number.
+// n in decimal, below 20. Most decimal numbers of a text are registers. These are printed in line
+// and all others by a call; a function with one caller would be put in line whatever its size, so
+// `put_dec` and `put_then_dec` both test.
 fn put_short(out: &mut [u8], at: usize, n: u64) -> usize
     requires { ⌜ n < 20 ⌝ }
     ensures { λ r. ⌜ Wrote (now (out .entry)) at (dec n) (now (out .exit)) r ⌝ }
@@ -334,7 +375,7 @@ fn put_short(out: &mut [u8], at: usize, n: u64) -> usize
     after(at, k)
 }
 
-// n in decimal, any number.
+// n in decimal, any number; called from 20 on.
 fn put_long(out: &mut [u8], at: usize, n: u64) -> usize
     ensures { λ r. ⌜ Wrote (now (out .entry)) at (dec n) (now (out .exit)) r ⌝ }
 {

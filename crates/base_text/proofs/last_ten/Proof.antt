@@ -3,7 +3,7 @@
 use mathlib.Core.Path.{refl, _∙_}
 use borrow.Author.Needs.{needs}
 use lib.Dec.{lit<}
-use Rattle.base_text.proofs.Places.{place-more}
+use Rattle.base_text.proofs.FirstDigits.{place-more}
 use Rattle.base_text.proofs.last_ten.Statement.{statement}
 use Rattle.base_text.proofs.last_ten.Tie as tie
 

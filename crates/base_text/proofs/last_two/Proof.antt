@@ -2,8 +2,7 @@
 use mathlib.Core.Path.{refl}
 use borrow.Author.Needs.{needs}
 use lib.Dec.{lit<}
-use Rattle.base_text.proofs.Numerals.{glyph-ten}
-use Rattle.base_text.proofs.Places.{place-more, place-last}
+use Rattle.base_text.proofs.FirstDigits.{place-more, place-last}
 use Rattle.base_text.proofs.last_two.Statement.{statement}
 use Rattle.base_text.proofs.last_two.Tie as tie
 
@@ -16,11 +15,10 @@ returns c =
     let m =
     place-more 10 k 2 (a .args .n) _ (lit< tt) hk (lit< tt) (c1 .place .ensures)
     (refl, a .pre .1) in
-    rw (c .before .before .store .ensures, glyph-ten _ (m .1 .0))
+    rw (c .before .before .store-digit .ensures)
     (place-last 10 k (c1 .place .result) _ hk (m .1 .0) m)
 
 pub last-two-spec : {M : Type 1} → statement M
 last-two-spec =
     tie.close
-    (tie.spec (search needs) (search needs) (search needs) (search needs) (search needs)
-    (search needs) returns)
+    (tie.spec (search needs) (search needs) (search needs) (search needs) returns)

@@ -7,7 +7,7 @@ use borrow.Author.Tests.{leb-true, leb-false}
 use borrow.Author.Needs.{needs}
 use lib.Dec.{lit<, lit≤}
 use Rattle.base_text.specs.Doc.{decimal}
-use Rattle.base_text.proofs.Places.{numeral-count}
+use Rattle.base_text.proofs.FirstDigits.{numeral-count}
 use Rattle.base_text.proofs.digits.decimal_length.Statement.{statement}
 use Rattle.base_text.proofs.digits.decimal_length.Tie as tie
 

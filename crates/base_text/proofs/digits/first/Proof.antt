@@ -6,7 +6,7 @@ use native.Mathlib.Nat.{pow-suc, pow-le-pow-right}
 use native.Mathlib.Omega.{arith}
 use borrow.Author.Needs.{needs}
 use lib.Dec.{lit<}
-use Rattle.base_text.proofs.Places.{quotient, first-below}
+use Rattle.base_text.proofs.FirstDigits.{quotient, first-below}
 use Rattle.base_text.proofs.digits.first.Statement.{statement}
 use Rattle.base_text.proofs.digits.first.Tie as tie
 

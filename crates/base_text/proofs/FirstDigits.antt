@@ -66,7 +66,7 @@ numeral-holds b (suc most) n hb h =
           (numeral-holds b most (n / b) hb rest))
     ]
 
--- what a number is times another, and what is left, are quotient and remainder
+-- d times p and a rest below p: d is the quotient, the rest the remainder
 pub quotient : (n p d r : ℕ) → d * p + r ≡ n → r < p → (d ≡ n / p) × (r ≡ n % p)
 quotient n p d r e h =
     rw (
@@ -146,16 +146,16 @@ place-first b k j n o hb hk h l =
           (over-front b k n (glyph (n / b ^ j)) o hb hk l)
     ]
 
--- What a store of one digit after another leaves: the last i of k digits are those of n, and laid
--- over o from their index on they give t.
-abbrev pub Left : ℕ → ℕ → ℕ → ℕ → List ℕ → List ℕ → Type 0
-Left b k i n o t =
+-- Still to store are, of k digits, the last i, which are those of n; laid over o from their index
+-- on they give t.
+abbrev pub ToStore : ℕ → ℕ → ℕ → ℕ → List ℕ → List ℕ → Type 0
+ToStore b k i n o t =
     (overlay o (k - i) (lastDigits b (min i k) n) ≡ t) × ((n < b ^ i) × (n < b ^ k))
 
 -- a call that stores the first of them
 pub place-more : (b k i n : ℕ) (o : List ℕ) {o′ t : List ℕ} {r : ℕ} → 0 < b → 0 < k → 0 < i
     → (o′ ≡ set o (k - i) (glyph (n / b ^ (i - 1)))) × ((r ≡ n % b ^ (i - 1)) × (r ≤ n))
-    → Left b k i n o t → Left b k (i - 1) r o′ t
+    → ToStore b k i n o t → ToStore b k (i - 1) r o′ t
 place-more b k zero n o hb hk hi p h = absurd (omega arith)
 place-more b k (suc j) n o {o′} {t} {r} hb hk hi p h =
     let q : suc j - 1 ≡ j = omega arith in
@@ -165,7 +165,7 @@ place-more b k (suc j) n o {o′} {t} {r} hb hk hi p h =
     )
 
 -- the last digit is what is left
-pub place-last : (b k n : ℕ) (o : List ℕ) {t : List ℕ} → 0 < k → n < b → Left b k 1 n o t
+pub place-last : (b k n : ℕ) (o : List ℕ) {t : List ℕ} → 0 < k → n < b → ToStore b k 1 n o t
     → set o (k - 1) (glyph n) ≡ t
 unfolding lastDigits
 place-last b k n o {t} hk h e =

@@ -1,12 +1,12 @@
--- `text::digits::short_length` meets its contract.
+-- `text::digits::length_below_hundred` meets its contract.
 use mathlib.Core.Path.{sym}
 use Prim.Native.Nat.{_<_}
 use lib.Dec.{lit<, lit≤}
 use Rattle.base_text.specs.Doc.{decimal}
 use Rattle.base_text.proofs.Numerals.{numeral-one}
-use Rattle.base_text.proofs.Places.{numeral-count}
-use Rattle.base_text.proofs.digits.short_length.Statement.{statement}
-use Rattle.base_text.proofs.digits.short_length.Tie as tie
+use Rattle.base_text.proofs.FirstDigits.{numeral-count}
+use Rattle.base_text.proofs.digits.length_below_hundred.Statement.{statement}
+use Rattle.base_text.proofs.digits.length_below_hundred.Tie as tie
 
 returns : tie.Need-returns
 unfolding decimal
@@ -20,5 +20,5 @@ returns-2 c =
     let e = numeral-count 10 20 2 _ (lit< tt) (lit< tt) (lit≤ tt) (c .if1 .left) (c .before .pre) in
     (sym e, lit< tt)
 
-pub short-length-spec : {M : Type 1} → statement M
-short-length-spec = tie.close (tie.spec returns returns-2)
+pub length-below-hundred-spec : {M : Type 1} → statement M
+length-below-hundred-spec = tie.close (tie.spec returns returns-2)
