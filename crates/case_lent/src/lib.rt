@@ -1,5 +1,5 @@
-// What the vectors of calls for units and pages lend: numbers and bytes that no call writes, of
-// which each vector lends a front, and the comparison of what stands in all of them afterwards.
+// What vectors lend: numbers and bytes that no call writes, of which each vector lends a front, and
+// the comparison of what stands in all of them afterwards.
 use case_io::compare;
 use case_io::report;
 use case_io::verdict::Section;

@@ -7,14 +7,15 @@ use std::collections::{BTreeSet, HashSet};
 /// Digits of the largest number.
 const MOST_DIGITS: u32 = 20;
 
-/// Random numbers of each length.
+/// How many random numbers of each length.
 const RANDOM: usize = 4;
 
 /// All numbers below this one are printed.
 const SMALL: u64 = 130;
 
-/// Lengths whose numbers are printed to texts of many sizes: the shortest, the longest, and those
-/// on either side of 2, 5, 10 and 15 digits, where parts of the printer meet.
+/// Lengths whose numbers are printed to texts of many sizes: the shortest, those on either side of
+/// 2, 5, 10 and 15 digits, where parts of the printer meet, and 19 and 20, the longest, whose first
+/// digits are found otherwise.
 const LENGTHS: [usize; 11] = [1, 2, 3, 5, 6, 10, 11, 15, 16, 19, 20];
 
 /// Digits that differ from their neighbours, so that one in the wrong place shows. All 20 of the
@@ -35,7 +36,8 @@ pub struct DecimalVector {
 /// What is asked for: the number, the index and how many bytes are lent.
 type Asked = (u64, u64, usize);
 
-/// The text before the call. None of its bytes is a digit, and neighbours differ.
+/// The text before the call, as `no_text` of `case_lent` has it. None of its bytes is a digit, and
+/// neighbours differ.
 fn lent(text_len: usize) -> Vec<u8> {
     (0..text_len).map(|i| 255 - (i % 127) as u8).collect()
 }
@@ -57,7 +59,7 @@ fn vector((number, at, text_len): Asked) -> DecimalVector {
     }
 }
 
-/// The length of a number.
+/// How many digits a number has.
 fn length(number: u64) -> usize {
     number.to_string().len()
 }
@@ -128,7 +130,7 @@ fn outside(number: u64) -> Vec<Asked> {
     all.map(|at| (number, at, text)).collect()
 }
 
-/// Texts of some hundred bytes, one with room behind the digits and one that ends within them.
+/// Texts of a few hundred bytes, one with room behind the digits and one that ends within them.
 fn far_inside() -> [Asked; 2] {
     let rising = RISING.parse().expect("a number of 64 bits");
     [(rising, 200, 300), (u64::MAX, 490, 500)]
@@ -147,7 +149,8 @@ pub fn decimals() -> Vec<DecimalVector> {
 }
 
 /// A count, then for each vector the number and the index, each with its low half before the high
-/// one, how many bytes are lent, and the index after the digits, likewise; then the bytes lent.
+/// one, how many bytes are lent, and the index after the digits, likewise; then the bytes lent, as they
+/// stand afterwards.
 pub fn encode_decimals(vectors: &[DecimalVector]) -> Vec<u8> {
     let mut out = vec![];
     push_numbers(&mut out, &[vectors.len() as u64]);
