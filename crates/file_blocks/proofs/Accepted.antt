@@ -18,7 +18,7 @@ use Rattle.file_blocks.specs.declared.read.BlockRecord.{BlockRecord}
 use Rattle.file_blocks.specs.declared.read.FoundBlock.{FoundBlock}
 use Rattle.file_blocks.specs.declared.read.FoundInstr.{FoundInstr}
 use Rattle.file_records.specs.Trailer.{blockCount, instrCount, codeCount, blockStart, instrStart}
-use Rattle.file_records.specs.Trailer.{withinLimits}
+use Rattle.file_records.specs.Trailer.{withinLimits, trailerRight}
 use Rattle.file_records.specs.BlockRecord.{addrAt, countAt, codeOffsetAt, thumbAt, presentAt}
 use Rattle.file_records.specs.BlockRecord.{lengthAt, aligned, countSum, codeRight, blockRight}
 use Rattle.file_records.specs.BlockRecord.{keyRises}
@@ -121,10 +121,12 @@ module _ (f : List ℕ) (bs : List Block) (accepted : parse f ≡ Parsed.accepte
   kept : (r : Rule) → List·Memᴰ r (rules f) → broken f r ≡ false
   kept r m = each-kept f (rules f) r all-kept m
 
+  pub trailer-right : trailerRight f ≡ true
+  trailer-right =
+      not-false _ (kept Rule.trailer (List·Memᴰ·tail (List·Memᴰ·tail (List·Memᴰ·head refl))))
+
   pub sections-of : Sections f
-  sections-of =
-      sections f
-      (not-false _ (kept Rule.trailer (List·Memᴰ·tail (List·Memᴰ·tail (List·Memᴰ·head refl)))))
+  sections-of = sections f trailer-right
 
   -- the rules hold of each record
   pub block-right : (i : ℕ) → i < blockCount f → blockRight f (blockStart f i) ≡ true

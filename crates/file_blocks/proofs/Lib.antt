@@ -11,4 +11,4 @@ pub mod Ranges
 pub mod ReadInstrs
 pub mod ReadNext
 mod Reading
-mod Whole
+pub mod Whole
