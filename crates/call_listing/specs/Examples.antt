@@ -4,6 +4,7 @@ use mathlib.Core.List.{[], _∷_, _++_}
 use lib.ListN.{replicate}
 use Rattle.call_frame.specs.Answer.{refusal, value}
 use Rattle.file_blocks.specs.Parse.{Parsed}
+use Rattle.file_keys.specs.Order.{insert, sortByKey}
 use Rattle.plan_groups.specs.Limit.{partLimit}
 use Rattle.call_frame.specs.Frame.{callOnBlocks, callFrame}
 use Rattle.base_text.specs.Digits.{numeral, lastDigits}
@@ -12,7 +13,7 @@ use Rattle.plan_exits.specs.Examples.{armBlock, threeBlocks}
 use Rattle.plan_exits.specs.Exits.{exits, instrExits}
 use Rattle.base_forest.specs.Roots.{follow}
 use Rattle.plan_search.specs.Target.{target}
-use Rattle.plan_groups.specs.Plan.{joinExits, joinBlocks, parents, withRoot, insert, sortByKey}
+use Rattle.plan_groups.specs.Plan.{joinExits, joinBlocks, parents, withRoot}
 use Rattle.plan_groups.specs.Plan.{parts, groupsFrom, groups, rowsFrom, plan}
 use Rattle.call_listing.specs.Calls.{listingCall}
 use Rattle.call_listing.specs.Listing.{blockLine, linesFrom, listing}

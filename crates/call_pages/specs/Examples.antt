@@ -20,8 +20,9 @@ use Rattle.file_blocks.specs.Parse.{Block, blockKey, Parsed}
 use Rattle.plan_search.specs.Target.{target}
 use Rattle.plan_exits.specs.Examples.{armBlock, threeBlocks}
 use Rattle.plan_exits.specs.Exits.{exits, instrExits}
+use Rattle.file_keys.specs.Order.{insert, sortByKey}
 use Rattle.plan_groups.specs.Limit.{partLimit}
-use Rattle.plan_groups.specs.Plan.{joinExits, joinBlocks, parents, withRoot, insert, sortByKey}
+use Rattle.plan_groups.specs.Plan.{joinExits, joinBlocks, parents, withRoot}
 use Rattle.plan_groups.specs.Plan.{parts, groupsFrom, groups, rowsFrom, plan}
 use Rattle.call_pages.specs.Page.{rightIn, pageLine, blockLine, Row, rowsOf, rowLine}
 use Rattle.call_pages.specs.Page.{Page, pagesFrom, pages, headLine, pageText}

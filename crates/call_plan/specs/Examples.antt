@@ -8,10 +8,11 @@ use Rattle.plan_exits.specs.Examples.{armBlock, threeBlocks}
 use Rattle.plan_exits.specs.Exits.{exits, instrExits}
 use Rattle.base_forest.specs.Roots.{follow}
 use Rattle.call_frame.specs.Frame.{callOnBlocks, callFrame}
+use Rattle.file_keys.specs.Order.{insert, sortByKey}
 use Rattle.plan_groups.specs.Limit.{partLimit}
 use Rattle.plan_search.specs.Target.{target}
-use Rattle.plan_groups.specs.Plan.{joinExits, joinBlocks, parents, withRoot, insert}
-use Rattle.plan_groups.specs.Plan.{sortByKey, parts, groupsFrom, groups, rowsFrom, plan}
+use Rattle.plan_groups.specs.Plan.{joinExits, joinBlocks, parents, withRoot}
+use Rattle.plan_groups.specs.Plan.{parts, groupsFrom, groups, rowsFrom, plan}
 use Rattle.call_plan.specs.Calls.{planCall}
 
 -- a refused file

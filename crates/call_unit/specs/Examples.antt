@@ -12,7 +12,8 @@ use Rattle.call_frame.specs.Answer.{refusal, value}
 use Rattle.file_records.specs.Trailer.{trailerWord, withinLimits, trailerRight}
 use Rattle.file_records.specs.BlockRecord.{countSum}
 use Rattle.file_blocks.specs.Parse.{Parsed, blocksFrom, parse}
-use Rattle.plan_groups.specs.Plan.{joinBlocks, parents, sortByKey, parts, groupsFrom, groups}
+use Rattle.file_keys.specs.Order.{sortByKey}
+use Rattle.plan_groups.specs.Plan.{joinBlocks, parents, parts, groupsFrom, groups}
 use Rattle.lower_units.specs.Units.{TranslationUnit, textOf, cut, emitCChunked, unitsBy}
 use Rattle.lower_units.specs.Units.{bodiesOf, lastUnitEnd}
 use Rattle.plan_exits.specs.Examples.{threeBlocks}

@@ -14,6 +14,7 @@ use Rattle.armv4t.specs.declared.Op.the-variants.{Bx, Branch, ThumbBlHigh, Thum
 use Rattle.armv4t.specs.Fused.{fuse}
 use Rattle.file_instrs.specs.declared.decode.TimedInstr.{TimedInstr}
 use Rattle.file_blocks.specs.Parse.{Block}
+use Rattle.file_keys.specs.Order.{insert, sortByKey}
 use Rattle.plan_groups.specs.Limit.{partLimit}
 use Rattle.plan_exits.specs.Exits.{instrExits, exits}
 use Rattle.base_forest.specs.Roots.{follow}
@@ -29,7 +30,7 @@ use Rattle.file_blocks.specs.Address.{outsideRomBios}
 use Rattle.lower_units.specs.Units.{withLocals, emitBlock, emitGroup, lastUnitEnd, textOf}
 use Rattle.lower_units.specs.Units.{cut, bodiesOf, emitCChunked, unitsBy, units as fileUnits}
 use Rattle.plan_search.specs.Target.{target}
-use Rattle.plan_groups.specs.Plan.{joinExits, joinBlocks, parents, withRoot, insert, sortByKey}
+use Rattle.plan_groups.specs.Plan.{joinExits, joinBlocks, parents, withRoot}
 use Rattle.plan_groups.specs.Plan.{parts, groupsFrom, groups, rowsFrom, plan}
 
 -- an instruction of one cycle

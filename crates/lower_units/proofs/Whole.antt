@@ -19,11 +19,12 @@ use Rattle.file_instrs.specs.declared.decode.TimedInstr.{TimedInstr}
 use Rattle.file_blocks.specs.Parse.{Block}
 use Rattle.base_text.specs.Digits.{numeral, lastDigits}
 use Rattle.base_text.specs.Doc.{text, decimal, hexadecimal, hexadecimal8, hexadecimal16, print}
+use Rattle.file_keys.specs.Order.{insert, sortByKey}
 use Rattle.plan_groups.specs.Limit.{partLimit}
 use Rattle.plan_exits.specs.Exits.{exits, instrExits}
 use Rattle.base_forest.specs.Roots.{follow}
 use Rattle.plan_search.specs.Target.{target}
-use Rattle.plan_groups.specs.Plan.{joinExits, joinBlocks, parents, withRoot, insert, sortByKey}
+use Rattle.plan_groups.specs.Plan.{joinExits, joinBlocks, parents, withRoot}
 use Rattle.plan_groups.specs.Plan.{parts, groupsFrom, groups}
 use Rattle.base_hash.specs.Fnv.{hashMultiplier, fnvFrom, fnv64}
 use Rattle.lower_forms.specs.Block.{emitInstr, emitInstrs, bodyOf}

@@ -15,9 +15,10 @@ use lib.Dec.{eqb}
 use Rattle.file_blocks.specs.Parse.{Block, blockKey}
 use Rattle.base_forest.specs.Roots.{root}
 use Rattle.base_lists.specs.Lists.{range, count}
-use Rattle.plan_groups.specs.Plan.{parents, withRoot, members, sortByKey, parts, groupsFrom}
+use Rattle.file_keys.specs.Order.{sortByKey}
+use Rattle.plan_groups.specs.Plan.{parents, withRoot, members, parts, groupsFrom}
 use Rattle.plan_groups.specs.Plan.{groups}
-use Rattle.plan_groups.proofs.Cutting.{NoFall, sort-count, sort-member, sort-sorted}
+use Rattle.file_keys.proofs.Sorted.{NoFall, sort-count, sort-member, sort-sorted}
 use Rattle.plan_groups.proofs.Cutting.{parts-all}
 use Rattle.plan_groups.proofs.Edges.{root-block}
 use Rattle.base_lists.proofs.Counts.{count-append, count-here, count-other, none-counted}

@@ -15,7 +15,8 @@ use Rattle.plan_groups.specs.Plan.{parents, groupsFrom, groups}
 use Rattle.plan_groups.proofs.Components.{component, countsOf, component-member}
 use Rattle.plan_groups.proofs.Components.{component-rises, components-once, groups-flat}
 use Rattle.plan_groups.proofs.Components.{groups-part}
-use Rattle.plan_groups.proofs.Cutting.{NoFall, sort-order, instructions}
+use Rattle.file_keys.proofs.Sorted.{NoFall, sort-order}
+use Rattle.plan_groups.proofs.Cutting.{instructions}
 use Rattle.plan_groups.proofs.Cutting.{part-fits, part-piece}
 use Rattle.plan_groups.proofs.Edges.{joinsAt, root-self, root-alone}
 use Rattle.base_lists.proofs.Counts.{stands, count-in, one-list}

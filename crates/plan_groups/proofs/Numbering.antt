@@ -6,6 +6,7 @@ use mathlib.Core.List.{List, [], _∷_, _++_, map, append-assoc}
 use Prim.Native.Nat.{ℕ, zero, suc, zero-le, _+_, _≤_, _<_}
 use native.Mathlib.Nat.{zero-add, le-refl}
 use native.Mathlib.Numerals.{one-add}
+use Rattle.file_keys.specs.Order.{insert, sortByKey}
 use Rattle.plan_groups.proofs.Components.{countsOf}
 use Rattle.plan_groups.proofs.Ordering.{length-numbers}
 use native.Mathlib.Omega.{arith}
@@ -16,7 +17,7 @@ use lib.Dec.{eqb}
 use Rattle.file_blocks.specs.Parse.{Block, blockKey}
 use Rattle.base_forest.specs.Roots.{root}
 use Rattle.plan_groups.specs.Order.{withRootIn, orderFrom, numbersOf, nextGroup, numbersFrom}
-use Rattle.plan_groups.specs.Plan.{withRoot, members, closes, insert, sortByKey}
+use Rattle.plan_groups.specs.Plan.{withRoot, members, closes}
 use Rattle.base_lists.specs.Lists.{isEmpty}
 use Rattle.plan_groups.specs.Plan.{parts, groupsFrom, groups, groupRows, rowsFrom, plan}
 use Rattle.plan_groups.specs.Plan.{parents}

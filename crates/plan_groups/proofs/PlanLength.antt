@@ -11,8 +11,9 @@ use lib.ListN.{length, getD, length-append}
 use Rattle.file_blocks.specs.Parse.{Block, blockKey}
 use Rattle.base_forest.specs.Roots.{root}
 use Rattle.base_lists.specs.Lists.{range}
+use Rattle.file_keys.specs.Order.{insert, sortByKey}
 use Rattle.plan_groups.specs.Order.{withRootIn, orderFrom}
-use Rattle.plan_groups.specs.Plan.{parents, members, insert, sortByKey, groups, groupRows}
+use Rattle.plan_groups.specs.Plan.{parents, members, groups, groupRows}
 use Rattle.plan_groups.specs.Plan.{rowsFrom, plan}
 use Rattle.plan_groups.proofs.Components.{component, groups-flat}
 use Rattle.plan_groups.proofs.Edges.{root-block}

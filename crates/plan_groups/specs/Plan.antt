@@ -5,8 +5,9 @@ use mathlib.Core.Bool.{Bool, not, cond, _&&_}
 use mathlib.Core.List.{List, [], _∷_, _++_, map}
 use mathlib.Core.Option.{Option, none, some}
 use lib.ListN.{length, getD}
-use lib.Dec.{leb, ltb, eqb}
+use lib.Dec.{ltb, eqb}
 use Rattle.file_blocks.specs.Parse.{Block, blockKey}
+use Rattle.file_keys.specs.Order.{sortByKey}
 use Rattle.plan_exits.specs.Exits.{exits}
 use Rattle.base_forest.specs.Roots.{root, hang}
 use Rattle.base_lists.specs.Lists.{isEmpty, range}
@@ -44,17 +45,6 @@ withRoot rootOf r (suc n) i =
 -- the component (document 01) with root r, among n blocks with these parents
 abbrev pub members : List ℕ → ℕ → ℕ → List ℕ
 members p r n = withRoot (root p) r n 0
-
--- a number before the first one whose key is not below its own
-unfoldable pub insert : List ℕ → ℕ → List ℕ → List ℕ
-insert keys i [] = i ∷ []
-insert keys i (j ∷ js) =
-    cond (leb (getD keys i 0) (getD keys j 0)) (i ∷ j ∷ js) (j ∷ insert keys i js)
-
--- numbers in the order of their keys
-unfoldable pub sortByKey : List ℕ → List ℕ → List ℕ
-sortByKey keys [] = []
-sortByKey keys (i ∷ is) = insert keys i (sortByKey keys is)
 
 -- a part as a list of one, or no part where it is empty
 abbrev pub asParts : List ℕ → List (List ℕ)
