@@ -20,11 +20,11 @@ use Rattle.lower_units.specs.Measured.{hashedIf}
 use Rattle.lower_units.specs.Units.{labelled, forwarders, emitGroup, defaultBody, bodiesOf}
 use Rattle.emit_tables.specs.Heads.{blockOpen, functionEnd, groupOpen, switchEnd}
 use Rattle.emit_tables.proofs.Units.{block-text, group-text, member-text}
-use Rattle.emit_tables.specs.Tables.{fileKeys, HaveKeys}
+use Rattle.emit_tables.specs.Tables.{HaveKeys}
 use Rattle.emit_tables.proofs.Around.{member-keys}
 use Rattle.emit_group.specs.Groups.{fileBodies, memberText, labelledText, membersText}
 use Rattle.emit_group.specs.Groups.{groupText}
-use Rattle.plan_members.specs.Members.{groupKeys}
+use Rattle.plan_members.specs.Members.{fileKeys, groupKeys}
 
 -- the members of a group, one by one
 pub members-each : (written : Bool) (f ks is : List ℕ) (k : List ℕ)

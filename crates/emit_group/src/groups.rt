@@ -2,7 +2,6 @@
 use emit_block::Member;
 use emit_block::emit_block;
 use emit_flow::put_label;
-use emit_tables::Rows;
 use emit_tables::put_block_head;
 use emit_tables::put_cases;
 use emit_tables::put_forwarders;
@@ -10,9 +9,10 @@ use emit_tables::put_function_end;
 use emit_tables::put_group_head;
 use emit_tables::put_member_end;
 use emit_tables::put_switch_end;
-use emit_tables::row_key;
+use plan_members::Rows;
 use plan_members::row_block;
 use plan_members::row_group;
+use plan_members::row_key;
 ghost use mathlib.Core.Path.{_≡_};
 ghost use mathlib.Core.Bool.{true};
 ghost use mathlib.Core.List.{List};
@@ -22,7 +22,7 @@ ghost use Rattle.base_text.specs.Wrote.{Wrote};
 ghost use Rattle.file_blocks.specs.Parse.{blocksOf};
 ghost use Rattle.plan_members.specs.Members.{membersOf, groupKeys, keysWithin};
 ghost use Rattle.emit_block.specs.Walk.{IsMember};
-ghost use Rattle.emit_tables.specs.Tables.{HasRows, IsGroup, IsRow};
+ghost use Rattle.plan_members.specs.GroupRows.{HasRows, IsGroup, IsRow};
 ghost use Rattle.emit_group.specs.Groups.{memberText, labelledText, membersText, groupText};
 ghost use Rattle.plan_groups.specs.Groups.{HasRoom};
 

@@ -1,38 +1,10 @@
--- Steps: the keys that a unit has around the code of its blocks, those of a file's blocks and those
--- of a group's members in its rows.
-use Prim.Native.Nat.{ℕ, suc, _+_, _≤_, _<_}
+-- Steps: bodies by the keys that a unit has around their code.
+use Prim.Native.Nat.{ℕ}
 use mathlib.Core.Path.{_≡_}
 use mathlib.Core.List.{List, map}
-use lib.ListN.{length}
-use Rattle.file_blocks.specs.Parse.{blocksOf, blockKey}
-use Rattle.plan_groups.specs.Plan.{groups}
-use Rattle.plan_groups.specs.Groups.{HasRoom}
-use Rattle.plan_members.specs.Members.{membersOf, startOf}
-use Rattle.plan_members.specs.Prepared.{HoldsPlan}
 use Rattle.lower_forms.specs.Forms.{Body}
-use Rattle.emit_tables.specs.declared.group_rows.Rows.{Rows}
 use Rattle.lower_units.specs.Block.{bodyKey}
-
--- the keys of the blocks of a file
-abbrev pub fileKeys : List ℕ → List ℕ
-fileKeys f = map blockKey (blocksOf f)
 
 -- bodies with some keys: of a body, what stands around the code shows its key alone
 abbrev pub HaveKeys : List Body → List ℕ → Type 0
 HaveKeys bs ks = map bodyKey bs ≡ ks
-
--- the work numbers have some rows, one at least
-abbrev pub HasRows : List ℕ → List ℕ → Rows → Type 0
-HasRows f work r = HasRoom f work (r .blocks) × (r .first < r .end) × (r .end ≤ r .blocks)
-
--- some rows are those of group g
-pub record IsGroup (f : List ℕ) (limit : ℕ) (work : List ℕ) (g : ℕ) (r : Rows) : Type 0 where
-  pub ready : HoldsPlan f (r .blocks) limit work
-  pub first : r .first ≡ startOf (groups limit (blocksOf f)) g
-  pub next : r .end ≡ startOf (groups limit (blocksOf f)) (suc g)
-
--- row p is that of member k of group g, in a file of n blocks
-pub record IsRow (f : List ℕ) (n limit : ℕ) (work : List ℕ) (g k p : ℕ) : Type 0 where
-  pub ready : HoldsPlan f n limit work
-  pub place : p ≡ startOf (groups limit (blocksOf f)) g + k
-  pub inside : k < length (membersOf limit (blocksOf f) g)

@@ -1,10 +1,10 @@
 // The end of the last unit: declarations, table and count of all blocks.
-use crate::keys::block_key;
 use crate::tables::put_count;
 use crate::tables::put_extern;
 use crate::tables::put_row;
 use crate::tables::put_table_end;
 use crate::tables::put_table_head;
+use plan_members::block_key;
 ghost use mathlib.Core.Path.{_≡_};
 ghost use mathlib.Core.List.{List};
 ghost use Prim.Native.Nat.{ℕ};
@@ -16,7 +16,8 @@ ghost use Rattle.c_tree.specs.Stmt.{extern};
 ghost use Rattle.c_tree.specs.Print.{rowText, topText, unitText};
 ghost use Rattle.lower_forms.specs.Forms.{Body};
 ghost use Rattle.lower_units.specs.Units.{lastUnitEnd};
-ghost use Rattle.emit_tables.specs.Tables.{fileKeys, HaveKeys};
+ghost use Rattle.plan_members.specs.Members.{fileKeys};
+ghost use Rattle.emit_tables.specs.Tables.{HaveKeys};
 
 // The declarations of the functions of n blocks.
 fn put_externs(out: &mut [u8], at: usize, file: &[u8], n: usize) -> usize

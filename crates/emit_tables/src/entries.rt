@@ -1,8 +1,8 @@
 // The entries of a group's function: the cases of its switch, and the functions of its members.
-use crate::group_rows::Rows;
 use crate::heads::put_case;
 use crate::heads::put_forwarder;
-use crate::keys::row_key;
+use plan_members::Rows;
+use plan_members::row_key;
 ghost use mathlib.Core.List.{List, _∷_, map};
 ghost use Prim.Native.Nat.{ℕ};
 ghost use Rattle.base_text.specs.Wrote.{Wrote};
@@ -10,8 +10,9 @@ ghost use Rattle.c_tree.specs.Print.{casesText, unitText};
 ghost use Rattle.lower_forms.specs.Forms.{Body};
 ghost use Rattle.lower_units.specs.Block.{bodyKey};
 ghost use Rattle.lower_units.specs.Units.{forwarders};
-ghost use Rattle.emit_tables.specs.Tables.{HaveKeys, HasRows, IsGroup};
 ghost use Rattle.plan_members.specs.Members.{groupKeys};
+ghost use Rattle.plan_members.specs.GroupRows.{HasRows, IsGroup};
+ghost use Rattle.emit_tables.specs.Tables.{HaveKeys};
 
 // The cases of the group in some rows.
 pub fn put_cases(out: &mut [u8], at: usize, file: &[u8], work: &[u32], rows: Rows) -> usize

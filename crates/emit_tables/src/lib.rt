@@ -3,20 +3,16 @@
 // index `at` of a lent buffer, and answers the index after it.
 mod ends;
 mod entries;
-mod group_rows;
 mod heads;
-mod keys;
 mod opening;
 mod tables;
 
 pub use ends::put_tail;
 pub use entries::put_cases;
 pub use entries::put_forwarders;
-pub use group_rows::Rows;
 pub use heads::put_block_head;
 pub use heads::put_function_end;
 pub use heads::put_group_head;
 pub use heads::put_member_end;
 pub use heads::put_switch_end;
-pub use keys::row_key;
 pub use opening::put_preamble;

@@ -30,8 +30,8 @@ use Rattle.lower_forms.specs.Block.{bodyOf}
 use Rattle.lower_units.specs.Units.{TranslationUnit, emitGroup, textOf, defaultBody, bodiesOf}
 use Rattle.lower_units.specs.Units.{unitsBy, units}
 use Rattle.lower_units.proofs.Lengths.{membersMost, group-within, units-within, units-short}
-use Rattle.emit_tables.specs.declared.group_rows.Rows.{Rows}
-use Rattle.emit_tables.specs.Tables.{IsGroup}
+use Rattle.plan_members.specs.declared.group_rows.Rows.{Rows}
+use Rattle.plan_members.specs.GroupRows.{IsGroup}
 use Rattle.emit_group.specs.Groups.{fileBodies}
 use Rattle.emit_units.specs.Bounds.{IsBlockBound, Bounds}
 

@@ -1,7 +1,7 @@
 // How long a unit is at most, by the instructions of the longest group.
-use emit_tables::Rows;
 use file_blocks::FoundBlock;
 use file_blocks::block_at;
+use plan_members::Rows;
 use plan_members::group_end;
 use plan_members::row_block;
 ghost use mathlib.Core.Path.{_≡_};
@@ -13,7 +13,7 @@ ghost use Rattle.lower_units.specs.Units.{emitGroup, textOf, bodiesOf};
 ghost use Rattle.plan_groups.specs.Groups.{HasRoom};
 ghost use Rattle.plan_members.specs.Members.{membersOf};
 ghost use Rattle.plan_members.specs.Prepared.{HoldsPlan};
-ghost use Rattle.emit_tables.specs.Tables.{HasRows, IsGroup};
+ghost use Rattle.plan_members.specs.GroupRows.{HasRows, IsGroup};
 ghost use Rattle.emit_group.specs.Groups.{fileBodies};
 ghost use Rattle.emit_units.specs.Bounds.{IsBlockBound, Bounds};
 

@@ -1,8 +1,8 @@
 // A unit: the rows that it takes, its length, and its text.
 use emit_group::emit_group;
-use emit_tables::Rows;
 use emit_tables::put_preamble;
 use emit_tables::put_tail;
+use plan_members::Rows;
 use plan_members::group_end;
 ghost use mathlib.Core.Path.{_≡_};
 ghost use Prim.Native.Nat.{ℕ, _≤_};

@@ -4,3 +4,4 @@ pub mod GroupOf
 pub mod Groups
 pub mod Places
 mod Preparing
+pub mod RowKeys

@@ -1,5 +1,6 @@
 -- The definitions that the crate's promises name.
 pub mod Answers
+pub mod GroupRows
 pub mod Members
 pub mod Numbers
 pub mod Prepared

@@ -2,7 +2,7 @@
 -- Assumes nothing.
 use borrow.Author.Needs.{needs}
 use native.Mathlib.Omega.{arith}
-use Rattle.emit_tables.proofs.Rows.{group-size}
+use Rattle.plan_members.proofs.RowKeys.{group-size}
 use Rattle.emit_group.proofs.groups.emit_group.Statement.{statement}
 use Rattle.emit_group.proofs.groups.emit_group.Tie as tie
 

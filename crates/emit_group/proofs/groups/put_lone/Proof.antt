@@ -8,7 +8,7 @@ use mathlib.Core.List.{[]}
 use mathlib.Core.Path.{_≡_, sym, ap}
 use native.Mathlib.Omega.{arith}
 use Rattle.emit_tables.proofs.Around.{hashed-member-keys}
-use Rattle.emit_tables.proofs.Rows.{group-size, row-first}
+use Rattle.plan_members.proofs.RowKeys.{group-size, row-first}
 use Rattle.base_hash.specs.Fnv.{hashMultiplier}
 use Rattle.plan_members.specs.Members.{membersOf, groupKeys}
 use Rattle.file_blocks.specs.Parse.{blocksOf}

@@ -6,8 +6,8 @@ use lib.ListN.{length, take}
 use mathlib.Core.List.{[]}
 use mathlib.Core.Path.{_≡_, refl, _∙_}
 use native.Mathlib.Omega.{arith}
-use Rattle.emit_tables.proofs.Rows.{group-size, row-of}
-use Rattle.emit_tables.specs.Tables.{IsGroup}
+use Rattle.plan_members.proofs.RowKeys.{group-size, row-of}
+use Rattle.plan_members.specs.GroupRows.{IsGroup}
 use Rattle.plan_members.specs.Members.{membersOf, groupKeys}
 use Rattle.file_blocks.specs.Parse.{blocksOf}
 use Rattle.base_text.proofs.Laws.{none, wrote-as, each-more, each-all}

@@ -4,7 +4,7 @@ use borrow.Author.Needs.{needs}
 use mathlib.Core.List.{map}
 use native.Mathlib.Omega.{arith}
 use Rattle.emit_tables.proofs.Around.{hashed-member-keys}
-use Rattle.emit_tables.proofs.Rows.{row-first}
+use Rattle.plan_members.proofs.RowKeys.{row-first}
 use Rattle.base_hash.specs.Fnv.{hashMultiplier}
 use Rattle.lower_units.specs.Measured.{hashedIf}
 use Rattle.lower_units.specs.Units.{bodiesOf}

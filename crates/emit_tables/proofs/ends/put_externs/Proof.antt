@@ -12,10 +12,10 @@ use Rattle.base_text.proofs.Laws.{none, wrote-as, each-more, each-all, kept}
 use Rattle.base_text.specs.Doc.{each}
 use Rattle.base_text.specs.Flat.{flat}
 use Rattle.base_text.specs.Wrote.{Wrote}
-use Rattle.emit_tables.proofs.Rows.{file-length}
+use Rattle.plan_members.proofs.RowKeys.{file-length}
 use Rattle.emit_tables.proofs.ends.put_externs.Statement.{statement}
 use Rattle.emit_tables.proofs.ends.put_externs.Tie as tie
-use Rattle.emit_tables.specs.Tables.{fileKeys}
+use Rattle.plan_members.specs.Members.{fileKeys}
 
 abbrev Inv-loop : tie.InvT-loop
 Inv-loop out₀ at file n p₀ i₀ out p i =

@@ -5,7 +5,7 @@ use mathlib.Core.List.{[]}
 use mathlib.Core.Path.{sym, _∙_}
 use Rattle.base_text.proofs.Laws.{seq, wrote-as}
 use Rattle.emit_tables.proofs.Around.{end-keys}
-use Rattle.emit_tables.proofs.Rows.{file-length}
+use Rattle.plan_members.proofs.RowKeys.{file-length}
 use Rattle.emit_tables.proofs.ends.put_tail.Statement.{statement}
 use Rattle.emit_tables.proofs.ends.put_tail.Tie as tie
 

@@ -13,10 +13,10 @@ use Rattle.base_text.proofs.Laws.{none, wrote-as, kept}
 use Rattle.base_text.specs.Doc.{Doc}
 use Rattle.base_text.specs.Wrote.{Wrote}
 use Rattle.emit_tables.proofs.Around.{numbered, numbered-more, cases-keys}
-use Rattle.emit_tables.proofs.Rows.{group-size, keys-size, row-of}
+use Rattle.plan_members.proofs.RowKeys.{group-size, keys-size, row-of}
 use Rattle.emit_tables.proofs.entries.put_cases.Statement.{statement}
 use Rattle.emit_tables.proofs.entries.put_cases.Tie as tie
-use Rattle.emit_tables.specs.Tables.{IsGroup}
+use Rattle.plan_members.specs.GroupRows.{IsGroup}
 
 abbrev case : ℕ → ℕ → Doc
 case n key = casesText n (key ∷ [])

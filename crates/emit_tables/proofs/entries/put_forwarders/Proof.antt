@@ -11,10 +11,10 @@ use Rattle.file_blocks.specs.Parse.{blocksOf}
 use Rattle.base_text.proofs.Laws.{none, seq, wrote-as, kept}
 use Rattle.base_text.specs.Wrote.{Wrote}
 use Rattle.emit_tables.proofs.Around.{numbered, numbered-more, entry, forwarders-keys}
-use Rattle.emit_tables.proofs.Rows.{group-size, keys-size, row-first, row-of}
+use Rattle.plan_members.proofs.RowKeys.{group-size, keys-size, row-first, row-of}
 use Rattle.emit_tables.proofs.entries.put_forwarders.Statement.{statement}
 use Rattle.emit_tables.proofs.entries.put_forwarders.Tie as tie
-use Rattle.emit_tables.specs.Tables.{IsGroup}
+use Rattle.plan_members.specs.GroupRows.{IsGroup}
 
 abbrev Inv-loop : tie.InvT-loop
 Inv-loop out₀ at file work rows group size q₀ k₀ t12 out q k =

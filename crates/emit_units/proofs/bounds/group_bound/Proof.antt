@@ -6,7 +6,7 @@ use borrow.Author.Needs.{needs}
 use mathlib.Core.Path.{subst}
 use native.Mathlib.Omega.{arith}
 use Rattle.emit_units.specs.Bounds.{IsBlockBound}
-use Rattle.emit_tables.specs.Tables.{IsGroup}
+use Rattle.plan_members.specs.GroupRows.{IsGroup}
 use Rattle.emit_units.proofs.Bounded.{BoundTo, bound-none, bound-more, bound-all, rows-all}
 use Rattle.emit_units.proofs.bounds.group_bound.Statement.{statement}
 use Rattle.emit_units.proofs.bounds.group_bound.Tie as tie

@@ -1,17 +1,17 @@
 // The keys of blocks, by their numbers and by the rows of a plan.
+use crate::rows::row_block;
 use file_blocks::FoundBlock;
 use file_blocks::block_at;
 use file_blocks::key_of;
-use plan_members::row_block;
 ghost use mathlib.Core.Path.{_≡_};
 ghost use Prim.Native.Nat.{ℕ, _<_};
 ghost use lib.ListN.{length, getD};
 ghost use Rattle.file_blocks.specs.Parse.{Accepted};
-ghost use Rattle.plan_members.specs.Members.{groupKeys};
-ghost use Rattle.emit_tables.specs.Tables.{fileKeys, IsRow};
+ghost use Rattle.plan_members.specs.Members.{fileKeys, groupKeys};
+ghost use Rattle.plan_members.specs.GroupRows.{IsRow};
 
 // The key of block i, or 0 where there is none.
-pub(crate) fn block_key(file: &[u8], i: usize) -> u32
+pub fn block_key(file: &[u8], i: usize) -> u32
     ensures { λ r. ⌜
         (Accepted (now (file .entry)) → r ≡ getD (fileKeys (now (file .entry))) i 0)
         ⌝ }

@@ -17,10 +17,10 @@ use Rattle.file_blocks.proofs.IsBlock.{missing, block-inside, block-record}
 use Rattle.file_blocks.proofs.OwnKey.{key-plus}
 use Rattle.file_blocks.proofs.Keys.{block-key}
 use Rattle.base_lists.proofs.Places.{map-at}
-use Rattle.plan_members.specs.Members.{membersOf, groupKeys}
+use Rattle.plan_members.specs.Members.{membersOf, fileKeys, groupKeys}
 use Rattle.plan_members.proofs.Places.{start-next}
-use Rattle.emit_tables.specs.declared.group_rows.Rows.{Rows}
-use Rattle.emit_tables.specs.Tables.{fileKeys, IsGroup, IsRow}
+use Rattle.plan_members.specs.declared.group_rows.Rows.{Rows}
+use Rattle.plan_members.specs.GroupRows.{IsGroup, IsRow}
 
 -- as many as blocks
 pub file-length : (f : List ℕ) → Accepted f → length (fileKeys f) ≡ blockCount f

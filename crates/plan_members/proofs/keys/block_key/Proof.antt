@@ -2,9 +2,9 @@
 -- Assumes nothing.
 use borrow.Author.Needs.{needs}
 use mathlib.Core.Path.{sym, _∙_}
-use Rattle.emit_tables.proofs.Rows.{key-found, key-missing}
-use Rattle.emit_tables.proofs.keys.block_key.Statement.{statement}
-use Rattle.emit_tables.proofs.keys.block_key.Tie as tie
+use Rattle.plan_members.proofs.RowKeys.{key-found, key-missing}
+use Rattle.plan_members.proofs.keys.block_key.Statement.{statement}
+use Rattle.plan_members.proofs.keys.block_key.Tie as tie
 
 returns : tie.Need-returns
 returns c = key-missing _ _ (sym (c .before .before .block-at .ensures) ∙ c .enum-told .given .1)

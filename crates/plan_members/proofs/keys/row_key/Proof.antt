@@ -1,9 +1,9 @@
 -- `row_key` is the key of the block that stands in the row.
 -- Assumes nothing.
 use borrow.Author.Needs.{needs}
-use Rattle.emit_tables.proofs.Rows.{key-member}
-use Rattle.emit_tables.proofs.keys.row_key.Statement.{statement}
-use Rattle.emit_tables.proofs.keys.row_key.Tie as tie
+use Rattle.plan_members.proofs.RowKeys.{key-member}
+use Rattle.plan_members.proofs.keys.row_key.Statement.{statement}
+use Rattle.plan_members.proofs.keys.row_key.Tie as tie
 
 returns : tie.Need-returns
 returns c = λ n limit g k row.
