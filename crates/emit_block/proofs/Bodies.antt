@@ -106,15 +106,15 @@ module _ {f : List ℕ} {r : BlockRecord} {first : ℕ} {b : Body} (body : IsBod
 pub block-here : {f work : List ℕ} {m : Member} {ks : List ℕ} {r : BlockRecord} {first : ℕ}
     (q : FoundBlock) → IsMember f work m ks
     → q ≡ foundBlock f (m .index) → q ≡ FoundBlock.At r
-    → ((g : List ℕ) (limit : ℕ) → HoldsPlan g (m .blocks) limit work
+    → ((g : List ℕ) (limit : ℕ) → HoldsPlan g (m .rows .blocks) limit work
     → first ≡ countSum g (m .index))
     → IsBlock f (m .index) r first
 block-here {f} q s e g starts =
     record {
-      accepted = s .ready .accepted;
+      accepted = s .rows .ready .accepted;
       found = sym e
           ∙ g;
-      starts = starts f (s .limit) (s .ready);
+      starts = starts f (s .limit) (s .rows .ready);
     }
 
 guarded-code : (ks : List ℕ) (b : Body) → outsideRomBios (b .addr) ≡ true → (h : Option ℕ)

@@ -2,15 +2,13 @@
 -- still to be written.
 use Prim.Native.Nat.{ℕ, suc, _+_, _*_, _≤_, _<_}
 use mathlib.Core.Path.{_≡_}
-use mathlib.Core.Bool.{true, false, cond}
+use mathlib.Core.Bool.{false, cond}
 use mathlib.Core.List.{List}
-use lib.ListN.{length, drop}
+use lib.ListN.{drop}
 use Rattle.file_blocks.specs.declared.read.BlockRecord.{BlockRecord}
-use Rattle.file_blocks.specs.Parse.{blocksOf}
 use Rattle.file_blocks.specs.Read.{IsBlock, instrsOf}
-use Rattle.plan_groups.specs.Groups.{HasRoom}
-use Rattle.plan_members.specs.Members.{membersOf, keysWithin}
-use Rattle.plan_members.specs.Prepared.{HoldsPlan}
+use Rattle.plan_members.specs.Members.{keysWithin}
+use Rattle.plan_members.specs.GroupRows.{HasRow, IsGroup}
 use Rattle.c_tree.specs.Stmt.{end}
 use Rattle.lower_forms.specs.Forms.{Form, Body}
 use Rattle.lower_forms.specs.Block.{emitInstrs}
@@ -36,18 +34,17 @@ pub record IsBody (f : List ℕ) (r : BlockRecord) (first : ℕ) (b : Body) : Ty
   pub pending : b .pending ≡ formsFrom f r first 0 0 .1
 
 -- where a block stands in the plan that the work numbers have: ks are the keys that a transfer goes
--- to by a goto, those of its group where `several` is true, and none where it is false; it is true
--- only for a group of two or more
+-- to by a goto, those of its group where `several` is true, and none where it is false
 pub record IsMember (f work : List ℕ) (m : Member) (ks : List ℕ) : Type 0 where
   pub limit : ℕ
-  pub ready : HoldsPlan f (m .blocks) limit work
-  pub inside : m .index < m .blocks
-  pub several : m .several ≡ true → 2 ≤ length (membersOf limit (blocksOf f) (m .group))
-  pub keys : ks ≡ keysWithin (m .several) limit f (m .group)
+  pub group : ℕ
+  pub rows : IsGroup f limit work group (m .rows)
+  pub inside : m .index < m .rows .blocks
+  pub keys : ks ≡ keysWithin (m .several) limit f group
 
 -- the work numbers have the row of a block
 abbrev pub HasBlock : List ℕ → List ℕ → Member → Type 0
-HasBlock f work m = HasRoom f work (m .blocks) × (m .index < m .blocks)
+HasBlock f work m = HasRow f work (m .rows) (m .place) × (m .index < m .rows .blocks)
 
 -- a block of an accepted file, as the walk has it
 pub record IsMemberBlock (f work : List ℕ) (m : MemberBlock) (ks : List ℕ) (b : Body) : Type 0 where

@@ -79,7 +79,7 @@ pub fn emit_block(
     let b = MemberBlock {
         member: m,
         block,
-        first: first_of(work, m.blocks, m.index),
+        first: first_of(work, m.rows.blocks, m.index),
     };
     if !is_guarded(block.addr) {
         return emit_records(out, at, file, work, b);

@@ -1,5 +1,6 @@
 // Where a block stands in the plan, and whether a transfer from it stays in its group.
 use file_blocks::BlockRecord;
+use plan_members::Rows;
 use plan_members::in_group;
 ghost use mathlib.Core.Path.{_≡_};
 ghost use mathlib.Core.List.{List};
@@ -9,12 +10,12 @@ ghost use Rattle.emit_block.specs.Walk.{IsMember, HasBlock};
 
 // A block, as it stands in the plan.
 pub struct Member {
-    // How many blocks the file has.
-    pub blocks: usize,
-    // The number of this one.
+    // Its number.
     pub index: usize,
-    // The number of its group.
-    pub group: u32,
+    // The rows of its group.
+    pub rows: Rows,
+    // Its place among the members of the group.
+    pub place: usize,
     // Whether the group has other blocks.
     pub several: bool,
 }
@@ -35,7 +36,7 @@ pub(crate) fn is_inside(file: &[u8], work: &[u32], m: Member, key: u32) -> bool
         ⌝ }
 {
     if m.several {
-        in_group(file, work, m.blocks, m.group, m.index, key)
+        in_group(file, work, m.rows, m.place, key)
     } else {
         false
     }

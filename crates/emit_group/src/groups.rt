@@ -11,10 +11,8 @@ use emit_tables::put_member_end;
 use emit_tables::put_switch_end;
 use plan_members::Rows;
 use plan_members::row_block;
-use plan_members::row_group;
 use plan_members::row_key;
 ghost use mathlib.Core.Path.{_≡_};
-ghost use mathlib.Core.Bool.{true};
 ghost use mathlib.Core.List.{List};
 ghost use Prim.Native.Nat.{ℕ, _+_, _*_, _≤_, _<_};
 ghost use lib.ListN.{length, getD};
@@ -22,42 +20,46 @@ ghost use Rattle.base_text.specs.Wrote.{Wrote};
 ghost use Rattle.file_blocks.specs.Parse.{blocksOf};
 ghost use Rattle.plan_members.specs.Members.{membersOf, groupKeys, keysWithin};
 ghost use Rattle.emit_block.specs.Walk.{IsMember};
-ghost use Rattle.plan_members.specs.GroupRows.{HasRows, IsGroup, IsRow};
+ghost use Rattle.plan_members.specs.GroupRows.{HasRows, HasRow, IsGroup};
 ghost use Rattle.emit_group.specs.Groups.{memberText, labelledText, membersText, groupText};
-ghost use Rattle.plan_groups.specs.Groups.{HasRoom};
 
-// The block in row p of a plan of n blocks; several: its group has others.
-fn member_at(work: &[u32], n: usize, p: usize, several: bool) -> Member
-    requires { ⌜ (4 * n ≤ length (now work)) × (n ≤ 65536) × (p < n) ⌝ }
-    ensures blocks { λ r. ⌜ r .blocks ≡ n ⌝ }
+// Member k of the group in some rows; several: the group has others.
+fn member_at(work: &[u32], rows: Rows, k: usize, several: bool) -> Member
+    requires { ⌜
+        (4 * rows .blocks ≤ length (now work)) × (rows .blocks ≤ 65536)
+        × (rows .end ≤ rows .blocks) × (rows .first + k < rows .end)
+        ⌝ }
+    ensures row { λ r. ⌜
+        ((f : List ℕ) → HasRow f (now (work .entry)) rows k
+        → HasRow f (now (work .entry)) (r .rows) (r .place))
+        ⌝ }
     ensures number { λ r. ⌜
-        ((f : List ℕ) (limit g k : ℕ) → IsRow f n limit (now (work .entry)) g k p
+        ((f : List ℕ) (limit g : ℕ) → IsGroup f limit (now (work .entry)) g rows
         → r .index ≡ getD (membersOf limit (blocksOf f) g) k 0)
         ⌝ }
     ensures stands { λ r. ⌜
-        ((f : List ℕ) (limit g k : ℕ) → IsRow f n limit (now (work .entry)) g k p
-        → (several ≡ true → 2 ≤ length (membersOf limit (blocksOf f) g))
+        ((f : List ℕ) (limit g : ℕ) → IsGroup f limit (now (work .entry)) g rows
         → IsMember f (now (work .entry)) r (keysWithin several limit f g))
         ⌝ }
 {
     Member {
-        blocks: n,
-        index: row_block(work, p),
-        group: row_group(work, n, p),
+        index: row_block(work, rows.first + k),
+        rows,
+        place: k,
         several,
     }
 }
 
 // The code of a block.
 fn put_code(out: &mut [u8], at: usize, file: &[u8], work: &[u32], m: Member, hashing: bool) -> usize
-    requires { ⌜ HasRoom (now file) (now work) (m .blocks) ⌝ }
+    requires { ⌜ HasRow (now file) (now work) (m .rows) (m .place) ⌝ }
     ensures { λ r. ⌜
         ((ks : List ℕ) → IsMember (now (file .entry)) (now (work .entry)) m ks
         → Wrote (now (out .entry)) at (memberText hashing (now (file .entry)) ks (m .index))
         (now (out .exit)) r)
         ⌝ }
 {
-    if m.index < m.blocks {
+    if m.index < m.rows.blocks {
         emit_block(out, at, file, work, m, hashing)
     } else {
         at
@@ -83,32 +85,31 @@ fn put_lone(
         ⌝ }
 {
     let a = put_block_head(out, at, row_key(file, work, rows.first));
-    let m = member_at(work, rows.blocks, rows.first, false);
+    let m = member_at(work, rows, 0, false);
     let b = put_code(out, a, file, work, m, hashing);
     put_function_end(out, b)
 }
 
-// The label and the code of the block in row p of a plan of n blocks, one of several in its group.
+// The label and the code of member k of the group of several in some rows.
 fn put_member(
     out: &mut [u8],
     at: usize,
     file: &[u8],
     work: &[u32],
-    n: usize,
-    p: usize,
+    rows: Rows,
+    k: usize,
     hashing: bool,
 ) -> usize
-    requires { ⌜ HasRoom (now file) (now work) n × (p < n) ⌝ }
+    requires { ⌜ HasRow (now file) (now work) rows k ⌝ }
     ensures { λ r. ⌜
-        ((limit g k : ℕ) → IsRow (now (file .entry)) n limit (now (work .entry)) g k p
-        → 2 ≤ length (membersOf limit (blocksOf (now (file .entry))) g)
+        ((limit g : ℕ) → IsGroup (now (file .entry)) limit (now (work .entry)) g rows
         → Wrote (now (out .entry)) at
         (labelledText hashing (now (file .entry)) (groupKeys limit (now (file .entry)) g)
         (getD (membersOf limit (blocksOf (now (file .entry))) g) k 0)) (now (out .exit)) r)
         ⌝ }
 {
-    let a = put_label(out, at, row_key(file, work, p));
-    let m = member_at(work, n, p, true);
+    let a = put_label(out, at, row_key(file, work, rows.first + k));
+    let m = member_at(work, rows, k, true);
     let b = put_code(out, a, file, work, m, hashing);
     put_member_end(out, b)
 }
@@ -125,7 +126,6 @@ fn put_members(
     requires { ⌜ HasRows (now file) (now work) rows ⌝ }
     ensures { λ r. ⌜
         ((limit g : ℕ) → IsGroup (now (file .entry)) limit (now (work .entry)) g rows
-        → 2 ≤ length (membersOf limit (blocksOf (now (file .entry))) g)
         → Wrote (now (out .entry)) at
         (membersText hashing (now (file .entry)) (groupKeys limit (now (file .entry)) g)
         (membersOf limit (blocksOf (now (file .entry))) g)) (now (out .exit)) r)
@@ -135,7 +135,7 @@ fn put_members(
     let mut q = at;
     let mut k = 0;
     while k < size {
-        q = put_member(out, q, file, work, rows.blocks, rows.first + k, hashing);
+        q = put_member(out, q, file, work, rows, k, hashing);
         k += 1;
     }
     q

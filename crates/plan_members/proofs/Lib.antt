@@ -1,5 +1,5 @@
 -- The laws that the functions' proofs share.
-pub mod Among
+mod Among
 pub mod GroupOf
 pub mod Groups
 pub mod Places

@@ -1,14 +1,12 @@
 -- Steps: what the readers of the work numbers answer, whichever plan these hold.
-use Prim.Native.Nat.{ℕ, suc, _+_, _≤_, _<_}
+use Prim.Native.Nat.{ℕ, suc, _+_, _<_}
 use mathlib.Core.Path.{_≡_}
-use mathlib.Core.Bool.{Bool}
 use mathlib.Core.List.{List}
 use lib.ListN.{length, getD}
-use Rattle.base_lists.specs.Lists.{among}
 use Rattle.file_records.specs.BlockRecord.{countSum}
 use Rattle.file_blocks.specs.Parse.{blocksOf}
 use Rattle.plan_groups.specs.Plan.{groups}
-use Rattle.plan_members.specs.Members.{membersOf, groupKeys, startOf}
+use Rattle.plan_members.specs.Members.{membersOf, startOf}
 use Rattle.plan_members.specs.Numbers.{GroupsFrom}
 use Rattle.plan_members.specs.Prepared.{HoldsPlan}
 
@@ -41,14 +39,6 @@ IsGroupEnd work n p r =
     → HoldsPlan f n limit work
     → p ≡ startOf (groups limit (blocksOf f)) g
     → r ≡ startOf (groups limit (blocksOf f)) (suc g)
-
--- r says whether a key is that of a member of a group of several
-abbrev pub SaysInGroup : List ℕ → List ℕ → ℕ → ℕ → ℕ → Bool → Type 0
-SaysInGroup f work n g key r =
-    (limit : ℕ)
-    → HoldsPlan f n limit work
-    → 2 ≤ length (membersOf limit (blocksOf f) g)
-    → r ≡ among key (groupKeys limit f g)
 
 -- quarter 1 has the group of row p too, where it had those of the rows after it
 abbrev pub OneRowMore : ℕ → ℕ → List ℕ → List ℕ → Type 0

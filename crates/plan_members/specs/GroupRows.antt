@@ -14,6 +14,10 @@ use Rattle.plan_members.specs.Prepared.{HoldsPlan}
 abbrev pub HasRows : List ℕ → List ℕ → Rows → Type 0
 HasRows f work r = HasRoom f work (r .blocks) × (r .first < r .end) × (r .end ≤ r .blocks)
 
+-- the same, and one of them is that of member k
+abbrev pub HasRow : List ℕ → List ℕ → Rows → ℕ → Type 0
+HasRow f work r k = HasRows f work r × (r .first + k < r .end)
+
 -- some rows are those of group g
 pub record IsGroup (f : List ℕ) (limit : ℕ) (work : List ℕ) (g : ℕ) (r : Rows) : Type 0 where
   pub ready : HoldsPlan f (r .blocks) limit work

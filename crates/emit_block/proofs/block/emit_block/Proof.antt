@@ -22,9 +22,10 @@ returns c =
     λ ks s. absurd
     (omega (
       arith,
-      missing _ (s .ready .accepted) _ (sym (found .block-at .ensures) ∙ c .enum-told .given .1),
+      missing _ (s .rows .ready .accepted) _
+          (sym (found .block-at .ensures) ∙ c .enum-told .given .1),
       at-start .pre .1,
-      at-start .pre .0 .2,
+      at-start .pre .0 .0 .0 .2,
     ))
 
 returns-2 : tie.Need-returns-2
@@ -67,6 +68,14 @@ returns-3 c =
     (hash-absent is (v .hashing) (not-true _ (absent .if2 .taken)))
     (put .emit-defer .ensures ks b (body .addr))
 
+emit-records-requires-2 : tie.Need-emit-records-requires-2
+emit-records-requires-2 c κs =
+    let guard = c .before .before .before in
+    let there = guard .before .before .before .before in
+    let first = there .before .before .before .before in
+    let found = first .before .before .before .before in
+    found .before .before .before .before .pre
+
 returns-4 : tie.Need-returns-4
 returns-4 c =
     let put = c .before .before in
@@ -101,4 +110,4 @@ emit-block-spec =
     (search needs)
     (search needs) returns-2 (search needs) (search needs) returns-3 (search needs) (search needs)
     (search needs)
-    (search needs) (search needs) returns-4)
+    emit-records-requires-2 (search needs) returns-4)

@@ -1,40 +1,35 @@
--- `member_at` reads the number and the group of the block that stands in the row.
+-- `member_at` reads the number of the block that stands in the member's row.
 -- Assumes nothing.
-use Prim.Native.Nat.{ℕ, _≤_}
 use borrow.Author.Needs.{needs}
-use lib.ListN.{length}
-use mathlib.Core.Path.{refl, sym, ap, subst}
+use mathlib.Core.Path.{refl}
 use native.Mathlib.Omega.{arith}
 use Rattle.plan_members.proofs.Places.{row-block-inside}
-use Rattle.plan_members.specs.Members.{membersOf, keysWithin}
-use Rattle.file_blocks.specs.Parse.{blocksOf}
+use Rattle.plan_members.proofs.RowKeys.{group-size, row-of}
 use Rattle.emit_group.proofs.groups.member_at.Statement.{statement}
 use Rattle.emit_group.proofs.groups.member_at.Tie as tie
 
 returns : tie.Need-returns
 returns c =
-    let block = c .before in
-    let a = block .before .before .args in (
-      refl,
+    let at-start = c .before .before .before in
+    let k = at-start .args .k in (
+      λ f row. row,
       (
-        λ f limit g k row. block .row-block .ensures .1 f _ limit g k (row .ready) (row .place)
-            (row .inside),
-        λ f limit g k row some.
-            let same =
-            c .row-group .ensures .1 f limit g k (row .ready) (row .place) (row .inside) in
+        λ f limit g is.
+            let row = row-of is k (omega (arith, group-size is, at-start .pre .1)) in
+            c .row-block .ensures .1 f _ limit g _ (row .ready) (row .place) (row .inside),
+        λ f limit g is.
+            let row = row-of is k (omega (arith, group-size is, at-start .pre .1)) in
             record {
               limit = limit;
-              ready = row .ready;
+              group = g;
+              rows = is;
               inside =
                   omega (
                     arith,
-                    row-block-inside (row .ready) _ g k (row .place) (row .inside),
-                    block .row-block .ensures .0,
+                    row-block-inside (row .ready) _ g _ (row .place) (row .inside),
+                    c .row-block .ensures .0,
                   );
-              several =
-                  λ e. subst (λ (h : ℕ). 2 ≤ length (membersOf limit (blocksOf f) h)) (sym same)
-                  (some e);
-              keys = ap (λ (h : ℕ). keysWithin (a .several) limit f h) (sym same);
+              keys = refl;
             },
       ),
     )

@@ -33,7 +33,7 @@ returns c = λ limit g is some.
     (c1 .before .row-key .ensures _ limit g 0 (row-first is (at-start .pre .1)))
     (c1 .put-group-head .ensures)
     (c2 .put-cases .ensures limit g is ms keys) (c3 .put-switch-end .ensures)
-    (c4 .put-members .ensures limit g is some) (c5 .put-function-end .ensures)
+    (c4 .put-members .ensures limit g is) (c5 .put-function-end .ensures)
     (c6 .put-forwarders .ensures limit g is)
 
 pub put-several-spec : {M : Type 1} → statement M
