@@ -9,10 +9,11 @@
 //     place_blocks   block of each row   next member       group of each row  first member
 //
 // First instructions, parents, roots and next members are by block, first members by root.
-// `prepare` of `plan_members` goes on from here:
+// From here `plan_members` goes on, with `put_groups` for the listing, or with `put_firsts`, in
+// `prepare`, for pages and units:
 //
 //     put_groups     block of each row   group of a block  group of each row  -
-//     put_firsts     block of each row   group of a block  group of each row  first instruction
+//     put_firsts     block of each row   -                 group of each row  first instruction
 use crate::links::as_index;
 use crate::links::link_members;
 use crate::order::count_of;

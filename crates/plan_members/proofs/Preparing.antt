@@ -3,7 +3,6 @@
 use Prim.Native.Nat.{ℕ, _+_, _*_, _≤_, _<_}
 use mathlib.Core.Path.{_≡_, refl, sym, ap, ap₂, _∙_, subst}
 use mathlib.Core.List.{List}
-use mathlib.Core.Logic.{_⊎_, inl, inr}
 use native.Mathlib.Decide.{ℕ-discrete}
 use native.Mathlib.Omega.{arith}
 use lib.ListN.{length, getD, set, take, drop, length-set, length-drop}
@@ -13,9 +12,7 @@ use Rattle.file_records.specs.BlockRecord.{countSum}
 use Rattle.file_blocks.specs.Parse.{Accepted}
 use Rattle.plan_groups.specs.Groups.{Grouped}
 use Rattle.base_lists.specs.Interleave.{interleave}
-use Rattle.plan_members.specs.Numbers.{GroupsFrom}
 use Rattle.plan_members.specs.Prepared.{FirstsInQuarter3, Prepared}
-use Rattle.plan_members.proofs.Groups.{groups-planned, groups-room, groups-past}
 
 pub firsts-none : (f : List ℕ) (n : ℕ) (work : List ℕ) → FirstsInQuarter3 f n 0 work work
 firsts-none f n work =
@@ -73,38 +70,30 @@ quarter-same n at v w room e same =
     (λ k h. getD-drop at w k 0 ∙ same k h ∙ sym (getD-drop at v k 0))
 
 -- the steps one after the other
-module _ {f : List ℕ} {n limit : ℕ} {work work₁ work₂ work₃ : List ℕ} (ok : Accepted f)
+module _ {f : List ℕ} {n limit : ℕ} {work work₁ work₂ : List ℕ} (ok : Accepted f)
     (all : n ≡ blockCount f) (room : 4 * n ≤ length work)
-    (grouped : Grouped f n limit work work₁) (put : GroupsFrom n 0 work₁ work₂)
-    (numbered : FirstsInQuarter3 f n n work₂ work₃) where
-  kept : (k : ℕ) → k < n ⊎ ((2 * n ≤ k) × (k < 3 * n)) → getD work₃ k 0 ≡ getD work₁ k 0
-  kept k (inl h) = numbered .before k (omega arith) ∙ put .before k h
-  kept k (inr h) = numbered .before k (h .1) ∙ put .after k (h .0)
-
-  long : length work₃ ≡ length work₁
-  long = numbered .same ∙ put .same
-
-  same-rows : interleave (take n (drop (2 * n) work₃)) (take n work₃)
+    (grouped : Grouped f n limit work work₁)
+    (numbered : FirstsInQuarter3 f n n work₁ work₂) where
+  same-rows : interleave (take n (drop (2 * n) work₂)) (take n work₂)
       ≡ interleave (take n (drop (2 * n) work₁)) (take n work₁)
   same-rows =
       ap₂ interleave
-      (quarter-same n (2 * n) work₁ work₃ (omega (arith, grouped .same)) long
-      (λ k h. kept (2 * n + k) (inr (omega arith, omega arith))))
-      (front-same n work₁ work₃ (omega (arith, grouped .same)) long (λ k h. kept k (inl h)))
+      (quarter-same n (2 * n) work₁ work₂ (omega (arith, grouped .same)) (numbered .same)
+      (λ k h. numbered .before (2 * n + k) (omega arith)))
+      (front-same n work₁ work₂ (omega (arith, grouped .same)) (numbered .same)
+      (λ k h. numbered .before k (omega arith)))
 
-  pub prepared : Prepared f n limit work work₃
+  pub prepared : Prepared f n limit work work₂
   prepared =
       record {
-        same = numbered .same ∙ groups-room grouped put;
-        after = λ k h. numbered .after k (omega arith) ∙ groups-past grouped put k h;
+        same = numbered .same ∙ grouped .same;
+        after = λ k h. numbered .after k (omega arith) ∙ grouped .after k h;
         ready =
             record {
               accepted = ok;
               all = all;
-              room = omega (arith, numbered .same, groups-room grouped put);
+              room = omega (arith, numbered .same, grouped .same);
               rows = same-rows ∙ grouped .rows ok;
-              groups =
-                  λ i h. numbered .before (n + i) (omega arith) ∙ groups-planned grouped put ok i h;
               firsts = numbered .firsts;
             };
       }

@@ -8,7 +8,7 @@ use Rattle.file_records.specs.Trailer.{blockCount}
 use Rattle.file_records.specs.BlockRecord.{countSum}
 use Rattle.file_blocks.specs.Parse.{blocksOf, Accepted}
 use Rattle.plan_groups.specs.Groups.{rowsIn}
-use Rattle.plan_groups.specs.Plan.{plan, groupOf}
+use Rattle.plan_groups.specs.Plan.{plan}
 
 -- quarter 3 has the number of the first instruction of the blocks before block m, and no other
 -- number changed
@@ -19,13 +19,12 @@ pub record FirstsInQuarter3 (f : List ℕ) (n m : ℕ) (work work′ : List ℕ)
   pub firsts : (i : ℕ) → i < m → getD work′ (3 * n + i) 0 ≡ countSum f i
 
 -- the work numbers of an accepted file with n blocks: quarters 2 and 0 have the rows of the plan,
--- quarter 1 the group of each block, quarter 3 the number of its first instruction
+-- quarter 3 the number of each block's first instruction; quarter 1 is free
 pub record HoldsPlan (f : List ℕ) (n limit : ℕ) (work : List ℕ) : Type 0 where
   pub accepted : Accepted f
   pub all : n ≡ blockCount f
   pub room : 4 * n ≤ length work
   pub rows : rowsIn n work ≡ plan limit (blocksOf f)
-  pub groups : (i : ℕ) → i < n → getD work (n + i) 0 ≡ groupOf i (plan limit (blocksOf f))
   pub firsts : (i : ℕ) → i < n → getD work (3 * n + i) 0 ≡ countSum f i
 
 -- they became so, and nothing past the four quarters changed

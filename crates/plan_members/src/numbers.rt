@@ -1,5 +1,4 @@
 // The work numbers of an accepted file, filled for the passes over its blocks and groups.
-use crate::group_numbers::put_groups;
 use file_blocks::FoundBlock;
 use file_blocks::block_at;
 use plan_groups::group_blocks;
@@ -29,13 +28,12 @@ fn put_firsts(file: &[u8], work: &mut [u32], n: usize)
 }
 
 // Fills the work numbers of an accepted file with n blocks. Grouping needs all four quarters, so
-// the groups of the blocks and their first instructions come after it.
+// the first instructions of the blocks come after it.
 pub fn prepare(file: &[u8], work: &mut [u32], n: u32, limit: u64)
     requires { ⌜ HasRoom (now file) (now work) n × Accepted (now file) ⌝ }
     ensures { λ _. ⌜ Prepared (now (file .entry)) n limit (now (work .entry)) (now (work .exit)) ⌝ }
 {
     let size = n as usize;
     group_blocks(file, work, n, limit);
-    put_groups(work, size);
     put_firsts(file, work, size);
 }

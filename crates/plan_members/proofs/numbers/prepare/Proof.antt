@@ -2,7 +2,6 @@
 -- Assumes nothing.
 use mathlib.Core.Path.{_∙_}
 use native.Mathlib.Omega.{arith}
-use Rattle.plan_members.proofs.Groups.{groups-room}
 use Rattle.plan_members.proofs.Preparing.{prepared}
 use Rattle.plan_members.proofs.numbers.prepare.Statement.{statement}
 use Rattle.plan_members.proofs.numbers.prepare.Tie as tie
@@ -10,23 +9,12 @@ use Rattle.plan_members.proofs.numbers.prepare.Tie as tie
 group-blocks-requires : tie.Need-group-blocks-requires
 group-blocks-requires c κs = c .before .before .before .pre .0
 
-put-groups-requires : tie.Need-put-groups-requires
-put-groups-requires c κs = (
-  omega (arith, c .before .before .before .group-blocks .ensures .same),
-  c .before .before .before .before .before .before .before .pre .0 .1,
-)
-
 put-firsts-requires : tie.Need-put-firsts-requires
 put-firsts-requires c κs =
-    let at-group-blocks = c .before .before .before .before .before .before .before in
+    let at-group-blocks = c .before .before .before in
     let start = at-group-blocks .before .before .before .before in (
       (
-        omega (
-          arith,
-          groups-room
-              (at-group-blocks .group-blocks .ensures)
-              (c .before .before .before .put-groups .ensures),
-        ),
+        omega (arith, at-group-blocks .group-blocks .ensures .same),
         start .pre .0 .1,
         start .pre .0 .2,
       ),
@@ -35,25 +23,20 @@ put-firsts-requires c κs =
 
 same-length : tie.Need-same-length
 same-length c =
-    let at-put-groups = c .before .before .before .before .before .before in
-    let at-group-blocks = at-put-groups .before .before .before .before in
-    c .before .before .put-firsts .ensures .same
-    ∙ groups-room
-    (at-group-blocks .group-blocks .ensures) (at-put-groups .put-groups .ensures)
+    let at-group-blocks = c .before .before .before .before .before .before in
+    c .before .before .put-firsts .ensures .same ∙ at-group-blocks .group-blocks .ensures .same
 
 returns : tie.Need-returns
 returns c =
-    let at-put-groups = c .before .before .before .before .before .before in
-    let at-group-blocks = at-put-groups .before .before .before .before in
+    let at-group-blocks = c .before .before .before .before .before .before in
     let start = at-group-blocks .before .before .before .before in
     prepared
     (start .pre .1)
     (start .pre .0 .2)
     (start .pre .0 .0)
-    (at-group-blocks .group-blocks .ensures) (at-put-groups .put-groups .ensures)
+    (at-group-blocks .group-blocks .ensures)
     (c .before .before .put-firsts .ensures)
 
 pub prepare-spec : {M : Type 1} → statement M
 prepare-spec =
-    tie.close
-    (tie.spec group-blocks-requires put-groups-requires put-firsts-requires same-length returns)
+    tie.close (tie.spec group-blocks-requires put-firsts-requires same-length returns)
