@@ -24,7 +24,8 @@ use Rattle.emit_tables.specs.Tables.{HaveKeys}
 use Rattle.emit_tables.proofs.Around.{member-keys}
 use Rattle.emit_group.specs.Groups.{fileBodies, memberText, labelledText, membersText}
 use Rattle.emit_group.specs.Groups.{groupText}
-use Rattle.plan_members.specs.Members.{fileKeys, groupKeys}
+use Rattle.file_keys.specs.Order.{blockKeys}
+use Rattle.plan_members.specs.Members.{groupKeys}
 
 -- the members of a group, one by one
 pub members-each : (written : Bool) (f ks is : List ℕ) (k : List ℕ)
@@ -52,7 +53,7 @@ pub member-key : (limit : ℕ) (f : List ℕ) (g k : ℕ)
 unfolding bodiesOf
 member-key limit f g k inside =
     let is : List ℕ = getD (groups limit (blocksOf f)) g [] in
-    map-at (λ (j : ℕ). getD (fileKeys f) j 0) is k 0 0 inside
+    map-at (λ (j : ℕ). getD (blockKeys f) j 0) is k 0 0 inside
     ∙ sym (ap (λ (ks : List ℕ). getD ks 0 0)
     (member-keys hashMultiplier (blocksOf f) (getD is k 0 ∷ [])))
 

@@ -12,11 +12,11 @@ ghost use Rattle.base_text.specs.Doc.{each};
 ghost use Rattle.base_text.specs.Wrote.{Wrote};
 ghost use Rattle.file_records.specs.Trailer.{blockCount};
 ghost use Rattle.file_blocks.specs.Parse.{Accepted};
+ghost use Rattle.file_keys.specs.Order.{blockKeys};
 ghost use Rattle.c_tree.specs.Stmt.{extern};
 ghost use Rattle.c_tree.specs.Print.{rowText, topText, unitText};
 ghost use Rattle.lower_forms.specs.Forms.{Body};
 ghost use Rattle.lower_units.specs.Units.{lastUnitEnd};
-ghost use Rattle.plan_members.specs.Members.{fileKeys};
 ghost use Rattle.emit_tables.specs.Tables.{HaveKeys};
 
 // The declarations of the functions of n blocks.
@@ -24,7 +24,7 @@ fn put_externs(out: &mut [u8], at: usize, file: &[u8], n: usize) -> usize
     requires { ⌜ (n ≡ blockCount (now file)) × Accepted (now file) ⌝ }
     ensures { λ r. ⌜
         Wrote (now (out .entry)) at
-        (each (λ (k : ℕ). topText (extern k)) (fileKeys (now (file .entry)))) (now (out .exit))
+        (each (λ (k : ℕ). topText (extern k)) (blockKeys (now (file .entry)))) (now (out .exit))
         r
         ⌝ }
 {
@@ -41,7 +41,7 @@ fn put_externs(out: &mut [u8], at: usize, file: &[u8], n: usize) -> usize
 fn put_rows(out: &mut [u8], at: usize, file: &[u8], n: usize) -> usize
     requires { ⌜ (n ≡ blockCount (now file)) × Accepted (now file) ⌝ }
     ensures { λ r. ⌜
-        Wrote (now (out .entry)) at (each rowText (fileKeys (now (file .entry)))) (now (out .exit))
+        Wrote (now (out .entry)) at (each rowText (blockKeys (now (file .entry)))) (now (out .exit))
         r
         ⌝ }
 {
@@ -58,7 +58,7 @@ fn put_rows(out: &mut [u8], at: usize, file: &[u8], n: usize) -> usize
 pub fn put_tail(out: &mut [u8], at: usize, file: &[u8], n: usize) -> usize
     requires { ⌜ (n ≡ blockCount (now file)) × Accepted (now file) ⌝ }
     ensures { λ r. ⌜
-        ((bs : List Body) → HaveKeys bs (fileKeys (now (file .entry)))
+        ((bs : List Body) → HaveKeys bs (blockKeys (now (file .entry)))
         → Wrote (now (out .entry)) at (unitText (lastUnitEnd bs)) (now (out .exit)) r)
         ⌝ }
 {

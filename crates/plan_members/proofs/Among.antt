@@ -14,10 +14,11 @@ use Rattle.base_lists.specs.Lists.{among}
 use Rattle.base_lists.proofs.Order.{order-at}
 use Rattle.base_lists.proofs.Places.{map-at}
 use Rattle.file_blocks.specs.Parse.{blocksOf}
+use Rattle.file_keys.specs.Order.{blockKeys}
 use Rattle.plan_groups.specs.Plan.{groups}
-use Rattle.plan_groups.proofs.Cutting.{NoFall}
+use Rattle.file_keys.proofs.Sorted.{NoFall}
 use Rattle.plan_groups.proofs.GroupLaws.{group-sorted}
-use Rattle.plan_members.specs.Members.{membersOf, fileKeys, groupKeys}
+use Rattle.plan_members.specs.Members.{membersOf, groupKeys}
 use Rattle.plan_members.specs.Lookup.{KeyBetween, SaysAt}
 use Rattle.plan_members.proofs.Places.{list-at, has-member}
 
@@ -70,7 +71,7 @@ no-fall ks ordered a b l h =
 pub keys-sorted : (limit : ℕ) (f : List ℕ) (g : ℕ) → NeverFall (groupKeys limit f g)
 keys-sorted limit f g a b l h =
     let is : List ℕ = membersOf limit (blocksOf f) g in
-    let key : ℕ → ℕ = λ i. getD (fileKeys f) i 0 in
+    let key : ℕ → ℕ = λ i. getD (blockKeys f) i 0 in
     let inside : b < length is = omega (arith, length-map is key) in
     let listed = list-at (groups limit (blocksOf f)) g
     (has-member (groups limit (blocksOf f)) g (omega arith)) in
@@ -78,7 +79,7 @@ keys-sorted limit f g a b l h =
       arith,
       map-at key is a 0 0 (omega arith),
       map-at key is b 0 0 inside,
-      order-at (NoFall (fileKeys f)) is (group-sorted limit (blocksOf f) is listed) a b l inside,
+      order-at (NoFall (blockKeys f)) is (group-sorted limit (blocksOf f) is listed) a b l inside,
     )
 
 module _ {ks : List ℕ} {key : ℕ} where

@@ -17,19 +17,17 @@ use Rattle.file_blocks.proofs.IsBlock.{missing, block-inside, block-record}
 use Rattle.file_blocks.proofs.OwnKey.{key-plus}
 use Rattle.file_blocks.proofs.Keys.{block-key}
 use Rattle.base_lists.proofs.Places.{map-at}
-use Rattle.plan_members.specs.Members.{membersOf, fileKeys, groupKeys}
+use Rattle.file_keys.specs.Order.{blockKeys}
+use Rattle.file_keys.proofs.Reading.{length-keys}
+use Rattle.plan_members.specs.Members.{membersOf, groupKeys}
 use Rattle.plan_members.proofs.Places.{start-next}
 use Rattle.plan_members.specs.declared.group_rows.Rows.{Rows}
 use Rattle.plan_members.specs.GroupRows.{IsGroup, IsRow}
 
--- as many as blocks
-pub file-length : (f : List ℕ) → Accepted f → length (fileKeys f) ≡ blockCount f
-file-length f ok = length-map (blocksOf f) blockKey ∙ length-of f (blocksOf f) ok
-
 -- the key of a record that was found
 pub key-found : (f : List ℕ) (i : ℕ) (b : BlockRecord) (key : ℕ) → foundBlock f i ≡ FoundBlock.At b
     → key ≡ keyOf (b .addr) (b .thumb) → Accepted f
-    → key ≡ getD (fileKeys f) i 0
+    → key ≡ getD (blockKeys f) i 0
 unfolding recordAt
 key-found f i b key found e ok =
     let is : IsBlock f i b (countSum f i) =
@@ -45,17 +43,17 @@ key-found f i b key found e ok =
 
 -- and that of none
 pub key-missing : (f : List ℕ) (i : ℕ) → foundBlock f i ≡ FoundBlock.Nothing → Accepted f
-    → 0 ≡ getD (fileKeys f) i 0
+    → 0 ≡ getD (blockKeys f) i 0
 key-missing f i e ok =
-    sym (List·getD-eq-default (fileKeys f) 0 (omega (arith, missing f ok i e, file-length f ok)))
+    sym (List·getD-eq-default (blockKeys f) 0 (omega (arith, missing f ok i e, length-keys f)))
 
 -- the key of a member
-pub key-member : (limit : ℕ) (f : List ℕ) (g k i key : ℕ) → key ≡ getD (fileKeys f) i 0
+pub key-member : (limit : ℕ) (f : List ℕ) (g k i key : ℕ) → key ≡ getD (blockKeys f) i 0
     → i ≡ getD (membersOf limit (blocksOf f) g) k 0
     → k < length (membersOf limit (blocksOf f) g) → key ≡ getD (groupKeys limit f g) k 0
 key-member limit f g k i key e is inside =
-    e ∙ ap (λ (j : ℕ). getD (fileKeys f) j 0) is
-    ∙ sym (map-at (λ (j : ℕ). getD (fileKeys f) j 0) (membersOf limit (blocksOf f) g) k 0 0
+    e ∙ ap (λ (j : ℕ). getD (blockKeys f) j 0) is
+    ∙ sym (map-at (λ (j : ℕ). getD (blockKeys f) j 0) (membersOf limit (blocksOf f) g) k 0 0
     inside)
 
 module _ {f : List ℕ} {limit : ℕ} {work : List ℕ} {g : ℕ} {r : Rows}
@@ -65,7 +63,7 @@ module _ {f : List ℕ} {limit : ℕ} {work : List ℕ} {g : ℕ} {r : Rows}
   group-size = omega (arith, is .first, is .next, start-next (groups limit (blocksOf f)) g)
 
   pub keys-size : length (groupKeys limit f g) ≡ length (membersOf limit (blocksOf f) g)
-  keys-size = length-map (membersOf limit (blocksOf f) g) (λ (j : ℕ). getD (fileKeys f) j 0)
+  keys-size = length-map (membersOf limit (blocksOf f) g) (λ (j : ℕ). getD (blockKeys f) j 0)
 
   pub key-inside : (k : ℕ) → r .first + k < r .end → k < length (groupKeys limit f g)
   key-inside k h = omega (arith, keys-size, group-size)

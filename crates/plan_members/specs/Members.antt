@@ -10,10 +10,6 @@ use Rattle.plan_groups.specs.Plan.{groups}
 abbrev pub membersOf : ℕ → List Block → ℕ → List ℕ
 membersOf limit bs g = getD (groups limit bs) g []
 
--- the keys of the blocks of a file
-abbrev pub fileKeys : List ℕ → List ℕ
-fileKeys f = map blockKey (blocksOf f)
-
 -- the keys of some blocks, by their numbers
 abbrev pub memberKeys : List Block → List ℕ → List ℕ
 memberKeys bs is = map (λ (i : ℕ). getD (map blockKey bs) i 0) is

@@ -7,13 +7,14 @@ ghost use mathlib.Core.Path.{_≡_};
 ghost use Prim.Native.Nat.{ℕ, _<_};
 ghost use lib.ListN.{length, getD};
 ghost use Rattle.file_blocks.specs.Parse.{Accepted};
-ghost use Rattle.plan_members.specs.Members.{fileKeys, groupKeys};
+ghost use Rattle.file_keys.specs.Order.{blockKeys};
+ghost use Rattle.plan_members.specs.Members.{groupKeys};
 ghost use Rattle.plan_members.specs.GroupRows.{IsRow};
 
 // The key of block i, or 0 where there is none.
 pub fn block_key(file: &[u8], i: usize) -> u32
     ensures { λ r. ⌜
-        (Accepted (now (file .entry)) → r ≡ getD (fileKeys (now (file .entry))) i 0)
+        (Accepted (now (file .entry)) → r ≡ getD (blockKeys (now (file .entry))) i 0)
         ⌝ }
 {
     let FoundBlock::At(block) = block_at(file, i) else {

@@ -12,14 +12,14 @@ use Rattle.base_text.proofs.Laws.{none, wrote-as, each-more, each-all, kept}
 use Rattle.base_text.specs.Doc.{each}
 use Rattle.base_text.specs.Flat.{flat}
 use Rattle.base_text.specs.Wrote.{Wrote}
-use Rattle.plan_members.proofs.RowKeys.{file-length}
+use Rattle.file_keys.specs.Order.{blockKeys}
+use Rattle.file_keys.proofs.Reading.{length-keys}
 use Rattle.emit_tables.proofs.ends.put_externs.Statement.{statement}
 use Rattle.emit_tables.proofs.ends.put_externs.Tie as tie
-use Rattle.plan_members.specs.Members.{fileKeys}
 
 abbrev Inv-loop : tie.InvT-loop
 Inv-loop out₀ at file n p₀ i₀ out p i =
-    (i ≤ n) × Wrote out₀ at (each (λ (k : ℕ). topText (extern k)) (take i (fileKeys file))) out p
+    (i ≤ n) × Wrote out₀ at (each (λ (k : ℕ). topText (extern k)) (take i (blockKeys file))) out p
 
 abbrev μ-loop : tie.MeasureT-loop
 μ-loop out₀ at file n p₀ i₀ out p i = n - i
@@ -33,10 +33,10 @@ loop-again c =
     let key = put .before in
     let turn = key .before .before .before in
     let pre = turn .before .before .before .pre in
-    let ks = fileKeys (turn .before .before .before .args .file .now) in (
+    let f = turn .before .before .before .args .file .now in (
       omega arith,
-      each-more (λ (k : ℕ). topText (extern k)) ks 0 _
-          (omega (arith, pre .0, file-length _ (pre .1))) (turn .loop .inv .1)
+      each-more (λ (k : ℕ). topText (extern k)) (blockKeys f) 0 _
+          (omega (arith, pre .0, length-keys f)) (turn .loop .inv .1)
           (wrote-as (put .put-extern .ensures)
           (ap (λ (k : ℕ). flat (topText (extern k)) []) (key .block-key .ensures (pre .1)))),
     )
@@ -45,9 +45,9 @@ returns : tie.Need-returns Inv-loop μ-loop
 returns c =
     let start = c .before .before .before .before in
     let pre = start .pre in
-    each-all (λ (k : ℕ). topText (extern k)) (fileKeys (start .args .file .now))
-    (c .before .loop .i) (omega (arith, pre .0, file-length _ (pre .1)))
-    (c .before .loop .inv .1)
+    let f = start .args .file .now in
+    each-all (λ (k : ℕ). topText (extern k)) (blockKeys f) (c .before .loop .i)
+    (omega (arith, pre .0, length-keys f)) (c .before .loop .inv .1)
 
 pub put-externs-spec : {M : Type 1} → statement M
 put-externs-spec =

@@ -4,8 +4,8 @@ use borrow.Author.Needs.{needs}
 use mathlib.Core.List.{[]}
 use mathlib.Core.Path.{sym, _∙_}
 use Rattle.base_text.proofs.Laws.{seq, wrote-as}
+use Rattle.file_keys.proofs.Reading.{length-keys}
 use Rattle.emit_tables.proofs.Around.{end-keys}
-use Rattle.plan_members.proofs.RowKeys.{file-length}
 use Rattle.emit_tables.proofs.ends.put_tail.Statement.{statement}
 use Rattle.emit_tables.proofs.ends.put_tail.Tie as tie
 
@@ -21,7 +21,7 @@ returns c = λ bs keys.
     (seq (c1 .put-externs .ensures)
     (seq (c2 .put-table-head .ensures)
     (seq (c3 .put-rows .ensures) (seq (c4 .put-table-end .ensures) (c5 .put-count .ensures)))))
-    (end-keys bs _ _ [] keys (pre .0 ∙ sym (file-length _ (pre .1))))
+    (end-keys bs _ _ [] keys (pre .0 ∙ sym (length-keys _)))
 
 pub put-tail-spec : {M : Type 1} → statement M
 put-tail-spec =
