@@ -4,14 +4,13 @@ use Prim.Native.Nat.{ℕ, _%_, _≤_, _<_}
 use mathlib.Core.Path.{_≡_, sym, ap, _∙_}
 use mathlib.Core.List.{List}
 use native.Mathlib.Omega.{arith}
-use native.Mathlib.Decide.{decLt}
 use lib.ListN.{length, getD}
 use Rattle.file_records.specs.Trailer.{blockCount, blockStart}
 use Rattle.file_records.specs.BlockRecord.{addrAt, thumbAt, countAt}
 use Rattle.file_blocks.specs.Parse.{Block, Parsed, blockAt, parse, blockKey}
 use Rattle.file_blocks.specs.Read.{recordAt}
 use Rattle.file_blocks.proofs.Accepted.{length-of, has-instr, address-aligned, record-reads}
-use Rattle.file_blocks.proofs.Keys.{block-is, block-key, keys-rise}
+use Rattle.file_blocks.proofs.Keys.{block-is, block-key, keys-differ}
 use Rattle.lower_units.proofs.Aligned.{aligned-even}
 
 module _ (f : List ℕ) (bs : List Block) (accepted : parse f ≡ Parsed.accepted bs) where
@@ -37,26 +36,11 @@ module _ (f : List ℕ) (bs : List Block) (accepted : parse f ≡ Parsed.accepte
         ∙ sym (record-reads f bs accepted i inside .count) in
         omega (arith, same, has-instr f bs accepted i inside)
 
-  rise : (d : Block) (i j : ℕ) → i < j → j < length bs
-      → blockKey (getD bs i d) < blockKey (getD bs j d)
-  rise d i j l h =
-      let there : j < blockCount f = omega (arith, long) in
-      omega (
-        arith,
-        keys-rise f bs accepted i j l there,
-        block-key f bs accepted i d (omega arith),
-        block-key f bs accepted j d there,
-      )
-
   -- two blocks with one key are one
   pub one-key : (d : Block) (i j : ℕ) → i < length bs → j < length bs
       → blockKey (getD bs i d) ≡ blockKey (getD bs j d) → i ≡ j
   one-key d i j h l e =
-      elim (decLt i j) [
-        | yes a ↦ absurd (omega (arith, e, rise d i j a l))
-        | no a ↦
-            elim (decLt j i) [
-              | yes b ↦ absurd (omega (arith, e, rise d j i b h))
-              | no b ↦ omega arith
-            ]
-      ]
+      let here : i < blockCount f = omega (arith, long) in
+      let there : j < blockCount f = omega (arith, long) in
+      keys-differ f bs accepted i j here there
+      (sym (block-key f bs accepted i d here) ∙ e ∙ block-key f bs accepted j d there)

@@ -1,4 +1,4 @@
--- The keys of an accepted file: block by block those of the records, and rising.
+-- The keys of an accepted file: block by block those of the records, rising, so no two the same.
 -- Assumes nothing.
 use Prim.Native.Nat.{ℕ, zero, suc, _<_}
 use mathlib.Core.Path.{_≡_, sym, ap, _∙_, subst}
@@ -45,3 +45,16 @@ module _ (f : List ℕ) (bs : List Block) (accepted : parse f ≡ Parsed.accepte
   pub keys-rise : (i j : ℕ) → i < j → j < blockCount f
       → keyAt f (blockStart f i) < keyAt f (blockStart f j)
   keys-rise = rising (λ (i : ℕ). keyAt f (blockStart f i)) (blockCount f) next-key
+
+  -- two blocks with one key are one
+  pub keys-differ : (i j : ℕ) → i < blockCount f → j < blockCount f
+      → keyAt f (blockStart f i) ≡ keyAt f (blockStart f j) → i ≡ j
+  keys-differ i j h l e =
+      elim (decLt i j) [
+        | yes a ↦ absurd (omega (arith, keys-rise i j a l))
+        | no a ↦
+            elim (decLt j i) [
+              | yes b ↦ absurd (omega (arith, keys-rise j i b h))
+              | no b ↦ omega arith
+            ]
+      ]

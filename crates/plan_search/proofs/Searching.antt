@@ -1,28 +1,35 @@
--- The search for a key in an accepted file finds what the definition does.
+-- The search for a block by its key in the order of keys finds what the definition does, since no
+-- two blocks of an accepted file have one key.
 -- Assumes nothing.
-use mathlib.Core.Path.{_≡_, refl, sym, ap, _∙_, subst}
-use mathlib.Core.Bool.{true, false, and-false}
+use mathlib.Core.Path.{_≡_, refl, sym, ap, _∙_}
+use mathlib.Core.Bool.{Bool, true, false, and-false}
 use mathlib.Core.List.{List, [], _∷_}
 use mathlib.Core.Option.{none, some}
-use Prim.Native.Nat.{ℕ, zero, suc, suc-le-suc, zero-le, _+_, _≤_, _<_, _^_}
-use native.Mathlib.Nat.{add-zero, zero-add, le-of-suc-le-suc, not-suc-le-zero, lt-trans, le-trans}
-use native.Mathlib.Nat.{le-of-lt, le-refl, lt-irrefl, lt-of-le-of-lt}
+use Prim.Native.Nat.{ℕ, zero, suc, suc-le-suc, zero-le, _+_, _≤_, _<_}
+use native.Mathlib.Nat.{add-zero, zero-add, le-of-suc-le-suc, not-suc-le-zero}
 use native.Mathlib.Omega.{arith}
-use native.Mathlib.Decide.{decLt, ℕ-discrete}
-use borrow.Author.Tests.{eq-eqb, ne-eqb}
+use native.Mathlib.Decide.{ℕ-discrete}
+use borrow.Author.Tests.{eq-eqb, ne-eqb, eqb-true, lt-ltb, le-ltb, ltb-true}
 use lib.ListN.{length, getD}
-use Rattle.file_blocks.specs.declared.read.BlockRecord.{BlockRecord}
-use Rattle.file_blocks.specs.declared.read.FoundBlock.{FoundBlock}
+use lib.Dec.{eqb, ltb}
+use Rattle.base_lists.specs.Lists.{range, firstOf}
+use Rattle.base_lists.proofs.Bools.{left-true, right-true}
 use Rattle.file_records.specs.Trailer.{blockCount, blockStart}
 use Rattle.file_records.specs.BlockRecord.{keyPlus, keyAt}
+use Rattle.file_blocks.specs.declared.read.BlockRecord.{BlockRecord}
+use Rattle.file_blocks.specs.declared.read.FoundBlock.{FoundBlock}
 use Rattle.file_blocks.specs.Parse.{Block, blockKey, blockAt, blocksOf, Accepted}
 use Rattle.file_blocks.specs.Read.{recordAt, foundBlock}
 use Rattle.file_blocks.proofs.Accepted.{length-of}
 use Rattle.file_blocks.proofs.IsBlock.{missing, nth-block, found-inside, found-record}
-use Rattle.file_blocks.proofs.Keys.{block-key, keys-rise}
-use Rattle.plan_search.specs.Target.{joinable, onPage8, target}
-use Rattle.plan_search.specs.Search.{Between, FirstFrom}
+use Rattle.file_blocks.proofs.Keys.{block-key, keys-differ}
 use Rattle.file_blocks.proofs.Nowhere.{nowhere}
+use Rattle.file_keys.specs.Order.{blockKeys}
+use Rattle.file_keys.specs.First.{blockWith}
+use Rattle.file_keys.proofs.Finding.{first-some, none-first}
+use Rattle.file_keys.proofs.Reading.{length-keys, key-at}
+use Rattle.plan_search.specs.Target.{joinable, onPage8, target}
+use Rattle.plan_search.specs.Search.{hasKey}
 
 zero-lt : (n : ℕ) → 0 < suc n
 zero-lt n = omega arith
@@ -53,142 +60,119 @@ target-some k (b ∷ bs) i (suc m) d l h e g =
     (target-some k bs (suc i) m d (le-of-suc-le-suc l) (λ j b′. h (suc j) (suc-le-suc b′)) e g
     ∙ ap some (let same : suc i + m ≡ i + suc m = omega arith in same))
 
-pub between-all : (f : List ℕ) (key n : ℕ) → n ≡ blockCount f → n < 2 ^ 32 → Between f key 0 n
-between-all f key n e h =
-    record {
-      order = zero-le;
-      inside = omega arith;
-      few = h;
-      below = λ a j l. absurd (not-suc-le-zero l);
-      above = λ a j l b. absurd (omega arith);
-    }
+-- what was found passes the test, and is one of the numbers
+record Hit (test : ℕ → Bool) (n i m : ℕ) : Type 0 where
+  low : i ≤ m
+  inside : m < i + n
+  passes : test m ≡ true
 
-module _ (f : List ℕ) (key low high mid : ℕ) (w : Between f key low high) (l : low ≤ mid)
-    (h : mid < high) where
-  -- the key at mid is below
-  pub between-after : (Accepted f → keyAt f (blockStart f mid) < key) → Between f key (mid + 1) high
-  between-after e =
-      record {
-        order = omega arith;
-        inside = w .inside;
-        few = w .few;
-        below = λ a j b.
-            elim (decLt j mid) [
-              | yes g ↦ lt-trans (keys-rise f (blocksOf f) a j mid g (omega (arith, w .inside)))
-                  (e a)
-              | no g ↦ let same : j ≡ mid =
-                  omega arith in subst (λ (m : ℕ). keyAt f (blockStart f m) < key) (sym same) (e a)
-            ];
-        above = w .above;
-      }
+hit : (test : ℕ → Bool) (n i m : ℕ) → firstOf test (range n i) ≡ some m → Hit test n i m
+hit test zero i m e = absurd (let z : _≡_ {A = ℕ} 0 1 = cc in omega arith)
+hit test (suc n) i m e = go (test i) refl (hit test n (suc i) m)
+  where
+    go : (b : Bool) → test i ≡ b
+        → (firstOf test (range n (suc i)) ≡ some m → Hit test n (suc i) m) → Hit test (suc n) i m
+    go true g rest =
+        let f : some i ≡ some m = rw g at e in
+        let same : i ≡ m = cc in
+        record { low = omega arith; inside = omega arith; passes = ap test (sym same) ∙ g }
+    go false g rest =
+        let w = rest (rw g at e) in
+        record { low = omega (arith, w .low); inside = omega (arith, w .inside); passes = w .passes }
 
-  -- the key at mid is not
-  pub between-before : (Accepted f → key ≤ keyAt f (blockStart f mid)) → Between f key low mid
-  between-before e =
-      record {
-        order = l;
-        inside = omega (arith, w .inside);
-        few = omega (arith, w .few);
-        below = w .below;
-        above = λ a j b c.
-            elim (decLt mid j) [
-              | yes g ↦ le-trans (e a) (le-of-lt (keys-rise f (blocksOf f) a mid j g c))
-              | no g ↦ let same : mid ≡ j =
-                  omega arith in subst (λ (m : ℕ). key ≤ keyAt f (blockStart f m)) same (e a)
-            ];
-      }
+-- what the reader found of block i tells whether it has a key
+module _ (f : List ℕ) (accepted : Accepted f) (i key : ℕ) (found : FoundBlock)
+    (reads : found ≡ foundBlock f i) where
+  pub key-nowhere : found ≡ FoundBlock.Nothing → false ≡ hasKey f i key
+  key-nowhere e = rw (le-ltb _ _ (missing f accepted i (sym reads ∙ e)))
 
-pub between-none : (f : List ℕ) (key low high : ℕ) → Between f key low high → high ≤ low
-    → Accepted f → FirstFrom f key low
-between-none f key low high w h a =
-    let same : high ≡ low = omega (arith, w .order) in
-    record {
-      inside = omega (arith, w .inside);
-      below = w .below a;
-      above = λ j b c. w .above a j (omega arith) c;
-    }
-
--- the key that the code computes from what the reader found
-module _ (f : List ℕ) (i : ℕ) (b : BlockRecord) (found : FoundBlock) (k : ℕ)
-    (reads : found ≡ foundBlock f i) (at : found ≡ FoundBlock.At b)
-    (is : k ≡ keyPlus (b .addr) (b .thumb)) where
-  pub key-found : k ≡ keyAt f (blockStart f i)
+  pub key-told : (b : BlockRecord) (k : ℕ) → found ≡ FoundBlock.At b
+      → k ≡ keyPlus (b .addr) (b .thumb) → eqb k key ≡ hasKey f i key
   unfolding recordAt
-  key-found = is
-      ∙ ap (λ (r : BlockRecord). keyPlus (r .addr) (r .thumb)) (found-record f i b (sym reads ∙ at))
+  key-told b k at is =
+      let inside = found-inside f i b (sym reads ∙ at) in
+      let same : k ≡ keyAt f (blockStart f i) =
+      is ∙ ap (λ (r : BlockRecord). keyPlus (r .addr) (r .thumb))
+      (found-record f i b (sym reads ∙ at)) in
+      rw (same, lt-ltb _ _ inside)
 
-  -- what the code finds of that key holds of the file's
-  pub key-below : (key : ℕ) → k < key → keyAt f (blockStart f i) < key
-  key-below key l = subst (λ (m : ℕ). m < key) key-found l
+module _ (f : List ℕ) (accepted : Accepted f) (key : ℕ) where
+  -- whether block i has the key, by the list of all keys
+  abbrev test : ℕ → Bool
+  test i = eqb (getD (blockKeys f) i 0) key
 
-  pub key-not-below : (key : ℕ) → key ≤ k → key ≤ keyAt f (blockStart f i)
-  key-not-below key l = subst (λ (m : ℕ). key ≤ m) key-found l
+  -- two blocks with the key are one
+  only : (i j : ℕ) → i < blockCount f → j < blockCount f → keyAt f (blockStart f i) ≡ key
+      → getD (blockKeys f) j 0 ≡ key → j ≡ i
+  only i j h l e g =
+      keys-differ f (blocksOf f) accepted j i l h (sym (key-at f j l) ∙ g ∙ sym e)
 
-module _ (f : List ℕ) (key i : ℕ) (accepted : Accepted f) (at : FirstFrom f key i) where
-  none-below : (j : ℕ) → j < i → keyAt f (blockStart f j) ≡ key → ⊥
-  none-below j l e = let less = at .below j l in lt-irrefl key (subst (λ (k : ℕ). k < key) e less)
+  -- a block with the key is the one that the order has for it
+  pub with-key : (i : ℕ) → hasKey f i key ≡ true → some i ≡ blockWith key (blockKeys f)
+  with-key i e =
+      let inside : i < blockCount f = ltb-true _ _ (left-true _ _ e) in
+      let here : keyAt f (blockStart f i) ≡ key =
+      eqb-true _ _ (right-true (ltb i (blockCount f)) _ e) in
+      sym (first-some test (length (blockKeys f)) 0 i zero-le (omega (arith, length-keys f))
+      (eq-eqb _ _ (key-at f i inside ∙ here))
+      (λ j l. ne-eqb _ _ (λ g. absurd (omega (arith, only i j inside (omega arith) here g)))))
 
-  -- no other block than block i has the key
-  only-one : (j : ℕ) → i < blockCount f → j < blockCount f → keyAt f (blockStart f j) ≡ key → j ≡ i
-  only-one j h b e =
-      elim (decLt j i) [
-        | yes l ↦ absurd (none-below j l e)
-        | no g ↦
-            elim (decLt i j) [
-              | yes l ↦ absurd
-                  (lt-irrefl key
-                  (lt-of-le-of-lt (at .above i (le-refl i) h)
-                  (subst (λ (k : ℕ). keyAt f (blockStart f i) < k) e
-                  (keys-rise f (blocksOf f) accepted i j l b))))
-              | no g′ ↦ omega arith
-            ]
-      ]
+  block-at-key : (j : ℕ) → j < length (blocksOf f) → blockKey (getD (blocksOf f) j nowhere) ≡ key
+      → getD (blockKeys f) j 0 ≡ key
+  block-at-key j l e =
+      let inside : j < blockCount f = omega (arith, length-of f (blocksOf f) accepted) in
+      key-at f j inside ∙ sym (block-key f (blocksOf f) accepted j nowhere inside) ∙ e
 
-  in-file : (j : ℕ) → j < length (blocksOf f) → j < blockCount f
-  in-file j l = omega (arith, length-of f (blocksOf f) accepted)
-
-  key-at : (j : ℕ) → j < length (blocksOf f) → blockKey (getD (blocksOf f) j nowhere) ≡ key
-      → keyAt f (blockStart f j) ≡ key
-  key-at j l e = sym (block-key f (blocksOf f) accepted j nowhere (in-file j l)) ∙ e
-
-  pub search-missing : foundBlock f i ≡ FoundBlock.Nothing → none ≡ target key (blocksOf f) 0
-  search-missing e =
-      let past = missing f accepted i e in
+  -- no block has the key: an edge to it leads nowhere
+  pub target-missing : none ≡ blockWith key (blockKeys f) → none ≡ target key (blocksOf f) 0
+  target-missing e =
       sym (target-none key (blocksOf f) 0 nowhere
-      (λ j l g. absurd (none-below j (let b = in-file j l in omega arith) (key-at j l g))))
+      (λ j l g. absurd
+      (none-first test (length (blockKeys f)) 0 (sym e) j zero-le
+      (omega (arith, length-keys f, length-of f (blocksOf f) accepted))
+      (eq-eqb _ _ (block-at-key j l g)))))
 
-  module _ (b : BlockRecord) (found : foundBlock f i ≡ FoundBlock.At b) where
-    inside : i < blockCount f
-    inside = found-inside f i b found
+  -- block m has it: an edge to it leads there if that block can be joined
+  module _ (m : ℕ) (found : some m ≡ blockWith key (blockKeys f)) where
+    there : Hit test (length (blockKeys f)) 0 m
+    there = hit test (length (blockKeys f)) 0 m (sym found)
 
-    key-of : keyPlus (b .addr) (b .thumb) ≡ keyAt f (blockStart f i)
-    key-of = key-found f i b (foundBlock f i) _ refl found refl
+    pub target-inside : m < blockCount f
+    target-inside = omega (arith, there .inside, length-keys f)
 
-    page-of : joinable (getD (blocksOf f) i nowhere) ≡ onPage8 (b .addr)
-    unfolding blockAt recordAt
-    page-of = ap joinable (nth-block f i nowhere inside)
-        ∙ ap (λ (r : BlockRecord). onPage8 (r .addr)) (sym (found-record f i b found))
+    key-there : keyAt f (blockStart f m) ≡ key
+    key-there = sym (key-at f m target-inside) ∙ eqb-true _ _ (there .passes)
 
-    pub search-other : (keyPlus (b .addr) (b .thumb) ≡ key → ⊥) → none ≡ target key (blocksOf f) 0
-    search-other ne =
-        sym (target-none key (blocksOf f) 0 nowhere
-        (λ j l g. absurd
-        (ne (key-of
-        ∙ ap (λ (m : ℕ). keyAt f (blockStart f m))
-        (sym (only-one j inside (in-file j l) (key-at j l g))) ∙ key-at j l g))))
+    same : (j : ℕ) → j < length (blocksOf f) → blockKey (getD (blocksOf f) j nowhere) ≡ key
+        → j ≡ m
+    same j l e =
+        only m j target-inside (omega (arith, length-of f (blocksOf f) accepted)) key-there
+        (block-at-key j l e)
 
-    pub search-apart : onPage8 (b .addr) ≡ false → none ≡ target key (blocksOf f) 0
-    search-apart off =
-        sym (target-none key (blocksOf f) 0 nowhere
-        (λ j l g. ap (λ (m : ℕ). joinable (getD (blocksOf f) m nowhere))
-        (only-one j inside (in-file j l) (key-at j l g)) ∙ page-of ∙ off))
+    module _ (b : BlockRecord) (read : FoundBlock) (reads : read ≡ foundBlock f m)
+        (at : read ≡ FoundBlock.At b) where
+      page-of : joinable (getD (blocksOf f) m nowhere) ≡ onPage8 (b .addr)
+      unfolding blockAt recordAt
+      page-of = ap joinable (nth-block f m nowhere target-inside)
+          ∙ ap (λ (r : BlockRecord). onPage8 (r .addr)) (sym (found-record f m b (sym reads ∙ at)))
 
-    pub search-there : keyPlus (b .addr) (b .thumb) ≡ key → onPage8 (b .addr) ≡ true
-        → some i ≡ target key (blocksOf f) 0
-    search-there e g =
-        sym (target-some key (blocksOf f) 0 i nowhere
-        (omega (arith, length-of f (blocksOf f) accepted, inside))
-        (λ j l h. none-below j l
-        (key-at j (omega (arith, length-of f (blocksOf f) accepted, inside)) h))
-        (block-key f (blocksOf f) accepted i nowhere inside ∙ sym key-of ∙ e) (page-of ∙ g)
-        ∙ ap some (zero-add i))
+      pub target-joined : onPage8 (b .addr) ≡ true → some m ≡ target key (blocksOf f) 0
+      target-joined on =
+          sym (target-some key (blocksOf f) 0 m nowhere
+          (omega (arith, target-inside, length-of f (blocksOf f) accepted))
+          (λ j l e. omega (
+            arith,
+            same j (omega (arith, target-inside, length-of f (blocksOf f) accepted)) e,
+          ))
+          (block-key f (blocksOf f) accepted m nowhere target-inside ∙ key-there) (page-of ∙ on)
+          ∙ ap some (zero-add m))
+
+      pub target-apart : onPage8 (b .addr) ≡ false → none ≡ target key (blocksOf f) 0
+      target-apart off =
+          sym (target-none key (blocksOf f) 0 nowhere
+          (λ j l e. ap (λ (i : ℕ). joinable (getD (blocksOf f) i nowhere)) (same j l e)
+          ∙ page-of ∙ off))
+
+    -- the reader finds it
+    pub never-missing : foundBlock f m ≡ FoundBlock.Nothing → ⊥
+    never-missing e = omega (arith, target-inside, missing f accepted m e)

@@ -1,53 +1,58 @@
--- `find_target` finds the block that an edge to a key leads to: if any block has the key it is the
--- first one not below it, and it must be of page 8.
-use Rattle.file_blocks.proofs.IsBlock.{found-inside}
-use Rattle.plan_search.proofs.Searching as searching
-use mathlib.Core.Path.{sym, _∙_}
+-- `find_target` finds the block that an edge to a key leads to: the one that has the key, if it is
+-- of page 8.
+use mathlib.Core.Path.{sym, ap, _∙_}
 use borrow.Author.Needs.{needs}
+use Rattle.plan_search.specs.Search.{targetOf}
+use Rattle.plan_search.proofs.Searching as searching
 use Rattle.plan_search.proofs.find_target.Statement.{statement}
 use Rattle.plan_search.proofs.find_target.Tie as tie
 
 returns : tie.Need-returns
-returns c = (
-  tt,
-  λ a. searching.search-missing _ _ _ a (c .before .before .before .first-from .ensures a)
-      (sym (c .before .before .block-at .ensures) ∙ c .enum-told .given .1),
-)
+returns c =
+    let at-block-with = c .before .before in (
+      tt,
+      searching.target-missing _ (at-block-with .before .before .before .pre .0 .0) _
+          (sym (ap targetOf (c .enum-told .given .1)) ∙ at-block-with .block-with .ensures),
+    )
 
 returns-2 : tie.Need-returns-2
 returns-2 c =
-    let at-block-at = c .before .before .before .before .before in
-    let at-first-from = at-block-at .before in (
-      tt,
-      λ a. searching.search-other _ _ _ a
-          (at-first-from .first-from .ensures a) _
-          (sym (at-block-at .block-at .ensures)
-          ∙ c .before .before .before .block .given .1)
-          (λ e. c .if1 .taken (c .before .key-plus .ensures .0 ∙ e)),
-    )
+    let at-block-at = c .before .before in
+    let at-j = at-block-at .before .before in
+    let at-block-with = at-j .before .before in
+    absurd (searching.never-missing _ (at-block-with .before .before .before .pre .0 .0) _ _
+    (sym (ap targetOf (at-j .j .given .1)) ∙ at-block-with .block-with .ensures)
+    (sym (at-block-at .block-at .ensures) ∙ c .enum-told2 .given .1))
 
 returns-3 : tie.Need-returns-3
 returns-3 c =
-    let known = c .before .before .before .before .before in
-    let there = sym (known .before .before .block-at .ensures) ∙ known .block .given .1 in (
-      found-inside _ _ _ there,
-      λ a. searching.search-there _ _ _ a (known .before .before .before .first-from .ensures a) _
-          there (sym (c .before .before .before .key-plus .ensures .0)
-          ∙ c .before .before .if1 .left) (sym (c .before .on-page-8 .ensures) ∙ c .if2 .taken),
+    let at-block = c .before .before .before in
+    let at-block-at = at-block .before .before in
+    let at-j = at-block-at .before .before in
+    let at-block-with = at-j .before .before in
+    let accepted = at-block-with .before .before .before .pre .0 .0 in
+    let found = sym (ap targetOf (at-j .j .given .1)) ∙ at-block-with .block-with .ensures in (
+      searching.target-inside _ accepted _ _ found,
+      searching.target-joined _ accepted _ _ found _ _ (at-block-at .block-at .ensures)
+          (at-block .block .given .1) (sym (c .before .on-page-8 .ensures) ∙ c .if1 .taken),
     )
 
 returns-4 : tie.Need-returns-4
 returns-4 c =
-    let known = c .before .before .before .before .before in
-    let there = sym (known .before .before .block-at .ensures) ∙ known .block .given .1 in (
+    let at-block = c .before .before .before in
+    let at-block-at = at-block .before .before in
+    let at-j = at-block-at .before .before in
+    let at-block-with = at-j .before .before in (
       tt,
-      λ a. searching.search-apart _ _ _ a (known .before .before .before .first-from .ensures a)
-          _ there (sym (c .before .on-page-8 .ensures) ∙ c .if2 .left),
+      searching.target-apart _ (at-block-with .before .before .before .pre .0 .0) _ _
+          (sym (ap targetOf (at-j .j .given .1)) ∙ at-block-with .block-with .ensures) _ _
+          (at-block-at .block-at .ensures) (at-block .block .given .1)
+          (sym (c .before .on-page-8 .ensures) ∙ c .if1 .left),
     )
 
 pub find-target-spec : {M : Type 1} → statement M
 find-target-spec =
     tie.close
-    (tie.spec (search needs) (search needs) (search needs) (search needs) returns (search needs)
-    returns-2
-    (search needs) returns-3 returns-4)
+    (tie.spec (λ c κs. search needs) (search needs) (search needs) returns (search needs)
+    (search needs) (search needs)
+    returns-2 (search needs) returns-3 returns-4)
