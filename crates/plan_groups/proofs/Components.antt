@@ -6,11 +6,11 @@ use mathlib.Core.Bool.{Bool, true, false, cond}
 use mathlib.Core.List.{List, [], _∷_, _++_, map, flatten, List·Memᴰ, List·Memᴰ·not-nil}
 use mathlib.Core.List.{List·Memᴰ·cases-cons, List·Memᴰ·append-cases}
 use mathlib.Core.Logic.{_⊎_, inl, inr}
-use native.Mathlib.Nat.{zero-add, le-refl, le-of-lt}
+use native.Mathlib.Nat.{zero-add, le-refl}
 use native.Mathlib.Decide.{ℕ-discrete}
 use native.Mathlib.Omega.{arith}
 use borrow.Author.Tests.{eqb-true, eq-eqb, ne-eqb}
-use lib.ListN.{length, getD}
+use lib.ListN.{length}
 use lib.Dec.{eqb}
 use Rattle.file_blocks.specs.Parse.{Block, blockKey}
 use Rattle.base_forest.specs.Roots.{root}
@@ -18,12 +18,11 @@ use Rattle.base_lists.specs.Lists.{range, count}
 use Rattle.file_keys.specs.Order.{sortByKey}
 use Rattle.plan_groups.specs.Plan.{parents, withRoot, members, parts, groupsFrom}
 use Rattle.plan_groups.specs.Plan.{groups}
-use Rattle.file_keys.proofs.Sorted.{NoFall, sort-count, sort-member, sort-sorted}
+use Rattle.file_keys.proofs.Sorted.{sort-count, sort-member}
 use Rattle.plan_groups.proofs.Cutting.{parts-all}
 use Rattle.plan_groups.proofs.Edges.{root-block}
 use Rattle.base_lists.proofs.Counts.{count-append, count-here, count-other, none-counted}
 use Rattle.base_lists.proofs.Counts.{flatten-append}
-use Rattle.base_lists.proofs.Order.{InOrder, order-weaker}
 
 count-front : (b : Bool) (k : ℕ) (xs : List ℕ) → count k xs ≡ 0
     → count k (cond b (k ∷ xs) xs) ≡ cond b 1 0
@@ -65,17 +64,6 @@ module _ (p : List ℕ) (r : ℕ) where
       go true h ih l = first (eqb-true _ _ h) ih (List·Memᴰ·cases-cons l)
       go false h ih l = later (ih l)
 
-  members-rise : (n k : ℕ) → InOrder (λ i j. i < j) (withRoot (root p) r n k)
-  unfolding withRoot
-  members-rise zero k = tt
-  members-rise (suc n) k = go (eqb (root p k) r) (members-rise n (suc k))
-    where
-      go : (b : Bool) → InOrder (λ i j. i < j) (withRoot (root p) r n (suc k))
-          → InOrder (λ i j. i < j)
-          (cond b (k ∷ withRoot (root p) r n (suc k)) (withRoot (root p) r n (suc k)))
-      go true ih = (λ y m. members-are n (suc k) y m .low, ih)
-      go false ih = ih
-
   -- an earlier block is no member
   members-before : (n k i : ℕ) → i < k → count i (withRoot (root p) r n k) ≡ 0
   members-before n k i h = none-counted (λ m. omega (arith, members-are n k i m .low))
@@ -116,23 +104,6 @@ module _ (bs : List Block) where
       members-are (parents bs) r (length bs) 0 i
       (sort-member (map blockKey bs) (members (parents bs) r (length bs)) m) in
       (omega (arith, is .high), is .rooted)
-
-  -- where keys rise with the blocks, a component lists its blocks as they stand in the file
-  module _
-      (rising : (i j : ℕ) → i < j → j < length bs
-      → getD (map blockKey bs) i 0 < getD (map blockKey bs) j 0) (r : ℕ) where
-    members-sorted : InOrder (NoFall (map blockKey bs)) (members (parents bs) r (length bs))
-    members-sorted =
-        order-weaker (λ i j. i < j) (NoFall (map blockKey bs)) (members (parents bs) r (length bs))
-        (λ i j _ m l. le-of-lt
-        (rising i j l (omega (arith, members-are (parents bs) r (length bs) 0 j m .high))))
-        (members-rise (parents bs) r (length bs) 0)
-
-    -- so its block numbers rise
-    pub component-rises : InOrder (λ i j. i < j) (component bs r)
-    component-rises =
-        rw (sort-sorted (map blockKey bs) (members (parents bs) r (length bs)) members-sorted)
-        (members-rise (parents bs) r (length bs) 0)
 
   -- of some components, from component r on, the one with a block's root has the block
 

@@ -13,8 +13,7 @@ use Rattle.base_lists.specs.Lists.{range, count}
 use Rattle.plan_search.specs.Target.{joinable}
 use Rattle.plan_groups.specs.Plan.{parents, groupsFrom, groups}
 use Rattle.plan_groups.proofs.Components.{component, countsOf, component-member}
-use Rattle.plan_groups.proofs.Components.{component-rises, components-once, groups-flat}
-use Rattle.plan_groups.proofs.Components.{groups-part}
+use Rattle.plan_groups.proofs.Components.{components-once, groups-flat, groups-part}
 use Rattle.file_keys.proofs.Sorted.{NoFall, sort-order}
 use Rattle.plan_groups.proofs.Cutting.{instructions}
 use Rattle.plan_groups.proofs.Cutting.{part-fits, part-piece}
@@ -102,15 +101,6 @@ module _ (limit : ℕ) (bs : List Block) where
         → joinable (getD bs i d) ≡ true
     group-joinable several i h d = sym (map-at joinable bs i d false (group-inside i h))
         ∙ joins-of several i h (joinsAt bs i) refl
-
-    -- where keys rise with the blocks
-    module _
-        (rising : (i j : ℕ) → i < j → j < length bs
-        → getD (map blockKey bs) i 0 < getD (map blockKey bs) j 0) where
-      -- a group lists its blocks as they stand in the file
-      pub group-rises : InOrder (λ i j. i < j) g
-      group-rises =
-          piece-order (group-piece .2) (λ i j. i < j) (component-rises bs rising (group-piece .0))
 
   -- no other number stands in the groups
   pub groups-only : (i : ℕ) → length bs ≤ i → count i (flatten (groups limit bs)) ≡ 0

@@ -9,11 +9,22 @@ use native.Mathlib.Decide.{ℕ-discrete}
 use borrow.Rule.Slice.PartMut.{putMid, postOf, same-len-mid, mid-len, take-put, drop-put}
 use lib.ListN.{length, getD, set, take, drop, length-set}
 use lib.Seq.{take-at, drop-at, length-take-le, getD-take, getD-drop, getD-set-same, getD-set-other}
-use lib.Seq.{take-set-le, drop-set-add}
+use lib.Seq.{take-set-le, drop-set-add, ext-getD}
 use Rattle.base_forest.specs.Forest.{Forest, Flatter, RootFound}
 use Rattle.base_forest.specs.Roots.{root}
 use Rattle.plan_groups.specs.Groups.{quarter1, Rooted, AllRooted}
 use Rattle.base_forest.proofs.Roots.{flatter-trans}
+
+-- a front whose numbers did not change is the same list
+pub take-kept : (n : ℕ) (w w′ : List ℕ) → length w′ ≡ length w → n ≤ length w
+    → ((k : ℕ) → k < n → getD w′ k 0 ≡ getD w k 0) → take n w′ ≡ take n w
+take-kept n w w′ same room kept =
+    let long : length (take n w) ≡ n = length-take-le n w room in
+    let long′ : length (take n w′) ≡ n = length-take-le n w′ (omega arith) in
+    ext-getD 0 (take n w′) (take n w) (long′ ∙ sym long)
+    (λ k h.
+    let inside : k < n = omega arith in
+    getD-take n w′ k 0 inside ∙ kept k inside ∙ sym (getD-take n w k 0 inside))
 
 twice : (n : ℕ) → 2 * n - n ≡ n
 twice n = omega arith
@@ -84,6 +95,8 @@ rooted n i w p′ r room h e =
           ∙ back-quarter n w p′ room long)) (e .kept);
       here = at ∙ e .is;
       small = subst (λ (m : ℕ). m < n) (sym at) (subst (λ (m : ℕ). r < m) long (e .inside));
+      before = λ k l. getD-set-other (putMid n (2 * n - n) w p′) (2 * n + i) k r 0 (omega arith)
+          ∙ back-before n w p′ room long k l;
       other = λ k l ne. getD-set-other (putMid n (2 * n - n) w p′) (2 * n + i) k r 0 ne
           ∙ back-after n w p′ room long k l;
     }
@@ -98,6 +111,7 @@ rooted-none n w =
       flatter = flatter-self (quarter1 n w);
       here = λ j h. absurd (not-suc-le-zero h);
       small = λ j h. absurd (not-suc-le-zero h);
+      before = λ k h. refl;
       after = λ k h. refl;
     }
 
@@ -121,6 +135,7 @@ rooted-more n m w w₁ w₂ room h a e =
             | no g ↦ subst (λ (k : ℕ). k < n)
                 (sym (e .other (2 * n + j) (omega arith) (omega arith))) (a .small j (omega arith))
           ];
+      before = λ k l. e .before k l ∙ a .before k l;
       after = λ k l. e .other k (omega arith) (omega arith) ∙ a .after k l;
     }
 

@@ -10,3 +10,4 @@ mod Linking
 mod Numbering
 mod Ordering
 pub mod PlanLength
+mod Tails

@@ -2,67 +2,66 @@
 -- Assumes nothing.
 use mathlib.Core.Path.{_≡_, refl, sym, ap, ap₂, _∙_, subst}
 use mathlib.Core.Bool.{Bool, true, false, cond, true≢false}
-use mathlib.Core.List.{List, [], _∷_, _++_, append-assoc, append-nil}
+use mathlib.Core.List.{List, [], _∷_, _++_, append-assoc, append-nil, List·Memᴰ·head}
 use Prim.Native.Nat.{ℕ, zero, suc, pred, zero-le, _+_, _*_, _-_, _≤_, _<_, _^_}
-use native.Mathlib.Nat.{sub-zero, zero-add, le-refl}
+use native.Mathlib.Nat.{sub-zero, le-refl}
 use native.Mathlib.Omega.{arith}
 use native.Mathlib.Numerals.{add-one}
 use borrow.Author.Tests.{eqb-true, lt-ltb, le-ltb}
 use lib.ListN.{length, getD, set, take, drop, length-set, length-append, length-drop}
 use lib.Seq.{getD-set-other, take-suc-set, take-set-le, drop-set-lt, drop-set-add, length-take-le}
 use lib.Dec.{eqb, ltb}
-use Rattle.file_records.specs.Trailer.{blockCount}
+use Rattle.file_keys.specs.Digits.{keep}
 use Rattle.plan_groups.specs.declared.order.Part.{Part}
-use Rattle.file_blocks.specs.Parse.{Accepted}
-use Rattle.plan_groups.specs.Links.{seek, Linked}
-use Rattle.plan_groups.specs.Plan.{withRoot, closes}
+use Rattle.plan_groups.specs.Links.{seek, behind, AllOnce, Linked}
+use Rattle.plan_groups.specs.Plan.{closes}
 use Rattle.plan_groups.specs.Order.{withRootIn, membersFrom, orderFrom, numbersOf, nextGroup}
 use Rattle.plan_groups.specs.Order.{numbersFrom, HasCounts, Placed}
 use Rattle.base_lists.proofs.Bools.{right-true}
+use Rattle.plan_groups.proofs.Tails.{Tail, tail-all, tail-next, tail-here, tail-behind}
 
 -- what is left of a component at the member that a search finds is what the search went over
-pub from-seek : (roots : List ℕ) (r n left k : ℕ) → k + left ≡ n
-    → membersFrom roots r n (seek roots r left k) ≡ withRootIn roots r left k
-unfolding seek membersFrom withRoot
-from-seek roots r n zero k e = rw (le-ltb _ _ (let same : n ≤ k = omega arith in same))
-from-seek roots r n (suc left) k e =
-    go (eqb (getD roots k 0) r) (from-seek roots r n left (suc k) (omega arith))
+pub from-seek : (roots order : List ℕ) (r n : ℕ) (is : List ℕ) → Tail n order is
+    → membersFrom roots order r n (seek roots r n is) ≡ withRootIn roots r is
+unfolding seek membersFrom keep
+from-seek roots order r n [] t = rw (le-ltb n n (le-refl n))
+from-seek roots order r n (i ∷ is) t =
+    go (eqb (getD roots i 0) r) (from-seek roots order r n is (tail-next n order i is t))
   where
     go : (b : Bool)
-        → membersFrom roots r n (seek roots r left (suc k)) ≡ withRootIn roots r left (suc k)
-        → membersFrom roots r n (cond b k (seek roots r left (suc k)))
-        ≡ cond b (k ∷ withRootIn roots r left (suc k)) (withRootIn roots r left (suc k))
-    go true h =
-        let inside : k < n = omega arith in
-        let left-is : n - suc k ≡ left = omega arith in
-        rw (lt-ltb _ _ inside, left-is)
+        → membersFrom roots order r n (seek roots r n is) ≡ withRootIn roots r is
+        → membersFrom roots order r n (cond b i (seek roots r n is))
+        ≡ cond b (i ∷ withRootIn roots r is) (withRootIn roots r is)
+    go true h = rw (lt-ltb i n (t .inside i (List·Memᴰ·head refl)), tail-here n order i is t)
     go false h = h
 
 -- a search that finds a member finds one of its component
-pub seek-root : (roots : List ℕ) (r n left k : ℕ) → k + left ≡ n → seek roots r left k < n
-    → getD roots (seek roots r left k) 0 ≡ r
+pub seek-root : (roots : List ℕ) (r n : ℕ) (is : List ℕ) → seek roots r n is < n
+    → getD roots (seek roots r n is) 0 ≡ r
 unfolding seek
-seek-root roots r n zero k e h = absurd (omega arith)
-seek-root roots r n (suc left) k e h =
-    go (eqb (getD roots k 0) r) refl (seek-root roots r n left (suc k) (omega arith)) h
+seek-root roots r n [] h = absurd (omega arith)
+seek-root roots r n (i ∷ is) h = go (eqb (getD roots i 0) r) refl (seek-root roots r n is) h
   where
-    go : (b : Bool) → eqb (getD roots k 0) r ≡ b
-        → (seek roots r left (suc k) < n → getD roots (seek roots r left (suc k)) 0 ≡ r)
-        → cond b k (seek roots r left (suc k)) < n
-        → getD roots (cond b k (seek roots r left (suc k))) 0 ≡ r
+    go : (b : Bool) → eqb (getD roots i 0) r ≡ b
+        → (seek roots r n is < n → getD roots (seek roots r n is) 0 ≡ r)
+        → cond b i (seek roots r n is) < n
+        → getD roots (cond b i (seek roots r n is)) 0 ≡ r
     go true g ih h′ = eqb-true _ _ g
     go false g ih h′ = ih h′
 
-pub from-member : (roots : List ℕ) (r n h : ℕ) → h < n
-    → membersFrom roots r n h ≡ h ∷ membersFrom roots r n (seek roots r (n - suc h) (suc h))
+pub from-member : (roots order : List ℕ) (r n h : ℕ) → AllOnce n order → h < n
+    → membersFrom roots order r n h
+    ≡ h ∷ membersFrom roots order r n (seek roots r n (behind h order))
 unfolding membersFrom
-from-member roots r n h l =
-    ap (λ (b : Bool). cond b (h ∷ withRootIn roots r (n - suc h) (suc h)) []) (lt-ltb _ _ l)
-    ∙ ap (λ (xs : List ℕ). h ∷ xs) (sym (from-seek roots r n (n - suc h) (suc h) (omega arith)))
+from-member roots order r n h once l =
+    ap (λ (b : Bool). cond b (h ∷ withRootIn roots r (behind h order)) []) (lt-ltb _ _ l)
+    ∙ ap (λ (xs : List ℕ). h ∷ xs)
+    (sym (from-seek roots order r n (behind h order)
+    (tail-behind n order h order (tail-all n order once))))
 
-pub from-none : (roots : List ℕ) (r n h : ℕ) → n ≤ h → membersFrom roots r n h ≡ []
+pub from-none : (roots order : List ℕ) (r n h : ℕ) → n ≤ h → membersFrom roots order r n h ≡ []
 unfolding membersFrom
-from-none roots r n h l = rw (le-ltb _ _ l)
+from-none roots order r n h l = rw (le-ltb _ _ l)
 
 pred-more : (r : ℕ) → pred (r + 1) ≡ r
 pred-more r = omega arith
@@ -90,15 +89,15 @@ length-numbers limit counts g t o (i ∷ is) =
     go false a c = ap suc c
 
 -- each block has one group number
-length-all : (limit : ℕ) (counts roots : List ℕ) (n g left r : ℕ)
-    → length (numbersFrom limit counts roots n g left r) ≡ length (orderFrom roots n left r)
+length-all : (limit : ℕ) (counts roots order : List ℕ) (g left r : ℕ)
+    → length (numbersFrom limit counts roots order g left r) ≡ length (orderFrom roots order left r)
 unfolding numbersFrom orderFrom
-length-all limit counts roots n g zero r = refl
-length-all limit counts roots n g (suc left) r =
-    length-append (numbersOf limit counts g 0 false (withRootIn roots r n 0)) _
-    ∙ ap₂ (λ (a b : ℕ). a + b) (length-numbers limit counts g 0 false (withRootIn roots r n 0))
-    (length-all limit counts roots n _ left (suc r))
-    ∙ sym (length-append (withRootIn roots r n 0) (orderFrom roots n left (suc r)))
+length-all limit counts roots order g zero r = refl
+length-all limit counts roots order g (suc left) r =
+    length-append (numbersOf limit counts g 0 false (withRootIn roots r order)) _
+    ∙ ap₂ (λ (a b : ℕ). a + b) (length-numbers limit counts g 0 false (withRootIn roots r order))
+    (length-all limit counts roots order _ left (suc r))
+    ∙ sym (length-append (withRootIn roots r order) (orderFrom roots order left (suc r)))
 
 -- the two stores of a row
 module _ (n place i g : ℕ) (w : List ℕ) (room : 4 * n ≤ length w) (h : place < n) where
@@ -151,11 +150,15 @@ module _ (f w₀ : List ℕ) (n limit : ℕ) where
   abbrev roots : List ℕ
   roots = drop (2 * n) w₀
 
+  abbrev order : List ℕ
+  order = take n w₀
+
   -- what the loop keeps
   pub record Placing (place group total : ℕ) (isOpen : Bool) (r h : ℕ) (w : List ℕ) : Type 0 where
     pub few : n ≤ 65536
     pub room : 4 * n ≤ length w₀
-    pub linked : Linked (drop (2 * n) w₀) n 0 w₀
+    pub once : AllOnce n (take n w₀)
+    pub linked : Linked (drop (2 * n) w₀) n (take n w₀) w₀
     pub placed : place ≤ n
     pub begun : r ≤ n
     pub groups : group ≤ place
@@ -166,24 +169,27 @@ module _ (f w₀ : List ℕ) (n limit : ℕ) where
     pub nexts : (k : ℕ) → k < n → getD w (n + k) 0 ≡ getD w₀ (n + k) 0
     pub firsts : (k : ℕ) → k < n → getD w (3 * n + k) 0 ≡ getD w₀ (3 * n + k) 0
     pub member : h < n → getD (drop (2 * n) w₀) h 0 ≡ pred r
-    pub order : orderFrom (drop (2 * n) w₀) n n 0
+    pub rows : orderFrom (drop (2 * n) w₀) (take n w₀) n 0
         ≡ take place w
-        ++ (membersFrom (drop (2 * n) w₀) (pred r) n h ++ orderFrom (drop (2 * n) w₀) n (n - r) r)
-    pub numbers : Accepted f → n ≡ blockCount f → (counts : List ℕ) → HasCounts f counts
-        → numbersFrom limit counts (drop (2 * n) w₀) n 0 n 0
+        ++ (membersFrom (drop (2 * n) w₀) (take n w₀) (pred r) n h
+        ++ orderFrom (drop (2 * n) w₀) (take n w₀) (n - r) r)
+    pub numbers : (counts : List ℕ) → HasCounts f counts
+        → numbersFrom limit counts (drop (2 * n) w₀) (take n w₀) 0 n 0
         ≡ take place (drop (2 * n) w)
-        ++ (numbersOf limit counts group total isOpen (membersFrom (drop (2 * n) w₀) (pred r) n h)
-        ++ numbersFrom limit counts (drop (2 * n) w₀) n
-        (nextGroup limit counts group total isOpen (membersFrom (drop (2 * n) w₀) (pred r) n h))
-        (n - r) r)
+        ++ (numbersOf limit counts group total isOpen
+        (membersFrom (drop (2 * n) w₀) (take n w₀) (pred r) n h)
+        ++ numbersFrom limit counts (drop (2 * n) w₀) (take n w₀)
+        (nextGroup limit counts group total isOpen
+        (membersFrom (drop (2 * n) w₀) (take n w₀) (pred r) n h)) (n - r) r)
 
-  pub placing-none : n ≤ 65536 → 4 * n ≤ length w₀ → Linked (drop (2 * n) w₀) n 0 w₀
-      → Placing 0 0 0 false 0 n w₀
+  pub placing-none : n ≤ 65536 → 4 * n ≤ length w₀ → AllOnce n (take n w₀)
+      → Linked (drop (2 * n) w₀) n (take n w₀) w₀ → Placing 0 0 0 false 0 n w₀
   unfolding numbersOf nextGroup
-  placing-none few room linked =
+  placing-none few room once linked =
       record {
         few = few;
         room = room;
+        once = once;
         linked = linked;
         placed = zero-le;
         begun = zero-le;
@@ -195,8 +201,8 @@ module _ (f w₀ : List ℕ) (n limit : ℕ) where
         nexts = λ k l. refl;
         firsts = λ k l. refl;
         member = λ l. absurd (omega arith);
-        order = rw (from-none roots 0 n n (le-refl n), sub-zero);
-        numbers = λ a e counts has. rw (from-none roots 0 n n (le-refl n), sub-zero);
+        rows = rw (from-none roots order 0 n n (le-refl n), sub-zero);
+        numbers = λ counts has. rw (from-none roots order 0 n n (le-refl n), sub-zero);
       }
 
   module _ (place g t : ℕ) (o : Bool) (r h : ℕ) (w : List ℕ) (p : Placing place g t o r h w) where
@@ -206,8 +212,7 @@ module _ (f w₀ : List ℕ) (n limit : ℕ) where
     -- the next member is placed
     module _ (in-order : place < n) (in-component : h < n) (b : Bool) (count : ℕ)
         (closing : closes limit t o count ≡ b) (fits : count < 2 ^ 32)
-        (counted : Accepted f → h < blockCount f → (counts : List ℕ) → HasCounts f counts
-        → getD counts h 0 ≡ count) where
+        (counted : (counts : List ℕ) → HasCounts f counts → getD counts h 0 ≡ count) where
       abbrev g′ : ℕ
       g′ = cond b (g + 1) g
 
@@ -237,22 +242,23 @@ module _ (f w₀ : List ℕ) (n limit : ℕ) where
           go true = omega arith
           go false = omega (arith, p .small)
 
-      next-is : h′ ≡ seek roots (pred r) (n - suc h) (suc h)
+      next-is : h′ ≡ seek roots (pred r) n (behind h order)
       next-is =
           row-other n place h g′ w room-now in-order (n + h) (omega arith) (omega arith)
           ∙ p .nexts h in-component
-          ∙ p .linked .next h zero-le in-component
-          ∙ ap (λ (k : ℕ). seek roots k (n - suc h) (suc h)) (p .member in-component)
+          ∙ p .linked .next h (p .once .all h in-component)
+          ∙ ap (λ (k : ℕ). seek roots k n (behind h order)) (p .member in-component)
 
-      from-is : membersFrom roots (pred r) n h ≡ h ∷ membersFrom roots (pred r) n h′
-      from-is = from-member roots (pred r) n h in-component
-          ∙ ap (λ (k : ℕ). h ∷ membersFrom roots (pred r) n k) (sym next-is)
+      from-is : membersFrom roots order (pred r) n h ≡ h ∷ membersFrom roots order (pred r) n h′
+      from-is = from-member roots order (pred r) n h (p .once) in-component
+          ∙ ap (λ (k : ℕ). h ∷ membersFrom roots order (pred r) n k) (sym next-is)
 
       pub placing-member : Placing (place + 1) g′ t′ true r h′ w′
       placing-member =
           record {
             few = p .few;
             room = p .room;
+            once = p .once;
             linked = p .linked;
             placed = omega arith;
             begun = p .begun;
@@ -269,35 +275,36 @@ module _ (f w₀ : List ℕ) (n limit : ℕ) where
                 λ k l. row-other n place h g′ w room-now in-order (3 * n + k) (omega arith)
                 (omega arith) ∙ p .firsts k l;
             member = λ l. ap (λ (k : ℕ). getD roots k 0) next-is
-                ∙ seek-root roots (pred r) n (n - suc h) (suc h) (omega arith)
+                ∙ seek-root roots (pred r) n (behind h order)
                 (subst (λ (k : ℕ). k < n) next-is l);
-            order =
-                p .order
-                ∙ ap (λ (l : List ℕ). take place w ++ (l ++ orderFrom roots n (n - r) r)) from-is
+            rows =
+                p .rows
+                ∙ ap (λ (l : List ℕ). take place w ++ (l ++ orderFrom roots order (n - r) r))
+                from-is
                 ∙ sym (append-assoc (take place w) (h ∷ [])
-                (membersFrom roots (pred r) n h′ ++ orderFrom roots n (n - r) r))
+                (membersFrom roots order (pred r) n h′ ++ orderFrom roots order (n - r) r))
                 ∙ ap (λ (l : List ℕ). l
-                ++ (membersFrom roots (pred r) n h′ ++ orderFrom roots n (n - r) r))
+                ++ (membersFrom roots order (pred r) n h′ ++ orderFrom roots order (n - r) r))
                 (sym (row-order n place h g′ w room-now in-order));
-            numbers = λ a e counts has. numbers-more a e counts has;
+            numbers = λ counts has. numbers-more counts has;
           }
         where
-          numbers-more : Accepted f → n ≡ blockCount f → (counts : List ℕ) → HasCounts f counts
-              → numbersFrom limit counts roots n 0 n 0
+          numbers-more : (counts : List ℕ) → HasCounts f counts
+              → numbersFrom limit counts roots order 0 n 0
               ≡ take (place + 1) (drop (2 * n) w′)
-              ++ (numbersOf limit counts g′ t′ true (membersFrom roots (pred r) n h′)
-              ++ numbersFrom limit counts roots n
-              (nextGroup limit counts g′ t′ true (membersFrom roots (pred r) n h′)) (n - r) r)
-          numbers-more a e counts has =
-              let c-is = counted a (subst (λ (k : ℕ). h < k) e in-component) counts has in
+              ++ (numbersOf limit counts g′ t′ true (membersFrom roots order (pred r) n h′)
+              ++ numbersFrom limit counts roots order
+              (nextGroup limit counts g′ t′ true (membersFrom roots order (pred r) n h′)) (n - r) r)
+          numbers-more counts has =
+              let c-is = counted counts has in
               let closes-is : closes limit t o (getD counts h 0) ≡ b =
               ap (closes limit t o) c-is ∙ closing in
-              p .numbers a e counts has
+              p .numbers counts has
               ∙ rw (
                 from-is,
-                numbers-step limit counts g t o h (membersFrom roots (pred r) n h′) b
+                numbers-step limit counts g t o h (membersFrom roots order (pred r) n h′) b
                     closes-is,
-                next-step limit counts g t o h (membersFrom roots (pred r) n h′) b
+                next-step limit counts g t o h (membersFrom roots order (pred r) n h′) b
                     closes-is,
                 c-is,
                 row-number n place h g′ w room-now in-order,
@@ -309,43 +316,45 @@ module _ (f w₀ : List ℕ) (n limit : ℕ) where
       abbrev h₁ : ℕ
       h₁ = getD w (3 * n + r) 0
 
-      first-is : h₁ ≡ seek roots r n 0
-      first-is =
-          p .firsts r more ∙ p .linked .first r more ∙ ap (λ (k : ℕ). seek roots r k 0) (sub-zero n)
+      first-is : h₁ ≡ seek roots r n order
+      first-is = p .firsts r more ∙ p .linked .first r more
 
-      rooted-is : membersFrom roots r n h₁ ≡ withRootIn roots r n 0
-      rooted-is = ap (membersFrom roots r n) first-is ∙ from-seek roots r n n 0 (zero-add n)
+      rooted-is : membersFrom roots order r n h₁ ≡ withRootIn roots r order
+      rooted-is =
+          ap (membersFrom roots order r n) first-is
+          ∙ from-seek roots order r n order (tail-all n order (p .once))
 
       one-less : n - r ≡ suc (n - (r + 1))
       one-less = omega arith
 
-      from-next : membersFrom roots (pred (r + 1)) n h₁ ≡ withRootIn roots r n 0
-      from-next = ap (λ (k : ℕ). membersFrom roots k n h₁) (pred-more r) ∙ rooted-is
+      from-next : membersFrom roots order (pred (r + 1)) n h₁ ≡ withRootIn roots r order
+      from-next = ap (λ (k : ℕ). membersFrom roots order k n h₁) (pred-more r) ∙ rooted-is
 
-      order-next : membersFrom roots (pred r) n h ++ orderFrom roots n (n - r) r
-          ≡ membersFrom roots (pred (r + 1)) n h₁ ++ orderFrom roots n (n - (r + 1)) (r + 1)
+      order-next : membersFrom roots order (pred r) n h ++ orderFrom roots order (n - r) r
+          ≡ membersFrom roots order (pred (r + 1)) n h₁
+          ++ orderFrom roots order (n - (r + 1)) (r + 1)
       unfolding orderFrom
-      order-next = rw (from-none roots (pred r) n h no-more, from-next, one-less, add-one r)
+      order-next = rw (from-none roots order (pred r) n h no-more, from-next, one-less, add-one r)
 
       next-closed : (counts : List ℕ)
-          → nextGroup limit counts g t o (membersFrom roots (pred r) n h) ≡ cond o (g + 1) g
+          → nextGroup limit counts g t o (membersFrom roots order (pred r) n h) ≡ cond o (g + 1) g
       unfolding nextGroup
-      next-closed counts = rw (from-none roots (pred r) n h no-more, add-one g)
+      next-closed counts = rw (from-none roots order (pred r) n h no-more, add-one g)
 
       numbers-next : (counts : List ℕ)
-          → numbersOf limit counts g t o (membersFrom roots (pred r) n h)
-          ++ numbersFrom limit counts roots n
-          (nextGroup limit counts g t o (membersFrom roots (pred r) n h)) (n - r) r
+          → numbersOf limit counts g t o (membersFrom roots order (pred r) n h)
+          ++ numbersFrom limit counts roots order
+          (nextGroup limit counts g t o (membersFrom roots order (pred r) n h)) (n - r) r
           ≡ numbersOf limit counts (cond o (g + 1) g) 0 false
-          (membersFrom roots (pred (r + 1)) n h₁)
-          ++ numbersFrom limit counts roots n
+          (membersFrom roots order (pred (r + 1)) n h₁)
+          ++ numbersFrom limit counts roots order
           (nextGroup limit counts (cond o (g + 1) g) 0 false
-          (membersFrom roots (pred (r + 1)) n h₁)) (n - (r + 1)) (r + 1)
+          (membersFrom roots order (pred (r + 1)) n h₁)) (n - (r + 1)) (r + 1)
       unfolding numbersFrom numbersOf
       numbers-next counts =
           rw (
             next-closed counts,
-            from-none roots (pred r) n h no-more,
+            from-none roots order (pred r) n h no-more,
             from-next,
             one-less,
             add-one
@@ -357,6 +366,7 @@ module _ (f w₀ : List ℕ) (n limit : ℕ) where
           record {
             few = p .few;
             room = p .room;
+            once = p .once;
             linked = p .linked;
             placed = p .placed;
             begun = omega arith;
@@ -368,10 +378,10 @@ module _ (f w₀ : List ℕ) (n limit : ℕ) where
             nexts = p .nexts;
             firsts = p .firsts;
             member = λ l. ap (λ (k : ℕ). getD roots k 0) first-is
-                ∙ seek-root roots r n n 0 (zero-add n) (subst (λ (k : ℕ). k < n) first-is l)
+                ∙ seek-root roots r n order (subst (λ (k : ℕ). k < n) first-is l)
                 ∙ sym (pred-more r);
-            order = p .order ∙ ap (λ (l : List ℕ). take place w ++ l) order-next;
-            numbers = λ a e counts has. p .numbers a e counts has
+            rows = p .rows ∙ ap (λ (l : List ℕ). take place w ++ l) order-next;
+            numbers = λ counts has. p .numbers counts has
                 ∙ ap (λ (l : List ℕ). take place (drop (2 * n) w) ++ l) (numbers-next counts);
           }
         where
@@ -381,8 +391,7 @@ module _ (f w₀ : List ℕ) (n limit : ℕ) where
 
     -- the same for what the code computes
     module _ (in-order : place < n) (in-component : h < n) (count : ℕ) (fits : count < 2 ^ 32)
-        (counted : Accepted f → h < blockCount f → (counts : List ℕ) → HasCounts f counts
-        → getD counts h 0 ≡ count) (part : Part)
+        (counted : (counts : List ℕ) → HasCounts f counts → getD counts h 0 ≡ count) (part : Part)
         (taken : part
         ≡ cond (closes limit t o count) (record { group = g + 1; total = count })
         (record { group = g; total = t + count })) (w′ : List ℕ)
@@ -424,24 +433,24 @@ module _ (f w₀ : List ℕ) (n limit : ℕ) where
           same = p .same;
           after = p .after;
           order =
-              λ long. subst (λ (k : ℕ). take k w ≡ orderFrom roots n n 0) all
-              (whole (take place w) _ _ (p .order) (long ∙ sym all ∙ sym long-order));
-          numbers = λ long a e counts has.
-              subst (λ (k : ℕ). take k (drop (2 * n) w) ≡ numbersFrom limit counts roots n 0 n 0)
-              all
-              (whole (take place (drop (2 * n) w)) _ _ (p .numbers a e counts has)
-              (length-all limit counts roots n 0 n 0 ∙ long ∙ sym all ∙ sym long-numbers));
+              λ long. subst (λ (k : ℕ). take k w ≡ orderFrom roots order n 0) all
+              (whole (take place w) _ _ (p .rows) (long ∙ sym all ∙ sym long-order));
+          numbers = λ long counts has.
+              subst
+              (λ (k : ℕ). take k (drop (2 * n) w) ≡ numbersFrom limit counts roots order 0 n 0) all
+              (whole (take place (drop (2 * n) w)) _ _ (p .numbers counts has)
+              (length-all limit counts roots order 0 n 0 ∙ long ∙ sym all ∙ sym long-numbers));
         }
 
     -- no component is left, so all blocks are placed
     module _ (no-more : n ≤ h) (no-component : n ≤ r) where
-      all-placed : length (orderFrom roots n n 0) ≡ n → n ≤ place
+      all-placed : length (orderFrom roots order n 0) ≡ n → n ≤ place
       unfolding orderFrom
       all-placed long =
           let none-left : n - r ≡ 0 = omega arith in
-          let order-is : orderFrom roots n n 0 ≡ take place w ++ [] = p .order
+          let order-is : orderFrom roots order n 0 ≡ take place w ++ [] = p .rows
           ∙ ap (λ (l : List ℕ). take place w ++ l)
-          (rw (from-none roots (pred r) n h no-more, none-left)) in
+          (rw (from-none roots order (pred r) n h no-more, none-left)) in
           omega (arith, ap length (order-is ∙ append-nil (take place w)), long-order)
 
       pub placing-done : Placed f n limit w₀ w

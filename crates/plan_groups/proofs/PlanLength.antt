@@ -1,25 +1,22 @@
 -- The plan has two numbers for each block.
 -- Assumes nothing.
-use Prim.Native.Nat.{ℕ, zero, suc, _+_, _*_, _<_}
-use mathlib.Core.Bool.{Bool, true, false, cond}
-use mathlib.Core.Path.{_≡_, refl, sym, ap, ap₂, _∙_}
-use mathlib.Core.List.{List, [], _∷_, map, flatten}
-use native.Mathlib.Nat.{zero-add}
+use Prim.Native.Nat.{ℕ, zero, suc, _*_, _<_}
+use mathlib.Core.Path.{_≡_, refl, ap, ap₂, _∙_}
+use mathlib.Core.List.{List, [], _∷_, _++_, map, flatten, List·Memᴰ}
 use native.Mathlib.Omega.{arith}
-use lib.Dec.{leb}
-use lib.ListN.{length, getD, length-append}
+use lib.ListN.{length, getD, length-append, length-map}
 use Rattle.file_blocks.specs.Parse.{Block, blockKey}
 use Rattle.base_forest.specs.Roots.{root}
 use Rattle.base_lists.specs.Lists.{range}
-use Rattle.file_keys.specs.Order.{insert, sortByKey}
-use Rattle.plan_groups.specs.Order.{withRootIn, orderFrom}
-use Rattle.plan_groups.specs.Plan.{parents, members, groups, groupRows}
-use Rattle.plan_groups.specs.Plan.{rowsFrom, plan}
+use Rattle.base_lists.proofs.Places.{map-at}
+use Rattle.base_lists.proofs.Range.{length-range, range-own}
+use Rattle.file_keys.specs.Order.{keyOrder}
+use Rattle.file_keys.proofs.Ordered.{is-order}
+use Rattle.plan_groups.specs.Order.{orderFrom}
+use Rattle.plan_groups.specs.Plan.{parents, groups, groupRows, rowsFrom, plan}
 use Rattle.plan_groups.proofs.Components.{component, groups-flat}
 use Rattle.plan_groups.proofs.Edges.{root-block}
-use Rattle.base_lists.proofs.Places.{map-at}
-use Rattle.plan_groups.proofs.Numbering.{members-rooted, order-all}
-use Rattle.base_lists.proofs.Range.{length-range, range-own}
+use Rattle.plan_groups.proofs.Numbering.{component-is, order-all}
 
 group-rows-length : (g : ℕ) (is : List ℕ) → length (groupRows g is) ≡ 2 * length is
 group-rows-length g [] = refl
@@ -38,21 +35,6 @@ rows-length g (is ∷ gs) =
       rows-length (suc g) gs,
     )
 
-insert-length : (keys : List ℕ) (i : ℕ) (js : List ℕ) → length (insert keys i js) ≡ suc (length js)
-unfolding insert
-insert-length keys i [] = refl
-insert-length keys i (j ∷ js) = go (leb (getD keys i 0) (getD keys j 0)) (insert-length keys i js)
-  where
-    go : (b : Bool) → length (insert keys i js) ≡ suc (length js)
-        → length (cond b (i ∷ j ∷ js) (j ∷ insert keys i js)) ≡ suc (suc (length js))
-    go true e = refl
-    go false e = ap suc e
-
-sort-length : (keys is : List ℕ) → length (sortByKey keys is) ≡ length is
-unfolding sortByKey
-sort-length keys [] = refl
-sort-length keys (i ∷ is) = insert-length keys i (sortByKey keys is) ∙ ap suc (sort-length keys is)
-
 module _ (bs : List Block) where
   -- the root of each block
   roots : List ℕ
@@ -65,27 +47,25 @@ module _ (bs : List Block) where
       (omega (arith, length-range (length bs) 0))
       ∙ ap (root (parents bs)) (range-own (length bs) j h)
 
-  components-length : (left r : ℕ)
-      → length (flatten (map (component bs) (range left r)))
-      ≡ length (orderFrom roots (length bs) left r)
+  components-are : (left r : ℕ)
+      → flatten (map (component bs) (range left r))
+      ≡ orderFrom roots (keyOrder (map blockKey bs)) left r
   unfolding flatten orderFrom
-  components-length zero r = refl
-  components-length (suc left) r =
-      length-append (component bs r) (flatten (map (component bs) (range left (suc r))))
-      ∙ ap₂ (λ (a b : ℕ). a + b)
-      (sort-length (map blockKey bs) (members (parents bs) r (length bs))
-      ∙ ap length
-      (members-rooted (parents bs) roots r (length bs) 0
-      (λ j l b. roots-at j (rw zero-add at b))))
-      (components-length left (suc r))
-      ∙ sym (length-append (withRootIn roots r (length bs) 0)
-      (orderFrom roots (length bs) left (suc r)))
+  components-are zero r = refl
+  components-are (suc left) r =
+      ap₂ (λ (a b : List ℕ). a ++ b) (component-is bs roots roots-at r)
+      (components-are left (suc r))
 
   -- all groups together have each block once
   pub groups-length : (limit : ℕ) → length (flatten (groups limit bs)) ≡ length bs
   groups-length limit =
-      ap length (groups-flat limit bs) ∙ components-length (length bs) 0
-      ∙ order-all roots (length bs) (λ j h. rw (roots-at j h) (root-block bs j h))
+      let order = is-order (map blockKey bs) (keyOrder (map blockKey bs)) refl in
+      let inside : (j : ℕ) → List·Memᴰ j (keyOrder (map blockKey bs)) → j < length bs =
+      λ j m. omega (arith, order .member m, length-map bs blockKey) in
+      ap length (groups-flat limit bs ∙ components-are (length bs) 0)
+      ∙ order-all roots (keyOrder (map blockKey bs)) (length bs)
+      (λ j m. rw (roots-at j (inside j m)) (root-block bs j (inside j m)))
+      ∙ order .long ∙ length-map bs blockKey
 
   pub plan-length : (limit : ℕ) → length (plan limit bs) ≡ 2 * length bs
   unfolding plan

@@ -2,15 +2,16 @@
 // step leaves there; of `-` nothing is read again:
 //
 //     step           quarter 0           quarter 1         quarter 2          quarter 3
-//     first_instrs   first instruction   -                 -                  -
-//     join_blocks    first instruction   parent            -                  -
-//     put_roots      -                   parent            root               -
-//     link_members   -                   next member       root               first member
+//     order_blocks   key order           -                 -                  -
+//     first_instrs   key order           -                 -                  first instruction
+//     join_blocks    key order           parent            -                  first instruction
+//     put_roots      key order           parent            root               -
+//     link_members   key order           next member       root               first member
 //     place_blocks   block of each row   next member       group of each row  first member
 //
-// First instructions, parents, roots and next members are by block, first members by root.
-// From here `plan_members` goes on, with `put_groups` for the listing, or with `put_firsts`, in
-// `prepare`, for pages and units:
+// The key order is all blocks in the order of their keys. First instructions, parents, roots and
+// next members are by block, first members by root. From here `plan_members` goes on, with
+// `put_groups` for the listing, or with `put_firsts`, in `prepare`, for pages and units:
 //
 //     put_groups     block of each row   group of a block  group of each row  -
 //     put_firsts     block of each row   -                 group of each row  first instruction
@@ -23,6 +24,7 @@ use base_forest::hang_under;
 use base_forest::own_roots;
 use file_blocks::FoundBlock;
 use file_blocks::block_at;
+use file_keys::order_blocks;
 use plan_exits::Exits;
 use plan_exits::exits_at;
 use plan_search::Target;
@@ -35,22 +37,21 @@ ghost use Rattle.plan_exits.specs.Exits.{keysOf};
 ghost use Rattle.base_forest.specs.Forest.{Forest};
 ghost use Rattle.plan_groups.specs.Plan.{joinTo, joinExits};
 ghost use Rattle.plan_search.specs.Target.{target};
-ghost use Rattle.plan_groups.specs.Groups.{quarter1, Joined, HasFirsts, FirstsInQuarter0};
-ghost use Rattle.plan_groups.specs.Groups.{joinRecord};
-ghost use Rattle.plan_groups.specs.Groups.{AllJoined, Rooted, AllRooted, Grouped, HasRoom};
-ghost use Rattle.plan_groups.specs.Groups.{HasRoomAt};
+ghost use Rattle.plan_groups.specs.Groups.{HasRoom, HasRoomAt, HasOrder, HasFirsts};
+ghost use Rattle.plan_groups.specs.Groups.{quarter1, Joined, joinRecord, AllJoined};
+ghost use Rattle.plan_groups.specs.Groups.{FirstsInQuarter3, Rooted, AllRooted, Grouped};
 
 // The edge from block i to a key, if there is a block of page 8 with that key.
 fn join_key(file: &[u8], work: &mut [u32], n: usize, i: usize, key: u32)
     requires { ⌜ HasRoomAt (now file) (now work) n i ⌝ }
+    requires { ⌜ Accepted (now file) × HasOrder (now file) n (now work) ⌝ }
     requires { ⌜ Forest (2 * n) (quarter1 n (now work)) ⌝ }
     ensures { λ _. ⌜
         Joined 1 n (now (work .entry)) (now (work .exit))
         (λ q. joinTo i q (target key (blocksOf (now (file .entry))) 0))
-        (Accepted (now (file .entry)))
         ⌝ }
 {
-    let Target::At(j) = find_target(file, key, i) else {
+    let Target::At(j) = find_target(file, &work[..n], key, i) else {
         return;
     };
     let end = 2 * n;
@@ -60,11 +61,11 @@ fn join_key(file: &[u8], work: &mut [u32], n: usize, i: usize, key: u32)
 // The edges from block i, in the order of its exits.
 fn join_exits(file: &[u8], work: &mut [u32], n: usize, i: usize, exits: Exits)
     requires { ⌜ HasRoomAt (now file) (now work) n i ⌝ }
+    requires { ⌜ Accepted (now file) × HasOrder (now file) n (now work) ⌝ }
     requires { ⌜ Forest (2 * i) (quarter1 n (now work)) ⌝ }
     ensures { λ _. ⌜
         Joined 2 n (now (work .entry)) (now (work .exit))
         (λ q. joinExits (blocksOf (now (file .entry))) i q (keysOf exits))
-        (Accepted (now (file .entry)))
         ⌝ }
 {
     match exits {
@@ -80,11 +81,11 @@ fn join_exits(file: &[u8], work: &mut [u32], n: usize, i: usize, exits: Exits)
 // The edges from block i, if it is one of page 8.
 fn join_block(file: &[u8], work: &mut [u32], n: usize, i: usize)
     requires { ⌜ HasRoomAt (now file) (now work) n i ⌝ }
+    requires { ⌜ Accepted (now file) × HasOrder (now file) n (now work) ⌝ }
+    requires { ⌜ HasFirsts (now file) n (now work) ⌝ }
     requires { ⌜ Forest (2 * i) (quarter1 n (now work)) ⌝ }
-    requires { ⌜ (Accepted (now file) → HasFirsts (now file) n (now work)) ⌝ }
     ensures { λ _. ⌜
         Joined 2 n (now (work .entry)) (now (work .exit)) (joinRecord (now (file .entry)) i)
-        (Accepted (now (file .entry)))
         ⌝ }
 {
     let FoundBlock::At(block) = block_at(file, i) else {
@@ -93,7 +94,7 @@ fn join_block(file: &[u8], work: &mut [u32], n: usize, i: usize)
     if !on_page_8(block.addr) {
         return;
     }
-    let first = as_index(work[i]);
+    let first = as_index(work[3 * n + i]);
     let exits = exits_at(file, block, first);
     join_exits(file, work, n, i, exits);
 }
@@ -101,7 +102,8 @@ fn join_block(file: &[u8], work: &mut [u32], n: usize, i: usize)
 // The edges from all blocks, in their order; at first each block is its own root.
 fn join_blocks(file: &[u8], work: &mut [u32], n: usize)
     requires { ⌜ HasRoom (now file) (now work) n ⌝ }
-    requires { ⌜ (Accepted (now file) → HasFirsts (now file) n (now work)) ⌝ }
+    requires { ⌜ Accepted (now file) × HasOrder (now file) n (now work) ⌝ }
+    requires { ⌜ HasFirsts (now file) n (now work) ⌝ }
     ensures { λ _. ⌜ AllJoined (now (file .entry)) n (now (work .entry)) (now (work .exit)) ⌝ }
 {
     let end = 2 * n;
@@ -113,17 +115,18 @@ fn join_blocks(file: &[u8], work: &mut [u32], n: usize)
     }
 }
 
-// Puts the number of each block's first instruction into quarter 0. In an accepted file it fits.
+// Puts the number of each block's first instruction into quarter 3. In an accepted file it fits.
 fn first_instrs(file: &[u8], work: &mut [u32], n: usize)
-    requires { ⌜ (4 * n ≤ length (now work)) × (n ≤ 65536) ⌝ }
+    requires { ⌜ HasRoom (now file) (now work) n × Accepted (now file) ⌝ }
     ensures { λ _. ⌜
-        FirstsInQuarter0 (now (file .entry)) n (now (work .entry)) (now (work .exit))
+        FirstsInQuarter3 (now (file .entry)) n (now (work .entry)) (now (work .exit))
         ⌝ }
 {
+    let start = 3 * n;
     let mut sum: u64 = 0;
     let mut i = 0;
     while i < n {
-        work[i] = (sum % 4294967296) as u32;
+        work[start + i] = (sum % 4294967296) as u32;
         sum += count_of(file, i);
         i += 1;
     }
@@ -153,10 +156,11 @@ fn put_roots(work: &mut [u32], n: usize)
     }
 }
 
-// Groups the blocks of a file: quarters 0 and 2 get the blocks in emission order and the number of
-// the group of each.
-pub fn group_blocks(file: &[u8], work: &mut [u32], n: u32, limit: u64)
-    requires { ⌜ HasRoom (now file) (now work) n ⌝ }
+// Groups the blocks of a file whose key order is in quarter 0: quarters 0 and 2 get the blocks in
+// emission order and the number of the group of each.
+pub fn group_ordered(file: &[u8], work: &mut [u32], n: u32, limit: u64)
+    requires { ⌜ HasRoom (now file) (now work) n × Accepted (now file) ⌝ }
+    requires { ⌜ HasOrder (now file) n (now work) ⌝ }
     ensures { λ _. ⌜ Grouped (now (file .entry)) n limit (now (work .entry)) (now (work .exit)) ⌝ }
 {
     let size = n as usize;
@@ -165,4 +169,14 @@ pub fn group_blocks(file: &[u8], work: &mut [u32], n: u32, limit: u64)
     put_roots(work, size);
     link_members(work, n);
     place_blocks(file, work, n, limit);
+}
+
+// Groups the blocks of a file: quarters 0 and 2 get the blocks in emission order and the number of
+// the group of each.
+pub fn group_blocks(file: &[u8], work: &mut [u32], n: u32, limit: u64)
+    requires { ⌜ HasRoom (now file) (now work) n × Accepted (now file) ⌝ }
+    ensures { λ _. ⌜ Grouped (now (file .entry)) n limit (now (work .entry)) (now (work .exit)) ⌝ }
+{
+    order_blocks(file, work);
+    group_ordered(file, work, n, limit);
 }

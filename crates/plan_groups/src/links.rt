@@ -1,10 +1,11 @@
-// Lists of members in the work numbers. Of four quarters of n numbers each, quarter 2 has the
-// roots; quarter 1 gets each block's next member, quarter 3 each component's first.
+// Lists of members in the work numbers. Of four quarters of n numbers each, quarter 0 has all
+// blocks in the order of their keys and quarter 2 the roots; quarter 1 gets each block's next
+// member, quarter 3 each component's first.
 ghost use mathlib.Core.Path.{_≡_};
 ghost use Prim.Native.Nat.{_+_, _*_, _≤_, _<_};
-ghost use lib.ListN.{length, getD};
+ghost use lib.ListN.{length, getD, take};
 ghost use Rattle.plan_groups.specs.Links.{Filled, linkOne, RootsInside, AllLinked};
-ghost use Rattle.plan_groups.specs.Links.{Outside};
+ghost use Rattle.plan_groups.specs.Links.{AllOnce, Outside};
 
 // Quarter 3 with n in each place: no component has a member yet.
 fn no_members(work: &mut [u32], n: u32)
@@ -38,10 +39,10 @@ pub(crate) fn as_index(x: u32) -> usize
     x as usize
 }
 
-// Links the members of each component, from the last block to the first.
+// Links the members of each component, from the last block in the order of keys to the first.
 pub(crate) fn link_members(work: &mut [u32], n: u32)
     requires { ⌜ 4 * n ≤ length (now work) ⌝ }
-    requires { ⌜ RootsInside n (now work) ⌝ }
+    requires { ⌜ AllOnce n (take n (now work)) × RootsInside n (now work) ⌝ }
     ensures kept { λ _. ⌜ Outside n (now (work .entry)) (now (work .exit)) ⌝ }
     ensures links { λ _. ⌜ AllLinked n (now (work .entry)) (now (work .exit)) ⌝ }
 {
@@ -49,6 +50,7 @@ pub(crate) fn link_members(work: &mut [u32], n: u32)
     let mut left = n;
     while 0 < left {
         left = left - 1;
-        link_one(work, n, left);
+        let i = work[left as usize];
+        link_one(work, n, i);
     }
 }

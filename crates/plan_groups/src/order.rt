@@ -5,9 +5,13 @@ use file_blocks::block_at;
 ghost use mathlib.Core.Path.{_≡_};
 ghost use mathlib.Core.Bool.{cond};
 ghost use Prim.Native.Nat.{_+_, _*_, _≤_, _<_, _^_};
-ghost use lib.ListN.{length, set, drop};
-ghost use Rattle.plan_groups.specs.Links.{Linked};
-ghost use Rattle.plan_groups.specs.Order.{IsCount, partWith, Placed};
+ghost use lib.ListN.{length, set, take, drop};
+ghost use Rattle.file_records.specs.Trailer.{blockCount, blockStart};
+ghost use Rattle.file_records.specs.BlockRecord.{countAt};
+ghost use Rattle.file_blocks.specs.Parse.{Accepted};
+ghost use Rattle.plan_groups.specs.Groups.{HasRoom};
+ghost use Rattle.plan_groups.specs.Links.{AllOnce, Linked};
+ghost use Rattle.plan_groups.specs.Order.{partWith, Placed};
 
 // The part of a component that is being filled: the number of its group, and its instructions.
 pub(crate) struct Part {
@@ -17,8 +21,9 @@ pub(crate) struct Part {
 
 // How many instructions a block has.
 pub(crate) fn count_of(file: &[u8], i: usize) -> u64
+    requires { ⌜ Accepted (now file) × (i < blockCount (now file)) ⌝ }
     ensures small { λ r. ⌜ r < 2 ^ 32 ⌝ }
-    ensures count { λ r. ⌜ IsCount (now (file .entry)) i r ⌝ }
+    ensures count { λ r. ⌜ r ≡ countAt (now (file .entry)) (blockStart (now (file .entry)) i) ⌝ }
 {
     let FoundBlock::At(block) = block_at(file, i) else {
         return 0;
@@ -66,11 +71,13 @@ fn close_part(group: u32, open: bool) -> u32
     if open { group + 1 } else { group }
 }
 
-// Places all blocks: goes along the links of each component in turn. `r` counts the components
-// begun, `h` is the next member of the last of them, or n.
+// Places all blocks: goes along the links of each component in turn, and never reads the key order
+// that it writes over. `r` counts the components begun, `h` is the next member of the last of them,
+// or n.
 pub(crate) fn place_blocks(file: &[u8], work: &mut [u32], n: u32, limit: u64)
-    requires { ⌜ (n ≤ 65536) × (4 * n ≤ length (now work)) ⌝ }
-    requires { ⌜ Linked (drop (2 * n) (now work)) n 0 (now work) ⌝ }
+    requires { ⌜ HasRoom (now file) (now work) n × Accepted (now file) ⌝ }
+    requires { ⌜ AllOnce n (take n (now work)) ⌝ }
+    requires { ⌜ Linked (drop (2 * n) (now work)) n (take n (now work)) (now work) ⌝ }
     ensures { λ _. ⌜ Placed (now (file .entry)) n limit (now (work .entry)) (now (work .exit)) ⌝ }
 {
     let size = n as usize;

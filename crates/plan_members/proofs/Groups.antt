@@ -137,9 +137,9 @@ module _ (n p i : ℕ) (work₀ work : List ℕ) (h : p < n) (room : 4 * n ≤ l
 -- the groups of all rows, where the rows are a plan
 module _ {f : List ℕ} {n limit : ℕ} {work work₁ work₂ : List ℕ}
     (grouped : Grouped f n limit work work₁) (put : GroupsFrom n 0 work₁ work₂) where
-  pub groups-planned : Accepted f → (i : ℕ) → i < n
+  pub groups-planned : (i : ℕ) → i < n
       → getD work₂ (n + i) 0 ≡ groupOf i (plan limit (blocksOf f))
-  groups-planned ok i h = put .groups i h ∙ ap (groupOf i) (grouped .rows ok)
+  groups-planned i h = put .groups i h ∙ ap (groupOf i) (grouped .rows)
 
   pub groups-room : length work₂ ≡ length work
   groups-room = put .same ∙ grouped .same

@@ -93,7 +93,7 @@ module _ {f : List ℕ} {n limit : ℕ} {work work₁ work₂ : List ℕ} (ok : 
               accepted = ok;
               all = all;
               room = omega (arith, numbered .same, grouped .same);
-              rows = same-rows ∙ grouped .rows ok;
+              rows = same-rows ∙ grouped .rows;
               firsts = numbered .firsts;
             };
       }

@@ -78,7 +78,11 @@ hit test (suc n) i m e = go (test i) refl (hit test n (suc i) m)
         record { low = omega arith; inside = omega arith; passes = ap test (sym same) ∙ g }
     go false g rest =
         let w = rest (rw g at e) in
-        record { low = omega (arith, w .low); inside = omega (arith, w .inside); passes = w .passes }
+        record {
+          low = omega (arith, w .low);
+          inside = omega (arith, w .inside);
+          passes = w .passes;
+        }
 
 -- what the reader found of block i tells whether it has a key
 module _ (f : List ℕ) (accepted : Accepted f) (i key : ℕ) (found : FoundBlock)

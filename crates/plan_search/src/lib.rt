@@ -37,8 +37,8 @@ fn has_key(file: &[u8], i: usize, key: u32) -> bool
     key_plus(block.addr, block.thumb) == key as u64
 }
 
-// The block with a key, an exit of block i, by the order of all blocks. Most exits lead to the block
-// after block i, so that one is looked at first: no other has its key.
+// The block with a key, an exit of block i, by the order of all blocks. Most exits lead to the
+// block after block i, so that one is looked at first: no other has its key.
 fn block_with(file: &[u8], order: &[u32], key: u32, i: usize) -> Target
     requires { ⌜ Accepted (now file) × (now order ≡ keyOrder (blockKeys (now file))) ⌝ }
     requires { ⌜ i < blockCount (now file) ⌝ }

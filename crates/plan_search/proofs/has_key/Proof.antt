@@ -1,4 +1,5 @@
--- `has_key` compares the key of the record that the reader finds; past the last block it finds none.
+-- `has_key` compares the key of the record that the reader finds. It finds none only past the last
+-- block.
 use borrow.Author.Needs.{needs}
 use Rattle.plan_search.proofs.Searching as searching
 use Rattle.plan_search.proofs.has_key.Statement.{statement}

@@ -16,6 +16,11 @@ use Rattle.call_listing.specs.Listing.{listing}
 use Rattle.call_listing.proofs.calls.list_blocks.Statement.{statement}
 use Rattle.call_listing.proofs.calls.list_blocks.Tie as tie
 
+group-blocks-requires : tie.Need-group-blocks-requires
+group-blocks-requires c κs =
+    let known = c .before .before .before .before .pre in
+    ((known .room, known .few, known .blocks), known .accepted)
+
 returns : tie.Need-returns
 unfolding listingAnswer
 returns c =
@@ -27,7 +32,7 @@ returns c =
     let grouped = group .group-blocks .ensures in
     let groups = put .put-groups .ensures in
     let long = measure .listing-length .ensures (a .limit)
-    (groups-planned grouped groups (start .pre .accepted)) in
+    (groups-planned grouped groups) in
     settled-call (asksListing (a .limit)) _ _ _ _ (start .pre) _
     (c .before .before .clear .ensures
     ∙ cleared-same _ _ _ (groups-room grouped groups) (groups-past grouped groups)) _
@@ -46,7 +51,7 @@ returns-2 c =
     let content = print (listing (a .limit) (blocksOf (a .file .now))) in
     let grouped = group .group-blocks .ensures in
     let groups = put .put-groups .ensures in
-    let planned = groups-planned grouped groups (start .pre .accepted) in
+    let planned = groups-planned grouped groups in
     let long = measure .listing-length .ensures (a .limit) planned in
     let fits : length content ≤ length (a .text .now) = omega (arith, long) in
     settled-call (asksListing (a .limit)) _ _ _ _ (start .pre) _
@@ -58,6 +63,6 @@ returns-2 c =
 pub list-blocks-spec : {M : Type 1} → statement M
 list-blocks-spec =
     tie.close
-    (tie.spec (search needs) (search needs) (λ c κs. search needs) (search needs) (search needs)
+    (tie.spec group-blocks-requires (search needs) (λ c κs. search needs) (search needs) (search needs)
     (search needs) returns (λ c κs. search needs) (search needs) (search needs) (search needs)
     (search needs) returns-2)

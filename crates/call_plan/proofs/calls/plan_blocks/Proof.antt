@@ -15,6 +15,11 @@ use Rattle.call_plan.specs.Calls.{planAnswer, asksPlan}
 use Rattle.call_plan.proofs.calls.plan_blocks.Statement.{statement}
 use Rattle.call_plan.proofs.calls.plan_blocks.Tie as tie
 
+group-blocks-requires : tie.Need-group-blocks-requires
+group-blocks-requires c κs =
+    let known = c .before .before .before .before .before .pre in
+    ((known .room, known .few, known .blocks), known .accepted)
+
 returns : tie.Need-returns
 unfolding planAnswer
 returns c =
@@ -38,7 +43,7 @@ returns-2 c =
     plan-length (blocksOf (a .file .now)) (a .limit) ∙ ap (λ (n : ℕ). 2 * n) (sym size) in
     let rows = put .put-rows .ensures
     ∙ ap₂ (λ (l : List ℕ) (k : ℕ). l ++ drop k (a .plan .now))
-    (grouped .rows (start .pre .accepted)) (sym long) in
+    (grouped .rows) (sym long) in
     settled-call (asksPlan (a .limit)) _ _ _ _ (start .pre) _
     (c .before .before .clear2 .ensures ∙ cleared-same _ _ _ (grouped .same) (grouped .after)) _
     (handed-over _ (plan (a .limit) (blocksOf (a .file .now))) refl _ (a .plan .now) _ _ size
@@ -47,5 +52,5 @@ returns-2 c =
 pub plan-blocks-spec : {M : Type 1} → statement M
 plan-blocks-spec =
     tie.close
-    (tie.spec (search needs) (search needs) (search needs) (search needs) returns (search needs)
+    (tie.spec (search needs) (search needs) (search needs) (search needs) returns group-blocks-requires
     (search needs) (search needs) (search needs) (search needs) (search needs) returns-2)

@@ -1,5 +1,5 @@
 -- `first_instrs` stores the number of each block's first instruction. The loop's invariant: `sum`
--- is the sum of the counts passed, and quarter 0 has those sums for the blocks passed.
+-- is the sum of the counts passed, and quarter 3 has those sums for the blocks passed.
 use Rattle.plan_groups.proofs.Grouping as grouping
 use denote.Ref.{now}
 use Prim.Native.Nat.{ℕ, _-_}
@@ -10,17 +10,22 @@ use Rattle.plan_groups.proofs.groups.first_instrs.Statement.{statement}
 use Rattle.plan_groups.proofs.groups.first_instrs.Tie as tie
 
 abbrev Inv-loop : tie.InvT-loop
-Inv-loop file work₀ n sum₀ i₀ work sum i = grouping.Counting file n work₀ sum i work
+Inv-loop file work₀ n start sum₀ i₀ work sum i = grouping.Counting file n work₀ sum i work
 
 abbrev μ-loop : tie.MeasureT-loop
-μ-loop file work₀ n sum₀ i₀ work sum i = n - i
+μ-loop file work₀ n start sum₀ i₀ work sum i = n - i
 
 loop-holds : tie.Need-loop-holds Inv-loop μ-loop
 loop-holds c = grouping.counting-none _ _ _
 
+count-of-requires : tie.Need-count-of-requires Inv-loop μ-loop
+count-of-requires c κs =
+    let pre = c .before .before .before .before .pre in (pre .1, omega (arith, pre .0 .2))
+
 loop-again : tie.Need-loop-again Inv-loop μ-loop
 loop-again c =
-    grouping.counting-more _ _ _ _ _ _ _ (c .before .before .before .before .before .pre .0)
+    let pre = c .before .before .before .before .before .pre in
+    grouping.counting-more _ _ _ _ _ _ _ (pre .0 .0) (pre .0 .2) (pre .1)
     (c .before .loop-test .taken) (c .count-of .ensures .0) (c .count-of .ensures .1)
     (c .before .before .loop .inv)
 
@@ -40,6 +45,6 @@ returns c =
 pub first-instrs-spec : {M : Type 1} → statement M
 first-instrs-spec =
     tie.close
-    (tie.spec Inv-loop μ-loop loop-holds (search needs) (λ c. omega arith) (λ c. omega arith)
-    (search needs)
-    (λ c. omega arith) (λ c. omega arith) (λ c. omega arith) loop-again same-length returns)
+    (tie.spec Inv-loop μ-loop (λ c. omega arith) loop-holds (search needs) (λ c. omega arith)
+    (λ c. omega arith) (λ c. omega arith) count-of-requires (λ c. omega arith) (λ c. omega arith)
+    (λ c. omega arith) loop-again same-length returns)

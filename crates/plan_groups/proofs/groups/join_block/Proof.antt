@@ -1,5 +1,5 @@
 -- `join_block` makes the edges of a block: none if it is not of page 8, else those of its exits,
--- which begin at the instruction that quarter 0 has for it.
+-- which begin at the instruction that quarter 3 has for it.
 use denote.Ref.{now}
 use Rattle.plan_exits.specs.Exits.{exits}
 use Rattle.file_blocks.specs.Parse.{blockAt}
@@ -16,8 +16,7 @@ returns : tie.Need-returns
 returns c =
     let start = c .before .before .before .before .before in
     joining.block-missing _ _ _ _ _ (c .before .before .block-at .ensures)
-    (start .pre .0 .2)
-    (start .pre .0 .3) (c .enum-told .given .1)
+    (start .pre .0 .2) (start .pre .0 .3) (start .pre .1 .0 .0) (c .enum-told .given .1)
 
 returns-2 : tie.Need-returns-2
 returns-2 c =
@@ -40,14 +39,13 @@ returns-3 c =
     let pre = start .pre in
     let found = at-block .block .given .1 in
     let reads = at-block-at .block-at .ensures in
+    let starts = at-as-index .as-index .ensures ∙ pre .1 .1 .0 _ (pre .0 .2) in
     joining.block-joins _ _ _ _ _ reads (pre .0 .2) (pre .0 .3) _ found
     (sym (at-on-page-8 .on-page-8 .ensures)
     ∙ not-false _ (at-if1 .if1 .left))
     (at-exits-at .exits-at .result) _
-    (λ a.
-    let starts = at-as-index .as-index .ensures ∙ pre .1 .1 a _ (pre .0 .2) in
-    at-exits-at .exits-at .ensures _
-    (record { accepted = a; found = sym reads ∙ found; starts = starts })
+    (at-exits-at .exits-at .ensures _
+    (record { accepted = pre .1 .0 .0; found = sym reads ∙ found; starts = starts })
     ∙ ap (λ (k : ℕ). exits (blockAt (now (args .file)) (blockStart (now (args .file)) (args .i)) k))
     starts)
     (c .before .before .join-exits .ensures)
@@ -57,4 +55,5 @@ join-block-spec =
     tie.close
     (tie.spec (search needs) (search needs) (search needs) returns (search needs) returns-2
     (search needs)
-    (search needs) (search needs) (search needs) (λ c κs. search needs) (search needs) returns-3)
+    (search needs) (search needs) (search needs) (search needs) (search needs)
+    (λ c κs. search needs) (search needs) returns-3)

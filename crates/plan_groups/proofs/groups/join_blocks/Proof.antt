@@ -27,7 +27,7 @@ loop-holds c =
     let start = c .before .before .before .before .before .before in
     grouping.edges-none _ _ _ _ (start .pre .0 .0)
     (rw lending.lent-is at (c .before .before .own-roots .ensures))
-    (start .pre .0 .2)
+    (start .pre .1 .0 .0) (start .pre .0 .2)
 
 join-block-requires : tie.Need-join-block-requires Inv-loop μ-loop
 join-block-requires c κs =
@@ -36,20 +36,33 @@ join-block-requires c κs =
     let pre = start .pre in
     let own = (rw lending.lent-is at (at-own-roots .own-roots .ensures)) in
     let inv = c .before .before .loop .inv in
-    let asks =
-    grouping.edges-asks _ _ _ _ _
-    (grouping.own-room
-    (now (start .args
-    .file)) _ _ _ (pre .0 .0) own) (λ a. grouping.own-firsts _ _ _ _ (pre .0 .0) own (pre .1 a))
-    inv in
-    ((asks .0, pre .0 .1, c .before .loop-test .taken, pre .0 .2), (inv .forest, asks .1))
+    let room = grouping.own-room (now (start .args .file)) _ _ _ (pre .0 .0) own in (
+      (
+        grouping.edges-room _ _ _ _ _ room inv,
+        pre .0 .1,
+        c .before .loop-test .taken,
+        pre .0 .2,
+      ),
+      (
+        (
+          pre .1 .0 .0,
+          grouping.edges-order _ _ _ _ _ room inv
+              (grouping.own-order _ _ _ _ (pre .0 .0) own (pre .1 .0 .1)),
+        ),
+        (
+          grouping.edges-firsts _ _ _ _ _ room inv
+              (grouping.own-firsts _ _ _ _ (pre .0 .0) own (pre .1 .1)),
+          inv .forest,
+        ),
+      ),
+    )
 
 loop-again : tie.Need-loop-again Inv-loop μ-loop
 loop-again c =
     let at-loop-test = c .before .before .before .before in
     let at-loop = at-loop-test .before in
     let start = at-loop .before .before .before .before .before .before .before in
-    grouping.edges-more _ _ _ _ _ _ (at-loop-test .loop-test .taken)
+    grouping.edges-more _ _ _ _ _ _ (start .pre .1 .0 .0) (at-loop-test .loop-test .taken)
     (start .pre .0 .2) (at-loop .loop .inv)
     (c .before .before .join-block .ensures)
 
@@ -73,7 +86,7 @@ returns c =
     (grouping.edges-done _ _ _ _ _
     (grouping.own-room
     (now (start .args .file)) _ _ _
-    (pre .0 .0) own) (pre .0 .2) (omega arith) (c .before .loop .inv))
+    (pre .0 .0) own) (pre .1 .0 .0) (pre .0 .2) (omega arith) (c .before .loop .inv))
 
 pub join-blocks-spec : {M : Type 1} → statement M
 join-blocks-spec =

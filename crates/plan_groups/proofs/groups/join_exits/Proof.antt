@@ -9,19 +9,21 @@ use Rattle.plan_groups.proofs.groups.join_exits.Tie as tie
 
 join-key-requires : tie.Need-join-key-requires
 join-key-requires c κs = let pre = c .before .before .before .before .before .before .pre in
-    (pre .0, deeper (pre .1) _ (omega arith))
+    (pre .0, (pre .1 .0, deeper (pre .1 .1) _ (omega arith)))
 
 join-key-requires-2 : tie.Need-join-key-requires-2
 join-key-requires-2 c κs = let pre = c .before .before .before .before .before .before .pre in
-    (pre .0, deeper (pre .1) _ (omega arith))
+    (pre .0, (pre .1 .0, deeper (pre .1 .1) _ (omega arith)))
 
 join-key-requires-3 : tie.Need-join-key-requires-3
 join-key-requires-3 c κs = let pre =
     c .before .before .before .before .before .before .before .before .before .before .pre in
     let joined = c .before .before .before .join-key2 .ensures in (
       (omega (arith, joined .same), pre .0 .1, pre .0 .2, pre .0 .3),
-      deeper
-          (joined .depth _ (pre .1)) _ (omega arith),
+      (
+        (pre .1 .0 .0, joining.order-kept _ _ _ (omega arith) joined (pre .1 .0 .1)),
+        deeper (joined .depth _ (pre .1 .1)) _ (omega arith),
+      ),
     )
 
 returns : tie.Need-returns

@@ -1,8 +1,6 @@
--- `link_members` links the members of each component. The loop's invariant: the blocks from `left`
--- on are linked, and only quarters 1 and 3 changed.
-use Rattle.plan_groups.specs.Links.{Linked}
-use Prim.Native.Nat.{ℕ}
-use mathlib.Core.Path.{subst, _≡_, _∙_}
+-- `link_members` links the members of each component. The loop's invariant: the blocks from
+-- place `left` of the key order on are linked, and only quarters 1 and 3 changed.
+use mathlib.Core.Path.{_≡_, _∙_}
 use Rattle.plan_groups.proofs.Linking as linking
 use borrow.Author.Needs.{needs}
 use native.Mathlib.Omega.{arith}
@@ -19,15 +17,21 @@ loop-holds : tie.Need-loop-holds Inv-loop μ-loop
 loop-holds c =
     let start = c .before .before .before .before .before in
     linking.linking-none _ _ _ (start .pre .0)
-    (start .pre .1) (c .before .before .no-members .ensures)
+    (start .pre .1 .0) (start .pre .1 .1) (c .before .before .no-members .ensures)
+
+slice-read-i : tie.Need-slice-read-i Inv-loop μ-loop
+slice-read-i c =
+    let inv = c .before .before .loop .inv in
+    omega (arith, inv .few, inv .room, inv .outside .same)
 
 link-one-requires : tie.Need-link-one-requires Inv-loop μ-loop
 link-one-requires c κs =
-    linking.linking-asks _ _ _ _ (c .before .loop-test .taken) (c .before .before .loop .inv)
+    linking.linking-asks _ _ _ _ (c .before .before .loop-test .taken)
+    (c .before .before .before .loop .inv)
 
 loop-again : tie.Need-loop-again Inv-loop μ-loop
 loop-again c =
-    let at-loop-test = c .before .before .before .before in
+    let at-loop-test = c .before .before .before .before .before in
     let at-loop = at-loop-test .before in
     rw (c .before .before .link-one .ensures)
     (linking.linking-more _ _ _ _ (at-loop-test .loop-test .taken)
@@ -44,16 +48,13 @@ returns c =
     let filled = linking.outside-fill _ _ _ (at-no-members .no-members .ensures) in
     let done : c .before .loop .left ≡ 0 = omega arith in (
       linking.outside-trans _ _ _ _ filled (c .before .loop .inv .outside),
-      λ roots h. subst
-          (λ (i : ℕ). Linked roots
-          (start .args .n) i
-          (c .before .loop .work)) done
-          (c .before .loop .inv .linked roots (linking.has-roots _ roots _ _ filled h)),
+      linking.linking-done _ _ _ _ _ (start .pre .0) (at-no-members .no-members .ensures) done
+          (c .before .loop .inv),
     )
 
 pub link-members-spec : {M : Type 1} → statement M
 link-members-spec =
     tie.close
-    (tie.spec Inv-loop μ-loop (search needs) loop-holds (λ c. omega arith) link-one-requires
-    (λ c. omega arith)
-    loop-again same-length returns)
+    (tie.spec Inv-loop μ-loop (search needs) loop-holds (λ c. omega arith) (λ c. omega arith)
+    (λ c. omega arith) slice-read-i link-one-requires (λ c. omega arith) loop-again same-length
+    returns)

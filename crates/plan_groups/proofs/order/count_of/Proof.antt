@@ -1,5 +1,4 @@
--- `count_of` gives a block's instruction count. Of an accepted file every block is found, so the
--- answer 0 is for other files.
+-- `count_of` gives a block's instruction count: of an accepted file every block is found.
 use Rattle.file_blocks.specs.Read.{recordAt}
 use Rattle.file_blocks.specs.declared.read.BlockRecord.{BlockRecord}
 use Rattle.file_blocks.proofs.IsBlock.{missing, found-record}
@@ -10,22 +9,20 @@ use Rattle.plan_groups.proofs.order.count_of.Statement.{statement}
 use Rattle.plan_groups.proofs.order.count_of.Tie as tie
 
 returns : tie.Need-returns
-unfolding recordAt
-returns c = (
-  search needs,
-  λ a h. absurd
-      (omega (
-        arith,
-        missing _ a _
-            (sym (c .before .before .block-at .ensures) ∙ c .enum-told .given .1),
-      )),
-)
+returns c =
+    let at-block-at = c .before .before in
+    let pre = at-block-at .before .before .pre in
+    absurd (omega (
+      arith,
+      pre .1,
+      missing _ (pre .0) _ (sym (at-block-at .block-at .ensures) ∙ c .enum-told .given .1),
+    ))
 
 returns-2 : tie.Need-returns-2
 unfolding recordAt
 returns-2 c = (
   search needs,
-  λ a h. ap (λ (r : BlockRecord). r .count)
+  ap (λ (r : BlockRecord). r .count)
       (found-record _ _ _
       (sym (c .before .before .before .before .block-at .ensures)
       ∙ c .before .before .block .given .1)),

@@ -3,7 +3,6 @@
 use Rattle.plan_groups.proofs.Ordering as ordering
 use Prim.Native.Nat.{_+_, _-_}
 use mathlib.Core.Path.{sym, _∙_}
-use borrow.Author.Needs.{needs}
 use native.Mathlib.Omega.{arith}
 use Rattle.plan_groups.proofs.order.place_blocks.Statement.{statement}
 use Rattle.plan_groups.proofs.order.place_blocks.Tie as tie
@@ -19,8 +18,13 @@ abbrev μ-loop : tie.MeasureT-loop
 
 loop-holds : tie.Need-loop-holds Inv-loop μ-loop
 loop-holds c =
-    ordering.placing-none _ _ _ _ (c .before .before .pre .0 .0) (c .before .before .pre .0 .1)
-    (c .before .before .pre .1)
+    let pre = c .before .before .pre in
+    ordering.placing-none _ _ _ _ (pre .0 .0 .1) (pre .0 .0 .0) (pre .1 .0) (pre .1 .1)
+
+count-of-requires : tie.Need-count-of-requires Inv-loop μ-loop
+count-of-requires c κs =
+    let pre = c .before .before .before .before .before .pre in
+    (pre .0 .1, omega (arith, pre .0 .0 .2))
 
 loop-again : tie.Need-loop-again Inv-loop μ-loop
 loop-again c =
@@ -34,8 +38,7 @@ loop-again c =
     (at-loop-test .loop-test .taken)
     (at-if1 .if1 .taken) _
     (at-count-of .count-of .ensures .0)
-    (λ a l counts has. has _ l
-    ∙ sym (at-count-of .count-of .ensures .1 a l)) _
+    (λ counts has. has _ (omega arith) ∙ sym (at-count-of .count-of .ensures .1)) _
     (at-take-block .take-block .ensures) _
     (c .before .before .before .put-row .ensures)
 
@@ -63,7 +66,7 @@ returns-2 c = ordering.placing-all _ _ _ _ _ _ _ _ _ _ _ (c .before .loop .inv) 
 pub place-blocks-spec : {M : Type 1} → statement M
 place-blocks-spec =
     tie.close
-    (tie.spec Inv-loop μ-loop loop-holds (λ c. omega arith) (search needs) (λ c κs. omega arith)
+    (tie.spec Inv-loop μ-loop loop-holds (λ c. omega arith) count-of-requires (λ c κs. omega arith)
     (λ c κs. omega arith)
     (λ c. omega arith) (λ c. omega arith) (λ c. omega arith) (λ c. omega arith) (λ c. omega arith)
     loop-again

@@ -7,7 +7,7 @@ use Rattle.plan_members.proofs.numbers.prepare.Statement.{statement}
 use Rattle.plan_members.proofs.numbers.prepare.Tie as tie
 
 group-blocks-requires : tie.Need-group-blocks-requires
-group-blocks-requires c κs = c .before .before .before .pre .0
+group-blocks-requires c κs = c .before .before .before .pre
 
 put-firsts-requires : tie.Need-put-firsts-requires
 put-firsts-requires c κs =
