@@ -11,10 +11,10 @@
 //
 // The key order is all blocks in the order of their keys. First instructions, parents, roots and
 // next members are by block, first members by root. From here `plan_members` goes on, with
-// `put_groups` for the listing, or with `put_firsts`, in `prepare`, for pages and units:
+// `put_groups` for the listing, or with `first_instrs` again, in `prepare`, for pages and units:
 //
 //     put_groups     block of each row   group of a block  group of each row  -
-//     put_firsts     block of each row   -                 group of each row  first instruction
+//     first_instrs   block of each row   -                 group of each row  first instruction
 use crate::links::as_index;
 use crate::links::link_members;
 use crate::order::count_of;
@@ -116,7 +116,7 @@ fn join_blocks(file: &[u8], work: &mut [u32], n: usize)
 }
 
 // Puts the number of each block's first instruction into quarter 3. In an accepted file it fits.
-fn first_instrs(file: &[u8], work: &mut [u32], n: usize)
+pub fn first_instrs(file: &[u8], work: &mut [u32], n: usize)
     requires { ⌜ HasRoom (now file) (now work) n × Accepted (now file) ⌝ }
     ensures { λ _. ⌜
         FirstsInQuarter3 (now (file .entry)) n (now (work .entry)) (now (work .exit))

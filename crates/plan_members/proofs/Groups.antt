@@ -10,7 +10,7 @@ use borrow.Author.Tests.{eq-eqb, ne-eqb}
 use lib.ListN.{length, getD, set, take, drop, length-set, length-take, length-drop}
 use lib.ListN.{drop-of-length-le}
 use lib.Seq.{length-take-le, drop-cons, getD-take, getD-drop, getD-set-same, getD-set-other}
-use Rattle.file_blocks.specs.Parse.{blocksOf, Accepted}
+use Rattle.file_blocks.specs.Parse.{blocksOf}
 use Rattle.plan_groups.specs.Groups.{Grouped}
 use Rattle.base_lists.specs.Interleave.{interleave}
 use Rattle.plan_groups.specs.Plan.{plan, groupOf}

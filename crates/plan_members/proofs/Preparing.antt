@@ -1,55 +1,15 @@
--- The first instruction of each block in quarter 3, and the steps of filling the work numbers one
--- after the other. Assumes nothing.
+-- The steps of filling the work numbers, one after the other. Assumes nothing.
 use Prim.Native.Nat.{ℕ, _+_, _*_, _≤_, _<_}
-use mathlib.Core.Path.{_≡_, refl, sym, ap, ap₂, _∙_, subst}
+use mathlib.Core.Path.{_≡_, sym, ap₂, _∙_}
 use mathlib.Core.List.{List}
-use native.Mathlib.Decide.{ℕ-discrete}
 use native.Mathlib.Omega.{arith}
-use lib.ListN.{length, getD, set, take, drop, length-set, length-drop}
-use lib.Seq.{length-take-le, ext-getD, getD-take, getD-drop, getD-set-same, getD-set-other}
+use lib.ListN.{length, getD, take, drop, length-drop}
+use lib.Seq.{length-take-le, ext-getD, getD-take, getD-drop}
 use Rattle.file_records.specs.Trailer.{blockCount}
-use Rattle.file_records.specs.BlockRecord.{countSum}
 use Rattle.file_blocks.specs.Parse.{Accepted}
-use Rattle.plan_groups.specs.Groups.{Grouped}
+use Rattle.plan_groups.specs.Groups.{Grouped, FirstsInQuarter3}
 use Rattle.base_lists.specs.Interleave.{interleave}
-use Rattle.plan_members.specs.Prepared.{FirstsInQuarter3, Prepared}
-
-pub firsts-none : (f : List ℕ) (n : ℕ) (work : List ℕ) → FirstsInQuarter3 f n 0 work work
-firsts-none f n work =
-    record {
-      same = refl;
-      before = λ k h. refl;
-      after = λ k h. refl;
-      firsts = λ i h. absurd (omega arith);
-    }
-
-pub firsts-more : (f : List ℕ) (n m : ℕ) (work work′ : List ℕ) (first : ℕ) → m < n
-    → 4 * n ≤ length work → first ≡ countSum f m → FirstsInQuarter3 f n m work work′
-    → FirstsInQuarter3 f n (m + 1) work (set work′ (3 * n + m) first)
-firsts-more f n m work work′ first h room is from =
-    record {
-      same = length-set work′ (3 * n + m) first ∙ from .same;
-      before =
-          λ k b. getD-set-other work′ (3 * n + m) k first 0 (λ e. omega arith) ∙ from .before k b;
-      after = λ k b. getD-set-other work′ (3 * n + m) k first 0 (λ e. omega arith)
-          ∙ from .after k (omega arith);
-      firsts = first-at;
-    }
-  where
-    first-at : (i : ℕ) → i < m + 1 → getD (set work′ (3 * n + m) first) (3 * n + i) 0 ≡ countSum f i
-    first-at i b =
-        elim (ℕ-discrete i m) [
-          | yes e ↦ ap (λ (j : ℕ). getD (set work′ (3 * n + m) first) (3 * n + j) 0) e
-              ∙ getD-set-same work′ (3 * n + m) first 0 (omega (arith, from .same)) ∙ is
-              ∙ ap (countSum f) (sym e)
-          | no d ↦ getD-set-other work′ (3 * n + m) (3 * n + i) first 0 (λ e. d (omega arith))
-              ∙ from .firsts i (omega arith)
-        ]
-
-pub firsts-all : (f : List ℕ) (n m : ℕ) (work work′ : List ℕ) → m ≡ n
-    → FirstsInQuarter3 f n m work work′
-    → FirstsInQuarter3 f n n work work′
-firsts-all f n m work work′ e = subst (λ (k : ℕ). FirstsInQuarter3 f n k work work′) e
+use Rattle.plan_members.specs.Prepared.{Prepared}
 
 -- fronts with the same numbers
 front-same : (n : ℕ) (v w : List ℕ) → n ≤ length v → length w ≡ length v
@@ -73,7 +33,7 @@ quarter-same n at v w room e same =
 module _ {f : List ℕ} {n limit : ℕ} {work work₁ work₂ : List ℕ} (ok : Accepted f)
     (all : n ≡ blockCount f) (room : 4 * n ≤ length work)
     (grouped : Grouped f n limit work work₁)
-    (numbered : FirstsInQuarter3 f n n work₁ work₂) where
+    (numbered : FirstsInQuarter3 f n work₁ work₂) where
   same-rows : interleave (take n (drop (2 * n) work₂)) (take n work₂)
       ≡ interleave (take n (drop (2 * n) work₁)) (take n work₁)
   same-rows =
@@ -87,7 +47,7 @@ module _ {f : List ℕ} {n limit : ℕ} {work work₁ work₂ : List ℕ} (ok : 
   prepared =
       record {
         same = numbered .same ∙ grouped .same;
-        after = λ k h. numbered .after k (omega arith) ∙ grouped .after k h;
+        after = λ k h. numbered .after k h ∙ grouped .after k h;
         ready =
             record {
               accepted = ok;

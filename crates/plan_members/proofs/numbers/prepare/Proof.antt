@@ -9,8 +9,8 @@ use Rattle.plan_members.proofs.numbers.prepare.Tie as tie
 group-blocks-requires : tie.Need-group-blocks-requires
 group-blocks-requires c κs = c .before .before .before .pre
 
-put-firsts-requires : tie.Need-put-firsts-requires
-put-firsts-requires c κs =
+first-instrs-requires : tie.Need-first-instrs-requires
+first-instrs-requires c κs =
     let at-group-blocks = c .before .before .before in
     let start = at-group-blocks .before .before .before .before in (
       (
@@ -24,7 +24,7 @@ put-firsts-requires c κs =
 same-length : tie.Need-same-length
 same-length c =
     let at-group-blocks = c .before .before .before .before .before .before in
-    c .before .before .put-firsts .ensures .same ∙ at-group-blocks .group-blocks .ensures .same
+    c .before .before .first-instrs .ensures .same ∙ at-group-blocks .group-blocks .ensures .same
 
 returns : tie.Need-returns
 returns c =
@@ -35,8 +35,8 @@ returns c =
     (start .pre .0 .2)
     (start .pre .0 .0)
     (at-group-blocks .group-blocks .ensures)
-    (c .before .before .put-firsts .ensures)
+    (c .before .before .first-instrs .ensures)
 
 pub prepare-spec : {M : Type 1} → statement M
 prepare-spec =
-    tie.close (tie.spec group-blocks-requires put-firsts-requires same-length returns)
+    tie.close (tie.spec group-blocks-requires first-instrs-requires same-length returns)
