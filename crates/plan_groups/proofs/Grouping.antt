@@ -2,8 +2,8 @@
 -- Assumes nothing.
 use mathlib.Core.Path.{_≡_, refl, sym, ap, ap₂, _∙_, subst}
 use mathlib.Core.List.{List, _∷_}
-use Prim.Native.Nat.{ℕ, suc, zero-le, _+_, _*_, _-_, _%_, _≤_, _<_, _^_}
-use native.Mathlib.Nat.{not-suc-le-zero, mod-eq-of-lt}
+use Prim.Native.Nat.{ℕ, suc, zero-le, _+_, _*_, _-_, _≤_, _<_}
+use native.Mathlib.Nat.{not-suc-le-zero}
 use native.Mathlib.Numerals.{add-one}
 use native.Mathlib.Omega.{arith}
 use native.Mathlib.Decide.{ℕ-discrete}
@@ -41,7 +41,7 @@ use Rattle.plan_groups.proofs.Tails.{order-once}
 -- what the pass over the counts keeps
 pub record Counting (f : List ℕ) (n : ℕ) (work : List ℕ) (sum m : ℕ) (work′ : List ℕ) : Type 0 where
   pub few : m ≤ n
-  pub small : sum ≤ 2 ^ 32 * m
+  pub small : sum ≤ 1048576
   pub same : length work′ ≡ length work
   pub before : (k : ℕ) → k < 3 * n → getD work′ k 0 ≡ getD work k 0
   pub after : (k : ℕ) → 3 * n + m ≤ k → getD work′ k 0 ≡ getD work k 0
@@ -62,14 +62,19 @@ counting-none f n w =
     }
 
 pub counting-more : (f : List ℕ) (n : ℕ) (w : List ℕ) (sum m : ℕ) (w′ : List ℕ) (count : ℕ)
-    → 4 * n ≤ length w → n ≡ blockCount f → Accepted f → m < n → count < 2 ^ 32
+    → 4 * n ≤ length w → n ≡ blockCount f → Accepted f → m < n
     → count ≡ countAt f (blockStart f m) → Counting f n w sum m w′
-    → Counting f n w (sum + count) (m + 1) (set w′ (3 * n + m) (sum % 4294967296))
+    → Counting f n w (sum + count) (m + 1) (set w′ (3 * n + m) sum)
 unfolding countSum
-counting-more f n w sum m w′ count room all a h fits counted c =
+counting-more f n w sum m w′ count room all a h counted c =
     record {
       few = omega arith;
-      small = omega (arith, c .small);
+      small = omega (
+        arith,
+        c .sums,
+        instrs-inside f (blocksOf f) a m (omega arith),
+        few-instrs f (blocksOf f) a,
+      );
       same = length-set w′ (3 * n + m) _ ∙ c .same;
       before = λ k l. getD-set-other w′ (3 * n + m) k _ 0 (omega arith) ∙ c .before k l;
       after = λ k l. getD-set-other w′ (3 * n + m) k _ 0 (omega arith) ∙ c .after k (omega arith);
@@ -77,23 +82,12 @@ counting-more f n w sum m w′ count room all a h fits counted c =
       firsts = λ j l.
           elim (ℕ-discrete j m) [
             | yes g ↦ subst
-                (λ (k : ℕ). getD (set w′ (3 * n + m) (sum % 4294967296)) (3 * n + k) 0
-                ≡ countSum f k) (sym g) here
+                (λ (k : ℕ). getD (set w′ (3 * n + m) sum) (3 * n + k) 0 ≡ countSum f k) (sym g)
+                (getD-set-same w′ (3 * n + m) sum 0 (omega (arith, c .same)) ∙ c .sums)
             | no g ↦ getD-set-other w′ (3 * n + m) (3 * n + j) _ 0 (omega arith)
                 ∙ c .firsts j (omega arith)
           ];
     }
-  where
-    here : getD (set w′ (3 * n + m) (sum % 4294967296)) (3 * n + m) 0 ≡ countSum f m
-    here =
-        let fits′ : sum < 4294967296 =
-        omega (
-          arith,
-          c .sums,
-          instrs-inside f (blocksOf f) a m (omega arith),
-          few-instrs f (blocksOf f) a,
-        ) in
-        getD-set-same w′ (3 * n + m) _ 0 (omega (arith, c .same)) ∙ mod-eq-of-lt fits′ ∙ c .sums
 
 pub counted-all : (f : List ℕ) (n : ℕ) (w : List ℕ) (sum : ℕ) (w′ : List ℕ)
     → Counting f n w sum n w′ → FirstsInQuarter3 f n w w′

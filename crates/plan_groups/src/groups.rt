@@ -126,7 +126,7 @@ pub fn first_instrs(file: &[u8], work: &mut [u32], n: usize)
     let mut sum: u64 = 0;
     let mut i = 0;
     while i < n {
-        work[start + i] = (sum % 4294967296) as u32;
+        work[start + i] = sum as u32;
         sum += count_of(file, i);
         i += 1;
     }

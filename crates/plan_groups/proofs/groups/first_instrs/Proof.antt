@@ -4,7 +4,6 @@ use Rattle.plan_groups.proofs.Grouping as grouping
 use denote.Ref.{now}
 use Prim.Native.Nat.{ℕ, _-_}
 use mathlib.Core.Path.{_≡_, subst}
-use borrow.Author.Needs.{needs}
 use native.Mathlib.Omega.{arith}
 use Rattle.plan_groups.proofs.groups.first_instrs.Statement.{statement}
 use Rattle.plan_groups.proofs.groups.first_instrs.Tie as tie
@@ -26,7 +25,7 @@ loop-again : tie.Need-loop-again Inv-loop μ-loop
 loop-again c =
     let pre = c .before .before .before .before .before .pre in
     grouping.counting-more _ _ _ _ _ _ _ (pre .0 .0) (pre .0 .2) (pre .1)
-    (c .before .loop-test .taken) (c .count-of .ensures .0) (c .count-of .ensures .1)
+    (c .before .loop-test .taken) (c .count-of .ensures .1)
     (c .before .before .loop .inv)
 
 same-length : tie.Need-same-length Inv-loop μ-loop
@@ -45,6 +44,6 @@ returns c =
 pub first-instrs-spec : {M : Type 1} → statement M
 first-instrs-spec =
     tie.close
-    (tie.spec Inv-loop μ-loop (λ c. omega arith) loop-holds (search needs) (λ c. omega arith)
+    (tie.spec Inv-loop μ-loop (λ c. omega arith) loop-holds (λ c. omega arith) (λ c. omega arith)
     (λ c. omega arith) (λ c. omega arith) count-of-requires (λ c. omega arith) (λ c. omega arith)
     (λ c. omega arith) loop-again same-length returns)
