@@ -133,7 +133,12 @@ pub record LongestTo (f : List ℕ) (limit p longest : ℕ) : Type 0 where
 pub longest-none : (f : List ℕ) (limit : ℕ) → LongestTo f limit 0 0
 unfolding startOf
 longest-none f limit =
-    record { group = 0; within = omega arith; here = refl; longer = λ h below. absurd (omega arith) }
+    record {
+      group = 0;
+      within = omega arith;
+      here = refl;
+      longer = λ h below. absurd (omega arith);
+    }
 
 module _ {f : List ℕ} {n limit : ℕ} {work : List ℕ} (ready : HoldsPlan f n limit work)
     {p longest : ℕ} (to : LongestTo f limit p longest) where

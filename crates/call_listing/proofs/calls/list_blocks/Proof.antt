@@ -63,6 +63,6 @@ returns-2 c =
 pub list-blocks-spec : {M : Type 1} → statement M
 list-blocks-spec =
     tie.close
-    (tie.spec group-blocks-requires (search needs) (λ c κs. search needs) (search needs) (search needs)
-    (search needs) returns (λ c κs. search needs) (search needs) (search needs) (search needs)
+    (tie.spec group-blocks-requires (search needs) (λ c κs. search needs) (search needs)
+    (search needs) (search needs) returns (λ c κs. search needs) (search needs) (search needs) (search needs)
     (search needs) returns-2)

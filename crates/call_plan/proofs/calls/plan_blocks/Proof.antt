@@ -52,5 +52,5 @@ returns-2 c =
 pub plan-blocks-spec : {M : Type 1} → statement M
 plan-blocks-spec =
     tie.close
-    (tie.spec (search needs) (search needs) (search needs) (search needs) returns group-blocks-requires
-    (search needs) (search needs) (search needs) (search needs) (search needs) returns-2)
+    (tie.spec (search needs) (search needs) (search needs) (search needs) returns
+    group-blocks-requires (search needs) (search needs) (search needs) (search needs) (search needs) returns-2)
