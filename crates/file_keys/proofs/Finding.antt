@@ -334,6 +334,16 @@ module _ (keys : List ℕ) where
             above = λ p b c. omega (arith, no-fall mid p b c);
           }
 
+    -- what is left by the key at one place
+    pub between-right : (k n p : ℕ) → n ≡ length order → p < n → keyInOrder keys order p < k
+        → Between keys order k (p + 1) n
+    between-right k n p e h l = between-after k 0 n p (between-all k n e) zero-le h l
+
+    pub between-left : (k p : ℕ) → p < length order → k ≤ keyInOrder keys order p
+        → Between keys order k 0 p
+    between-left k p h l =
+        between-before k 0 (length order) p (between-all k (length order) refl) zero-le h l
+
     module _ (k r : ℕ) (w : Between keys order k r r) where
       place : (j : ℕ) → j < length keys → Place j order
       place j h =

@@ -6,6 +6,8 @@ use crate::keys::records_of;
 use crate::keys::rises;
 use crate::sorting::order_blocks;
 ghost use mathlib.Core.Path.{_≡_};
+ghost use Prim.Native.Nat.{_<_};
+ghost use lib.ListN.{length};
 ghost use Rattle.file_records.specs.Trailer.{blockCount};
 ghost use Rattle.file_keys.specs.Order.{blockKeys, keyOrder};
 ghost use Rattle.file_keys.specs.First.{firstRepeated, blockWith};
@@ -16,6 +18,12 @@ ghost use Rattle.file_keys.specs.Steps.{RightBlocks, HasRecords};
 pub enum Numbered {
     At(u32),
     Nothing,
+}
+
+// The places from `low` to the one before `high`.
+pub(crate) struct Range {
+    low: usize,
+    high: usize,
 }
 
 // The lower of `best` and i, if i has the key of the number before it; `best` if not.
@@ -56,13 +64,58 @@ pub fn first_repeated(file: &[u8], order: &[u32]) -> Numbered
     }
 }
 
-// The first place of the order whose block's key is not below a key, or the number of blocks.
-fn first_place(file: &[u8], records: Records, order: &[u32], key: u64) -> usize
+// Where the search for a key goes on, by the keys at place p of the order and sixteen places from
+// it: most exits lead to a block near by, and where keys rise, block p stands at place p.
+fn near(file: &[u8], records: Records, order: &[u32], key: u64, p: usize) -> Range
     requires { ⌜ HasRecords (now file) records × (now order ≡ keyOrder (blockKeys (now file))) ⌝ }
+    requires { ⌜ p < length (now order) ⌝ }
+    ensures { λ r. ⌜
+        Between (blockKeys (now (file .entry))) (now (order .entry)) key (r .low) (r .high)
+        ⌝ }
+{
+    let n = order.len();
+    if key_of(file, records, order[p]) < key {
+        let far = p + 16;
+        if n <= far {
+            return Range {
+                low: p + 1,
+                high: n,
+            };
+        }
+        if key_of(file, records, order[far]) < key {
+            return Range {
+                low: far + 1,
+                high: n,
+            };
+        }
+        return Range {
+            low: p + 1,
+            high: far,
+        };
+    }
+    if p < 16 {
+        return Range { low: 0, high: p };
+    }
+    let far = p - 16;
+    if key_of(file, records, order[far]) < key {
+        return Range {
+            low: far + 1,
+            high: p,
+        };
+    }
+    Range { low: 0, high: far }
+}
+
+// The first place of the order whose block's key is not below a key, or the number of blocks. The
+// search begins at place p.
+fn first_place(file: &[u8], records: Records, order: &[u32], key: u64, p: usize) -> usize
+    requires { ⌜ HasRecords (now file) records × (now order ≡ keyOrder (blockKeys (now file))) ⌝ }
+    requires { ⌜ p < length (now order) ⌝ }
     ensures { λ r. ⌜ Between (blockKeys (now (file .entry))) (now (order .entry)) key r r ⌝ }
 {
-    let mut low = 0;
-    let mut high = order.len();
+    let range = near(file, records, order, key, p);
+    let mut low = range.low;
+    let mut high = range.high;
     while low < high {
         let mid = low + (high - low) / 2;
         if key_of(file, records, order[mid]) < key {
@@ -74,17 +127,19 @@ fn first_place(file: &[u8], records: Records, order: &[u32], key: u64) -> usize
     low
 }
 
-// The first block in file order with a key: the only one where keys are different.
-pub fn find_key(file: &[u8], order: &[u32], key: u64) -> Numbered
+// The first block in file order with a key: the only one where keys are different. The search begins
+// at place p of the order.
+pub fn find_key(file: &[u8], order: &[u32], key: u64, p: usize) -> Numbered
     requires { ⌜ RightBlocks (now file) × (now order ≡ keyOrder (blockKeys (now file))) ⌝ }
+    requires { ⌜ p < length (now order) ⌝ }
     ensures { λ r. ⌜ numberOf r ≡ blockWith key (blockKeys (now (file .entry))) ⌝ }
 {
     let records = records_of(file);
-    let p = first_place(file, records, order, key);
-    if order.len() <= p {
+    let place = first_place(file, records, order, key, p);
+    if order.len() <= place {
         return Numbered::Nothing;
     }
-    let i = order[p];
+    let i = order[place];
     if key_of(file, records, i) == key {
         Numbered::At(i)
     } else {

@@ -38,7 +38,8 @@ fn has_key(file: &[u8], i: usize, key: u32) -> bool
 }
 
 // The block with a key, an exit of block i, by the order of all blocks. Most exits lead to the
-// block after block i, so that one is looked at first: no other has its key.
+// block after block i, so that one is looked at first: no other has its key. The search begins at
+// place i of the order, where block i stands if keys rise.
 fn block_with(file: &[u8], order: &[u32], key: u32, i: usize) -> Target
     requires { ⌜ Accepted (now file) × (now order ≡ keyOrder (blockKeys (now file))) ⌝ }
     requires { ⌜ i < blockCount (now file) ⌝ }
@@ -48,7 +49,7 @@ fn block_with(file: &[u8], order: &[u32], key: u32, i: usize) -> Target
     if has_key(file, next, key) {
         return Target::At(next);
     }
-    let Numbered::At(j) = find_key(file, order, key as u64) else {
+    let Numbered::At(j) = find_key(file, order, key as u64, i) else {
         return Target::Nothing;
     };
     Target::At(j as usize)

@@ -5,7 +5,8 @@ use native.Mathlib.Omega.{arith}
 use borrow.Author.Needs.{needs}
 use Rattle.file_blocks.proofs.Accepted.{few-blocks}
 use Rattle.file_keys.specs.Answers.{numberOf}
-use Rattle.file_keys.proofs.Reading.{right-blocks}
+use Rattle.file_keys.proofs.Ordered.{is-order}
+use Rattle.file_keys.proofs.Reading.{length-keys, right-blocks}
 use Rattle.plan_search.proofs.Searching as searching
 use Rattle.plan_search.proofs.block_with.Statement.{statement}
 use Rattle.plan_search.proofs.block_with.Tie as tie
@@ -20,7 +21,12 @@ returns c =
 
 find-key-requires : tie.Need-find-key-requires
 find-key-requires c κs =
-    let pre = c .before .before .before .before .pre .0 in (right-blocks _ (pre .0), pre .1)
+    let start = c .before .before .before .before in
+    let f = start .args .file .now in
+    let long = is-order _ _ (start .pre .0 .1) .long in (
+      (right-blocks f (start .pre .0 .0), start .pre .0 .1),
+      omega (arith, long, length-keys f, start .pre .1),
+    )
 
 returns-2 : tie.Need-returns-2
 returns-2 c =
