@@ -67,9 +67,19 @@ def blocks(text):
         yield lines[i:j]
 
 
+def flat(each):
+    """The same, with the declarations of a module of parameters in place of the module."""
+    for block in each:
+        if re.match(r"^(pub )?module ", block[0]):
+            inner = "\n".join(l[2:] if l.startswith("  ") else "" for l in block[1:])
+            yield from flat(blocks(inner))
+        else:
+            yield block
+
+
 def declared(path, text):
     """Yields each name that a file declares, and whether it is a definition (a word) or a lemma."""
-    for block in blocks(text):
+    for block in flat(blocks(text)):
         first = block[0]
         if re.match(r"^(pub )?(data|record) ", first):
             for line in block[1:]:

@@ -76,21 +76,21 @@ update_bytes k h b a = either_lt (eqb a k) h (b a)
 -- a machine, with one of its parts set
 
 module _ {m : Machine} (s : Sound m) where
-  regs-sound : {f : ℕ → ℕ} → Words f → Sound (set_regs f m)
-  regs-sound w = record { words = w; other_bits = s.other_bits; bytes = s.bytes }
+  regs_sound : {f : ℕ → ℕ} → Words f → Sound (set_regs f m)
+  regs_sound w = record { words = w; other_bits = s.other_bits; bytes = s.bytes }
 
-  reg-sound : (rd : ℕ) {x : ℕ} → x < two32 → Sound (set_reg rd x m)
-  reg-sound rd h =
+  reg_sound : (rd : ℕ) {x : ℕ} → x < two32 → Sound (set_reg rd x m)
+  reg_sound rd h =
       record { words = update_words rd h s.words; other_bits = s.other_bits; bytes = s.bytes }
 
-  flags-sound : (n z c v : Bool) → Sound (set_flags n z c v m)
-  flags-sound n z c v = record { words = s.words; other_bits = s.other_bits; bytes = s.bytes }
+  flags_sound : (n z c v : Bool) → Sound (set_flags n z c v m)
+  flags_sound n z c v = record { words = s.words; other_bits = s.other_bits; bytes = s.bytes }
 
-  mem-sound : {f : ℕ → ℕ} → Bytes f → Sound (set_mem f m)
-  mem-sound b = record { words = s.words; other_bits = s.other_bits; bytes = b }
+  mem_sound : {f : ℕ → ℕ} → Bytes f → Sound (set_mem f m)
+  mem_sound b = record { words = s.words; other_bits = s.other_bits; bytes = b }
 
-  t-sound : (t : Bool) → Sound (set_t t m)
-  t-sound t =
+  t_sound : (t : Bool) → Sound (set_t t m)
+  t_sound t =
       record { words = s.words; other_bits = go t m.other_bits s.other_bits; bytes = s.bytes }
     where
       go : (t : Bool) (x : ℕ) → x < 268435456 → x / 64 * 64 + one_if t * 32 + x % 32 < 268435456
@@ -172,15 +172,15 @@ pc_lt : (i : Instr) → pc_value i < two32
 pc_lt i = word_mod (i.addr + pc_ahead i.thumb)
 
 module _ {m : Machine} (s : Sound m) (pc : ℕ) (h : pc < two32) where
-  shifted-lt : (rm : ℕ) (x : Shift) → rm ≤ 15 → ShiftInRange x → (shifted m pc rm x).0 < two32
-  shifted-lt rm (Shift.Imm kind amount) l r =
+  shifted_lt : (rm : ℕ) (x : Shift) → rm ≤ 15 → ShiftInRange x → (shifted m pc rm x).0 < two32
+  shifted_lt rm (Shift.Imm kind amount) l r =
       shift_lt kind (R m pc rm) amount m.c (reg_lt s pc rm h l) r
-  shifted-lt rm (Shift.Reg kind rs) l r =
+  shifted_lt rm (Shift.Reg kind rs) l r =
       shift_by_lt kind (R m pc rm) (R m pc rs % 256) m.c (reg_lt s pc rm h l)
 
-  shifter-lt : (x : Operand2) → OperandInRange x → (shifter m pc x).0 < two32
-  shifter-lt (Operand2.Imm value rot) r = r
-  shifter-lt (Operand2.Reg rm x) r = shifted-lt rm x r.0 r.1
+  shifter_lt : (x : Operand2) → OperandInRange x → (shifter m pc x).0 < two32
+  shifter_lt (Operand2.Imm value rot) r = r
+  shifter_lt (Operand2.Reg rm x) r = shifted_lt rm x r.0 r.1
 
 -- data processing
 
@@ -209,8 +209,8 @@ alu_lt Mvn x y co c v h l = not_lt y
 settle_sound : {m : Machine} → Sound m → (op : AluOp) (w : Bool) (rd : ℕ) (a : ℕ × Bool × Bool)
     → a.0 < two32 → Sound (settle op w rd a m)
 settle_sound s op w rd a h =
-    let s1 = either Sound w (flags-sound s (bit a.0 31) (eqb a.0 0) a.1 a.2) s in
-    either Sound (is_compare op) s1 (reg-sound s1 rd h)
+    let s1 = either Sound w (flags_sound s (bit a.0 31) (eqb a.0 0) a.1 a.2) s in
+    either Sound (is_compare op) s1 (reg_sound s1 rd h)
 
 processing_sound : {m : Machine} → Sound m
     → (op : AluOp) (w : Bool) (rd rn : ℕ) (op2 : Operand2) (pc : ℕ) → pc < two32 → rn ≤ 15
@@ -219,7 +219,7 @@ processing_sound : {m : Machine} → Sound m
 processing_sound {m} s op w rd rn op2 pc h l r =
     settle_sound s op w rd _
     (alu_lt op _ _ (shifter m pc op2).1 m.c m.v (reg_lt s pc rn h l)
-    (shifter-lt s pc h op2 r))
+    (shifter_lt s pc h op2 r))
 
 aligned_lt : (x : ℕ) → x < two32 → x / 4 * 4 < two32
 aligned_lt x h = omega arith
@@ -234,12 +234,12 @@ aligned_pc_lt i op rn op2 =
 multiply_sound : {m : Machine} → Sound m → (acc w : Bool) (rd rn rs rm : ℕ)
     → Sound (multiply acc w rd rn rs rm m)
 multiply_sound s acc w rd rn rs rm =
-    reg-sound (either Sound w (flags-sound s _ _ _ _) s) rd (word_mod _)
+    reg_sound (either Sound w (flags_sound s _ _ _ _) s) rd (word_mod _)
 
 multiply_long_sound : {m : Machine} → Sound m → (signed acc w : Bool) (hi lo rs rm : ℕ)
     → Sound (multiply_long signed acc w hi lo rs rm m)
 multiply_long_sound s signed acc w hi lo rs rm =
-    reg-sound (reg-sound (either Sound w (flags-sound s _ _ _ _) s) lo (word_mod _)) hi (word_mod _)
+    reg_sound (reg_sound (either Sound w (flags_sound s _ _ _ _) s) lo (word_mod _)) hi (word_mod _)
 
 -- loads and stores
 
@@ -250,8 +250,8 @@ module _ {f : ℕ → ℕ} (b : Bytes f) where
       go : (p q : ℕ) → p < 256 → q < 256 → p + q * 256 < 65536
       go p q hp hq = omega arith
 
-  half-word : (a : ℕ) → Memory2 f a < two32
-  half-word a = le_trans (half_lt a) (lit≤ tt)
+  half_word : (a : ℕ) → Memory2 f a < two32
+  half_word a = le_trans (half_lt a) (lit≤ tt)
 
   word_lt : (address : ℕ) → Memory4 f address < two32
   word_lt address =
@@ -263,25 +263,25 @@ module _ {f : ℕ → ℕ} (b : Bytes f) where
           → p + q * 256 + r * 65536 + s * 16777216 < two32
       go p q r s hp hq hr hs = omega arith
 
-  sign-byte-lt : (a : ℕ) → SignExtend8 (f a) < two32
-  sign-byte-lt a = either_lt (bit (f a) 7) (omega (arith, b a)) (byte_word (b a))
+  sign_byte_lt : (a : ℕ) → SignExtend8 (f a) < two32
+  sign_byte_lt a = either_lt (bit (f a) 7) (omega (arith, b a)) (byte_word (b a))
 
-  sign-half-lt : (a : ℕ) → SignExtend16 (Memory2 f a) < two32
-  sign-half-lt a = either_lt (bit (Memory2 f a) 15) (go (Memory2 f a) (half_lt a)) (half-word a)
+  sign_half_lt : (a : ℕ) → SignExtend16 (Memory2 f a) < two32
+  sign_half_lt a = either_lt (bit (Memory2 f a) 15) (go (Memory2 f a) (half_lt a)) (half_word a)
     where
       go : (x : ℕ) → x < 65536 → x + 4294901760 < two32
       go x h = omega arith
 
   loaded_lt : (width : MemWidth) (signed : Bool) (a : ℕ) → loaded width signed f a < two32
   loaded_lt Byte false a = byte_word (b a)
-  loaded_lt Byte true a = sign-byte-lt a
+  loaded_lt Byte true a = sign_byte_lt a
   loaded_lt Half false a =
-      either_lt (bit a 0) (ror_lt (Memory2 f (a - 1)) 8 (half-word (a - 1)) (lit≤ tt)) (half-word a)
-  loaded_lt Half true a = either_lt (bit a 0) (sign-byte-lt a) (sign-half-lt a)
+      either_lt (bit a 0) (ror_lt (Memory2 f (a - 1)) 8 (half_word (a - 1)) (lit≤ tt)) (half_word a)
+  loaded_lt Half true a = either_lt (bit a 0) (sign_byte_lt a) (sign_half_lt a)
   loaded_lt Word signed a = ror_lt (Memory4 f a) (8 * (a % 4)) (word_lt a) (omega arith)
 
-  half-bytes : (a x : ℕ) → Bytes (set_memory2 a x f)
-  half-bytes a x = update_bytes _ (byte_mod _) (update_bytes _ (byte_mod _) b)
+  half_bytes : (a x : ℕ) → Bytes (set_memory2 a x f)
+  half_bytes a x = update_bytes _ (byte_mod _) (update_bytes _ (byte_mod _) b)
 
   word_bytes : (address x : ℕ) → Bytes (set_memory4 address x f)
   word_bytes address x =
@@ -291,7 +291,7 @@ module _ {f : ℕ → ℕ} (b : Bytes f) where
 
   stored_bytes : (width : MemWidth) (a x : ℕ) → Bytes (stored width a x f)
   stored_bytes Byte a x = update_bytes a (byte_mod x) b
-  stored_bytes Half a x = half-bytes (cond (bit a 0) (a - 1) a) x
+  stored_bytes Half a x = half_bytes (cond (bit a 0) (a - 1) a) x
   stored_bytes Word a x = word_bytes a x
 
 moved_lt : (up : Bool) (x off : ℕ) → moved up x off < two32
@@ -302,14 +302,14 @@ module _ {m : Machine} (s : Sound m) (width : MemWidth) (rd rn x off : ℕ) (pre
   where
     load-sound : (signed : Bool) → Sound (load width signed rd rn x off pre up writeback m)
     load-sound signed =
-        reg-sound (either Sound (writes_back pre writeback) (reg-sound s rn (moved_lt up x off)) s)
+        reg_sound (either Sound (writes_back pre writeback) (reg_sound s rn (moved_lt up x off)) s)
         rd
         (loaded_lt s.bytes width signed (address pre up x off))
 
     store-sound : Sound (store width rd rn x off pre up writeback m)
     store-sound =
-        let s1 = mem-sound s (stored_bytes s.bytes width (address pre up x off) (m.r rd)) in
-        either Sound (writes_back pre writeback) (reg-sound s1 rn (moved_lt up x off)) s1
+        let s1 = mem_sound s (stored_bytes s.bytes width (address pre up x off) (m.r rd)) in
+        either Sound (writes_back pre writeback) (reg_sound s1 rn (moved_lt up x off)) s1
 
 -- loads and stores of several registers
 
@@ -325,30 +325,30 @@ store_all_bytes r [] a b = b
 store_all_bytes r (i ∷ is) a b = store_all_bytes r is ((a + 4) % two32) (word_bytes b a (r i))
 
 module _ {m : Machine} (s : Sound m) (up pre writeback : Bool) (rn rlist : ℕ) where
-  load-multiple-sound : Sound (load_multiple up pre writeback rn rlist m)
-  load-multiple-sound =
-      regs-sound s
+  load_multiple_sound : Sound (load_multiple up pre writeback rn rlist m)
+  load_multiple_sound =
+      regs_sound s
       (load_all_words s.bytes (listed rlist 15) _
       (either Sound writeback
-      (reg-sound s rn (moved_lt up (m.r rn) (length (listed rlist 16) * 4))) s).words)
+      (reg_sound s rn (moved_lt up (m.r rn) (length (listed rlist 16) * 4))) s).words)
 
-  load-multiple-pc-sound : Sound (load_multiple_with_pc up pre writeback rn rlist m)
-  load-multiple-pc-sound =
+  load_multiple_pc_sound : Sound (load_multiple_with_pc up pre writeback rn rlist m)
+  load_multiple_pc_sound =
       let w =
       load_all_words s.bytes (listed rlist 15)
       (start up pre (m.r rn) (length (listed rlist 16))) s.words in
-      regs-sound s
+      regs_sound s
       (either Words writeback (update_words rn (moved_lt up _ (length (listed rlist 16) * 4)) w)
       w)
 
-  store-multiple-sound : (pc : ℕ) → Sound (store_multiple up pre writeback rn rlist pc m)
-  store-multiple-sound pc =
+  store_multiple_sound : (pc : ℕ) → Sound (store_multiple up pre writeback rn rlist pc m)
+  store_multiple_sound pc =
       let s1 =
-      mem-sound s
+      mem_sound s
       (store_all_bytes _ (listed rlist 16) (start up pre (m.r rn) (length (listed rlist 16)))
       s.bytes) in
       either Sound writeback
-      (reg-sound s1 rn (moved_lt up (m.r rn) (length (listed rlist 16) * 4))) s1
+      (reg_sound s1 rn (moved_lt up (m.r rn) (length (listed rlist 16) * 4))) s1
 
 -- an address with bit 0 set
 return_lt : (x : ℕ) → x < two32 → x / 2 * 2 + 1 < two32
@@ -391,12 +391,12 @@ operation_kept i (Mul acc w rd rn rs rm) m r s = multiply_sound s acc w rd rn rs
 operation_kept i (MulLong signed acc w hi lo rs rm) m r s =
     multiply_long_sound s signed acc w hi lo rs rm
 operation_kept i (Swap b rd rm rn) m r s = tt
-operation_kept i (Bx rm) m r s = t-sound s (bit (R m (pc_value i) rm) 0)
+operation_kept i (Bx rm) m r s = t_sound s (bit (R m (pc_value i) rm) 0)
 operation_kept i (Branch link target) m r s =
-    either Sound link (reg-sound s 14 (word_mod (i.addr + size_of i.thumb))) s
-operation_kept i (ThumbBlHigh lr) m r s = reg-sound s 14 r
+    either Sound link (reg_sound s 14 (word_mod (i.addr + size_of i.thumb))) s
+operation_kept i (ThumbBlHigh lr) m r s = reg_sound s 14 r
 operation_kept i (ThumbBlLow off) m r s =
-    reg-sound s 14 (return_lt (following i) (word_mod (i.addr + size_of i.thumb)))
+    reg_sound s 14 (return_lt (following i) (word_mod (i.addr + size_of i.thumb)))
 operation_kept i (Mem ld width signed rd rn offset pre up writeback) m r s =
     each_unless Kept (eqb rd 15)
     (either Sound ld (load-sound s width rd rn _ _ pre up writeback signed)
@@ -404,9 +404,9 @@ operation_kept i (Mem ld width signed rd rn offset pre up writeback) m r s =
 operation_kept i (BlockMem ld rn rlist pre up s_bit writeback) m r s =
     each_unless Kept s_bit
     (either Kept ld
-    (either Kept (bit rlist 15) (load-multiple-pc-sound s up pre writeback rn rlist)
-    (load-multiple-sound s up pre writeback rn rlist))
-    (store-multiple-sound s up pre writeback rn rlist (pc_value i)))
+    (either Kept (bit rlist 15) (load_multiple_pc_sound s up pre writeback rn rlist)
+    (load_multiple_sound s up pre writeback rn rlist))
+    (store_multiple_sound s up pre writeback rn rlist (pc_value i)))
 operation_kept i (Mrs spsr rd) m r s = tt
 operation_kept i (MsrReg spsr fields rm) m r s = tt
 operation_kept i (MsrImm spsr fields value) m r s = tt
@@ -442,33 +442,33 @@ following_key_lt true a e = go a (e refl)
 following_key_lt false a e = omega arith
 
 module _ (i : Instr) (even : i.thumb ≡ true → i.addr % 2 ≡ 0) where
-  onward-key : key i.thumb (following i) < two32
-  onward-key = following_key_lt i.thumb i.addr even
+  onward_key : key i.thumb (following i) < two32
+  onward_key = following_key_lt i.thumb i.addr even
 
-  operation-key : (op : Op) (m : Machine) → InRange op → Sound m → Each Below (operation i op m)
-  operation-key (Alu op w rd rn op2) m r s = each_unless Below (eqb rd 15) onward-key
-  operation-key (Mul acc w rd rn rs rm) m r s = onward-key
-  operation-key (MulLong signed acc w hi lo rs rm) m r s = onward-key
-  operation-key (Swap b rd rm rn) m r s = tt
-  operation-key (Bx rm) m r s =
+  operation_key : (op : Op) (m : Machine) → InRange op → Sound m → Each Below (operation i op m)
+  operation_key (Alu op w rd rn op2) m r s = each_unless Below (eqb rd 15) onward_key
+  operation_key (Mul acc w rd rn rs rm) m r s = onward_key
+  operation_key (MulLong signed acc w hi lo rs rm) m r s = onward_key
+  operation_key (Swap b rd rm rn) m r s = tt
+  operation_key (Bx rm) m r s =
       let x : ℕ = R m (pc_value i) rm in cut_key_lt (bit x 0) x (reg_lt s (pc_value i) rm (pc_lt i) r)
-  operation-key (Branch link target) m r s = key_lt i.thumb target r.0 r.1
-  operation-key (ThumbBlHigh lr) m r s = onward-key
-  operation-key (ThumbBlLow off) m r s =
+  operation_key (Branch link target) m r s = key_lt i.thumb target r.0 r.1
+  operation_key (ThumbBlHigh lr) m r s = onward_key
+  operation_key (ThumbBlLow off) m r s =
       return_lt ((m.r 14 + off * 2) % two32) (word_mod (m.r 14 + off * 2))
-  operation-key (Mem ld width signed rd rn offset pre up writeback) m r s =
-      each_unless Below (eqb rd 15) onward-key
-  operation-key (BlockMem ld rn rlist pre up s_bit writeback) m r s =
+  operation_key (Mem ld width signed rd rn offset pre up writeback) m r s =
+      each_unless Below (eqb rd 15) onward_key
+  operation_key (BlockMem ld rn rlist pre up s_bit writeback) m r s =
       each_unless Below s_bit
       (either Below ld
       (either Below (bit rlist 15)
-      (cut_key_lt i.thumb (loaded_pc up pre rn rlist m) (word_lt s.bytes _)) onward-key)
-      onward-key)
-  operation-key (Mrs spsr rd) m r s = tt
-  operation-key (MsrReg spsr fields rm) m r s = tt
-  operation-key (MsrImm spsr fields value) m r s = tt
-  operation-key (Swi imm) m r s = tt
-  operation-key (Undefined raw) m r s = tt
+      (cut_key_lt i.thumb (loaded_pc up pre rn rlist m) (word_lt s.bytes _)) onward_key)
+      onward_key)
+  operation_key (Mrs spsr rd) m r s = tt
+  operation_key (MsrReg spsr fields rm) m r s = tt
+  operation_key (MsrImm spsr fields value) m r s = tt
+  operation_key (Swi imm) m r s = tt
+  operation_key (Undefined raw) m r s = tt
 
 -- and goes on at a key below 2^32, if it does not stand at an odd address in Thumb
 pub execute_key : (i : Instr) (m : Machine) → InRange i.op → Sound m
@@ -476,7 +476,7 @@ pub execute_key : (i : Instr) (m : Machine) → InRange i.op → Sound m
     → (next : Machine × ℕ) → execute i m ≡ some next → next.1 < 2 ^ 32
 execute_key i m r s even next e =
     subst (Each Below) e
-    (execute_each Below i m (onward-key i even) (operation-key i even i.op m r s))
+    (execute_each Below i m (onward_key i even) (operation_key i even i.op m r s))
 
 -- the operations that are written out: Rd of Alu and Mem is not R15, and BlockMem is without S
 abbrev pub WrittenOut : Op → Type 0

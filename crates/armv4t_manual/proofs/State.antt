@@ -65,17 +65,17 @@ module _ (m : Machine) where
   abbrev Same : Machine → Type 0
   Same u = u.other_bits ≡ m.other_bits
 
-  settle-same : (op : AluOp) (s : Bool) (rd : ℕ) (a : ℕ × Bool × Bool) → Same (settle op s rd a m)
-  settle-same op s rd a =
+  settle_same : (op : AluOp) (s : Bool) (rd : ℕ) (a : ℕ × Bool × Bool) → Same (settle op s rd a m)
+  settle_same op s rd a =
       let p : Same (cond s (set_flags (bit a.0 31) (eqb a.0 0) a.1 a.2 m) m) =
       either Same s refl refl in
       either Same (is_compare op) p p
 
-  processing-same : (op : AluOp) (s : Bool) (rd rn : ℕ) (op2 : Operand2) (pc : ℕ)
+  processing_same : (op : AluOp) (s : Bool) (rd rn : ℕ) (op2 : Operand2) (pc : ℕ)
       → Same (data_processing op s rd rn op2 pc m)
-  processing-same op s rd rn op2 pc =
+  processing_same op s rd rn op2 pc =
       let q : ℕ × Bool = shifter m pc op2 in
-      settle-same op s rd (alu op (R m pc rn) q.0 q.1 m.c m.v)
+      settle_same op s rd (alu op (R m pc rn) q.0 q.1 m.c m.v)
 
 -- the address after an instruction at an even one is even
 following_even : (i : Instr) → i.addr % 2 ≡ 0 → following i % 2 ≡ 0
@@ -99,13 +99,13 @@ module _ (i : Instr) (m : Machine) (even : i.addr % 2 ≡ 0) (own : thumb_state 
   stays u x p e =
       ap (λ (k : ℕ). bit k 5) p ∙ own ∙ sym (key_bit i.thumb x e)
 
-  leads-on : (u : Machine) → Same m u → Agrees (onward i u)
-  leads-on u p = stays u (following i) p (following_even i even)
+  leads_on : (u : Machine) → Same m u → Agrees (onward i u)
+  leads_on u p = stays u (following i) p (following_even i even)
 
   -- halves of BL are Thumb's
-  of-thumb : (t a : Bool) → not (t && a) ≡ false → t ≡ true
-  of-thumb true a e = refl
-  of-thumb false a e = absurd (true≢false e)
+  of_thumb : (t a : Bool) → not (t && a) ≡ false → t ≡ true
+  of_thumb true a e = refl
+  of_thumb false a e = absurd (true≢false e)
 
   load_same : (width : MemWidth) (signed : Bool) (rd rn x off : ℕ) (pre up writeback : Bool)
       → Same m (load width signed rd rn x off pre up writeback m)
@@ -117,57 +117,57 @@ module _ (i : Instr) (m : Machine) (even : i.addr % 2 ≡ 0) (own : thumb_state 
   store_same width rd rn x off pre up writeback =
       either (Same m) (writes_back pre writeback) refl refl
 
-  operation-state : (op : Op) → InRange op → no_instruction_of i.thumb i.cond op ≡ false
+  operation_state : (op : Op) → InRange op → no_instruction_of i.thumb i.cond op ≡ false
       → Each Agrees (operation i op m)
-  operation-state (Alu op w rd rn op2) r n =
+  operation_state (Alu op w rd rn op2) r n =
       each_unless Agrees (eqb rd 15)
-      (leads-on (data_processing op w rd rn op2 (pc_read i op rn op2) m)
-      (processing-same m op w rd rn op2 (pc_read i op rn op2)))
-  operation-state (Mul acc w rd rn rs rm) r n =
-      leads-on (multiply acc w rd rn rs rm m) (either (Same m) w refl refl)
-  operation-state (MulLong signed acc w hi lo rs rm) r n =
-      leads-on (multiply_long signed acc w hi lo rs rm m) (either (Same m) w refl refl)
-  operation-state (Swap b rd rm rn) r n = tt
-  operation-state (Bx rm) r n =
+      (leads_on (data_processing op w rd rn op2 (pc_read i op rn op2) m)
+      (processing_same m op w rd rn op2 (pc_read i op rn op2)))
+  operation_state (Mul acc w rd rn rs rm) r n =
+      leads_on (multiply acc w rd rn rs rm m) (either (Same m) w refl refl)
+  operation_state (MulLong signed acc w hi lo rs rm) r n =
+      leads_on (multiply_long signed acc w hi lo rs rm m) (either (Same m) w refl refl)
+  operation_state (Swap b rd rm rn) r n = tt
+  operation_state (Bx rm) r n =
       let x : ℕ = R m (pc_value i) rm in
       set_state (bit x 0) m ∙ sym (key_bit (bit x 0) _ (cut_even (bit x 0) x))
-  operation-state (Branch link target) r n =
+  operation_state (Branch link target) r n =
       stays (cond link (set_reg 14 (following i) m) m) target (either (Same m) link refl refl) r.1
-  operation-state (ThumbBlHigh lr) r n = leads-on (set_reg 14 lr m) refl
-  operation-state (ThumbBlLow off) r n =
+  operation_state (ThumbBlHigh lr) r n = leads_on (set_reg 14 lr m) refl
+  operation_state (ThumbBlLow off) r n =
       let x : ℕ = (m.r 14 + off * 2) % two32 in
-      own ∙ of-thumb i.thumb (is_al i.cond) n
+      own ∙ of_thumb i.thumb (is_al i.cond) n
       ∙ sym (key_bit true (x / 2 * 2) (cut_even true x))
-  operation-state (Mem ld width signed rd rn offset pre up writeback) r n =
+  operation_state (Mem ld width signed rd rn offset pre up writeback) r n =
       let x : ℕ = base i.thumb m (pc_value i) rn in
       let off : ℕ = offset_value m (pc_value i) offset in
       each_unless Agrees (eqb rd 15)
-      (leads-on
+      (leads_on
       (cond ld (load width signed rd rn x off pre up writeback m)
       (store width rd rn x off pre up writeback m))
       (either (Same m) ld (load_same width signed rd rn x off pre up writeback)
       (store_same width rd rn x off pre up writeback)))
-  operation-state (BlockMem ld rn rlist pre up s_bit writeback) r n =
+  operation_state (BlockMem ld rn rlist pre up s_bit writeback) r n =
       let x : ℕ = loaded_pc up pre rn rlist m in
       each_unless Agrees s_bit
       (either Agrees ld
       (either Agrees (bit rlist 15)
       (stays (load_multiple_with_pc up pre writeback rn rlist m)
       (cond i.thumb (x / 2 * 2) (x / 4 * 4)) refl (cut_even i.thumb x))
-      (leads-on (load_multiple up pre writeback rn rlist m) refl))
-      (leads-on (store_multiple up pre writeback rn rlist (pc_value i) m)
+      (leads_on (load_multiple up pre writeback rn rlist m) refl))
+      (leads_on (store_multiple up pre writeback rn rlist (pc_value i) m)
       (either (Same m) writeback refl refl)))
-  operation-state (Mrs spsr rd) r n = tt
-  operation-state (MsrReg spsr fields rm) r n = tt
-  operation-state (MsrImm spsr fields value) r n = tt
-  operation-state (Swi imm) r n = tt
-  operation-state (Undefined raw) r n = tt
+  operation_state (Mrs spsr rd) r n = tt
+  operation_state (MsrReg spsr fields rm) r n = tt
+  operation_state (MsrImm spsr fields value) r n = tt
+  operation_state (Swi imm) r n = tt
+  operation_state (Undefined raw) r n = tt
 
   -- an instruction at an even address, of the machine's own set: T after it is bit 0 of the key
-  pub execute-state : InRange i.op → (next : Machine × ℕ) → execute i m ≡ some next
+  pub execute_state : InRange i.op → (next : Machine × ℕ) → execute i m ≡ some next
       → thumb_state next.0 ≡ bit next.1 0
   unfolding execute
-  execute-state r next e =
+  execute_state r next e =
       subst (Each Agrees) e
       (go (no_instruction i) refl (passed i.cond m) (unpredictable i.op))
     where
@@ -175,6 +175,6 @@ module _ (i : Instr) (m : Machine) (even : i.addr % 2 ≡ 0) (own : thumb_state 
           → Each Agrees
           (cond no none (cond pass (cond un none (operation i i.op m)) (some (onward i m))))
       go true n pass un = tt
-      go false n false un = leads-on m refl
+      go false n false un = leads_on m refl
       go false n true true = tt
-      go false n true false = operation-state i.op r n
+      go false n true false = operation_state i.op r n

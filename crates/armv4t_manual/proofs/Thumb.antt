@@ -444,31 +444,31 @@ bit_15 list true h = ap (λ (x : ℕ). eqb x 1) (set list h)
 
 module _ (a list : ℕ) (h : list < 256) (m : Machine) where
   -- SP after POP of so many registers
-  pop-end : (r : Bool)
+  pop_end : (r : Bool)
       → (m.r 13 + length (listed (list + one_if r * 2 ^ 15) 16) * 4) % two32
       ≡ (m.r 13 + 4 * (one_if r + length (listed list 8))) % two32
-  pop-end r =
+  pop_end r =
       ap (λ (k : ℕ). (m.r 13 + k) % two32)
       (ap (λ (is : List ℕ). length is * 4) (popped_16 list r h)
       ∙ ap (λ (k : ℕ). k * 4) (length_with (listed list 8) r 15)
       ∙ mul_comm (one_if r + length (listed list 8)) 4)
 
-  does-pop : (r : Bool) → Does a (format_14 pop r list) m
+  does_pop : (r : Bool) → Does a (format_14 pop r list) m
   unfolding execute thumb_operation
-  does-pop false =
+  does_pop false =
       rw (bit_15 list false h)
       (ap₂ (λ (is : List ℕ) (y : ℕ). onto a
       (set_regs (load_all is (m.r 13) m.mem (update 13 y m.r)) m)) (popped_15 list false h)
-      (pop-end false)
+      (pop_end false)
       ∙ ap (λ (f : ℕ → ℕ). onto a (set_regs f m))
       (load_swap (listed list 8) (m.r 13) m.mem m.r _ (listed_plain list)))
-  does-pop true =
+  does_pop true =
       rw (bit_15 list true h)
       (ap (λ (is : List ℕ). loaded is (load_all is (m.r 13) m.mem m.r 13))
       (popped_15 list true h)
       ∙ ap (loaded (listed list 8))
       (load_keeps (listed list 8) (m.r 13) m.mem m.r (listed_plain list))
-      ∙ ap (λ (y : ℕ). ended (listed list 8) y) (pop-end true))
+      ∙ ap (λ (y : ℕ). ended (listed list 8) y) (pop_end true))
     where
       ended : List ℕ → ℕ → Option (Machine × ℕ)
       ended is y =
@@ -484,7 +484,7 @@ module _ (a list : ℕ) (h : list < 256) (m : Machine) where
 does_14 : (a : ℕ) (op : Opcode14) (r : Bool) (list : ℕ) → list < 256 → (m : Machine)
     → Does a (format_14 op r list) m
 does_14 a push r list h m = does_push a r list h m
-does_14 a pop r list h m = does-pop a list h m r
+does_14 a pop r list h m = does_pop a list h m r
 
 does_15 : (a : ℕ) (op : Opcode15) (rn list : ℕ) → list < 256 → (m : Machine)
     → Does a (format_15 op rn list) m

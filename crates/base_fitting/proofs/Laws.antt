@@ -33,10 +33,10 @@ module _ {X : Type 0} (size : X → ℕ) (room places : ℕ) (all : List X) wher
       }
 
   -- no place is left
-  no-places : (r : ℕ) (xs : List X) → fitting size r 0 xs ≡ []
+  no_places : (r : ℕ) (xs : List X) → fitting size r 0 xs ≡ []
   unfolding fitting
-  no-places r [] = refl
-  no-places r (x ∷ xs) = refl
+  no_places r [] = refl
+  no_places r (x ∷ xs) = refl
 
   -- the first fits
   first_fits : (r p : ℕ) (x : X) (xs : List X) → size x ≤ r
@@ -46,18 +46,18 @@ module _ {X : Type 0} (size : X → ℕ) (room places : ℕ) (all : List X) wher
       ap (λ (b : Bool). cond b [] (x ∷ fitting size (r - size x) p xs)) (le-ltb _ _ h)
 
   -- the first does not
-  first-over : (r p : ℕ) (x : X) (xs : List X) → r < size x
+  first_over : (r p : ℕ) (x : X) (xs : List X) → r < size x
       → fitting size r (suc p) (x ∷ xs) ≡ []
   unfolding fitting
-  first-over r p x xs h =
+  first_over r p x xs h =
       ap (λ (b : Bool). cond b [] (x ∷ fitting size (r - size x) p xs)) (lt-ltb _ _ h)
 
   module _ {made : List X} where
     -- a piece that fits
-    pub fit-more : {x : X} {rest : List X} → FitSoFar size room places all made (x ∷ rest)
+    pub fit_more : {x : X} {rest : List X} → FitSoFar size room places all made (x ∷ rest)
         → length made < places → total size made + size x ≤ room
         → FitSoFar size room places all (made ++ (x ∷ [])) rest
-    fit-more {x} {rest} so place fits =
+    fit_more {x} {rest} so place fits =
         record {
           same =
               so.same
@@ -75,26 +75,26 @@ module _ {X : Type 0} (size : X → ℕ) (room places : ℕ) (all : List X) wher
         }
 
     -- all places are taken
-    pub fit-full : {rest : List X} → FitSoFar size room places all made rest
+    pub fit_full : {rest : List X} → FitSoFar size room places all made rest
         → places ≤ length made → fitting size room places all ≡ made
-    fit-full {rest} so full =
+    fit_full {rest} so full =
         so.same
         ∙ ap (λ (p : ℕ). made ++ fitting size (room - total size made) p rest)
         (let over : places - length made ≡ 0 = omega arith in over)
-        ∙ ap (λ (xs : List X). made ++ xs) (no-places _ rest)
+        ∙ ap (λ (xs : List X). made ++ xs) (no_places _ rest)
         ∙ append_nil made
 
     -- the next does not fit
-    pub fit-over : {x : X} {rest : List X} → FitSoFar size room places all made (x ∷ rest)
+    pub fit_over : {x : X} {rest : List X} → FitSoFar size room places all made (x ∷ rest)
         → room - total size made < size x → fitting size room places all ≡ made
-    fit-over {x} {rest} so over =
+    fit_over {x} {rest} so over =
         elim (dec_lt (length made) places) [
           | yes h ↦ so.same
               ∙ ap (λ (p : ℕ). made ++ fitting size (room - total size made) p (x ∷ rest))
               (let one : places - length made ≡ suc (places - suc (length made)) = omega arith in one)
-              ∙ ap (λ (xs : List X). made ++ xs) (first-over _ _ x rest over)
+              ∙ ap (λ (xs : List X). made ++ xs) (first_over _ _ x rest over)
               ∙ append_nil made
-          | no d ↦ fit-full so (omega arith)
+          | no d ↦ fit_full so (omega arith)
         ]
 
     -- no piece is left

@@ -11,7 +11,7 @@ use Rattle.base_forest.specs.Roots.{parent, follow, root, hang}
 use Rattle.base_lists.specs.Lists.{range}
 use Rattle.base_lists.proofs.Range.{length_range, range_own}
 use Rattle.base_forest.specs.Forest.{SameRoots}
-use Rattle.base_forest.proofs.Ways.{Leads, longer, end-inside, end-own, follow_own}
+use Rattle.base_forest.proofs.Ways.{Leads, longer, end_inside, end_own, follow_own}
 use Rattle.base_forest.proofs.Ways.{follow_of, way, forest, moved, hung}
 
 -- the root is the end of a way that is short enough
@@ -23,39 +23,39 @@ pub deeper : {d : ℕ} {p : List ℕ} → Forest d p → (e : ℕ) → d ≤ e �
 deeper {d} {p} f e h = forest (λ i inside. (follow d p i, longer (way f i inside) e h))
 
 module _ {p : List ℕ} (full : Forest (2 * length p) p) {i : ℕ} (inside : i < length p) where
-  pub root-inside : root p i < length p
-  root-inside = end-inside (way full i inside)
+  pub root_inside : root p i < length p
+  root_inside = end_inside (way full i inside)
 
-  pub root-own : parent p (root p i) ≡ root p i
-  root-own = end-own (way full i inside)
+  pub root_own : parent p (root p i) ≡ root p i
+  root_own = end_own (way full i inside)
 
 -- at first each number is its own root
 
 module _ (n : ℕ) where
-  pub forest-range : Forest 0 (range n 0)
-  forest-range = forest (λ i h. (i, Leads.own h (range_own n i (rw length_range at h))))
+  pub forest_range : Forest 0 (range n 0)
+  forest_range = forest (λ i h. (i, Leads.own h (range_own n i (rw length_range at h))))
 
-  pub root-range : (i : ℕ) → i < n → root (range n 0) i ≡ i
-  root-range i h = follow_own (2 * length (range n 0)) (range n 0) i (range_own n i h)
+  pub root_range : (i : ℕ) → i < n → root (range n 0) i ≡ i
+  root_range i h = follow_own (2 * length (range n 0)) (range n 0) i (range_own n i h)
 
 -- an edge hangs the root of i under that of j, and moves the numbers whose root that was
 
 module _ {p : List ℕ} (full : Forest (2 * length p) p) {i j : ℕ} (inside-i : i < length p)
     (inside-j : j < length p) where
-  way-hang : {k r d : ℕ} → Leads p k r d
+  way_hang : {k r d : ℕ} → Leads p k r d
       → Leads (hang p i j) k (moved (root p i) (root p j) r) (d + 1)
-  way-hang {d = d} w =
+  way_hang {d = d} w =
       rw (add-one d)
-      (hung p (root p i) (root p j) (root-inside full inside-i) (root-own full inside-i)
-      (root-inside full inside-j) (root-own full inside-j) w)
+      (hung p (root p i) (root p j) (root_inside full inside-i) (root_own full inside-i)
+      (root_inside full inside-j) (root_own full inside-j) w)
 
-  pub forest-hang : {d : ℕ} → Forest d p → Forest (d + 1) (hang p i j)
-  forest-hang {d} f = forest (λ k h. (_, way-hang (way f k (rw length-set at h))))
+  pub forest_hang : {d : ℕ} → Forest d p → Forest (d + 1) (hang p i j)
+  forest_hang {d} f = forest (λ k h. (_, way_hang (way f k (rw length-set at h))))
 
-  pub root-hang : {d : ℕ} → Forest d p → d + 1 ≤ 2 * length p → (k : ℕ) → k < length p
+  pub root_hang : {d : ℕ} → Forest d p → d + 1 ≤ 2 * length p → (k : ℕ) → k < length p
       → root (hang p i j) k ≡ moved (root p i) (root p j) (root p k)
-  root-hang {d} f small k h =
-      root_of (way-hang (way f k h)) (rw length-set small) ∙ rw (root_of (way f k h) (omega arith))
+  root_hang {d} f small k h =
+      root_of (way_hang (way f k h)) (rw length-set small) ∙ rw (root_of (way f k h) (omega arith))
 
 -- a search keeps the roots
 
@@ -102,24 +102,24 @@ same_full same small = deeper same.left _ small
 -- an edge in both keeps the roots the same, where every way has a step to spare
 module _ {d : ℕ} {p q : List ℕ} (same : SameRoots d p q) (small : d + 1 ≤ 2 * length p) {i j : ℕ}
     (inside-i : i < length p) (inside-j : j < length p) where
-  full-left : Forest (2 * length p) p
-  full-left = same_full same (omega arith)
+  full_left : Forest (2 * length p) p
+  full_left = same_full same (omega arith)
 
-  full-right : Forest (2 * length q) q
-  full-right = deeper same.right _ (rw (← same.lengths) (omega arith))
+  full_right : Forest (2 * length q) q
+  full_right = deeper same.right _ (rw (← same.lengths) (omega arith))
 
-  in-q : {k : ℕ} → k < length p → k < length q
-  in-q h = rw (← same.lengths) h
+  in_q : {k : ℕ} → k < length p → k < length q
+  in_q h = rw (← same.lengths) h
 
-  pub same-hang : SameRoots (d + 1) (hang p i j) (hang q i j)
-  same-hang =
+  pub same_hang : SameRoots (d + 1) (hang p i j) (hang q i j)
+  same_hang =
       record {
         lengths = simp length-set same.lengths;
-        left = forest-hang full-left inside-i inside-j same.left;
-        right = forest-hang full-right (in-q inside-i) (in-q inside-j) same.right;
+        left = forest_hang full_left inside-i inside-j same.left;
+        right = forest_hang full_right (in_q inside-i) (in_q inside-j) same.right;
         roots = λ k h. let inside : k < length p = rw length-set at h in
-            root-hang full-left inside-i inside-j same.left small k inside
+            root_hang full_left inside-i inside-j same.left small k inside
             ∙ rw (same.roots i inside-i, same.roots j inside-j, same.roots k inside)
-            (sym (root-hang full-right (in-q inside-i) (in-q inside-j) same.right
-            (rw (← same.lengths) small) k (in-q inside)));
+            (sym (root_hang full_right (in_q inside-i) (in_q inside-j) same.right
+            (rw (← same.lengths) small) k (in_q inside)));
       }

@@ -18,21 +18,21 @@ pub data Leads (p : List ℕ) : ℕ → ℕ → ℕ → Type 0 where
   up : {i j r d : ℕ} → i < length p → parent p i ≡ j → Leads p j r d → Leads p i r (suc d)
 
 module _ {p : List ℕ} where
-  pub start-inside : {i r d : ℕ} → Leads p i r d → i < length p
-  start-inside (own h s) = h
-  start-inside (up h s w) = h
+  pub start_inside : {i r d : ℕ} → Leads p i r d → i < length p
+  start_inside (own h s) = h
+  start_inside (up h s w) = h
 
-  pub parent-inside : {i r d : ℕ} → Leads p i r d → parent p i < length p
-  parent-inside (own h s) = rw s h
-  parent-inside (up h s w) = rw s (start-inside w)
+  pub parent_inside : {i r d : ℕ} → Leads p i r d → parent p i < length p
+  parent_inside (own h s) = rw s h
+  parent_inside (up h s w) = rw s (start_inside w)
 
-  pub end-inside : {i r d : ℕ} → Leads p i r d → r < length p
-  end-inside (own h s) = h
-  end-inside (up h s w) = end-inside w
+  pub end_inside : {i r d : ℕ} → Leads p i r d → r < length p
+  end_inside (own h s) = h
+  end_inside (up h s w) = end_inside w
 
-  pub end-own : {i r d : ℕ} → Leads p i r d → parent p r ≡ r
-  end-own (own h s) = s
-  end-own (up h s w) = end-own w
+  pub end_own : {i r d : ℕ} → Leads p i r d → parent p r ≡ r
+  end_own (own h s) = s
+  end_own (up h s w) = end_own w
 
   one_more : {i r d : ℕ} → Leads p i r d → Leads p i r (suc d)
   one_more (own h s) = own h s
@@ -84,33 +84,33 @@ way {d} {p} f i h = way_of d p i f.inside h (f.ends i h)
 pub forest : {d : ℕ} {p : List ℕ} → ((i : ℕ) → i < length p → (r : ℕ) × Leads p i r d) → Forest d p
 forest {d} {p} w =
     record {
-      inside = λ i h. parent-inside (w i h).1;
-      ends = λ i h. rw (follow_of (w i h).1) (end-own (w i h).1);
+      inside = λ i h. parent_inside (w i h).1;
+      ends = λ i h. rw (follow_of (w i h).1) (end_own (w i h).1);
     }
 
 -- setting the parent of one number
 
 module _ (p : List ℕ) (at v : ℕ) where
-  inside-set : {k : ℕ} → k < length p → k < length (set p at v)
-  inside-set h = rw length-set h
+  inside_set : {k : ℕ} → k < length p → k < length (set p at v)
+  inside_set h = rw length-set h
 
   -- a root stays one, unless it is hung under another
-  own-set : {r d : ℕ} → r < length p → parent p r ≡ r → (r ≡ at → v ≡ r) → Leads (set p at v) r r d
-  own-set {r} h s same =
-      own (inside-set h)
+  own_set_lem : {r d : ℕ} → r < length p → parent p r ≡ r → (r ≡ at → v ≡ r) → Leads (set p at v) r r d
+  own_set_lem {r} h s same =
+      own (inside_set h)
       (elim (ℕ_discrete r at) [
         | yes e ↦ rw (← e) (get_or-set_same p r v 0 h) ∙ same e
         | no n ↦ get_or-set_other p at r v 0 n ∙ s
       ])
 
   -- a step from i, which is at or keeps its parent
-  up-set : {i r d : ℕ} → i < length p → (i ≡ at → Leads (set p at v) v r d)
+  up_set : {i r d : ℕ} → i < length p → (i ≡ at → Leads (set p at v) v r d)
       → ((i ≡ at → ⊥) → Leads (set p at v) (parent p i) r d)
       → Leads (set p at v) i r (suc d)
-  up-set {i} h here there =
+  up_set {i} h here there =
       elim (ℕ_discrete i at) [
-        | yes e ↦ up {j = v} (inside-set h) (rw (← e) (get_or-set_same p i v 0 h)) (here e)
-        | no n ↦ up (inside-set h) (get_or-set_other p at i v 0 n) (there n)
+        | yes e ↦ up {j = v} (inside_set h) (rw (← e) (get_or-set_same p i v 0 h)) (here e)
+        | no n ↦ up (inside_set h) (get_or-set_other p at i v 0 n) (there n)
       ]
 
 -- halving
@@ -122,11 +122,11 @@ halved p at = set p at (parent p (parent p at))
 halve_both : (at : ℕ) {p : List ℕ} {i r d : ℕ} → Leads p i r d
     → Leads (halved p at) i r d × Leads (halved p at) (parent p i) r d
 halve_both at {p} (own {r = r} h s) =
-    let w : Leads (halved p at) r r _ = own-set p at _ h s (λ e. rw (← e) (ap (parent p) s ∙ s)) in
+    let w : Leads (halved p at) r r _ = own_set_lem p at _ h s (λ e. rw (← e) (ap (parent p) s ∙ s)) in
     (w, rw s w)
 halve_both at {p} (up {i = i} h s w) =
     let both = halve_both at w in (
-      up-set p at _ h (λ e. rw (← s, e) at both.1) (λ n. rw s both.0),
+      up_set p at _ h (λ e. rw (← s, e) at both.1) (λ n. rw s both.0),
       rw s
           (one_more both.0),
     )
@@ -188,13 +188,13 @@ module _ (p : List ℕ) (i j : ℕ) (inside-i : i < length p) (own-i : parent p 
   hung (own {r = r} h s) =
       elim (ℕ_discrete r i) [
         | yes e ↦ rw (eq-eqb r i e)
-            (up-set p i j h (λ _. own-set p i j inside-j own-j (λ _. refl)) (λ n. absurd (n e)))
-        | no n ↦ rw (ne_eqb r i n) (own-set p i j h s (λ e. absurd (n e)))
+            (up_set p i j h (λ _. own_set_lem p i j inside-j own-j (λ _. refl)) (λ n. absurd (n e)))
+        | no n ↦ rw (ne_eqb r i n) (own_set_lem p i j h s (λ e. absurd (n e)))
       ]
   hung (up {i = k} {j = above-k} h s w) =
       elim (ℕ_discrete k i) [
         | yes e ↦
             (let stays : k ≡ above-k = e ∙ sym own-i ∙ ap (parent p) (sym e) ∙ s in
             rw stays (one_more (hung w)))
-        | no n ↦ up-set p i j h (λ e. absurd (n e)) (λ _. rw s (hung w))
+        | no n ↦ up_set p i j h (λ e. absurd (n e)) (λ _. rw s (hung w))
       ]

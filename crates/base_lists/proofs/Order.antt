@@ -18,31 +18,31 @@ InOrder R (x ∷ xs) = ((y : ℕ) → Memᴰ y xs → R x y) × InOrder R xs
 
 module _ (R : ℕ → ℕ → Type 0) where
   -- the same by places in the list
-  pub order-at : (xs : List ℕ) → InOrder R xs → (a b : ℕ) → a < b → b < length xs
+  pub order_at : (xs : List ℕ) → InOrder R xs → (a b : ℕ) → a < b → b < length xs
       → R (get_or xs a 0) (get_or xs b 0)
-  order-at [] o a b l h = absurd (omega arith)
-  order-at (x ∷ xs) o a zero l h = absurd (omega arith)
-  order-at (x ∷ xs) o zero (suc b) l h = o.0 (get_or xs b 0) (member_at xs b 0 (le_of_suc-le-suc h))
-  order-at (x ∷ xs) o (suc a) (suc b) l h =
-      order-at xs o.1 a b (le_of_suc-le-suc l) (le_of_suc-le-suc h)
+  order_at [] o a b l h = absurd (omega arith)
+  order_at (x ∷ xs) o a zero l h = absurd (omega arith)
+  order_at (x ∷ xs) o zero (suc b) l h = o.0 (get_or xs b 0) (member_at xs b 0 (le_of_suc-le-suc h))
+  order_at (x ∷ xs) o (suc a) (suc b) l h =
+      order_at xs o.1 a b (le_of_suc-le-suc l) (le_of_suc-le-suc h)
 
   -- the front of a list in order
-  pub order-front : (xs ys : List ℕ) → InOrder R (xs ++ ys) → InOrder R xs
-  order-front [] ys o = tt
-  order-front (x ∷ xs) ys o = (λ y m. o.0 y (Memᴰ.append_left ys m), order-front xs ys o.1)
+  pub order_front : (xs ys : List ℕ) → InOrder R (xs ++ ys) → InOrder R xs
+  order_front [] ys o = tt
+  order_front (x ∷ xs) ys o = (λ y m. o.0 y (Memᴰ.append_left ys m), order_front xs ys o.1)
 
   -- and the rest
-  pub order-back : (xs ys : List ℕ) → InOrder R (xs ++ ys) → InOrder R ys
-  order-back [] ys o = o
-  order-back (x ∷ xs) ys o = order-back xs ys o.1
+  pub order_back : (xs ys : List ℕ) → InOrder R (xs ++ ys) → InOrder R ys
+  order_back [] ys o = o
+  order_back (x ∷ xs) ys o = order_back xs ys o.1
 
   -- an order that implies another among the numbers of the list
-  pub order-weaker : (S : ℕ → ℕ → Type 0) (xs : List ℕ)
+  pub order_weaker : (S : ℕ → ℕ → Type 0) (xs : List ℕ)
       → ((x y : ℕ) → Memᴰ x xs → Memᴰ y xs → R x y → S x y) → InOrder R xs → InOrder S xs
-  order-weaker S [] w o = tt
-  order-weaker S (x ∷ xs) w o = (
+  order_weaker S [] w o = tt
+  order_weaker S (x ∷ xs) w o = (
     λ y m. w x y (Memᴰ.head refl) (Memᴰ.tail m) (o.0 y m),
-    order-weaker S xs
+    order_weaker S xs
         (λ a b m n. w a b (Memᴰ.tail m) (Memᴰ.tail n)) o.1,
   )
 

@@ -4,7 +4,7 @@ use Prim.Native.Nat.{ℕ, ◌+◌}
 use mathlib.Core.Path.{◌≡◌, sym, ap, ◌∙◌, subst}
 use mathlib.Core.List.Memᴰ
 use mathlib.Core.List.{List, [], ◌++◌, append_assoc, flatten, Memᴰ}
-use Rattle.base_lists.proofs.Order.{InOrder, order-front, order-back}
+use Rattle.base_lists.proofs.Order.{InOrder, order_front, order_back}
 
 -- g stands in xs in one piece
 pub record Piece (g xs : List ℕ) : Type 0 where
@@ -14,16 +14,16 @@ pub record Piece (g xs : List ℕ) : Type 0 where
 
 module _ {g xs : List ℕ} (p : Piece g xs) where
   -- what stands in the piece stands in the list
-  pub piece-member : {i : ℕ} → Memᴰ i g → Memᴰ i xs
-  piece-member {i} m =
+  pub piece_member : {i : ℕ} → Memᴰ i g → Memᴰ i xs
+  piece_member {i} m =
       subst (Memᴰ i) (sym p.is)
       (Memᴰ.append_right p.before (Memᴰ.append_left p.after m))
 
   -- the piece keeps the list's order
-  pub piece-order : (R : ℕ → ℕ → Type 0) → InOrder R xs → InOrder R g
-  piece-order R o =
-      order-front R g p.after
-      (order-back R p.before (g ++ p.after) (subst (InOrder R) p.is o))
+  pub piece_order : (R : ℕ → ℕ → Type 0) → InOrder R xs → InOrder R g
+  piece_order R o =
+      order_front R g p.after
+      (order_back R p.before (g ++ p.after) (subst (InOrder R) p.is o))
 
 -- one of several lists stands in them all in one piece
 pub flatten_piece : {g : List ℕ} {gs : List (List ℕ)} → Memᴰ g gs → Piece g (flatten gs)

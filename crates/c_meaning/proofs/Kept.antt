@@ -18,7 +18,7 @@ use Rattle.c_meaning.specs.Types.{width, signed, same_ty}
 use Rattle.c_meaning.specs.State.{bind, update, index, Cell, Scope, State, set_scopes, enter}
 use Rattle.c_meaning.specs.State.{outer, leave, declare_in, declared, assign_in, assigned, put}
 use Rattle.c_meaning.specs.State.{answered, interp_answer, after_interp, Later, find, Declares}
-use Rattle.c_meaning.specs.Eval.{ty, eval, evalAs}
+use Rattle.c_meaning.specs.Eval.{ty, eval, eval_as}
 use Rattle.c_meaning.specs.Exec.{Goes, on, to, back, Outcome, next, ended, returned, new_value}
 use Rattle.c_meaning.specs.Exec.{proc_ty, declares, initialise, others, exec, asks, returns}
 use Rattle.c_meaning.specs.Exec.{step, runs}
@@ -32,26 +32,26 @@ data All {A : Type 0} (P : A → Type 0) : Option A → Type 0 where
   defined : {x : A} → P x → All P (some x)
 
 module _ {A : Type 0} {P : A → Type 0} where
-  all-some : {x : A} → All P (some x) → P x
-  all-some (defined p) = p
+  all_some : {x : A} → All P (some x) → P x
+  all_some (defined p) = p
 
   all_of : {o : Option A} {x : A} → All P o → o ≡ some x → P x
-  all_of h e = all-some (subst (All P) e h)
+  all_of h e = all_some (subst (All P) e h)
 
-  all-cond : (b : Bool) {o p : Option A} → All P o → All P p → All P (cond b o p)
-  all-cond true h k = h
-  all-cond false h k = k
+  all_cond : (b : Bool) {o p : Option A} → All P o → All P p → All P (cond b o p)
+  all_cond true h k = h
+  all_cond false h k = k
 
 module _ {A B : Type 0} {Q : B → Type 0} where
   -- a value that is only computed with
-  all-value : (o : Option A) {f : A → Option B} → ((x : A) → All Q (f x)) → All Q (bind o f)
-  all-value none h = undefined
-  all-value (some x) h = h x
+  all_value : (o : Option A) {f : A → Option B} → ((x : A) → All Q (f x)) → All Q (bind o f)
+  all_value none h = undefined
+  all_value (some x) h = h x
 
-  all-bind : {P : A → Type 0} {o : Option A} {f : A → Option B} → All P o
+  all_bind : {P : A → Type 0} {o : Option A} {f : A → Option B} → All P o
       → ((x : A) → P x → All Q (f x)) → All Q (bind o f)
-  all-bind undefined h = undefined
-  all-bind (defined {x} p) h = h x p
+  all_bind undefined h = undefined
+  all_bind (defined {x} p) h = h x p
 
 -- a type from its width and whether it has a sign
 abbrev ty_of : ℕ → Bool → Ty
@@ -135,7 +135,7 @@ declared_over x (f ∷ fs) = declare_in_over (f (index x.1)) x.0 (index x.1) f f
 assign_in_over : (o : Option Cell) (y : Ty) (k v : ℕ) (f : Scope) (fs : List Scope)
     (rest : Option (List Scope)) → f k ≡ o → All (Over fs) rest
     → All (Over (f ∷ fs)) (assign_in o y k v f fs rest)
-assign_in_over none y k v f fs rest e h = all-bind h λ gs q. defined (over_scope (within_refl f) q)
+assign_in_over none y k v f fs rest e h = all_bind h λ gs q. defined (over_scope (within_refl f) q)
 assign_in_over (some (t, w)) y k v f fs rest e h = go (same_ty y t) refl
   where
     go : (b : Bool) → same_ty y t ≡ b
@@ -234,163 +234,163 @@ module _ (may : Bool) where
   kept_refl : (z : State) → Kept z z
   kept_refl z = (λ h. refl, over_refl z.scopes, later_refl z)
 
-  setScopes-kept : (z : State) (fs : List Scope) → Over z.scopes fs → Kept z (set_scopes fs z)
-  setScopes-kept z fs p = (λ h. refl, p, later_refl z)
+  set_scopes_kept : (z : State) (fs : List Scope) → Over z.scopes fs → Kept z (set_scopes fs z)
+  set_scopes_kept z fs p = (λ h. refl, p, later_refl z)
 
   kept_trans : (z u y : State) → Kept z u → Kept u y → Kept z y
   kept_trans z u y p q =
       (λ h. q.0 h ∙ p.0 h, over_trans p.1 q.1, later_trans z u y p.2 q.2)
 
   -- a call of the interpreter
-  after-interp-kept : may ≡ true → (z : State) → Kept z (after_interp z)
-  after-interp-kept a z =
+  after_interp_kept : may ≡ true → (z : State) → Kept z (after_interp z)
+  after_interp_kept a z =
       (λ h. absurd (true≢false (sym a ∙ h)), over_refl z.scopes, later_refl z)
 
   -- an answer of guard or gate
-  answered-kept : (z : State) → Kept z (answered z)
-  answered-kept z = (λ h. refl, over_refl z.scopes, later_answered z)
+  answered_kept : (z : State) → Kept z (answered z)
+  answered_kept z = (λ h. refl, over_refl z.scopes, later_answered z)
 
   -- what is kept from a state is kept from one before it
   kept_on : (z u : State) {o : Option State} → Kept z u → All (Kept u) o → All (Kept z) o
   kept_on z u p undefined = undefined
   kept_on z u p (defined {x} q) = defined (kept_trans z u x p q)
 
-  afterBy : (z u : State) {o : Outcome} → Kept z u → All (KeptBy u) o → All (KeptBy z) o
-  afterBy z u p undefined = undefined
-  afterBy z u p (defined {x} q) = defined (kept_trans z u x.0 p q)
+  after_by : (z u : State) {o : Outcome} → Kept z u → All (KeptBy u) o → All (KeptBy z) o
+  after_by z u p undefined = undefined
+  after_by z u p (defined {x} q) = defined (kept_trans z u x.0 p q)
 
-  put-kept : (p : Place) (v : ℕ) (z : State) → All (Kept z) (put p v z)
-  put-kept (reg k) v z = all-cond (leb k 16) (defined (kept_refl z)) undefined
-  put-kept (var x) v z =
-      all-bind (assigned_over x.0 (index x.1) v z.scopes) λ fs p. defined
-      (setScopes-kept z fs p)
+  put_kept : (p : Place) (v : ℕ) (z : State) → All (Kept z) (put p v z)
+  put_kept (reg k) v z = all_cond (leb k 16) (defined (kept_refl z)) undefined
+  put_kept (var x) v z =
+      all_bind (assigned_over x.0 (index x.1) v z.scopes) λ fs p. defined
+      (set_scopes_kept z fs p)
 
-  declares-kept : (x : Var) (z : State) → All (Kept z) (declares x z)
-  declares-kept x z = all-bind (declared_over x z.scopes) λ fs p. defined (setScopes-kept z fs p)
+  declares_kept : (x : Var) (z : State) → All (Kept z) (declares x z)
+  declares_kept x z = all_bind (declared_over x z.scopes) λ fs p. defined (set_scopes_kept z fs p)
 
-  ended-kept : (g : Goes) (z u : State) → Kept z u → All (Kept z) (ended g u)
-  ended-kept on z u p = defined p
-  ended-kept (to k) z u p = undefined
-  ended-kept (back x) z u p = undefined
+  ended_kept : (g : Goes) (z u : State) → Kept z u → All (Kept z) (ended g u)
+  ended_kept on z u p = defined p
+  ended_kept (to k) z u p = undefined
+  ended_kept (back x) z u p = undefined
 
-  next-kept : (g : Goes) (z u : State) (f : State → Outcome) → Kept z u
+  next_kept : (g : Goes) (z u : State) (f : State → Outcome) → Kept z u
       → ((y : State) → All (KeptBy y) (f y)) → All (KeptBy z) (next g u f)
-  next-kept on z u f p h = afterBy z u p (h u)
-  next-kept (to k) z u f p h = defined p
-  next-kept (back x) z u f p h = defined p
+  next_kept on z u f p h = after_by z u p (h u)
+  next_kept (to k) z u f p h = defined p
+  next_kept (back x) z u f p h = defined p
 
   -- from { to }
-  leave-kept : (z u : State) → Kept (enter z) u → Kept z (leave u)
-  leave-kept z u p = (p.0, over_outer p.1, p.2)
+  leave_kept : (z u : State) → Kept (enter z) u → Kept z (leave u)
+  leave_kept z u p = (p.0, over_outer p.1, p.2)
 
   -- with helpers that keep
   module _ (R : ℕ → ℕ → Option ℕ) (C : Helper → List ℕ → State → Outcome)
       (call_kept : (h : Helper) (vs : List ℕ) (z : State) → All (KeptBy z) (C h vs z)) where
-    initialise-kept : (x : Var) (e : Expr) (z : State) → All (Kept z) (initialise R C x e z)
-    initialise-kept x e z =
-        all-bind (declares-kept x z) λ u p. all-value (evalAs R x.0 e u) λ k. kept_on z u p
-        (put-kept (var x) k u)
+    initialise_kept : (x : Var) (e : Expr) (z : State) → All (Kept z) (initialise R C x e z)
+    initialise_kept x e z =
+        all_bind (declares_kept x z) λ u p. all_value (eval_as R x.0 e u) λ k. kept_on z u p
+        (put_kept (var x) k u)
 
-    others-kept : (y : Ty) (ds : List (Name × Expr)) (z : State) → All (Kept z) (others R C y ds z)
+    others_kept : (y : Ty) (ds : List (Name × Expr)) (z : State) → All (Kept z) (others R C y ds z)
     unfolding others
-    others-kept y [] z = defined (kept_refl z)
-    others-kept y (d ∷ ds) z =
-        all-bind (initialise-kept (y, d.0) d.1 z) λ u p. kept_on z u p (others-kept y ds u)
+    others_kept y [] z = defined (kept_refl z)
+    others_kept y (d ∷ ds) z =
+        all_bind (initialise_kept (y, d.0) d.1 z) λ u p. kept_on z u p (others_kept y ds u)
 
     exec_kept : (s : Plain) (z : State) → All (Kept z) (exec R C s z)
     unfolding exec
     exec_kept registers z = defined (kept_refl z)
-    exec_kept (local x) z = declares-kept x z
+    exec_kept (local x) z = declares_kept x z
     exec_kept (declare x e ds) z =
-        all-bind (initialise-kept x e z) λ u p. kept_on z u p (others-kept x.0 ds u)
+        all_bind (initialise_kept x e z) λ u p. kept_on z u p (others_kept x.0 ds u)
     exec_kept (adds x d e f) z =
-        all-bind (declares-kept (u32, x) z) λ u p.
-        all-value (evalAs R u32 d u) λ k. all-value (evalAs R u32 e u) λ l. all-value
-        (evalAs R u32 f u) λ i.
-        all-bind (call_kept op-adds (k ∷ l ∷ i ∷ []) u) λ q h. all-value (returned q.1) λ r.
-        kept_on z u p (kept_on u q.0 h (put-kept (var (u32, x)) r q.0))
+        all_bind (declares_kept (u32, x) z) λ u p.
+        all_value (eval_as R u32 d u) λ k. all_value (eval_as R u32 e u) λ l. all_value
+        (eval_as R u32 f u) λ i.
+        all_bind (call_kept op-adds (k ∷ l ∷ i ∷ []) u) λ q h. all_value (returned q.1) λ r.
+        kept_on z u p (kept_on u q.0 h (put_kept (var (u32, x)) r q.0))
     exec_kept (set p o e) z =
-        all-value (eval R e z) λ k. all-value (new_value o p (ty e) k z) λ x. put-kept p x z
+        all_value (eval R e z) λ k. all_value (new_value o p (ty e) k z) λ x. put_kept p x z
     exec_kept (discard x) z =
-        all-value (find (index x.1) z.scopes) λ p. all-cond (same_ty x.0 p.0)
+        all_value (find (index x.1) z.scopes) λ p. all_cond (same_ty x.0 p.0)
         (defined (kept_refl z)) undefined
     exec_kept (run p e) z =
-        all-value (evalAs R (proc_ty p) e z) λ k. all-bind (call_kept (proc p) (k ∷ []) z) λ q h.
-        ended-kept q.1 z q.0 h
+        all_value (eval_as R (proc_ty p) e z) λ k. all_bind (call_kept (proc p) (k ∷ []) z) λ q h.
+        ended_kept q.1 z q.0 h
     exec_kept (write w d e) z =
-        all-value (evalAs R u32 d z) λ a. all-value (evalAs R u32 e z) λ x. defined (kept_refl z)
+        all_value (eval_as R u32 d z) λ a. all_value (eval_as R u32 e z) λ x. defined (kept_refl z)
     exec_kept (tick n) z = defined (kept_refl z)
 
-    asks-kept : (t : Test) (z : State) → All (λ q. Kept z q.1) (asks R C t z)
+    asks_kept : (t : Test) (z : State) → All (λ q. Kept z q.1) (asks R C t z)
     unfolding asks
-    asks-kept (guard a l h) z = defined (answered-kept z)
-    asks-kept gate z = defined (answered-kept z)
-    asks-kept (other e) z = all-value (eval R e z) λ k. defined (kept_refl z)
+    asks_kept (guard a l h) z = defined (answered_kept z)
+    asks_kept gate z = defined (answered_kept z)
+    asks_kept (other e) z = all_value (eval R e z) λ k. defined (kept_refl z)
 
-    returns-kept : (e : Expr) (z : State) → All (KeptBy z) (returns R C e z)
-    returns-kept e z = all-value (evalAs R u32 e z) λ k. defined (kept_refl z)
+    returns_kept : (e : Expr) (z : State) → All (KeptBy z) (returns R C e z)
+    returns_kept e z = all_value (eval_as R u32 e z) λ k. defined (kept_refl z)
 
     step_kept : (s : Simple) → Permits may s → (z : State) → All (KeptBy z) (step R C s z)
     unfolding step
     step_kept (gap l n) a z = defined (kept_refl z)
     step_kept (record_mark k i n) a z = defined (kept_refl z)
-    step_kept (plain o s) a z = all-bind (exec_kept s z) λ u p. defined p
+    step_kept (plain o s) a z = all_bind (exec_kept s z) λ u p. defined p
     step_kept (label k) a z = defined (kept_refl z)
     step_kept (goto o k) a z = defined (kept_refl z)
-    step_kept (ret o e) a z = returns-kept e z
+    step_kept (ret o e) a z = returns_kept e z
     step_kept (ret_if o t e) a z =
-        all-bind (asks-kept t z) λ q p. all-cond q.0 (afterBy z q.1 p (returns-kept e q.1))
+        all_bind (asks_kept t z) λ q p. all_cond q.0 (after_by z q.1 p (returns_kept e q.1))
         (defined p)
     step_kept (interp k i) a z =
-        all-bind (put-kept (var (u32, x-pc)) (interp_answer z) (after_interp z)) λ u p. defined
-        (kept_trans z (after_interp z) u (after-interp-kept a z) p)
-    step_kept (ret_interp k i) a z = defined (after-interp-kept a z)
+        all_bind (put_kept (var (u32, x-pc)) (interp_answer z) (after_interp z)) λ u p. defined
+        (kept_trans z (after_interp z) u (after_interp_kept a z) p)
+    step_kept (ret_interp k i) a z = defined (after_interp_kept a z)
     step_kept (call k n) a z = undefined
     step_kept (switch ks) a z = undefined
 
     -- braces, and the code after them
-    braces-kept : (b c : Code) (z : State) → ((u : State) → All (KeptBy u) (runs R C b u))
+    braces_kept : (b c : Code) (z : State) → ((u : State) → All (KeptBy u) (runs R C b u))
         → ((u : State) → All (KeptBy u) (runs R C c u))
         → All (KeptBy z) (bind (runs R C b (enter z)) λ r. next r.1 (leave r.0) (runs R C c))
-    braces-kept b c z f g =
-        all-bind (f (enter z)) λ r p. next-kept r.1 z (leave r.0) (runs R C c)
-        (leave-kept z r.0 p) g
+    braces_kept b c z f g =
+        all_bind (f (enter z)) λ r p. next_kept r.1 z (leave r.0) (runs R C c)
+        (leave_kept z r.0 p) g
 
-    runs-kept : (c : Code) → Allows may c → (z : State) → All (KeptBy z) (runs R C c z)
+    runs_kept : (c : Code) → Allows may c → (z : State) → All (KeptBy z) (runs R C c z)
     unfolding runs
-    runs-kept end a z = defined (kept_refl z)
-    runs-kept (s ⨾ c) a z =
-        all-bind (step_kept s a.0 z) λ q p. next-kept q.1 z q.0 (runs R C c) p
-        (runs-kept c a.1)
-    runs-kept (when o n t b c) a z =
-        all-bind (asks-kept t z) λ q p.
-        all-cond (beq n q.0) (afterBy z q.1 p (runs-kept c a.1 q.1))
-        (afterBy z q.1 p (braces-kept b c q.1 (runs-kept b a.0) (runs-kept c a.1)))
-    runs-kept (braces b c) a z = braces-kept b c z (runs-kept b a.0) (runs-kept c a.1)
+    runs_kept end a z = defined (kept_refl z)
+    runs_kept (s ⨾ c) a z =
+        all_bind (step_kept s a.0 z) λ q p. next_kept q.1 z q.0 (runs R C c) p
+        (runs_kept c a.1)
+    runs_kept (when o n t b c) a z =
+        all_bind (asks_kept t z) λ q p.
+        all_cond (beq n q.0) (after_by z q.1 p (runs_kept c a.1 q.1))
+        (after_by z q.1 p (braces_kept b c q.1 (runs_kept b a.0) (runs_kept c a.1)))
+    runs_kept (braces b c) a z = braces_kept b c z (runs_kept b a.0) (runs_kept c a.1)
 
-  called-kept : (h : Helper) (vs : List ℕ) (z : State) → All (KeptBy z) (called h vs z)
+  called_kept : (h : Helper) (vs : List ℕ) (z : State) → All (KeptBy z) (called h vs z)
   unfolding called
-  called-kept h vs z =
-      all-bind
-      (runs-kept no_ror no_call (λ i ws u. undefined) (body h) (body_allows may h)
+  called_kept h vs z =
+      all_bind
+      (runs_kept no_ror no_call (λ i ws u. undefined) (body h) (body_allows may h)
       (set_scopes (arguments (params h) vs ∷ []) z)) λ q p.
       defined (p.0, over_refl z.scopes, p.2)
 
-  run-kept : (c : Code) → Allows may c → (z y : State) (w : Goes) → H.run c z ≡ some (y, w)
+  run_kept : (c : Code) → Allows may c → (z y : State) (w : Goes) → H.run c z ≡ some (y, w)
       → Kept z y
   unfolding H.run
-  run-kept c a z y w e = all_of (runs-kept rotated called called-kept c a z) e
+  run_kept c a z y w e = all_of (runs_kept rotated called called_kept c a z) e
 
 -- the calls of the interpreter that are to come
 pub run_quiet : (c : Code) → Quiet c → (z y : State) (w : Goes) → H.run c z ≡ some (y, w)
     → y.interpreter ≡ z.interpreter
-run_quiet c q z y w e = (run-kept false c q z y w e).0 refl
+run_quiet c q z y w e = (run_kept false c q z y w e).0 refl
 
 -- the locals of the scope that code starts in
 pub run_declares : (c : Code) (z y : State) (w : Goes) (x : Var) → H.run c z ≡ some (y, w)
     → Declares z.scopes x → Declares y.scopes x
-run_declares c z y w x e d = over_declares x (run-kept true c (any_allows c) z y w e).1 d
+run_declares c z y w x e d = over_declares x (run_kept true c (any_allows c) z y w e).1 d
 
 -- the answers that guard and gate give
 pub run_later : (c : Code) (z y : State) (w : Goes) → H.run c z ≡ some (y, w) → Later z y
-run_later c z y w e = (run-kept true c (any_allows c) z y w e).2
+run_later c z y w e = (run_kept true c (any_allows c) z y w e).2

@@ -7,7 +7,7 @@ use lib.Dec.{eqb}
 use Rattle.c_tree.specs.Expr.{u32, Width, Expr}
 use Rattle.c_tree.specs.Stmt.{write, tick, guard, gate}
 use Rattle.c_meaning.specs.State.{bind, State, set_mem, answered, store}
-use Rattle.c_meaning.specs.Eval.{evalAs}
+use Rattle.c_meaning.specs.Eval.{eval_as}
 use Rattle.c_meaning.specs.Exec.{exec, asks}
 use Rattle.c_meaning.specs.Helpers.{rotated, called}
 
@@ -20,7 +20,7 @@ MemoryOnly z (some y) = (y.c ≡ z.c) × (y.scopes ≡ z.scopes) × (y.answers �
 pub write_touches : (w : Width) (d e : Expr) (z : State)
     → MemoryOnly z (exec rotated called (write w d e) z)
 unfolding exec
-write_touches w d e z = go (evalAs rotated u32 d z) (evalAs rotated u32 e z)
+write_touches w d e z = go (eval_as rotated u32 d z) (eval_as rotated u32 e z)
   where
     go : (p q : Option ℕ)
         → MemoryOnly z (bind p λ a. bind q λ x. some (set_mem (store w a x z.mem) z))

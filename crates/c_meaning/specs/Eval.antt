@@ -204,6 +204,6 @@ module _ (rorAnswer : ℕ → ℕ → Option ℕ) where
   eval (read w e) z = bind (eval e z) λ k. some (load w z.mem (convert (ty e) u32 k))
 
   -- the same, converted to a type as in an assignment, an argument or a return
-  unfoldable pub evalAs : Ty → Expr → State → Option ℕ
+  unfoldable pub eval_as : Ty → Expr → State → Option ℕ
   unfolding eval
-  evalAs y e z = bind (eval e z) λ k. some (convert (ty e) y k)
+  eval_as y e z = bind (eval e z) λ k. some (convert (ty e) y k)

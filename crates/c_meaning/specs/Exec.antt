@@ -15,7 +15,7 @@ use Rattle.c_meaning.specs.Types.{same_ty, common_type, convert}
 use Rattle.c_meaning.specs.State.{bind, index, State, set_mem, set_scopes, answered}
 use Rattle.c_meaning.specs.State.{interp_answer, after_interp, enter, leave, find, value}
 use Rattle.c_meaning.specs.State.{declared, put, place_ty, store}
-use Rattle.c_meaning.specs.Eval.{ty, bin_value, eval, evalAs}
+use Rattle.c_meaning.specs.Eval.{ty, bin_value, eval, eval_as}
 
 -- where statements lead
 pub data Goes : Type 0 where
@@ -77,27 +77,27 @@ module _ (rorAnswer : ℕ → ℕ → Option ℕ) (helperCall : Helper → List 
   abbrev pub initialise : Var → Expr → State → Option State
   initialise x e z =
       bind (declares x z) λ u.
-      bind (evalAs rorAnswer x.0 e u) λ k.
+      bind (eval_as rorAnswer x.0 e u) λ k.
       put (var x) k u
 
   -- further declarators of the same type
   unfoldable pub others : Ty → List (Name × Expr) → State → Option State
-  unfolding evalAs
+  unfolding eval_as
   others y [] z = some z
   others y (d ∷ ds) z = bind (initialise (y, d.0) d.1 z) (others y ds)
 
   -- a plain statement. (void)x does not use the value, which a uint32_t may lack: it has no trap
   -- representation (7.18.1.1)
   unfoldable pub exec : Plain → State → Option State
-  unfolding eval evalAs others
+  unfolding eval eval_as others
   exec registers z = some z
   exec (local x) z = declares x z
   exec (declare x e ds) z = bind (initialise x e z) (others x.0 ds)
   exec (adds x d e f) z =
       bind (declares (u32, x) z) λ u.
-      bind (evalAs rorAnswer u32 d u) λ k.
-      bind (evalAs rorAnswer u32 e u) λ l.
-      bind (evalAs rorAnswer u32 f u) λ i.
+      bind (eval_as rorAnswer u32 d u) λ k.
+      bind (eval_as rorAnswer u32 e u) λ l.
+      bind (eval_as rorAnswer u32 f u) λ i.
       bind (helperCall op-adds (k ∷ l ∷ i ∷ []) u) λ q.
       bind (returned q.1) λ r.
       put (var (u32, x)) r q.0
@@ -109,12 +109,12 @@ module _ (rorAnswer : ℕ → ℕ → Option ℕ) (helperCall : Helper → List 
       bind (find (index x.1) z.scopes) λ p.
       cond (same_ty x.0 p.0) (some z) none
   exec (run p e) z =
-      bind (evalAs rorAnswer (proc_ty p) e z) λ k.
+      bind (eval_as rorAnswer (proc_ty p) e z) λ k.
       bind (helperCall (proc p) (k ∷ []) z) λ q.
       ended q.1 q.0
   exec (write w d e) z =
-      bind (evalAs rorAnswer u32 d z) λ a.
-      bind (evalAs rorAnswer u32 e z) λ x.
+      bind (eval_as rorAnswer u32 d z) λ a.
+      bind (eval_as rorAnswer u32 e z) λ x.
       some (set_mem (store w a x z.mem) z)
   exec (tick n) z = some z
 
@@ -127,11 +127,11 @@ module _ (rorAnswer : ℕ → ℕ → Option ℕ) (helperCall : Helper → List 
 
   -- return e
   abbrev pub returns : Expr → State → Outcome
-  returns e z = bind (evalAs rorAnswer u32 e z) λ k. some (z, back k)
+  returns e z = bind (eval_as rorAnswer u32 e z) λ k. some (z, back k)
 
   -- a statement without braces
   unfoldable pub step : Simple → State → Outcome
-  unfolding evalAs exec asks
+  unfolding eval_as exec asks
   step (gap l n) z = some (z, on)
   step (record_mark k i n) z = some (z, on)
   step (plain o p) z = bind (exec p z) λ u. some (u, on)

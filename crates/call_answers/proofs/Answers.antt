@@ -19,10 +19,10 @@ pub data Why (given found : Told) (room : ℕ) : WriteAnswer → Type 0 where
       → Why given found room WriteAnswer.Written
 
 module _ (given found : Told) (room : ℕ) where
-  by-room : (t : Bool) → ltb room found.length ≡ t → same_values given found ≡ true
+  by_room : (t : Bool) → ltb room found.length ≡ t → same_values given found ≡ true
       → Why given found room (cond t (WriteAnswer.Refused 10 0) WriteAnswer.Written)
-  by-room true h same = short same (ltb-true _ _ h)
-  by-room false h same = fits same (ltb-false _ _ h)
+  by_room true h same = short same (ltb-true _ _ h)
+  by_room false h same = fits same (ltb-false _ _ h)
 
   pub why : Why given found room (answer_in given found room)
   why = go (same_values given found) refl
@@ -31,5 +31,5 @@ module _ (given found : Told) (room : ℕ) where
           → Why given found room
           (cond s (cond (ltb room found.length) (WriteAnswer.Refused 10 0) WriteAnswer.Written)
           (WriteAnswer.Refused 11 0))
-      go true same = by-room (ltb room found.length) refl same
+      go true same = by_room (ltb room found.length) refl same
       go false other = differs other

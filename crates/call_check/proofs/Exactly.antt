@@ -10,7 +10,7 @@ use lib.ListN.{length}
 use Rattle.call_frame.specs.Answer.{refusal, value}
 use Rattle.file_blocks.specs.Parse.{Block, Parsed, parse, instr_total}
 use Rattle.file_blocks.specs.Refusal.{Rule, number, place, Applies}
-use Rattle.file_blocks.proofs.Exactly.{refused-exactly}
+use Rattle.file_blocks.proofs.Exactly.{refused_exactly}
 use Rattle.call_frame.specs.Frame.{call_on_blocks, call_frame}
 use Rattle.call_check.specs.Calls.{check_call}
 
@@ -36,6 +36,6 @@ pub answer_exactly : (f : List ℕ) (r : Rule)
     → (check_call (parse f) ≡ refusal (number r) (place r)) ↔ Applies f r
 unfolding call_frame
 answer_exactly f r = (
-  λ e. (refused-exactly f r).0 (by_refusal (parse f) _ _ e),
-  λ a. ap check_call ((refused-exactly f r).1 a),
+  λ e. (refused_exactly f r).0 (by_refusal (parse f) _ _ e),
+  λ a. ap check_call ((refused_exactly f r).1 a),
 )

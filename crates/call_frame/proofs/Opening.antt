@@ -8,7 +8,7 @@ use borrow.Author.Tests.{lt-ltb, le-ltb}
 use lib.ListN.{length}
 use Rattle.file_records.specs.Trailer.{block_count}
 use Rattle.file_blocks.specs.Parse.{Parsed, parse, blocks_of, instr_total, Accepted}
-use Rattle.file_blocks.proofs.Accepted.{length-of}
+use Rattle.file_blocks.proofs.Accepted.{length_of_lem}
 use Rattle.call_frame.specs.declared.open.Opened.{Opened}
 use Rattle.call_frame.specs.Frame.{Refusal, Call, Outcome, refused_with, cleared, settle}
 use Rattle.call_frame.specs.Frame.{numbered, call_on_blocks, call_frame}
@@ -16,16 +16,16 @@ use Rattle.call_frame.specs.Open.{opening, IsOpen, IsOpened}
 
 -- what opening finds in an accepted file: the early refusal, or 8
 module _ (f : List ℕ) (ok : Accepted f) (early : Option Refusal) (per_block lent : ℕ) where
-  pub opening-early : (r : Refusal) → early ≡ some r
+  pub opening_early : (r : Refusal) → early ≡ some r
       → opening early per_block lent (parse f) ≡ some r
   unfolding opening
-  opening-early r is = rw (ok, is)
+  opening_early r is = rw (ok, is)
 
-  pub opening-8 : (n : ℕ) → n ≡ block_count f → early ≡ none → lent < per_block * n
+  pub opening_8 : (n : ℕ) → n ≡ block_count f → early ≡ none → lent < per_block * n
       → opening early per_block lent (parse f) ≡ some (numbered 8)
   unfolding opening
-  opening-8 n all is few =
-      let size : length (blocks_of f) ≡ n = length-of f (blocks_of f) ok ∙ sym all in
+  opening_8 n all is few =
+      let size : length (blocks_of f) ≡ n = length_of_lem f (blocks_of f) ok ∙ sym all in
       rw (ok, is, size, lt-ltb _ _ few)
 
 -- what opening tells, by its cases
@@ -35,56 +35,56 @@ module _ (f : List ℕ) (early : Option Refusal) (per_block lent : ℕ) (r : Ope
   unfolding IsOpened
   is_open n k is = (subst (IsOpened f early per_block lent) is told).0
 
-  pub instr-number : (n k : ℕ) → r ≡ Opened.Blocks n k → k ≡ instr_total (blocks_of f)
+  pub instr_number : (n k : ℕ) → r ≡ Opened.Blocks n k → k ≡ instr_total (blocks_of f)
   unfolding IsOpened
-  instr-number n k is = (subst (IsOpened f early per_block lent) is told).1
+  instr_number n k is = (subst (IsOpened f early per_block lent) is told).1
 
-  is-refused : (n i : ℕ) → r ≡ Opened.Refused n i
+  is_refused : (n i : ℕ) → r ≡ Opened.Refused n i
       → opening early per_block lent (parse f) ≡ some (record { number = n; place = i })
   unfolding IsOpened
-  is-refused n i is = subst (IsOpened f early per_block lent) is told
+  is_refused n i is = subst (IsOpened f early per_block lent) is told
 
 -- so many blocks are those of the file
 pub block_number : (f : List ℕ) (early : Option Refusal) (per_block lent n : ℕ)
     → IsOpen f early per_block lent n → n ≡ length (blocks_of f)
 block_number f early per_block lent n o =
-    o.blocks ∙ sym (length-of f (blocks_of f) o.accepted)
+    o.blocks ∙ sym (length_of_lem f (blocks_of f) o.accepted)
 
 module _ {A : Type 0} (call : Call A) (work : List ℕ) (results : List (List ℕ)) where
-  first-refused : (p : Parsed) (r : Refusal)
+  first_refused : (p : Parsed) (r : Refusal)
       → opening call.early call.per_block (length work) p ≡ some r
       → refused_with r work results ≡ call_frame call p work results
   unfolding opening call_frame call_on_blocks
-  first-refused (Parsed.refused n i) r e = let same : record { number = n; place = i } ≡ r = cc in
+  first_refused (Parsed.refused n i) r e = let same : record { number = n; place = i } ≡ r = cc in
       ap (λ (s : Refusal). refused_with s work results) (sym same)
-  first-refused (Parsed.accepted bs) r e = rw e
+  first_refused (Parsed.accepted bs) r e = rw e
 
   -- what opening refuses the call refuses, with nothing written
-  pub refused-call : (f : List ℕ) (r : Opened)
+  pub refused_call : (f : List ℕ) (r : Opened)
       → IsOpened f call.early call.per_block (length work) r → (n i : ℕ)
       → r ≡ Opened.Refused n i
       → refused_with (record { number = n; place = i }) work results
       ≡ call_frame call (parse f) work results
-  refused-call f r told n i is = first-refused (parse f) _ (is-refused f _ _ _ r told n i is)
+  refused_call f r told n i is = first_refused (parse f) _ (is_refused f _ _ _ r told n i is)
 
   -- a call on a file that is open leaves what it decides
-  pub open-call : (f : List ℕ) (n : ℕ)
+  pub open_call : (f : List ℕ) (n : ℕ)
       → IsOpen f call.early call.per_block (length work) n
       → settle (call.own (blocks_of f) (map length results)) (cleared (call.per_block * n) work)
       results
       ≡ call_frame call (parse f) work results
   unfolding call_frame call_on_blocks
-  open-call f n o =
+  open_call f n o =
       let size : length (blocks_of f) ≡ n = sym (block_number f _ _ _ n o) in
       rw (o.accepted, o.nothing, size, le-ltb _ _ o.room)
 
   -- so what is left is that, once the work numbers are cleared
-  pub settled-call : (f : List ℕ) (n : ℕ)
+  pub settled_call : (f : List ℕ) (n : ℕ)
       → IsOpen f call.early call.per_block (length work) n → (work' : List ℕ)
       → work' ≡ cleared (call.per_block * n) work → (left : Outcome A)
       → left ≡ settle (call.own (blocks_of f) (map length results)) work' results
       → left ≡ call_frame call (parse f) work results
-  settled-call f n o work' clear left is =
+  settled_call f n o work' clear left is =
       is
       ∙ ap (λ (w : List ℕ). settle (call.own (blocks_of f) (map length results)) w results) clear
-      ∙ open-call f n o
+      ∙ open_call f n o

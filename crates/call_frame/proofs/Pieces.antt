@@ -26,19 +26,19 @@ some_of (x ∷ xs) h = record { first = x; others = xs; is = refl }
 
 module _ {X A : Type 0} (make : List X → Decision A) (fit : List X → List X) (xs : List X) where
   -- there are none
-  pub decided-9 : xs ≡ [] → of_those_that_fit make fit xs ≡ refuses (numbered 9)
-  decided-9 none = ap (of_those_that_fit make fit) none
+  pub decided_9 : xs ≡ [] → of_those_that_fit make fit xs ≡ refuses (numbered 9)
+  decided_9 none = ap (of_those_that_fit make fit) none
 
   module _ (some : Some xs) where
     -- not even the first fits
-    pub decided-first : fit xs ≡ [] → of_those_that_fit make fit xs ≡ make (some.first ∷ [])
-    decided-first e =
+    pub decided_first : fit xs ≡ [] → of_those_that_fit make fit xs ≡ make (some.first ∷ [])
+    decided_first e =
         ap (of_those_that_fit make fit) some.is
         ∙ ap (λ (ys : List X). make (or_first some.first ys)) (ap fit (sym some.is) ∙ e)
 
     -- some fit
-    pub decided-front : (y : X) (ys : List X) → fit xs ≡ y ∷ ys
+    pub decided_front : (y : X) (ys : List X) → fit xs ≡ y ∷ ys
         → of_those_that_fit make fit xs ≡ make (y ∷ ys)
-    decided-front y ys e =
+    decided_front y ys e =
         ap (of_those_that_fit make fit) some.is
         ∙ ap (λ (zs : List X). make (or_first some.first zs)) (ap fit (sym some.is) ∙ e)

@@ -29,18 +29,18 @@ cleared_same m work work' same after =
 
 module _ {A : Type 0} {decision : Decision A} where
   -- the call's own refusal
-  pub refused-own : (r : Refusal) → decision ≡ refuses r → (work : List ℕ)
+  pub refused_own : (r : Refusal) → decision ≡ refuses r → (work : List ℕ)
       (results : List (List ℕ))
       → refused_with r work results ≡ settle decision work results
-  refused-own r is work results = rw is
+  refused_own r is work results = rw is
 
   -- what a call with one result makes
   module _ (v : A) (content : List ℕ) (made : decision ≡ makes v (content ∷ []))
       (work result : List ℕ) where
     -- the result is too short
-    pub refused-10 : length result < length content
+    pub refused_10 : length result < length content
         → refused_with (numbered 10) work (result ∷ []) ≡ settle decision work (result ∷ [])
-    refused-10 h = rw (made, lt-ltb _ _ h)
+    refused_10 h = rw (made, lt-ltb _ _ h)
 
     -- the content is in the front of the result
     pub handed_over : (v' : A) (result' : List ℕ) → v' ≡ v → length content ≤ length result
@@ -53,13 +53,13 @@ module _ {A : Type 0} {decision : Decision A} where
   module _ (v : A) (contents : List (List ℕ)) (made : decision ≡ makes v contents) (work : List ℕ)
       (results : List (List ℕ)) where
     -- a result is too short
-    pub refused-short : too_short contents results ≡ true
+    pub refused_short : too_short contents results ≡ true
         → refused_with (numbered 10) work results ≡ settle decision work results
-    refused-short short = rw (made, short)
+    refused_short short = rw (made, short)
 
     -- each content is in the front of its result
-    pub handed-all : (v' : A) (results' : List (List ℕ)) → v' ≡ v
+    pub handed_all : (v' : A) (results' : List (List ℕ)) → v' ≡ v
         → too_short contents results ≡ false → results' ≡ put_fronts contents results
         → record { answer = value v'; work = work; results = results' }
         ≡ settle decision work results
-    handed-all v' results' same long put = rw (made, long, put, same)
+    handed_all v' results' same long put = rw (made, long, put, same)

@@ -16,9 +16,9 @@ use Rattle.file_blocks.specs.Parse.{Block, blocks_of}
 use Rattle.plan_groups.specs.Plan.{plan}
 use Rattle.plan_members.specs.Prepared.{HoldsPlan}
 use Rattle.call_frame.specs.Frame.{if_found, numbered, refused_with}
-use Rattle.call_frame.proofs.Pieces.{Some, none_of, some_of, decided-9, decided-first}
-use Rattle.call_frame.proofs.Pieces.{decided-front}
-use Rattle.call_frame.proofs.Settling.{refused-own, refused-10, handed_over}
+use Rattle.call_frame.proofs.Pieces.{Some, none_of, some_of, decided_9, decided_first}
+use Rattle.call_frame.proofs.Pieces.{decided_front}
+use Rattle.call_frame.proofs.Settling.{refused_own, refused_10, handed_over}
 use Rattle.call_pages.specs.declared.text.Front.{Front}
 use Rattle.call_pages.specs.declared.page.PageAnswer.{PageAnswer}
 use Rattle.call_pages.specs.declared.pages.PagesAnswer.{PagesAnswer}
@@ -26,9 +26,9 @@ use Rattle.call_pages.specs.Page.{rows_of, Page, per_page, pages_from, page_text
 use Rattle.call_pages.specs.Calls.{PagesValues, page_answer, pages_answer, made_page, made_pages}
 use Rattle.call_pages.specs.Steps.{page_on, Begins, pages_asked, PutPages, AnswersPage}
 use Rattle.call_pages.specs.Steps.{AnswersPages}
-use Rattle.call_pages.proofs.Fitted.{page-size, total_texts}
-use Rattle.call_pages.proofs.Paging.{first_page, asked-none, asked-some}
-use Rattle.call_pages.proofs.Rows.{rows-n}
+use Rattle.call_pages.proofs.Fitted.{page_size, total_texts}
+use Rattle.call_pages.proofs.Paging.{first_page, asked_none, asked_some}
+use Rattle.call_pages.proofs.Rows.{rows_n}
 
 -- the values of an answer
 abbrev values_of : ℕ → ℕ → PagesValues
@@ -51,14 +51,14 @@ module _ {f : List ℕ} {n limit : ℕ} {work : List ℕ} (ready : HoldsPlan f n
     pub page_9 : AnswersPage limit k f (PageAnswer.Refused 9 0) text text
     unfolding page_answer
     page_9 = λ work.
-        refused-own _
-        (ap (λ (ps : List Page). if_found (made_page bs) (get_elem? ps 0)) (asked-none ready k past))
+        refused_own _
+        (ap (λ (ps : List Page). if_found (made_page bs) (get_elem? ps 0)) (asked_none ready k past))
         work (text ∷ [])
 
     pub pages_9 : AnswersPages limit k f (PagesAnswer.Refused 9 0) text text
     unfolding pages_answer
     pages_9 = λ work.
-        refused-own _ (decided-9 (made_pages bs) fit asked (asked-none ready k past)) work
+        refused_own _ (decided_9 (made_pages bs) fit asked (asked_none ready k past)) work
         (text ∷ [])
 
   module _ {p : ℕ} (begins : Begins n k p) where
@@ -74,13 +74,13 @@ module _ {f : List ℕ} {n limit : ℕ} {work : List ℕ} (ready : HoldsPlan f n
           others =
               pages_from (n - (k - 1) - 1) (suc k) (drop per_page (drop p (rows_of (plan limit bs))));
           is =
-              asked-some ready k p begins
+              asked_some ready k p begins
               ∙ first_page (n - (k - 1)) k (drop p (rows_of (plan limit bs)))
-              (omega (arith, length-drop p (rows_of (plan limit bs)), rows-n ready, begins.inside))
+              (omega (arith, length-drop p (rows_of (plan limit bs)), rows_n ready, begins.inside))
               (omega (
                 arith,
                 length-drop p (rows_of (plan limit bs)),
-                rows-n ready,
+                rows_n ready,
                 begins.here,
               ));
         }
@@ -94,7 +94,7 @@ module _ {f : List ℕ} {n limit : ℕ} {work : List ℕ} (ready : HoldsPlan f n
         → AnswersPage limit k f (PageAnswer.Refused 10 0) text text
     unfolding page_answer
     page_10 over = λ work.
-        refused-10 _ _ found work text (omega (arith, page-size ready k p))
+        refused_10 _ _ found work text (omega (arith, page_size ready k p))
 
     -- it is in the front of the text
     pub page_made : {m : ℕ} → m ≡ 65 * (1 + min per_page (n - p)) → m ≤ length text
@@ -102,7 +102,7 @@ module _ {f : List ℕ} {n limit : ℕ} {work : List ℕ} (ready : HoldsPlan f n
         → AnswersPage limit k f (PageAnswer.Length m) text text'
     unfolding page_answer
     page_made {m} is fits w = λ work.
-        let size : m ≡ page_length bs on = is ∙ sym (page-size ready k p) in
+        let size : m ≡ page_length bs on = is ∙ sym (page_size ready k p) in
         handed_over _ _ found work text _ _ size (omega arith) (whole w (omega arith)).0
 
     -- where nothing fits, the text is too short for it
@@ -131,7 +131,7 @@ module _ {f : List ℕ} {n limit : ℕ} {work : List ℕ} (ready : HoldsPlan f n
           ∙ ap (λ (ps : List Page). print (each (page_text bs) ps)
           ++ drop (length (print (each (page_text bs) ps))) text) made in
           ap (λ (t : List ℕ). refused_with (numbered 10) work (t ∷ [])) kept
-          ∙ refused-10 _ _ (decided-first (made_pages bs) fit asked first nothing) work text
+          ∙ refused_10 _ _ (decided_first (made_pages bs) fit asked first nothing) work text
           (too_short nothing)
 
       -- some are in the front
@@ -141,7 +141,7 @@ module _ {f : List ℕ} {n limit : ℕ} {work : List ℕ} (ready : HoldsPlan f n
       pages_made any = λ work.
           let m = some_of put.made (λ e. omega (arith, put.count, ap length e)) in
           handed_over _ _
-          (decided-front (made_pages bs) fit asked first m.first m.others (put.fits ∙ m.is)
+          (decided_front (made_pages bs) fit asked first m.first m.others (put.fits ∙ m.is)
           ∙ ap (made_pages bs) (sym m.is)) work text _ text'
           (ap₂ values_of put.count put.bytes)
           (omega (

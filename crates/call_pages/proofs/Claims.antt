@@ -17,8 +17,8 @@ use Rattle.base_text.proofs.Lengths.{length_most}
 use Rattle.file_records.specs.Trailer.{block_count}
 use Rattle.file_records.specs.BlockRecord.{key_plus}
 use Rattle.file_blocks.specs.Parse.{Block, block_key, AcceptedAs}
-use Rattle.file_blocks.proofs.Accepted.{length-of, few-blocks}
-use Rattle.file_blocks.proofs.Ranges.{accepted-some, accepted-few, accepted-end}
+use Rattle.file_blocks.proofs.Accepted.{length_of_lem, few_blocks}
+use Rattle.file_blocks.proofs.Ranges.{accepted_some, accepted_few, accepted_end}
 use Rattle.plan_exits.specs.Exits.{exits}
 use Rattle.plan_exits.proofs.Few.{exits_few}
 use Rattle.plan_exits.proofs.Words.{exits_words}
@@ -27,12 +27,12 @@ use Rattle.call_pages.specs.Page.{block_line, Row, rows_of, row_line, Page, page
 use Rattle.call_pages.specs.Page.{head_line, page_text}
 use Rattle.call_pages.specs.Claims.{IsLine, AtRight, AtLeft, Words, FieldsWhole, RowWhole}
 use Rattle.call_pages.specs.Claims.{HeadWhole, row_numbers, PageClaims}
-use Rattle.call_pages.proofs.Fields.{line-line, key_at_lem, gap-1, group_at, gap-2, count_at}
-use Rattle.call_pages.proofs.Fields.{gap-3, exits-at, blanks_at, at_right, at_left}
-use Rattle.call_pages.proofs.Fields.{head-line, head-number}
+use Rattle.call_pages.proofs.Fields.{line_line, key_at_lem, gap_1, group_at, gap_2, count_at}
+use Rattle.call_pages.proofs.Fields.{gap_3, exits_at, blanks_at, at_right, at_left}
+use Rattle.call_pages.proofs.Fields.{head_line_lem, head_number}
 use Rattle.call_pages.proofs.Blanks.{print_spaces}
-use Rattle.call_pages.proofs.Rows.{block_in, rows_all, rows-once}
-use Rattle.call_pages.proofs.Rows.{rows-numbers, row_inside, row-group}
+use Rattle.call_pages.proofs.Rows.{block_in, rows_all, rows_once}
+use Rattle.call_pages.proofs.Rows.{rows_numbers, row_inside, row_group}
 use Rattle.call_pages.proofs.Paging.{pages_rows, pages_numbers_lem, pages_few}
 use Rattle.call_pages.proofs.Paging.{page_inside}
 
@@ -52,10 +52,10 @@ module _ (f : List ℕ) (bs : List Block) (ok : AcceptedAs f bs) where
   -- the line of a block
   module _ (group : ℕ) (small : group < length bs) (b : Block) (m : Memᴰ b bs) where
     few : group < 1000000
-    few = omega (arith, length-of f bs ok, few-blocks f bs ok)
+    few = omega (arith, length_of_lem f bs ok, few_blocks f bs ok)
 
     instrs : length b.instrs < 1000000
-    instrs = omega (arith, accepted-few f bs ok b m)
+    instrs = omega (arith, accepted_few f bs ok b m)
 
     keys : Words (block_key b ∷ exits b)
     keys k at = go (mathlib.Core.List.Memᴰ.cases_cons at)
@@ -64,39 +64,39 @@ module _ (f : List ℕ) (bs : List Block) (ok : AcceptedAs f bs) where
         go (inl e) =
             omega (
               arith,
-              key_word b.addr (length b.instrs) b.thumb (accepted-some f bs ok b m)
-                  (accepted-end f bs ok b m),
+              key_word b.addr (length b.instrs) b.thumb (accepted_some f bs ok b m)
+                  (accepted_end f bs ok b m),
             )
         go (inr l) = exits_words f bs ok b m k l
 
     block_line_lem : IsLine (print (block_line group b))
     unfolding block_line
     block_line_lem =
-        line-line (block_key b) group (length b.instrs) (exits b) few instrs (exits_few b)
+        line_line (block_key b) group (length b.instrs) (exits b) few instrs (exits_few b)
 
-    block-fields : FieldsWhole group b (print (block_line group b))
+    block_fields : FieldsWhole group b (print (block_line group b))
     unfolding block_line
-    block-fields =
+    block_fields =
         record {
           keys = keys;
           key = key_at_lem (block_key b) group (length b.instrs) (exits b) few instrs (exits_few b);
           after_key =
-              gap-1 (block_key b) group (length b.instrs) (exits b) few instrs (exits_few b);
+              gap_1 (block_key b) group (length b.instrs) (exits b) few instrs (exits_few b);
           group_whole =
               subst (AtRight _)
               (sym (group_at (block_key b) group (length b.instrs) (exits b) few instrs
               (exits_few b))) (at_right 6 group);
           after_group =
-              gap-2 (block_key b) group (length b.instrs) (exits b) few instrs (exits_few b);
+              gap_2 (block_key b) group (length b.instrs) (exits b) few instrs (exits_few b);
           count_whole =
               subst (AtRight _)
               (sym (count_at (block_key b) group (length b.instrs) (exits b) few instrs
               (exits_few b))) (at_right 6 (length b.instrs));
           after_count =
-              gap-3 (block_key b) group (length b.instrs) (exits b) few instrs (exits_few b);
+              gap_3 (block_key b) group (length b.instrs) (exits b) few instrs (exits_few b);
           exits_whole =
               subst (AtLeft _)
-              (sym (exits-at (block_key b) group (length b.instrs) (exits b) few instrs
+              (sym (exits_at (block_key b) group (length b.instrs) (exits b) few instrs
               (exits_few b))) (at_left 17 _);
           after_exits =
               blanks_at (block_key b) group (length b.instrs) (exits b) few instrs (exits_few b)
@@ -104,9 +104,9 @@ module _ (f : List ℕ) (bs : List Block) (ok : AcceptedAs f bs) where
         }
 
   -- the line of a row
-  pub row-whole : (limit : ℕ) (r : Row) → Memᴰ r (rows_of (plan limit bs)) → RowWhole bs r
+  pub row_whole : (limit : ℕ) (r : Row) → Memᴰ r (rows_of (plan limit bs)) → RowWhole bs r
   unfolding row_line
-  row-whole limit r at =
+  row_whole limit r at =
       let b = found bs r.block (row_inside limit bs r at) in
       let is = found_at bs r.block b.0 b.0 b.1 in
       let line : block_line r.group b.0 ≡ row_line bs r =
@@ -119,10 +119,10 @@ module _ (f : List ℕ) (bs : List Block) (ok : AcceptedAs f bs) where
         is = b.1;
         line =
             subst (λ (d : Doc). IsLine (print d)) line
-            (block_line_lem r.group (row-group limit bs r at) b.0 m);
+            (block_line_lem r.group (row_group limit bs r at) b.0 m);
         fields =
             subst (λ (d : Doc). FieldsWhole r.group b.0 (print d)) line
-            (block-fields r.group (row-group limit bs r at) b.0 m);
+            (block_fields r.group (row_group limit bs r at) b.0 m);
       }
 
 -- the head of a page
@@ -130,7 +130,7 @@ pub head_whole : (k : ℕ) → k < 10 ^ 20 → HeadWhole k
 unfolding print
 head_whole k h =
     let short : length (decimal k) ≤ 64 = omega (arith, length_most (dec k)) in
-    record { small = h; line = head-line k short; number = head-number k short }
+    record { small = h; line = head_line_lem k short; number = head_number k short }
 
 -- the texts of some rows, one after another
 rows_text : (bs : List Block) (rs : List Row)
@@ -175,11 +175,11 @@ page_claims limit f bs ok =
       heads =
           λ p at.
           head_whole p.number
-          (number_small limit bs (omega (arith, length-of f bs ok, few-blocks f bs ok)) p at);
-      lines = λ p at r m. row-whole f bs ok limit r (page_inside limit bs p at r m);
+          (number_small limit bs (omega (arith, length_of_lem f bs ok, few_blocks f bs ok)) p at);
+      lines = λ p at r m. row_whole f bs ok limit r (page_inside limit bs p at r m);
       order = ap (λ (rs : List Row). flatten (map row_numbers rs)) (pages_rows limit bs)
-          ∙ rows-numbers limit bs;
+          ∙ rows_numbers limit bs;
       once = λ i h.
           ap (λ (rs : List Row). count i (map block_in rs)) (pages_rows limit bs)
-          ∙ rows-once limit bs i h;
+          ∙ rows_once limit bs i h;
     }

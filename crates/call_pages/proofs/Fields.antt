@@ -171,9 +171,9 @@ at_left width d =
 
 -- the head of a page
 module _ (k : ℕ) (small : length (decimal k) ≤ 64) where
-  pub head-line : IsLine (print (head_line k))
+  pub head_line_lem : IsLine (print (head_line k))
   unfolding print
-  head-line =
+  head_line_lem =
       record {
         characters = print (right_in 64 (dec k));
         width = right_width 64 k small;
@@ -181,9 +181,9 @@ module _ (k : ℕ) (small : length (decimal k) ≤ 64) where
         ended = refl;
       }
 
-  pub head-number : AtRight (decimal k) (columns 1 64 (print (head_line k)))
+  pub head_number : AtRight (decimal k) (columns 1 64 (print (head_line k)))
   unfolding print
-  head-number =
+  head_number =
       subst (AtRight (decimal k))
       (sym (take_at (print (right_in 64 (dec k))) (10 ∷ []) 64 (right_width 64 k small)))
       (at_right 64 k)
@@ -207,22 +207,22 @@ module _ (key group n : ℕ) (keys : List ℕ) (g : group < 1000000) (c : n < 10
   abbrev ended : List (List ℕ)
   ended = fields ++ ((10 ∷ []) ∷ [])
 
-  line-is : print (page_line key group n keys) ≡ flatten ended
+  line_is : print (page_line key group n keys) ≡ flatten ended
   unfolding print flatten
-  line-is = refl
+  line_is = refl
 
-  group-width : length (print (right_in 6 (dec group))) ≡ 6
-  group-width = right_width 6 group (short group 5 (omega arith))
+  group_width : length (print (right_in 6 (dec group))) ≡ 6
+  group_width = right_width 6 group (short group 5 (omega arith))
 
-  count-width : length (print (right_in 6 (dec n))) ≡ 6
-  count-width = right_width 6 n (short n 5 (omega arith))
+  count_width : length (print (right_in 6 (dec n))) ≡ 6
+  count_width = right_width 6 n (short n 5 (omega arith))
 
-  exits-width : length (print (left_in 17 (keys_text keys))) ≡ 17
-  exits-width = left_width 17 (keys_text keys) (keys_width keys few)
+  exits_width : length (print (left_in 17 (keys_text keys))) ≡ 17
+  exits_width = left_width 17 (keys_text keys) (keys_width keys few)
 
-  pub line-line : IsLine (print (page_line key group n keys))
+  pub line_line : IsLine (print (page_line key group n keys))
   unfolding print flatten total
-  line-line =
+  line_line =
       record {
         characters = flatten fields;
         width =
@@ -230,9 +230,9 @@ module _ (key group n : ℕ) (keys : List ℕ) (g : group < 1000000) (c : n < 10
               arith,
               flatten_length fields,
               length_hex8 key,
-              group-width,
-              count-width,
-              exits-width,
+              group_width,
+              count_width,
+              exits_width,
               length_spaces 24,
             );
         unbroken =
@@ -258,7 +258,7 @@ module _ (key group n : ℕ) (keys : List ℕ) (g : group < 1000000) (c : n < 10
                 ),
               ),
             );
-        ended = line-is ∙ flatten_append fields ((10 ∷ []) ∷ []);
+        ended = line_is ∙ flatten_append fields ((10 ∷ []) ∷ []);
       }
 
   -- some columns are those of a field
@@ -266,44 +266,44 @@ module _ (key group n : ℕ) (keys : List ℕ) (g : group < 1000000) (c : n < 10
       → suc last - first ≡ length (get_or ended k [])
       → columns first last (print (page_line key group n keys)) ≡ get_or ended k []
   column k first last h e w =
-      ap (columns first last) line-is ∙ field_at ended k (first - 1) (suc last - first) h e w
+      ap (columns first last) line_is ∙ field_at ended k (first - 1) (suc last - first) h e w
 
   pub key_at_lem : columns 1 8 (print (page_line key group n keys)) ≡ hexadecimal8 key
   unfolding total
   key_at_lem = column 0 1 8 (omega arith) refl (sym (length_hex8 key))
 
-  pub gap-1 : columns 9 9 (print (page_line key group n keys)) ≡ 32 ∷ []
+  pub gap_1 : columns 9 9 (print (page_line key group n keys)) ≡ 32 ∷ []
   unfolding total
-  gap-1 = column 1 9 9 (omega arith) (omega (arith, length_hex8 key)) refl
+  gap_1 = column 1 9 9 (omega arith) (omega (arith, length_hex8 key)) refl
 
   pub group_at : columns 10 15 (print (page_line key group n keys)) ≡ print (right_in 6 (dec group))
   unfolding total
-  group_at = column 2 10 15 (omega arith) (omega (arith, length_hex8 key)) (sym group-width)
+  group_at = column 2 10 15 (omega arith) (omega (arith, length_hex8 key)) (sym group_width)
 
-  pub gap-2 : columns 16 16 (print (page_line key group n keys)) ≡ 32 ∷ []
+  pub gap_2 : columns 16 16 (print (page_line key group n keys)) ≡ 32 ∷ []
   unfolding total
-  gap-2 = column 3 16 16 (omega arith) (omega (arith, length_hex8 key, group-width)) refl
+  gap_2 = column 3 16 16 (omega arith) (omega (arith, length_hex8 key, group_width)) refl
 
   pub count_at : columns 17 22 (print (page_line key group n keys)) ≡ print (right_in 6 (dec n))
   unfolding total
   count_at =
-      column 4 17 22 (omega arith) (omega (arith, length_hex8 key, group-width)) (sym count-width)
+      column 4 17 22 (omega arith) (omega (arith, length_hex8 key, group_width)) (sym count_width)
 
-  pub gap-3 : columns 23 23 (print (page_line key group n keys)) ≡ 32 ∷ []
+  pub gap_3 : columns 23 23 (print (page_line key group n keys)) ≡ 32 ∷ []
   unfolding total
-  gap-3 =
-      column 5 23 23 (omega arith) (omega (arith, length_hex8 key, group-width, count-width)) refl
+  gap_3 =
+      column 5 23 23 (omega arith) (omega (arith, length_hex8 key, group_width, count_width)) refl
 
-  pub exits-at : columns 24 40 (print (page_line key group n keys))
+  pub exits_at : columns 24 40 (print (page_line key group n keys))
       ≡ print (left_in 17 (keys_text keys))
   unfolding total
-  exits-at =
-      column 6 24 40 (omega arith) (omega (arith, length_hex8 key, group-width, count-width))
-      (sym exits-width)
+  exits_at =
+      column 6 24 40 (omega arith) (omega (arith, length_hex8 key, group_width, count_width))
+      (sym exits_width)
 
   pub blanks_at : columns 41 64 (print (page_line key group n keys)) ≡ print (spaces 24)
   unfolding total
   blanks_at =
       column 7 41 64 (omega arith)
-      (omega (arith, length_hex8 key, group-width, count-width, exits-width))
+      (omega (arith, length_hex8 key, group_width, count_width, exits_width))
       (sym (length_spaces 24))

@@ -8,7 +8,7 @@ use lib.ListN.{length, take, drop, length-append, length-drop, drop_of_length-le
 use lib.Seq.{drop-drop}
 use Rattle.base_fitting.specs.Fitting.{fitting}
 use Rattle.base_fitting.specs.Steps.{total, FitSoFar, HasFront}
-use Rattle.base_fitting.proofs.Laws.{fit_none, fit-more, fit-over, fit_all, total_more}
+use Rattle.base_fitting.proofs.Laws.{fit_none, fit_more, fit_over, fit_all, total_more}
 use Rattle.base_text.specs.Doc.{Doc, dec, ◌▸◌, print, each}
 use Rattle.base_text.specs.Wrote.{Wrote}
 use Rattle.base_text.proofs.Laws.{none, seq, wrote_as, each_append, whole}
@@ -21,11 +21,11 @@ use Rattle.call_pages.specs.Page.{Row, rows_of, row_line, Page, per_page, pages_
 use Rattle.call_pages.specs.Page.{head_line, page_length}
 use Rattle.call_pages.specs.Claims.{IsLine, RowWhole}
 use Rattle.call_pages.specs.Steps.{page_on, Begins, pages_asked, PutPages}
-use Rattle.call_pages.proofs.Claims.{row-whole}
-use Rattle.call_pages.proofs.Fields.{head-line}
+use Rattle.call_pages.proofs.Claims.{row_whole}
+use Rattle.call_pages.proofs.Fields.{head_line_lem}
 use Rattle.call_pages.proofs.Paging.{pages_none, first_page, page_rows, page_on_inside}
-use Rattle.call_pages.proofs.Paging.{asked-some}
-use Rattle.call_pages.proofs.Rows.{rows-n}
+use Rattle.call_pages.proofs.Paging.{asked_some}
+use Rattle.call_pages.proofs.Rows.{rows_n}
 
 -- a line has 65 bytes
 line_length_lem : {s : List ℕ} → IsLine s → length s ≡ 65
@@ -64,17 +64,17 @@ module _ {f : List ℕ} {n limit : ℕ} {work : List ℕ} (ready : HoldsPlan f n
   rows = rows_of (plan limit bs)
 
   -- how long the page is that begins at row p
-  pub page-size : (k p : ℕ) → page_length (blocks_of f) (page_on limit (blocks_of f) k p)
+  pub page_size : (k p : ℕ) → page_length (blocks_of f) (page_on limit (blocks_of f) k p)
       ≡ 65 * (1 + min per_page (n - p))
   unfolding page_text print
-  page-size k p =
+  page_size k p =
       let on = page_on limit bs k p in
       omega (
         arith,
         length-append (print (head_line k)) (print (each (row_line bs) on.rows)),
-        line_length_lem (head-line k (omega (arith, length_most (dec k)))),
+        line_length_lem (head_line_lem k (omega (arith, length_most (dec k)))),
         lines_length bs on.rows
-            (λ r m. row-whole f bs ready.accepted limit r (page_on_inside limit bs k p r m)),
+            (λ r m. row_whole f bs ready.accepted limit r (page_on_inside limit bs k p r m)),
         page_rows ready k p,
       )
 
@@ -96,7 +96,7 @@ module _ {f : List ℕ} {n limit : ℕ} {work : List ℕ} (ready : HoldsPlan f n
   unfolding print
   putting_none k p text begins small =
       let rest : pages_asked limit k f ≡ pages_from (n - (k - 1)) (k + 0) (drop p rows) =
-      asked-some ready k p begins
+      asked_some ready k p begins
       ∙ ap (λ (j : ℕ). pages_from (n - (k - 1)) j (drop p rows))
       (let same : k ≡ k + 0 = omega arith in same) in
       record {
@@ -137,7 +137,7 @@ module _ {f : List ℕ} {n limit : ℕ} {work : List ℕ} (ready : HoldsPlan f n
           (subst (FitSoFar (page_length bs) (length text₀) (length (pages_asked limit k f))
           (pages_asked limit k f) put.made)
           (ap (pages_from put.left (k + count))
-          (drop_of_length-le rows {i = p} (omega (arith, rows-n ready)))
+          (drop_of_length-le rows {i = p} (omega (arith, rows_n ready)))
           ∙ pages_none put.left (k + count)) put.so))
 
       -- the page that is next
@@ -150,44 +150,44 @@ module _ {f : List ℕ} {n limit : ℕ} {work : List ℕ} (ready : HoldsPlan f n
         later = pages_from (put.left - 1) (k + (count + 1)) (drop (p + per_page) rows)
 
         -- it is the first of the rest
-        rest-is : pages_from put.left (k + count) (drop p rows)
+        rest_is : pages_from put.left (k + count) (drop p rows)
             ≡ next ∷ later
-        rest-is =
+        rest_is =
             first_page put.left (k + count) (drop p rows)
-            (omega (arith, length-drop p rows, rows-n ready))
-            (omega (arith, length-drop p rows, rows-n ready, put.enough))
+            (omega (arith, length-drop p rows, rows_n ready))
+            (omega (arith, length-drop p rows, rows_n ready, put.enough))
             ∙ ap₂ (λ (j : ℕ) (rs : List Row). next ∷ pages_from (put.left - 1) j rs)
             (let same : suc (k + count) ≡ k + (count + 1) = omega arith in same)
             (drop-drop per_page p rows)
 
-        so-next : FitSoFar (page_length bs) (length text₀) (length (pages_asked limit k f))
+        so_next : FitSoFar (page_length bs) (length text₀) (length (pages_asked limit k f))
             (pages_asked limit k f) put.made (next ∷ later)
-        so-next =
+        so_next =
             subst (FitSoFar (page_length bs) (length text₀) (length (pages_asked limit k f))
-            (pages_asked limit k f) put.made) rest-is put.so
+            (pages_asked limit k f) put.made) rest_is put.so
 
         all-next : pages_asked limit k f ≡ put.made ++ (next ∷ later)
-        all-next = put.all ∙ ap (λ (ps : List Page). put.made ++ ps) rest-is
+        all-next = put.all ∙ ap (λ (ps : List Page). put.made ++ ps) rest_is
 
         -- it does not fit
-        pub putting-over : length text₀ - at < 65 * (1 + min per_page (n - p))
+        pub putting_over : length text₀ - at < 65 * (1 + min per_page (n - p))
             → PutPages f limit k text₀ text (record { count = count; length = at })
-        putting-over over =
-            done (fit-over (page_length bs) _ _ _ so-next
+        putting_over over =
+            done (fit_over (page_length bs) _ _ _ so_next
             (omega (
               arith,
-              page-size (k + count) p,
+              page_size (k + count) p,
               put.bytes,
               total_texts bs put.made,
             )))
 
         -- it fits, and is written
-        pub putting-more : (m : ℕ) → m ≡ 65 * (1 + min per_page (n - p)) → m ≤ length text₀ - at
+        pub putting_more : (m : ℕ) → m ≡ 65 * (1 + min per_page (n - p)) → m ≤ length text₀ - at
             → {text' : List ℕ} {r : ℕ} → Wrote text at (page_text bs next) text' r
             → Putting k text₀ text' (count + 1) (at + m) (p + per_page)
         unfolding print
-        putting-more m is fits {text'} {r} w =
-            let size = page-size (k + count) p in
+        putting_more m is fits {text'} {r} w =
+            let size = page_size (k + count) p in
             let more : r ≡ at + m =
             omega (arith, size, w.next, put.wrote.small, put.within) in
             record {
@@ -196,7 +196,7 @@ module _ {f : List ℕ} {n limit : ℕ} {work : List ℕ} (ready : HoldsPlan f n
               enough = omega (arith, put.enough);
               all = all-next ∙ sym (append_assoc put.made (next ∷ []) _);
               so =
-                  fit-more (page_length bs) _ _ _ so-next
+                  fit_more (page_length bs) _ _ _ so_next
                   (omega (
                     arith,
                     ap length all-next,

@@ -15,7 +15,7 @@ use Rattle.plan_members.specs.Prepared.{HoldsPlan}
 use Rattle.call_pages.specs.Page.{Row, rows_of, Page, per_page, pages_from, pages}
 use Rattle.call_pages.specs.Calls.{from_page}
 use Rattle.call_pages.specs.Steps.{row_at, page_on, Begins, pages_asked}
-use Rattle.call_pages.proofs.Rows.{rows-n}
+use Rattle.call_pages.proofs.Rows.{rows_n}
 
 -- row i of the page that begins at row p
 pub page_row : (limit : ℕ) (bs : List Block) (k p i : ℕ) → i < per_page
@@ -30,7 +30,7 @@ pub page_rows : {f : List ℕ} {n limit : ℕ} {work : List ℕ} → HoldsPlan f
 page_rows {f} {n} {limit} ready k p =
     length-take per_page (drop p (rows_of (plan limit (blocks_of f))))
     ∙ ap (min per_page)
-    (length-drop p (rows_of (plan limit (blocks_of f))) ∙ ap (λ (m : ℕ). m - p) (rows-n ready))
+    (length-drop p (rows_of (plan limit (blocks_of f))) ∙ ap (λ (m : ℕ). m - p) (rows_n ready))
 
 -- the rows on a page
 abbrev pub rows_in : Page → List Row
@@ -148,9 +148,9 @@ module _ {f : List ℕ} {n limit : ℕ} {work : List ℕ} (ready : HoldsPlan f n
   rows = rows_of (plan limit (blocks_of f))
 
   -- there is no such page
-  pub asked-none : (1 ≤ k → n ≤ per_page * (k - 1)) → pages_asked limit k f ≡ []
+  pub asked_none : (1 ≤ k → n ≤ per_page * (k - 1)) → pages_asked limit k f ≡ []
   unfolding pages
-  asked-none = go k
+  asked_none = go k
     where
       go : (j : ℕ) → (1 ≤ j → n ≤ per_page * (j - 1)) → from_page j (pages limit (blocks_of f)) ≡ []
       go zero past = refl
@@ -158,14 +158,14 @@ module _ {f : List ℕ} {n limit : ℕ} {work : List ℕ} (ready : HoldsPlan f n
           drop_pages j (length rows) 1 rows (omega arith)
           ∙ ap (pages_from (length rows - j) (1 + j))
           (drop_of_length-le rows {i = per_page * j}
-          (omega (arith, rows-n ready, past (omega arith))))
+          (omega (arith, rows_n ready, past (omega arith))))
           ∙ pages_none (length rows - j) (1 + j)
 
   -- page k begins at row p
-  pub asked-some : (p : ℕ) → Begins n k p
+  pub asked_some : (p : ℕ) → Begins n k p
       → pages_asked limit k f ≡ pages_from (n - (k - 1)) k (drop p rows)
   unfolding pages
-  asked-some = go k
+  asked_some = go k
     where
       go : (j p : ℕ) → Begins n j p
           → from_page j (pages limit (blocks_of f)) ≡ pages_from (n - (j - 1)) j (drop p rows)
@@ -173,7 +173,7 @@ module _ {f : List ℕ} {n limit : ℕ} {work : List ℕ} (ready : HoldsPlan f n
       go (suc j) p b =
           drop_pages j (length rows) 1 rows (omega arith)
           ∙ ap₂ (λ (a c : ℕ). pages_from a c (drop (per_page * j) rows))
-          (let same : length rows - j ≡ n - (suc j - 1) = omega (arith, rows-n ready) in same)
+          (let same : length rows - j ≡ n - (suc j - 1) = omega (arith, rows_n ready) in same)
           (let same : 1 + j ≡ suc j = omega arith in same)
           ∙ ap (λ (i : ℕ). pages_from (n - (suc j - 1)) (suc j) (drop i rows))
           (let same : per_page * j ≡ p = omega (arith, b.here) in same)

@@ -21,13 +21,13 @@ use Rattle.file_blocks.specs.declared.read.BlockRecord.{BlockRecord}
 use Rattle.file_blocks.specs.Address.{key_of}
 use Rattle.file_blocks.specs.Parse.{Block, block_at, blocks_of}
 use Rattle.file_blocks.specs.Read.{record_at, IsBlock}
-use Rattle.file_blocks.proofs.Accepted.{length-of, record-reads}
-use Rattle.file_blocks.proofs.IsBlock.{block_inside, block-record, nth_block}
+use Rattle.file_blocks.proofs.Accepted.{length_of_lem, record_reads}
+use Rattle.file_blocks.proofs.IsBlock.{block_inside, block_record, nth_block}
 use Rattle.file_blocks.proofs.OwnKey.{record_key}
 use Rattle.plan_exits.specs.Exits.{exits}
 use Rattle.plan_groups.specs.Plan.{groups, group_rows, rows_from, plan}
-use Rattle.plan_groups.proofs.GroupLaws.{group-some, groups-once, groups-only}
-use Rattle.plan_groups.proofs.PlanLength.{groups-length}
+use Rattle.plan_groups.proofs.GroupLaws.{group_some, groups_once, groups_only}
+use Rattle.plan_groups.proofs.PlanLength.{groups_length}
 use Rattle.plan_members.specs.Prepared.{HoldsPlan}
 use Rattle.call_pages.specs.Page.{page_line, block_line, Row, rows_of, row_line}
 use Rattle.call_pages.specs.Claims.{row_numbers}
@@ -118,20 +118,20 @@ module _ (limit : ℕ) (bs : List Block) where
   abbrev rows : List Row
   rows = rows_of (plan limit bs)
 
-  pub rows-blocks : map block_in (rows_of (plan limit bs)) ≡ flatten (groups limit bs)
+  pub rows_blocks : map block_in (rows_of (plan limit bs)) ≡ flatten (groups limit bs)
   unfolding plan
-  rows-blocks = blocks_from 0 (groups limit bs)
+  rows_blocks = blocks_from 0 (groups limit bs)
 
-  pub rows-numbers : flatten (map row_numbers (rows_of (plan limit bs))) ≡ plan limit bs
+  pub rows_numbers : flatten (map row_numbers (rows_of (plan limit bs))) ≡ plan limit bs
   unfolding plan
-  rows-numbers = numbers_from_lem 0 (groups limit bs)
+  rows_numbers = numbers_from_lem 0 (groups limit bs)
 
   -- one row for each block
   pub rows_all : length (rows_of (plan limit bs)) ≡ length bs
-  rows_all = sym (length_map rows block_in) ∙ ap length rows-blocks ∙ groups-length bs limit
+  rows_all = sym (length_map rows block_in) ∙ ap length rows_blocks ∙ groups_length bs limit
 
-  pub rows-once : (i : ℕ) → i < length bs → count i (map block_in (rows_of (plan limit bs))) ≡ 1
-  rows-once i h = ap (count i) rows-blocks ∙ groups-once limit bs i h
+  pub rows_once : (i : ℕ) → i < length bs → count i (map block_in (rows_of (plan limit bs))) ≡ 1
+  rows_once i h = ap (count i) rows_blocks ∙ groups_once limit bs i h
 
   module _ (r : Row) (at : Memᴰ r (rows_of (plan limit bs))) where
     -- a row names a block
@@ -141,28 +141,28 @@ module _ (limit : ℕ) (bs : List Block) where
           | yes h ↦ h
           | no d ↦ absurd (omega (
             arith,
-            groups-only limit bs r.block (omega arith),
-            ap (count r.block) rows-blocks,
+            groups_only limit bs r.block (omega arith),
+            ap (count r.block) rows_blocks,
             counted (Memᴰ.map block_in at),
           ))
         ]
 
     -- and a group, of which there are no more
-    pub row-group : r.group < length bs
+    pub row_group : r.group < length bs
     unfolding plan
-    row-group =
+    row_group =
         groups_from_lem 0 (length bs) (groups limit bs)
         (omega (
           arith,
-          groups_few (groups limit bs) (group-some limit bs),
-          groups-length bs limit,
+          groups_few (groups limit bs) (group_some limit bs),
+          groups_length bs limit,
         )) r at
 
 module _ {f : List ℕ} {n limit : ℕ} {work : List ℕ} (ready : HoldsPlan f n limit work) where
   -- as many rows as blocks
-  pub rows-n : length (rows_of (plan limit (blocks_of f))) ≡ n
-  rows-n =
-      rows_all limit (blocks_of f) ∙ length-of f (blocks_of f) ready.accepted ∙ sym ready.all
+  pub rows_n : length (rows_of (plan limit (blocks_of f))) ≡ n
+  rows_n =
+      rows_all limit (blocks_of f) ∙ length_of_lem f (blocks_of f) ready.accepted ∙ sym ready.all
 
   module _ (p : ℕ) (inside : p < n) where
     -- row p in the work numbers
@@ -184,9 +184,9 @@ module _ {f : List ℕ} {n limit : ℕ} {work : List ℕ} (ready : HoldsPlan f n
         omega (
           arith,
           ap block_in row_read,
-          length-of f (blocks_of f) ready.accepted,
+          length_of_lem f (blocks_of f) ready.accepted,
           row_inside limit (blocks_of f) (row_at limit (blocks_of f) p)
-              (member_at (rows_of (plan limit (blocks_of f))) p (row 0 0) (omega (arith, rows-n))),
+              (member_at (rows_of (plan limit (blocks_of f))) p (row 0 0) (omega (arith, rows_n))),
         )
 
 -- the line of a row, by the record of its block
@@ -200,12 +200,12 @@ row_line_lem {f} {i} {b} {first} is group key n keys e c h =
     nth_block f i (block_at f 0 0) (block_inside is)
     ∙ ap (block_at f (block_start f i)) (sym is.starts) in
     let counts : n ≡ length (block_at f (block_start f i) first).instrs =
-    c ∙ ap (λ (r : BlockRecord). r.count) (block-record is)
-    ∙ (record-reads f (blocks_of f) is.accepted i (block_inside is)).count
+    c ∙ ap (λ (r : BlockRecord). r.count) (block_record is)
+    ∙ (record_reads f (blocks_of f) is.accepted i (block_inside is)).count
     ∙ ap (λ (k : ℕ). length (block_at f (block_start f i) k).instrs) (sym is.starts) in
     ap (λ (m : ℕ). page_line key group m keys) counts
     ∙ ap₂ (λ (k : ℕ) (l : List ℕ). page_line k group
     (length (block_at f (block_start f i) first).instrs) l) (e ∙ record_key is) h
     ∙ sym (ap (block_line group) block)
     ∙ sym (map_at (block_line group) (blocks_of f) i (block_at f 0 0) nothing
-    (omega (arith, block_inside is, length-of f (blocks_of f) is.accepted)))
+    (omega (arith, block_inside is, length_of_lem f (blocks_of f) is.accepted)))

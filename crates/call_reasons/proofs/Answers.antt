@@ -24,7 +24,7 @@ use Rattle.emit_reasons.specs.declared.lines.Progress.{Progress}
 use Rattle.emit_reasons.specs.Steps.{Put}
 use Rattle.call_frame.specs.Frame.{Decision, refuses, numbered, cleared, refused_with, settle}
 use Rattle.call_frame.proofs.Pieces.{Some, some_of}
-use Rattle.call_frame.proofs.Settling.{refused-own, refused-10, handed_over}
+use Rattle.call_frame.proofs.Settling.{refused_own, refused_10, handed_over}
 use Rattle.call_reasons.specs.declared.reason.ReasonAnswer.{ReasonAnswer}
 use Rattle.call_reasons.specs.declared.reasons.ReasonsAnswer.{ReasonsAnswer}
 use Rattle.call_reasons.specs.Calls.{ReasonsValues, reason_answer, reasons_answer}
@@ -112,32 +112,32 @@ module _ (bs : List Block) (k : ℕ) (text : List ℕ) where
 
   -- there is no such instruction
   module _ (past : instr_total bs ≤ k) where
-    pub reason-9 : record {
+    pub reason_9 : record {
       answer = reason_answer (ReasonAnswer.Refused 9 0);
       work = [];
       results = text ∷ [];
     }
         ≡ settle one [] (text ∷ [])
     unfolding reason_answer
-    reason-9 = refused-own _ (not_there k bs _ past) [] (text ∷ [])
+    reason_9 = refused_own _ (not_there k bs _ past) [] (text ∷ [])
 
-    pub reasons-9 : record {
+    pub reasons_9 : record {
       answer = reasons_answer (ReasonsAnswer.Refused 9 0);
       work = [];
       results = text ∷ [];
     }
         ≡ settle many [] (text ∷ [])
     unfolding reasons_answer
-    reasons-9 = refused-own _ (not_there k bs _ past) [] (text ∷ [])
+    reasons_9 = refused_own _ (not_there k bs _ past) [] (text ∷ [])
 
   module _ (here : k < instr_total bs) where
     -- what is said of it
     module _ {o : Option Said} (said : o ≡ get_or (said_in_all bs) k none) where
-      sentence-is : one ≡ made_sentence o
-      sentence-is = there k bs _ here ∙ ap made_sentence (sym said)
+      sentence_is : one ≡ made_sentence o
+      sentence_is = there k bs _ here ∙ ap made_sentence (sym said)
 
       -- its sentence does not fit
-      pub reason-10 : length text < length (print (sentence_text o))
+      pub reason_10 : length text < length (print (sentence_text o))
           → record {
             answer = reason_answer (ReasonAnswer.Refused 10 0);
             work = [];
@@ -145,10 +145,10 @@ module _ (bs : List Block) (k : ℕ) (text : List ℕ) where
           }
           ≡ settle one [] (text ∷ [])
       unfolding reason_answer
-      reason-10 over = refused-10 _ _ sentence-is [] text over
+      reason_10 over = refused_10 _ _ sentence_is [] text over
 
       -- it is in the front of the text
-      pub reason-made : {n : ℕ} → n ≡ length (print (sentence_text o)) → n ≤ length text
+      pub reason_made : {n : ℕ} → n ≡ length (print (sentence_text o)) → n ≤ length text
           → {text' : List ℕ} {r : ℕ} → Wrote text 0 (sentence_text o) text' r
           → record {
             answer = reason_answer (ReasonAnswer.Length n);
@@ -157,8 +157,8 @@ module _ (bs : List Block) (k : ℕ) (text : List ℕ) where
           }
           ≡ settle one [] (text ∷ [])
       unfolding reason_answer
-      reason-made is fits w =
-          handed_over _ _ sentence-is [] text _ _ is (omega (arith, is, fits))
+      reason_made is fits w =
+          handed_over _ _ sentence_is [] text _ _ is (omega (arith, is, fits))
           (whole w (omega (arith, is, fits))).0
 
     -- the lines from it on, of which some are written
@@ -173,16 +173,16 @@ module _ (bs : List Block) (k : ℕ) (text : List ℕ) where
       lines_are made e = there k bs _ here ∙ ap (made_lines (instr_total bs) ls) e
 
       -- the text, where no line is made
-      kept-text : put.made ≡ [] → text' ≡ text
+      kept_text : put.made ≡ [] → text' ≡ text
       unfolding print
-      kept-text e =
+      kept_text e =
           (whole put.wrote (omega (arith, put.bytes, put.within))).0
           ∙ ap
           (λ (ms : List Line). print (each line_text ms)
           ++ drop (length (print (each line_text ms))) text) e
 
       -- some are written
-      pub reasons-made : (r.length ≡ 0 → ⊥)
+      pub reasons_made : (r.length ≡ 0 → ⊥)
           → record {
             answer = reasons_answer (ReasonsAnswer.Lines r.next r.length);
             work = [];
@@ -190,19 +190,19 @@ module _ (bs : List Block) (k : ℕ) (text : List ℕ) where
           }
           ≡ settle many [] (text ∷ [])
       unfolding reasons_answer
-      reasons-made any =
+      reasons_made any =
           handed_over _ _
           (lines_are put.made
           (fitting_some (length text) ls put.made put.fits
           (λ e. any (put.bytes ∙ ap (λ (ms : List Line). length (print (each line_text ms))) e
           ∙ no_bytes)))) [] text _ _
           (ap₂ (λ (m n : ℕ). record { next = m; length = n })
-          (put.next ∙ ap (number_or (instr_total bs)) (sym rest-is)) put.bytes)
+          (put.next ∙ ap (number_or (instr_total bs)) (sym rest_is)) put.bytes)
           (omega (arith, put.bytes, put.within))
           (whole put.wrote (omega (arith, put.bytes, put.within))).0
         where
-          rest-is : drop (length put.made) ls ≡ put.rest
-          rest-is =
+          rest_is : drop (length put.made) ls ≡ put.rest
+          rest_is =
               ap (drop (length put.made)) put.parts
               ∙ drop-append_seam put.made put.rest
 
@@ -210,11 +210,11 @@ module _ (bs : List Block) (k : ℕ) (text : List ℕ) where
         made_none : put.made ≡ []
         made_none = bytes_none put.made (sym put.bytes ∙ nothing)
 
-        ls-rest : ls ≡ put.rest
-        ls-rest = put.parts ∙ ap (λ (ms : List Line). ms ++ put.rest) made_none
+        ls_rest : ls ≡ put.rest
+        ls_rest = put.parts ∙ ap (λ (ms : List Line). ms ++ put.rest) made_none
 
         -- the first does not fit
-        pub reasons-10 : (r.next ≡ instr_total bs → ⊥)
+        pub reasons_10 : (r.next ≡ instr_total bs → ⊥)
             → record {
               answer = reasons_answer (ReasonsAnswer.Refused 10 0);
               work = [];
@@ -222,12 +222,12 @@ module _ (bs : List Block) (k : ℕ) (text : List ℕ) where
             }
             ≡ settle many [] (text ∷ [])
         unfolding reasons_answer
-        reasons-10 more =
+        reasons_10 more =
             let some =
             some_of ls
-            (λ e. more (put.next ∙ ap (number_or (instr_total bs)) (sym ls-rest ∙ e))) in
-            ap (λ (t : List ℕ). refused_with (numbered 10) [] (t ∷ [])) (kept-text made_none)
-            ∙ refused-10 _ _
+            (λ e. more (put.next ∙ ap (number_or (instr_total bs)) (sym ls_rest ∙ e))) in
+            ap (λ (t : List ℕ). refused_with (numbered 10) [] (t ∷ [])) (kept_text made_none)
+            ∙ refused_10 _ _
             (lines_are (some.first ∷ [])
             (ap (fitting_lines (length text)) some.is
             ∙ ap (or_first some.first)
@@ -236,7 +236,7 @@ module _ (bs : List Block) (k : ℕ) (text : List ℕ) where
             (over_first text ls some.first some.others some.is (put.fits ∙ made_none))
 
         -- there is none
-        pub reasons-none : r.next ≡ instr_total bs
+        pub reasons_none : r.next ≡ instr_total bs
             → record {
               answer = reasons_answer (ReasonsAnswer.Lines r.next 0);
               work = [];
@@ -244,14 +244,14 @@ module _ (bs : List Block) (k : ℕ) (text : List ℕ) where
             }
             ≡ settle many [] (text ∷ [])
         unfolding reasons_answer print
-        reasons-none last =
+        reasons_none last =
             let empty : ls ≡ [] =
-            no_lines put.rest ls-rest (sym put.next ∙ last) in
+            no_lines put.rest ls_rest (sym put.next ∙ last) in
             handed_over _ _
             (lines_are [] (ap (fitting_lines (length text)) empty)) [] text _ _
             (ap (λ (m : ℕ). record { next = m; length = 0 })
             (last ∙ sym (ap (number_or (instr_total bs)) empty)))
-            (omega arith) (kept-text made_none)
+            (omega arith) (kept_text made_none)
           where
             no_lines : (rest : List Line) → ls ≡ rest
                 → number_or (instr_total bs) rest ≡ instr_total bs → ls ≡ []

@@ -17,8 +17,8 @@ use Rattle.file_blocks.specs.declared.read.FoundBlock.{FoundBlock}
 use Rattle.file_blocks.specs.Address.{region, outside_rom_bios}
 use Rattle.file_blocks.specs.Parse.{block_at, blocks_from, blocks_of, instr_total, Accepted}
 use Rattle.file_blocks.specs.Read.{record_at, found_block, instrs_of, IsBlock}
-use Rattle.file_blocks.proofs.Accepted.{sums, instrs-of, instrs-inside, record-reads}
-use Rattle.file_blocks.proofs.IsBlock.{block_inside, block-record}
+use Rattle.file_blocks.proofs.Accepted.{sums, instrs_of_lem, instrs_inside, record_reads}
+use Rattle.file_blocks.proofs.IsBlock.{block_inside, block_record}
 use Rattle.lower_reasons.specs.Lines.{lines_of}
 use Rattle.lower_reasons.specs.Said.{Said, nothing_of, said_each, said_in, said_in_all}
 use Rattle.claim_reasons.proofs.Claims.{in_length}
@@ -47,32 +47,32 @@ rest_none f i h =
 
 module _ (f : List ℕ) (ok : Accepted f) where
   -- a block has as many instructions as its record says
-  block-length : (i : ℕ) → i < block_count f
+  block_length : (i : ℕ) → i < block_count f
       → length (said_in (block_at f (block_start f i) (count_sum f i))) ≡ count_at f (block_start f i)
   unfolding record_at
-  block-length i h =
+  block_length i h =
       in_length (block_at f (block_start f i) (count_sum f i))
-      ∙ sym (record-reads f (blocks_of f) ok i h).count
+      ∙ sym (record_reads f (blocks_of f) ok i h).count
 
   -- the rest begins with the first instruction of its first block
-  pub rest-drop : (i : ℕ) → i ≤ block_count f
+  pub rest_drop : (i : ℕ) → i ≤ block_count f
       → drop (count_sum f i) (said_in_all (blocks_of f)) ≡ rest_from f i
   unfolding count_sum
-  rest-drop zero h =
+  rest_drop zero h =
       ap (λ (n : ℕ). said_in_all (blocks_from f n 0 0))
       (let e : block_count f ≡ block_count f - 0 = omega arith in e)
-  rest-drop (suc i) h =
+  rest_drop (suc i) h =
       sym (drop-drop (count_at f (block_start f i)) (count_sum f i) (said_in_all (blocks_of f)))
-      ∙ ap (drop (count_at f (block_start f i))) (rest-drop i (omega arith) ∙ rest_block f i h)
+      ∙ ap (drop (count_at f (block_start f i))) (rest_drop i (omega arith) ∙ rest_block f i h)
       ∙ ap
       (λ (n : ℕ). drop n
       (said_in (block_at f (block_start f i) (count_sum f i)) ++ rest_from f (suc i)))
-      (sym (block-length i h))
+      (sym (block_length i h))
       ∙ drop-append_seam (said_in (block_at f (block_start f i) (count_sum f i))) (rest_from f (suc i))
 
   -- how many instructions there are
-  pub total-is : instr_total (blocks_of f) ≡ count_sum f (block_count f)
-  total-is = instrs-of f (blocks_of f) ok ∙ sym (sums f (blocks_of f) ok)
+  pub total_is : instr_total (blocks_of f) ≡ count_sum f (block_count f)
+  total_is = instrs_of_lem f (blocks_of f) ok ∙ sym (sums f (blocks_of f) ok)
 
 -- a block that was found by its number
 pub block_is : {f : List ℕ} → Accepted f → {i : ℕ} {q : FoundBlock} {r : BlockRecord} {first : ℕ}
@@ -92,69 +92,69 @@ module _ {f : List ℕ} {i : ℕ} {r : BlockRecord} {first : ℕ} (is : IsBlock 
   present true x = refl
   present false x = refl
 
-  pub said-record : said_in (block_at f (block_start f i) first) ≡ said_in_record f r first
+  pub said_record : said_in (block_at f (block_start f i) first) ≡ said_in_record f r first
   unfolding said_in said_in_record block_at record_at
-  said-record =
+  said_record =
       let b : BlockRecord = record_at f (block_start f i) in
       ap
       (λ (t : Bool). cond (not (outside_rom_bios b.addr) || t)
       (said_each (region b.addr) (instrs_of f b first)) (nothing_of (instrs_of f b first)))
       (present b.present _)
-      ∙ ap (λ (c : BlockRecord). said_in_record f c first) (sym (block-record is))
+      ∙ ap (λ (c : BlockRecord). said_in_record f c first) (sym (block_record is))
 
   -- its length
-  pub record-count : r.count ≡ count_at f (block_start f i)
+  pub record_count_lem : r.count ≡ count_at f (block_start f i)
   unfolding record_at
-  record-count = ap (λ (c : BlockRecord). c.count) (block-record is)
+  record_count_lem = ap (λ (c : BlockRecord). c.count) (block_record is)
 
   -- the first instruction of the block after it
-  pub next-starts : first + r.count ≡ count_sum f (i + 1)
+  pub next_starts : first + r.count ≡ count_sum f (i + 1)
   unfolding count_sum
-  next-starts =
-      ap₂ (λ (m n : ℕ). m + n) is.starts record-count
+  next_starts =
+      ap₂ (λ (m n : ℕ). m + n) is.starts record_count_lem
       ∙ ap (count_sum f) (let e : suc i ≡ i + 1 = omega arith in e)
 
-  said-length : length (said_in_record f r first) ≡ r.count
-  said-length =
-      ap length (sym said-record ∙ ap (λ (k : ℕ). said_in (block_at f (block_start f i) k))
+  said_length : length (said_in_record f r first) ≡ r.count
+  said_length =
+      ap length (sym said_record ∙ ap (λ (k : ℕ). said_in (block_at f (block_start f i) k))
       is.starts)
-      ∙ block-length f is.accepted i (block_inside is)
-      ∙ sym record-count
+      ∙ block_length f is.accepted i (block_inside is)
+      ∙ sym record_count_lem
 
   -- the rest from a block on
-  pub rest-record : rest_from f i ≡ said_in_record f r first ++ rest_from f (suc i)
-  rest-record =
+  pub rest_record : rest_from f i ≡ said_in_record f r first ++ rest_from f (suc i)
+  rest_record =
       rest_block f i (block_inside is)
       ∙ ap (λ (os : List (Option Said)). os ++ rest_from f (suc i))
-      (ap (λ (k : ℕ). said_in (block_at f (block_start f i) k)) (sym is.starts) ∙ said-record)
+      (ap (λ (k : ℕ). said_in (block_at f (block_start f i) k)) (sym is.starts) ∙ said_record)
 
   -- the lines from an instruction of it on: those of the block, and those after
-  pub lines-record : (skip : ℕ) → skip ≤ r.count
+  pub lines_record : (skip : ℕ) → skip ≤ r.count
       → lines_of (first + skip) (drop skip (rest_from f i))
       ≡ lines_of (first + skip) (drop skip (said_in_record f r first))
       ++ lines_of (first + r.count) (rest_from f (suc i))
-  lines-record skip h =
+  lines_record skip h =
       let os : List (Option Said) = said_in_record f r first in
-      ap (λ (l : List (Option Said)). lines_of (first + skip) (drop skip l)) rest-record
+      ap (λ (l : List (Option Said)). lines_of (first + skip) (drop skip l)) rest_record
       ∙ ap (lines_of (first + skip))
-      (drop-append-le skip os (rest_from f (suc i)) (omega (arith, said-length)))
+      (drop-append-le skip os (rest_from f (suc i)) (omega (arith, said_length)))
       ∙ lines_append (first + skip) (drop skip os) (rest_from f (suc i))
       ∙ ap
       (λ (n : ℕ). lines_of (first + skip) (drop skip os) ++ lines_of n (rest_from f (suc i)))
       (let e : first + skip + length (drop skip os) ≡ first + r.count =
-      omega (arith, length-drop skip os, said-length) in e)
+      omega (arith, length-drop skip os, said_length) in e)
 
   -- the instruction with an index
-  pub said-in-all : (n : ℕ) → n < r.count
+  pub said_in_all_lem : (n : ℕ) → n < r.count
       → get_or (said_in_record f r first) n none ≡ get_or (said_in_all (blocks_of f)) (first + n) none
-  said-in-all n h =
+  said_in_all_lem n h =
       sym
       (ap (λ (k : ℕ). get_or (said_in_all (blocks_of f)) k none)
       (ap (λ (m : ℕ). m + n) is.starts)
       ∙ sym (get_or-drop (count_sum f i) (said_in_all (blocks_of f)) n none)
       ∙ ap (λ (l : List (Option Said)). get_or l n none)
-      (rest-drop f is.accepted i (omega (arith, block_inside is)) ∙ rest-record)
-      ∙ among_first (said_in_record f r first) (rest_from f (suc i)) n (omega (arith, said-length)))
+      (rest_drop f is.accepted i (omega (arith, block_inside is)) ∙ rest_record)
+      ∙ among_first (said_in_record f r first) (rest_from f (suc i)) n (omega (arith, said_length)))
 
 -- an instruction that stands in a block is one of the file
 pub in_file : (f : List ℕ) → Accepted f → {k i first : ℕ} → StandsAt f k i first
@@ -164,6 +164,6 @@ in_file f ok {k} {i} {first} stands =
       arith,
       stands.before,
       stands.starts,
-      instrs-inside f (blocks_of f) ok i stands.inside,
-      instrs-of f (blocks_of f) ok,
+      instrs_inside f (blocks_of f) ok i stands.inside,
+      instrs_of_lem f (blocks_of f) ok,
     )

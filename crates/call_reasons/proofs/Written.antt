@@ -24,7 +24,7 @@ use Rattle.lower_reasons.specs.Said.{Said, said_in_all}
 use Rattle.emit_reasons.specs.declared.lines.Progress.{Progress}
 use Rattle.emit_reasons.specs.Steps.{Putting, Put}
 use Rattle.call_reasons.specs.Steps.{StandsIn}
-use Rattle.call_reasons.proofs.Rest.{rest_from, rest_none, rest-drop, total-is}
+use Rattle.call_reasons.proofs.Rest.{rest_from, rest_none, rest_drop, total_is}
 
 -- before the first block nothing is written
 pub putting_start : {f : List ℕ} {i first index : ℕ} → StandsIn f i first index → (text : List ℕ)
@@ -39,7 +39,7 @@ putting_start {f} {i} {first} {index} stands text small =
     (sym (drop-drop index first (said_in_all (blocks_of f)))
     ∙ ap (drop index)
     (ap (λ (n : ℕ). drop n (said_in_all (blocks_of f))) stands.starts
-    ∙ rest-drop f stands.accepted i (omega (arith, stands.inside)))) in
+    ∙ rest_drop f stands.accepted i (omega (arith, stands.inside)))) in
     record {
       made = [];
       parts = same;
@@ -87,7 +87,7 @@ put_end f ok b last k skip next starts {text₀} put =
       wrote = put.wrote;
       bytes = put.bytes;
       within = put.within;
-      next = starts ∙ ap (count_sum f) last ∙ sym (total-is f ok);
+      next = starts ∙ ap (count_sum f) last ∙ sym (total_is f ok);
     }
 
 -- the lines from an instruction on, by its place in its block

@@ -14,7 +14,7 @@ use Rattle.emit_units.specs.declared.extents.Extent.{Extent}
 use Rattle.emit_units.specs.Units.{IsUnit}
 use Rattle.call_frame.specs.Frame.{if_found, numbered}
 use Rattle.call_frame.specs.Numbers.{numbers_of}
-use Rattle.call_frame.proofs.Settling.{refused-own, refused-10, handed_over, handed-all}
+use Rattle.call_frame.proofs.Settling.{refused_own, refused_10, handed_over, handed_all}
 use Rattle.call_answers.specs.declared.MeasureAnswer.{MeasureAnswer}
 use Rattle.call_answers.specs.declared.Told.{Told}
 use Rattle.call_answers.specs.declared.WriteAnswer.{WriteAnswer}
@@ -33,26 +33,26 @@ told_same f limit max k {e} is =
 
 module _ (f : List ℕ) (limit max k : ℕ) where
   -- there is no such unit
-  pub measure-none : get_elem? (units hash_multiplier limit max (blocks_of f)) k ≡ none
+  pub measure_none : get_elem? (units hash_multiplier limit max (blocks_of f)) k ≡ none
       → AnswersMeasure limit max k f (MeasureAnswer.Refused 9 0)
   unfolding measure_answer
-  measure-none e = λ work. refused-own _ (ap (if_found (measures k)) e) work []
+  measure_none e = λ work. refused_own _ (ap (if_found (measures k)) e) work []
 
   -- what is told of it
-  pub measure-told : {e : Extent} (is : IsUnit f limit max k e) (t : Told)
+  pub measure_told : {e : Extent} (is : IsUnit f limit max k e) (t : Told)
       → t ≡ told_of k e.length e.end e.last
       → AnswersMeasure limit max k f (MeasureAnswer.Told t)
   unfolding measure_answer
-  measure-told is t told = λ work.
-      handed-all _ [] (ap (if_found (measures k)) is.found) work [] t []
+  measure_told is t told = λ work.
+      handed_all _ [] (ap (if_found (measures k)) is.found) work [] t []
       (told ∙ told_same f limit max k is) refl refl
 
 module _ (f : List ℕ) (limit max : ℕ) (given : Told) (text : List ℕ) where
   -- there is no such unit
-  pub write-none : get_elem? (units hash_multiplier limit max (blocks_of f)) given.unit ≡ none
+  pub write_none : get_elem? (units hash_multiplier limit max (blocks_of f)) given.unit ≡ none
       → AnswersWrite limit max given f (WriteAnswer.Refused 9 0) text text
   unfolding write_answer
-  write-none e = λ work. refused-own _ (ap (if_found (writes given)) e) work (text ∷ [])
+  write_none e = λ work. refused_own _ (ap (if_found (writes given)) e) work (text ∷ [])
 
   module _ {e : Extent} (is : IsUnit f limit max given.unit e) (found : Told)
       (told : found ≡ told_of given.unit e.length e.end e.last) where
@@ -63,17 +63,17 @@ module _ (f : List ℕ) (limit max : ℕ) (given : Told) (text : List ℕ) where
         ap (same_values given) (sym (told ∙ told_same f limit max given.unit is)) ∙ same
 
     module _ (r : WriteAnswer) (answered : r ≡ answer_in given found (length text)) where
-      by-why : Why given found (length text) r
-      by-why = subst (Why given found (length text)) (sym answered) (why given found (length text))
+      by_why : Why given found (length text) r
+      by_why = subst (Why given found (length text)) (sym answered) (why given found (length text))
 
       refused : {a : WriteAnswer} → Why given found (length text) a → (n i : ℕ)
           → a ≡ WriteAnswer.Refused n i → AnswersWrite limit max given f a text text
       unfolding write_answer
       refused (differs other) n i known = λ work.
-          refused-own (numbered 11)
+          refused_own (numbered 11)
           (ap (if_found (writes given)) is.found ∙ rw (decided false other)) work (text ∷ [])
       refused (short same long) n i known = λ work.
-          refused-10 tt (text_of is.unit.tree)
+          refused_10 tt (text_of is.unit.tree)
           (ap (if_found (writes given)) is.found ∙ rw (decided true same)) work text
           (omega (arith, long, ap (λ (t : Told). t.length) told, is.bytes))
       refused (fits same enough) n i known =
@@ -82,7 +82,7 @@ module _ (f : List ℕ) (limit max : ℕ) (given : Told) (text : List ℕ) where
       -- a value differs, or its text is too long
       pub write_refused : (n i : ℕ) → r ≡ WriteAnswer.Refused n i
           → AnswersWrite limit max given f r text text
-      write_refused = refused by-why
+      write_refused = refused by_why
 
       written : {a : WriteAnswer} → Why given found (length text) a → a ≡ WriteAnswer.Written
           → (same_values given found ≡ true) × (found.length ≤ length text)
@@ -91,23 +91,23 @@ module _ (f : List ℕ) (limit max : ℕ) (given : Told) (text : List ℕ) where
       written (fits same enough) known = (same, enough)
 
       -- its text fits
-      pub write-fits : r ≡ WriteAnswer.Written
+      pub write_fits : r ≡ WriteAnswer.Written
           → length (text_of is.unit.tree) ≤ length text
-      write-fits known =
-          let enough = (written by-why known).1 in
+      write_fits known =
+          let enough = (written by_why known).1 in
           omega (arith, enough, ap (λ (t : Told). t.length) told, is.bytes)
 
       -- and is in the front
-      pub write-made : r ≡ WriteAnswer.Written → (text' : List ℕ)
+      pub write_made : r ≡ WriteAnswer.Written → (text' : List ℕ)
           → text' ≡ text_of is.unit.tree ++ drop (length (text_of is.unit.tree)) text
           → AnswersWrite limit max given f r text text'
       unfolding write_answer
-      write-made known text' put =
+      write_made known text' put =
           subst (λ (a : WriteAnswer). AnswersWrite limit max given f a text text') (sym known)
           (λ work.
           handed_over tt (text_of is.unit.tree)
-          (ap (if_found (writes given)) is.found ∙ rw (decided true (written by-why known).0))
-          work text tt text' refl (write-fits known) put)
+          (ap (if_found (writes given)) is.found ∙ rw (decided true (written by_why known).0))
+          work text tt text' refl (write_fits known) put)
 
 -- the numbers of an answer are those that are handed over for it
 pub measure_numbers_lem : (a : MeasureAnswer)

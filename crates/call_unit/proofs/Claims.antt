@@ -47,13 +47,13 @@ left v u work text tight =
 -- by the refusal that is found before the blocks are looked at, and by the unit, where m work
 -- numbers are cleared
 module _ (m : ℕ) where
-  tells-of : (b : Option Refusal) (o : Option TranslationUnit) (k : ℕ) (v : UnitValues)
+  tells_of : (b : Option Refusal) (o : Option TranslationUnit) (k : ℕ) (v : UnitValues)
       (work text : List ℕ)
       → (leave b m (if_found made_unit o) work (text ∷ [])).answer ≡ value v
       → (leave b m (if_found (measures k) o) work []).answer ≡ value (told_of_unit k v)
-  tells-of (some r) o k v work text e = absurd (no_value _ _ _ e)
-  tells-of none none k v work text e = absurd (no_value _ _ _ e)
-  tells-of none (some u) k v work text e =
+  tells_of (some r) o k v work text e = absurd (no_value _ _ _ e)
+  tells_of none none k v work text e = absurd (no_value _ _ _ e)
+  tells_of none (some u) k v work text e =
       ap (λ (w : UnitValues). value (told_of_unit k w))
       (go (too_short (text_of u.tree ∷ []) (text ∷ [])) e)
     where
@@ -63,22 +63,22 @@ module _ (m : ℕ) where
       go false h = one_value _ _ h
 
   -- what is told is told of the unit that is asked for
-  told-unit : (b : Option Refusal) (o : Option TranslationUnit) (k : ℕ) (t : Told)
+  told_unit : (b : Option Refusal) (o : Option TranslationUnit) (k : ℕ) (t : Told)
       (work : List ℕ) → (leave b m (if_found (measures k) o) work []).answer ≡ value t
       → t.unit ≡ k
-  told-unit (some r) o k t work e = absurd (no_value _ _ _ e)
-  told-unit none none k t work e = absurd (no_value _ _ _ e)
-  told-unit none (some u) k t work e = ap (λ (s : Told). s.unit) (sym (one_value _ _ e))
+  told_unit (some r) o k t work e = absurd (no_value _ _ _ e)
+  told_unit none none k t work e = absurd (no_value _ _ _ e)
+  told_unit none (some u) k t work e = ap (λ (s : Told). s.unit) (sym (one_value _ _ e))
 
-  as-before-of : (b b' : Option Refusal) (o : Option TranslationUnit) (k : ℕ) (t : Told)
+  as_before_of : (b b' : Option Refusal) (o : Option TranslationUnit) (k : ℕ) (t : Told)
       (work work' text : List ℕ)
       → (leave b m (if_found (measures k) o) work []).answer ≡ value t
       → leave b' m (if_found (writes t) o) work' (text ∷ [])
       ≡ without_values (leave b' m (if_found made_unit o) work' (text ∷ []))
-  as-before-of (some r) b' o k t work work' text e = absurd (no_value _ _ _ e)
-  as-before-of none b' none k t work work' text e = absurd (no_value _ _ _ e)
-  as-before-of none (some r) (some u) k t work work' text e = refl
-  as-before-of none none (some u) k t work work' text e =
+  as_before_of (some r) b' o k t work work' text e = absurd (no_value _ _ _ e)
+  as_before_of none b' none k t work work' text e = absurd (no_value _ _ _ e)
+  as_before_of none (some r) (some u) k t work work' text e = refl
+  as_before_of none none (some u) k t work work' text e =
       subst
       (λ (s : Told). settle (writes s u) (cleared m work') (text ∷ [])
       ≡ without_values (settle (made_unit u) (cleared m work') (text ∷ [])))
@@ -92,7 +92,7 @@ module _ (m : ℕ) where
       go true = refl
       go false = refl
 
-  caught-of : (b : Option Refusal) (o : Option TranslationUnit) (given t : Told)
+  caught_of : (b : Option Refusal) (o : Option TranslationUnit) (given t : Told)
       (work text : List ℕ)
       → (leave b m (if_found (measures given.unit) o) work []).answer ≡ value t
       → (given ≡ t → ⊥)
@@ -102,24 +102,24 @@ module _ (m : ℕ) where
         work = (leave b m (if_found (measures given.unit) o) work []).work;
         results = text ∷ [];
       }
-  caught-of (some r) o given t work text e other = absurd (no_value _ _ _ e)
-  caught-of none none given t work text e other = absurd (no_value _ _ _ e)
-  caught-of none (some u) given t work text e other = rw (go _ refl)
+  caught_of (some r) o given t work text e other = absurd (no_value _ _ _ e)
+  caught_of none none given t work text e other = absurd (no_value _ _ _ e)
+  caught_of none (some u) given t work text e other = rw (go _ refl)
     where
       go : (same : Bool) → same_values given (told_of_unit given.unit (unit_values u)) ≡ same
           → same_values given (told_of_unit given.unit (unit_values u)) ≡ false
       go true h = absurd (other (same_told _ _ refl h ∙ one_value _ _ e))
       go false h = h
 
-  up-to-9-of : (few : Bool) (o : Option TranslationUnit) (k n i : ℕ) (work : List ℕ)
+  up_to_9_of : (few : Bool) (o : Option TranslationUnit) (k n i : ℕ) (work : List ℕ)
       → (leave (cond few (some (numbered 8)) none) m (if_found (measures k) o) work []).answer
       ≡ refusal n i
       → n ≤ 9
-  up-to-9-of true o k n i work e = let z = one_number _ _ _ _ e in omega arith
-  up-to-9-of false none k n i work e = let z = one_number _ _ _ _ e in omega arith
-  up-to-9-of false (some u) k n i work e = absurd (no_value _ _ _ (sym e))
+  up_to_9_of true o k n i work e = let z = one_number _ _ _ _ e in omega arith
+  up_to_9_of false none k n i work e = let z = one_number _ _ _ _ e in omega arith
+  up_to_9_of false (some u) k n i work e = absurd (no_value _ _ _ (sym e))
 
-  refused-alike-of : (b : Option Refusal) (o : Option TranslationUnit) (given : Told) (n i : ℕ)
+  refused_alike_of : (b : Option Refusal) (o : Option TranslationUnit) (given : Told) (n i : ℕ)
       (work text : List ℕ)
       → (leave b m (if_found (measures given.unit) o) work []).answer ≡ refusal n i
       → leave b m (if_found (writes given) o) work (text ∷ [])
@@ -128,13 +128,13 @@ module _ (m : ℕ) where
         work = (leave b m (if_found (measures given.unit) o) work []).work;
         results = text ∷ [];
       }
-  refused-alike-of (some r) o given n i work text e =
+  refused_alike_of (some r) o given n i work text e =
       ap (λ (a : Answer Unit). record { answer = a; work = work; results = text ∷ [] })
       (ap bare e)
-  refused-alike-of none none given n i work text e =
+  refused_alike_of none none given n i work text e =
       ap (λ (a : Answer Unit). record { answer = a; work = cleared m work; results = text ∷ [] })
       (ap bare e)
-  refused-alike-of none (some u) given n i work text e = absurd (no_value _ _ _ (sym e))
+  refused_alike_of none (some u) given n i work text e = absurd (no_value _ _ _ (sym e))
 
 -- the rules of a file have numbers up to 7
 rule_number : (r : Rule) → number r ≤ 7
@@ -153,7 +153,7 @@ module _ (limit max : ℕ) where
   unfolding call_frame call_on_blocks
   tells (Parsed.refused n i) k v work text e = absurd (no_value _ _ _ e)
   tells (Parsed.accepted bs) k v work text e =
-      tells-of (4 * length bs) (before_blocks none (length work) (4 * length bs))
+      tells_of (4 * length bs) (before_blocks none (length work) (4 * length bs))
       (get_elem? (units hash_multiplier limit max bs) k) k v work text e
 
   as_before_lem : (p : Parsed) (k : ℕ) (t : Told) (work work' text : List ℕ)
@@ -170,8 +170,8 @@ module _ (limit max : ℕ) where
       subst
       (λ (j : ℕ). leave b' m (if_found (writes t) (get_elem? us j)) work' (text ∷ [])
       ≡ without_values (leave b' m (if_found made_unit (get_elem? us k)) work' (text ∷ [])))
-      (sym (told-unit m b (get_elem? us k) k t work e))
-      (as-before-of m b b' (get_elem? us k) k t work work' text e)
+      (sym (told_unit m b (get_elem? us k) k t work e))
+      (as_before_of m b b' (get_elem? us k) k t work work' text e)
 
   caught : (p : Parsed) (given t : Told) (work text : List ℕ)
       → (measure_call limit max given.unit p work).answer ≡ value t
@@ -185,10 +185,10 @@ module _ (limit max : ℕ) where
   unfolding call_frame call_on_blocks
   caught (Parsed.refused n i) given t work text e other = absurd (no_value _ _ _ e)
   caught (Parsed.accepted bs) given t work text e other =
-      caught-of (4 * length bs) (before_blocks none (length work) (4 * length bs))
+      caught_of (4 * length bs) (before_blocks none (length work) (4 * length bs))
       (get_elem? (units hash_multiplier limit max bs) given.unit) given t work text e other
 
-  refused-alike : (p : Parsed) (given : Told) (n i : ℕ) (work text : List ℕ)
+  refused_alike_lem : (p : Parsed) (given : Told) (n i : ℕ) (work text : List ℕ)
       → (measure_call limit max given.unit p work).answer ≡ refusal n i
       → write_call limit max given p work text
       ≡ record {
@@ -197,21 +197,21 @@ module _ (limit max : ℕ) where
         results = text ∷ [];
       }
   unfolding call_frame call_on_blocks
-  refused-alike (Parsed.refused m j) given n i work text e =
+  refused_alike_lem (Parsed.refused m j) given n i work text e =
       ap (λ (a : Answer Unit). record { answer = a; work = work; results = text ∷ [] })
       (ap bare e)
-  refused-alike (Parsed.accepted bs) given n i work text e =
-      refused-alike-of (4 * length bs) (before_blocks none (length work) (4 * length bs))
+  refused_alike_lem (Parsed.accepted bs) given n i work text e =
+      refused_alike_of (4 * length bs) (before_blocks none (length work) (4 * length bs))
       (get_elem? (units hash_multiplier limit max bs) given.unit) given n i work text e
 
-  up-to-9 : (f : List ℕ) (broken : Option Rule) (k n i : ℕ) (work : List ℕ)
+  up_to_9 : (f : List ℕ) (broken : Option Rule) (k n i : ℕ) (work : List ℕ)
       → (measure_call limit max k (parsed f broken) work).answer ≡ refusal n i → n ≤ 9
   unfolding call_frame call_on_blocks
-  up-to-9 f (some r) k n i work e =
+  up_to_9 f (some r) k n i work e =
       let z = one_number _ _ _ _ e in omega (arith, rule_number r)
-  up-to-9 f none k n i work e =
+  up_to_9 f none k n i work e =
       let m = 4 * length (blocks_of f) in
-      up-to-9-of m (ltb (length work) m)
+      up_to_9_of m (ltb (length work) m)
       (get_elem? (units hash_multiplier limit max (blocks_of f)) k) k n i work e
 
 pub measure_then_write : (limit max : ℕ) (f : List ℕ) → MeasureThenWrite limit max f
@@ -219,8 +219,8 @@ unfolding parse
 measure_then_write limit max f =
     record {
       tells = tells limit max (parse f);
-      up_to9 = up-to-9 limit max f (first_broken f (rules f));
-      as_before = as_before_lem limit max (parse f);
-      refused_alike = refused-alike limit max (parse f);
+      up_to9 = up_to_9 limit max f (first_broken f (rules f));
+      as_before_lem = as_before_lem limit max (parse f);
+      refused_alike = refused_alike_lem limit max (parse f);
       caught = caught limit max (parse f);
     }

@@ -21,10 +21,10 @@ use Rattle.emit_units.specs.Units.{StartsAt}
 use Rattle.emit_units.specs.Fronts.{PutUnits, PutLengths}
 use Rattle.emit_units.proofs.Cuts.{units_some}
 use Rattle.emit_units.proofs.Fitted.{total_texts}
-use Rattle.call_frame.proofs.Pieces.{Some, none_of, some_of, decided-9, decided-first}
-use Rattle.call_frame.proofs.Pieces.{decided-front}
-use Rattle.call_frame.proofs.Settling.{refused-own, refused-10, refused-short, handed_over}
-use Rattle.call_frame.proofs.Settling.{handed-all}
+use Rattle.call_frame.proofs.Pieces.{Some, none_of, some_of, decided_9, decided_first}
+use Rattle.call_frame.proofs.Pieces.{decided_front}
+use Rattle.call_frame.proofs.Settling.{refused_own, refused_10, refused_short, handed_over}
+use Rattle.call_frame.proofs.Settling.{handed_all}
 use Rattle.call_frame.specs.Frame.{numbered, refused_with, too_short}
 use Rattle.call_units.specs.declared.units.Asked.{Asked}
 use Rattle.call_units.specs.declared.units.UnitsAnswer.{UnitsAnswer}
@@ -75,7 +75,7 @@ module _ (asked : Asked) (f text lengths : List ℕ) where
   pub units_9 : units_asked asked (blocks_of f) ≡ []
       → AnswersUnits asked f (UnitsAnswer.Refused 9 0) text lengths text lengths
   unfolding units_answer
-  units_9 e = λ work. refused-own _ (decided-9 made_units fit asks e) work (text ∷ lengths ∷ [])
+  units_9 e = λ work. refused_own _ (decided_9 made_units fit asks e) work (text ∷ lengths ∷ [])
 
   module _ {p : ℕ} (s : StartsAt f asked.limit asked.max asked.first p)
       {text' lengths' : List ℕ} {r : Front}
@@ -116,7 +116,7 @@ module _ (asked : Asked) (f text lengths : List ℕ) where
           ∙ ap (λ (us : List TranslationUnit). map unit_length us
           ++ drop (length (map unit_length us)) lengths) made) in
           ap (λ (rs : List (List ℕ)). refused_with (numbered 10) work rs) kept
-          ∙ refused-short _ _ (decided-first made_units fit asks some nothing) work
+          ∙ refused_short _ _ (decided_first made_units fit asks some nothing) work
           (text ∷ lengths ∷ []) (no_room nothing)
 
       -- some are in the fronts
@@ -132,8 +132,8 @@ module _ (asked : Asked) (f text lengths : List ℕ) where
           ap₂ (λ (c n : ℕ). front_of c n r.end r.last) put.count put.bytes
           ∙ ap₂ (λ (d : ℕ) (l : Bool). front_of (length put.made) (length (texts_of put.made)) d l)
           (put.end ∙ done_any p 0 put.made (omega (arith, put.count))) put.last in
-          handed-all _ _
-          (decided-front made_units fit asks some m.first m.others (put.fits ∙ m.is)
+          handed_all _ _
+          (decided_front made_units fit asks some m.first m.others (put.fits ∙ m.is)
           ∙ ap made_units (sym m.is)) work (text ∷ lengths ∷ []) _ (text' ∷ lengths' ∷ []) values
           (both_false _ _
           (le-ltb (length text) (length (texts_of put.made))
@@ -157,11 +157,11 @@ module _ (asked : Asked) (f lengths : List ℕ) where
   places = fitting (λ (u : TranslationUnit). 0) 0 (length lengths)
 
   -- there is no such unit
-  pub lengths-9 : units_asked asked (blocks_of f) ≡ []
+  pub lengths_9 : units_asked asked (blocks_of f) ≡ []
       → AnswersLengths asked f (LengthsAnswer.Refused 9 0) lengths lengths
   unfolding lengths_answer
-  lengths-9 e = λ work.
-      refused-own _ (decided-9 made_lengths places (units_asked asked (blocks_of f)) e) work
+  lengths_9 e = λ work.
+      refused_own _ (decided_9 made_lengths places (units_asked asked (blocks_of f)) e) work
       (lengths ∷ [])
 
   module _ {p : ℕ} (s : StartsAt f asked.limit asked.max asked.first p)
@@ -170,14 +170,14 @@ module _ (asked : Asked) (f lengths : List ℕ) where
     abbrev from : List TranslationUnit
     from = units_asked asked (blocks_of f)
 
-    some-lengths : Some from
-    some-lengths = some_of from (units_some s)
+    some_lengths : Some from
+    some_lengths = some_of from (units_some s)
 
     -- there is no place
-    pub lengths-10 : r.count ≡ 0
+    pub lengths_10 : r.count ≡ 0
         → AnswersLengths asked f (LengthsAnswer.Refused 10 0) lengths lengths'
     unfolding lengths_answer
-    lengths-10 zero = λ work.
+    lengths_10 zero = λ work.
         let made : put.made ≡ [] = none_of put.made (omega (arith, put.count)) in
         let nothing : places from ≡ [] = put.fits ∙ made in
         let kept : lengths' ≡ lengths =
@@ -185,20 +185,20 @@ module _ (asked : Asked) (f lengths : List ℕ) where
         ∙ ap (λ (us : List TranslationUnit). map unit_length us
         ++ drop (length (map unit_length us)) lengths) made in
         ap (λ (l : List ℕ). refused_with (numbered 10) work (l ∷ [])) kept
-        ∙ refused-10 _ (unit_length some-lengths.first ∷ [])
-        (decided-first made_lengths places from some-lengths nothing) work lengths
+        ∙ refused_10 _ (unit_length some_lengths.first ∷ [])
+        (decided_first made_lengths places from some_lengths nothing) work lengths
         (omega (
           arith,
-          fit_nothing (λ (u : TranslationUnit). 0) 0 (length lengths) some-lengths.first
-              some-lengths.others (ap places (sym some-lengths.is) ∙ nothing) (omega arith),
+          fit_nothing (λ (u : TranslationUnit). 0) 0 (length lengths) some_lengths.first
+              some_lengths.others (ap places (sym some_lengths.is) ∙ nothing) (omega arith),
         ))
 
     -- some are in the front
-    pub lengths-made : 0 < r.count
+    pub lengths_made : 0 < r.count
         → AnswersLengths asked f (LengthsAnswer.Lengths r.count r.end r.last) lengths
         lengths'
     unfolding lengths_answer
-    lengths-made any = λ work.
+    lengths_made any = λ work.
         let m = some_of put.made (λ e. omega (arith, put.count, ap length e)) in
         let values : lengths_of r.count r.end r.last
         ≡ lengths_of (length put.made) (done_with 0 put.made) (ends_file false put.made) =
@@ -206,7 +206,7 @@ module _ (asked : Asked) (f lengths : List ℕ) where
         (put.end ∙ done_any p 0 put.made (omega (arith, put.count)))
         ∙ ap (lengths_of (length put.made) (done_with 0 put.made)) put.last in
         handed_over _ _
-        (decided-front made_lengths places from some-lengths m.first m.others
+        (decided_front made_lengths places from some_lengths m.first m.others
         (put.fits ∙ m.is)
         ∙ ap made_lengths (sym m.is)) work lengths _ lengths' values
         (omega (

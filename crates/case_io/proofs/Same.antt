@@ -25,8 +25,8 @@ module _ (a b : List ℕ) (i : ℕ) (ha : i < length a) (hb : i < length b) wher
   step = rw (add-one, drop-cons a i 0, drop-cons b i 0)
 
   -- different numbers there decide
-  pub place-differs : (get_or a i 0 ≡ get_or b i 0 → ⊥) → false ≡ same_numbers (drop i a) (drop i b)
-  place-differs h = rw (step, ne_eqb _ _ h)
+  pub place_differs : (get_or a i 0 ≡ get_or b i 0 → ⊥) → false ≡ same_numbers (drop i a) (drop i b)
+  place_differs h = rw (step, ne_eqb _ _ h)
 
   -- equal numbers there leave it to what comes after them
   pub place_same : get_or a i 0 ≡ get_or b i 0

@@ -11,11 +11,11 @@ use Rattle.case_pages.specs.PageCases.{one_page, hands_over}
 
 module _ (k : ℕ) (p : Parsed) (work text : List ℕ) {many : Bool} {h : Handed} where
   -- the call for pages
-  pub hands-pages : many ≡ true → h ≡ pages_numbers (pages_call part_limit k p work text)
+  pub hands_pages : many ≡ true → h ≡ pages_numbers (pages_call part_limit k p work text)
       → h ≡ hands_over many k p work text
-  hands-pages several is = rw several is
+  hands_pages several is = rw several is
 
   -- the call for one page
-  pub hands-page : many ≡ false → h ≡ page_numbers (page_call part_limit k p work text)
+  pub hands_page : many ≡ false → h ≡ page_numbers (page_call part_limit k p work text)
       → one_page h ≡ hands_over many k p work text
-  hands-page single is = rw single (ap one_page is)
+  hands_page single is = rw single (ap one_page is)

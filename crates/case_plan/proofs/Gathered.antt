@@ -27,26 +27,26 @@ module _ (a b c : ℕ) (g w r : List ℕ) (long : length g ≡ 3 + (length w + l
   abbrev after : List ℕ
   after = paste stored 3 w (length w)
 
-  stored-length : length stored ≡ 3 + (length w + length r)
-  stored-length = length-sets g 0 (a ∷ b ∷ c ∷ []) ∙ long
+  stored_length : length stored ≡ 3 + (length w + length r)
+  stored_length = length-sets g 0 (a ∷ b ∷ c ∷ []) ∙ long
 
-  stored-front : take 3 stored ≡ a ∷ b ∷ c ∷ []
-  stored-front = ap (take 3) (sets-eq (a ∷ b ∷ c ∷ []) g 0 (omega (arith, long)))
+  stored_front : take 3 stored ≡ a ∷ b ∷ c ∷ []
+  stored_front = ap (take 3) (sets-eq (a ∷ b ∷ c ∷ []) g 0 (omega (arith, long)))
 
-  after-length : length after ≡ 3 + length w + length r
-  after-length =
-      let inside : 3 + length w ≤ length stored = omega (arith, stored-length) in
-      let sum : length stored ≡ 3 + length w + length r = omega (arith, stored-length) in
+  after_length : length after ≡ 3 + length w + length r
+  after_length =
+      let inside : 3 + length w ≤ length stored = omega (arith, stored_length) in
+      let sum : length stored ≡ 3 + length w + length r = omega (arith, stored_length) in
       length-paste stored 3 w (length w) inside (omega arith) ∙ sum
 
   after_front : take (3 + length w) after ≡ a ∷ b ∷ c ∷ w
   after_front =
-      let inside : 3 ≤ length stored = omega (arith, stored-length) in
+      let inside : 3 ≤ length stored = omega (arith, stored_length) in
       take-paste stored 3 w (length w) inside (omega arith)
-      ∙ ap₂ (λ (x y : List ℕ). x ++ y) stored-front (take-length w)
+      ∙ ap₂ (λ (x y : List ℕ). x ++ y) stored_front (take-length w)
 
   pub gathered : paste after (3 + length w) r (length r) ≡ a ∷ b ∷ c ∷ (w ++ r)
-  gathered = ends (a ∷ b ∷ c ∷ w) after r (3 + length w) after_front after-length
+  gathered = ends (a ∷ b ∷ c ∷ w) after r (3 + length w) after_front after_length
 
 -- the numbers of an answer, with those lent after them
 abbrev pub three_and_lent : Handed → List ℕ

@@ -10,11 +10,11 @@ use Rattle.case_reasons.specs.ReasonCases.{one_reason, hands_over}
 
 module _ (k : ℕ) (p : Parsed) (text : List ℕ) {many : Bool} {h : Handed} where
   -- the call for sentences
-  pub hands-reasons : many ≡ true → h ≡ reasons_numbers (reasons_call k p text)
+  pub hands_reasons : many ≡ true → h ≡ reasons_numbers (reasons_call k p text)
       → h ≡ hands_over many k p text
-  hands-reasons several is = rw several is
+  hands_reasons several is = rw several is
 
   -- the call for one sentence
-  pub hands-reason : many ≡ false → h ≡ reason_numbers (reason_call k p text)
+  pub hands_reason : many ≡ false → h ≡ reason_numbers (reason_call k p text)
       → one_reason h ≡ hands_over many k p text
-  hands-reason single is = rw single (ap one_reason is)
+  hands_reason single is = rw single (ap one_reason is)

@@ -20,7 +20,7 @@ use Rattle.lower_units.proofs.Exits.{moved_on}
 use Rattle.claim_meaning.specs.Block.{Carries, in_order, granted, absent, refused}
 use Rattle.claim_meaning.proofs.Carried.{AtRecord}
 use Rattle.claim_ways.specs.Ways.{interpreted}
-use Rattle.claim_functions.specs.Counted.{blockEvents}
+use Rattle.claim_functions.specs.Counted.{block_events}
 use Rattle.claim_functions.proofs.Log.{log}
 use Rattle.claim_functions.proofs.Logged.{FactsFrom, logged}
 
@@ -34,40 +34,40 @@ module _ (multiplier : ℕ) (ks : List ℕ) (b : Block) where
   block_is o h e f = rw (e, f)
 
   -- without code bytes, and where the guard says no, the interpreter is called
-  absent-log : (z : State) → b.addr < 4294967296
+  absent_log : (z : State) → b.addr < 4294967296
       → log (under_guard ks (body_of multiplier b) none) z ≡ interpreted (block_key b) 0 ∷ []
   unfolding under_guard body_of log step exec eval
-  absent-log z h = rw (lt_true h)
+  absent_log z h = rw (lt_true h)
 
-  refused-log : (z : State) (h : ℕ) → b.addr < 4294967296 → eqb (z.answers 0) 0 ≡ true
+  refused_log : (z : State) (h : ℕ) → b.addr < 4294967296 → eqb (z.answers 0) 0 ≡ true
       → log (under_guard ks (body_of multiplier b) (some h)) z ≡ interpreted (block_key b) 0 ∷ []
   unfolding under_guard body_of log run runs step exec asks eval
-  refused-log z h l e = rw (e, lt_true l)
+  refused_log z h l e = rw (e, lt_true l)
 
-  granted-log : (z : State) (h : ℕ) → eqb (z.answers 0) 0 ≡ false
+  granted_log : (z : State) (h : ℕ) → eqb (z.answers 0) 0 ≡ false
       → log (under_guard ks (body_of multiplier b) (some h)) z
       ≡ log (code_from ks (body_of multiplier b) 0 (body_of multiplier b).forms) (answered z)
   unfolding under_guard log run runs step asks
-  granted-log z h e = rw e
+  granted_log z h e = rw e
 
   -- a number that is not 0
-  not-zero : (x : ℕ) → (x ≡ 0 → ⊥) → eqb x 0 ≡ false
-  not-zero x h = go (eqb x 0) refl
+  not_zero : (x : ℕ) → (x ≡ 0 → ⊥) → eqb x 0 ≡ false
+  not_zero x h = go (eqb x 0) refl
     where
       go : (t : Bool) → eqb x 0 ≡ t → t ≡ false
       go true e = absurd (h (eqb-true x 0 e))
       go false e = refl
 
-  pub block-log : (step : ℕ → ℕ → Machine → Machine × ℕ) → FactsFrom ks b b.instrs
+  pub block_log : (step : ℕ → ℕ → Machine → Machine × ℕ) → FactsFrom ks b b.instrs
       → b.addr < 4294967296 → (z : State) (m : Machine) (out : Machine × ℕ) (used : ℕ)
       → AtRecord step 0 z m → (by : Carries step (region b.addr) multiplier b z m out used)
-      → log (block_code ks (body_of multiplier b)) z ≡ blockEvents (block_key b) by
+      → log (block_code ks (body_of multiplier b)) z ≡ block_events (block_key b) by
   unfolding body_of
-  block-log step F l z m out used q (in_order n e s) =
+  block_log step F l z m out used q (in_order n e s) =
       ap (λ c. log c z) (block_is false (hash_of multiplier b) e refl)
       ∙ logged multiplier ks b step s F 0 0 z q
-  block-log step F l z m out used q (granted n h e f g s) =
-      ap (λ c. log c z) (block_is true (some h) e f) ∙ granted-log z h (not-zero (z.answers 0) g)
+  block_log step F l z m out used q (granted n h e f g s) =
+      ap (λ c. log c z) (block_is true (some h) e f) ∙ granted_log z h (not_zero (z.answers 0) g)
       ∙ logged multiplier ks b step s F 0 0 (answered z)
       (record {
         left = record { each = q.left.each };
@@ -75,7 +75,7 @@ module _ (multiplier : ℕ) (ks : List ℕ) (b : Block) where
         sound = q.sound;
         agrees = moved_on q.agrees refl refl;
       })
-  block-log step F l z m out used q (absent e f s) =
-      ap (λ c. log c z) (block_is true none e f) ∙ absent-log z l
-  block-log step F l z m out used q (refused h e f g s) =
-      ap (λ c. log c z) (block_is true (some h) e f) ∙ refused-log z h l (eq-eqb (z.answers 0) 0 g)
+  block_log step F l z m out used q (absent e f s) =
+      ap (λ c. log c z) (block_is true none e f) ∙ absent_log z l
+  block_log step F l z m out used q (refused h e f g s) =
+      ap (λ c. log c z) (block_is true (some h) e f) ∙ refused_log z h l (eq-eqb (z.answers 0) 0 g)

@@ -28,9 +28,9 @@ module _ (ts : List Top) (f : Code) (n : Option ℕ) (c : Code) (ds : List Code)
   inside o p e k i = (x_in, x_in, x_in, x_in)
 
   -- inside a test that has no value
-  pub undefined-test : (o : Owner) (t : Test) (e : Expr) → ask t z ≡ none
+  pub undefined_test : (o : Owner) (t : Test) (e : Expr) → ask t z ≡ none
       → Execution ts f n (ret_if o t e ⨾ c) ds z [] (reach o ∷ []) underway
-  undefined-test o t e h =
+  undefined_test o t e h =
       subst
       (λ q. Execution ts f n (ret_if o t e ⨾ c) ds z (heard o t q).0 (heard o t q).1 underway) h
       x_in
@@ -40,15 +40,15 @@ module _ (ts : List Top) (f : Code) (n : Option ℕ) (c : Code) (ds : List Code)
       → Execution ts f n (when o x t b c) ds z [] (reach o ∷ []) underway
   asking o x t b = x_asking
 
-  pub asking-ret : (o : Owner) (t : Test) (e : Expr)
+  pub asking_ret : (o : Owner) (t : Test) (e : Expr)
       → Execution ts f n (ret_if o t e ⨾ c) ds z [] (reach o ∷ []) underway
-  asking-ret o t e = x_asking_ret
+  asking_ret o t e = x_asking_ret
 
   -- a switch without an entry for the parameter
-  pub no-entry : (i : ℕ) (ks : List ℕ) → get_elem? ks i ≡ none
+  pub no_entry : (i : ℕ) (ks : List ℕ) → get_elem? ks i ≡ none
       → Execution ts f (some i) (switch ks ⨾ c) ds z [] (reach common ∷ [])
       (returned (leave_all ds z) 0)
-  no-entry i ks e = x_default e
+  no_entry i ks e = x_default e
 
 -- 2^32 + 1 as a uint32_t
 pub wraps : parameter 0x1_0000_0001 ≡ some 1

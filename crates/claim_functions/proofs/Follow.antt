@@ -30,8 +30,8 @@ use Rattle.claim_functions.specs.Execution.{x_asking_ret, x_on, x_to, x_back, x_
 use Rattle.claim_functions.specs.Execution.{x_open, x_close, x_call, x_case, x_default}
 use Rattle.claim_functions.proofs.Outcomes.{state_of, goes_of}
 use Rattle.lower_forms.proofs.Body.{not_none}
-use Rattle.claim_functions.specs.Chain.{Reaches, Chain, c-last, c-more}
-use Rattle.claim_functions.specs.Counted.{counted, blockEvents, chainEvents, lastEvents}
+use Rattle.claim_functions.specs.Chain.{Reaches, Chain, c_last, c_more}
+use Rattle.claim_functions.specs.Counted.{counted, block_events, chain_events, last_events}
 use Rattle.claim_functions.proofs.Log.{counts, log, log_then, log_all, append_nil}
 use Rattle.claim_functions.proofs.Log.{counted_told, told_counts, log_on, log_to, log_back}
 use Rattle.claim_functions.proofs.Log.{log_in, log_when, log_else, log_open, log_close}
@@ -172,7 +172,7 @@ module _ (step : ℕ → ℕ → Machine → Machine × ℕ) (multiplier : ℕ) 
     (logs : (b : Block) → Member b
     → (n : ℕ) (z : State) (m : Machine) (out : Machine × ℕ) (used : ℕ) → Ready step n z m
     → (by : Carries (λ i. step (n + i)) (region b.addr) multiplier b z m out used)
-    → log (block_code ks (body_of multiplier b)) z ≡ blockEvents (block_key b) by)
+    → log (block_code ks (body_of multiplier b)) z ≡ block_events (block_key b) by)
     (labels : (k : ℕ) (d : Code) → LabelIn k f d
     → (b : Block) × Member b × (block_key b ≡ k)
     × ((rest : Code) × (d ≡ nl ⨾ (block_code ks (body_of multiplier b) ⧺ rest)))) where
@@ -181,8 +181,8 @@ module _ (step : ℕ → ℕ → Machine → Machine × ℕ) (multiplier : ℕ) 
   Carried n k z m r es =
       (out : Machine × ℕ) × (c : Chain step multiplier Member out n k z m) × Sound out.0
       × Ended r out
-      × ((rest : List Event) × ToCome r rest × (chainEvents c ≡ counted es ++ rest)
-      × ((part : List Event) × (lastEvents c ≡ part ++ rest)))
+      × ((rest : List Event) × ToCome r rest × (chain_events c ≡ counted es ++ rest)
+      × ((part : List Event) × (last_events c ≡ part ++ rest)))
 
   -- a block leads to a key, and ls is counted of it: the execution ends there, or in it, or blocks
   -- are carried out from there on
@@ -191,8 +191,8 @@ module _ (step : ℕ → ℕ → Machine → Machine × ℕ) (multiplier : ℕ) 
       (EndsAt r u mid.1 × ((rest : List Event) × ToCome r rest × (ls ≡ counted es ++ rest)))
       ⊎ ((out : Machine × ℕ) × (c : Chain step multiplier Member out n mid.1 u mid.0)
       × Sound out.0 × Ended r out
-      × ((rest : List Event) × ToCome r rest × (ls ++ chainEvents c ≡ counted es ++ rest)
-      × ((part : List Event) × (lastEvents c ≡ part ++ rest))))
+      × ((rest : List Event) × ToCome r rest × (ls ++ chain_events c ≡ counted es ++ rest)
+      × ((part : List Event) × (last_events c ≡ part ++ rest))))
 
   -- what is known of C standing at the code c, with ds after the braces around it, in a block that
   -- will lead to a key
@@ -240,8 +240,8 @@ module _ (step : ℕ → ℕ → Machine → Machine × ℕ) (multiplier : ℕ) 
         (
           h.4.0,
           h.4.1,
-          ap (λ l. l ++ chainEvents h.1) q
-              ∙ append_assoc ps ls' (chainEvents h.1)
+          ap (λ l. l ++ chain_events h.1) q
+              ∙ append_assoc ps ls' (chain_events h.1)
               ∙ ap (λ l. ps ++ l) h.4.2
               ∙ sym (append_assoc ps (counted es') h.4.0)
               ∙ ap (λ l. l ++ h.4.0) (sym p),
@@ -255,7 +255,7 @@ module _ (step : ℕ → ℕ → Machine → Machine × ℕ) (multiplier : ℕ) 
     runs_so : (u : State) (g : Goes) (k : ℕ) (z : State)
         → run (block_code ks (body_of multiplier b)) z ≡ some (u, g) → destination g ≡ some k
         → run c z ≡ some (u, g)
-    logs-so : (u : State) (g : Goes) (k : ℕ) (z : State)
+    logs_so : (u : State) (g : Goes) (k : ℕ) (z : State)
         → run (block_code ks (body_of multiplier b)) z ≡ some (u, g) → destination g ≡ some k
         → log c z ≡ log (block_code ks (body_of multiplier b)) z
 
@@ -298,7 +298,7 @@ module _ (step : ℕ → ℕ → Machine → Machine × ℕ) (multiplier : ℕ) 
       reached = record { same = l.same; pc = l.pc }
 
       -- what is counted of it
-      mine : log_all c [] z ≡ blockEvents (block_key b) d.by
+      mine : log_all c [] z ≡ block_events (block_key b) d.by
       mine = append_nil (log c z)
           ∙ same.logs-so l.end l.exit d.out.1 z (l.ends end) l.leads
           ∙ logs b i n z m d.out d.used r d.by
@@ -306,18 +306,18 @@ module _ (step : ℕ → ℕ → Machine → Machine × ℕ) (multiplier : ℕ) 
       go : Onward (n + d.used) l.end d.out q (log_all c [] z) es → Carried n k z m q es
       go (inl h) = (
         d.out,
-        c-last b d.used i e d.by,
+        c_last b d.used i e d.by,
         d.sound,
         ended_at q l.end d.out h.0 reached,
         (h.1.0, h.1.1, sym mine ∙ h.1.2, (counted es, sym mine ∙ h.1.2)),
       )
       go (inr h) = (
         h.0,
-        c-more b d.used d.out l.end i e d.by
+        c_more b d.used d.out l.end i e d.by
             d.later reached h.1,
         h.2,
         h.3,
-        (h.4.0, h.4.1, ap (λ l. l ++ chainEvents h.1) (sym mine) ∙ h.4.2, h.4.3),
+        (h.4.0, h.4.1, ap (λ l. l ++ chain_events h.1) (sym mine) ∙ h.4.2, h.4.3),
       )
 
   -- from a label on
@@ -332,7 +332,7 @@ module _ (step : ℕ → ℕ → Machine → Machine × ℕ) (multiplier : ℕ) 
       (subst (Does a.0) (sym a.3.1)
       (record {
         runs_so = λ u g l w. run_leads c a.3.0 w u g l;
-        logs-so = λ u g l w. log_leads c a.3.0 w u g l;
+        logs_so = λ u g l w. log_leads c a.3.0 w u g l;
       }))
       z m r q es follow
 
@@ -415,10 +415,10 @@ module _ (step : ℕ → ℕ → Machine → Machine × ℕ) (multiplier : ℕ) 
       absurd (not_none (sym (left_none ds) ∙ sym (ap (and_then ds) (run_switch ks' c z)) ∙ h.ends))
 
   -- from a label, and from the text of a block
-  pub from-label : {p : Option ℕ} {d : Code} {z : State} {q : Result} {xs : List Bool}
+  pub from_label : {p : Option ℕ} {d : Code} {z : State} {q : Result} {xs : List Bool}
       {es : List Event} → Execution ts f p d [] z xs es q
       → (n k : ℕ) (m : Machine) → LabelIn k f d → Ready step n z m → Carried n k z m q es
-  from-label {d = d} {z = z} {q = q} {es = es} x n k m p r = landed n k d p z m r q es (follow x)
+  from_label {d = d} {z = z} {q = q} {es = es} x n k m p r = landed n k d p z m r q es (follow x)
 
   pub from_block : {p : Option ℕ} {z : State} {q : Result} {xs : List Bool} {es : List Event}
       (b : Block) → Member b
@@ -426,5 +426,5 @@ module _ (step : ℕ → ℕ → Machine → Machine × ℕ) (multiplier : ℕ) 
       → block_key b ≡ k → Ready step n z m → Carried n k z m q es
   from_block {z = z} {q = q} {es = es} b i x n k m e r =
       begun n k b i e (block_code ks (body_of multiplier b))
-      (record { runs_so = λ u g l w e h. e; logs-so = λ u g l w e h. refl }) z m r q es
+      (record { runs_so = λ u g l w e h. e; logs_so = λ u g l w e h. refl }) z m r q es
       (follow x)

@@ -62,9 +62,9 @@ module _ (ts : List Top) (f : Code) (n : Option ℕ) where
       → Lands rest ds u g xs es r → From (c ⧺ rest) ds z (log c z) es r
 
   -- the parts of what is counted
-  on-part : {es : List Event} (ps ls ms fs : List Event) → es ≡ ps ++ fs → fs ≡ ls ++ ms
+  on_part : {es : List Event} (ps ls ms fs : List Event) → es ≡ ps ++ fs → fs ≡ ls ++ ms
       → es ≡ (ps ++ ls) ++ ms
-  on-part ps ls ms fs e h = e ∙ ap (λ l. ps ++ l) h ∙ sym (append_assoc ps ls ms)
+  on_part ps ls ms fs e h = e ∙ ap (λ l. ps ++ l) h ∙ sym (append_assoc ps ls ms)
 
   no_part : {es : List Event} (ps ms : List Event) → es ≡ ps ++ ms → es ≡ (ps ++ []) ++ ms
   no_part ps ms e = e ∙ ap (λ l. l ++ ms) (sym (append_nil ps))
@@ -79,7 +79,7 @@ module _ (ts : List Top) (f : Code) (n : Option ℕ) where
   simple s c h rest ds z u g xs es r x (some (w, on)) p e =
       let a = h rest ds w u g e xs es r x in
       let b = through s (c ⧺ rest) ds z w on a.0 a.1 r p a.3 in
-      (b.0, b.1, on-part (counts s) (log c w) (counted es) (counted a.1) b.2 a.2, b.3)
+      (b.0, b.1, on_part (counts s) (log c w) (counted es) (counted a.1) b.2 a.2, b.3)
   simple s c h rest ds z u g xs es r x (some (w, to l)) p e =
       let b =
       through s (c ⧺ rest) ds z w (to l) xs es r p
@@ -120,7 +120,7 @@ module _ (ts : List Top) (f : Code) (n : Option ℕ) where
           (h end ((c ⧺ rest) ∷ ds) z w on p a.0 a.1 r (x_close a.3)) in (
             d.0,
             d.1,
-            on-part (log b z) (log c (leave w)) (counted es) (counted a.1) d.2
+            on_part (log b z) (log c (leave w)) (counted es) (counted a.1) d.2
                 a.2,
             d.3,
           )

@@ -25,7 +25,7 @@ use Rattle.lower_forms.specs.Block.{body_of}
 use Rattle.lower_units.specs.Block.{nl, sp, block_code}
 use Rattle.lower_units.specs.Units.{with_locals}
 use Rattle.lower_units.specs.Text.{Leaves, destination}
-use Rattle.claim_meaning.specs.Block.{Interprets, is_covered, CarriedOut, byManual, byInterpreter}
+use Rattle.claim_meaning.specs.Block.{Interprets, is_covered, CarriedOut, by_manual, by_interpreter}
 use Rattle.claim_meaning.specs.Block.{Sequence, last, pair, more, Carries, in_order, granted, absent}
 use Rattle.claim_meaning.specs.Block.{refused, BlockLeaves, BlockMeans}
 use Rattle.claim_ways.specs.Ways.{Event, reach, said, native_start, interpreted}
@@ -33,10 +33,10 @@ use Rattle.claim_ways.specs.Claim.{carried}
 use Rattle.claim_functions.specs.Execution.{underway, returned, LabelIn, act, told, at_start}
 use Rattle.claim_functions.specs.Execution.{parameter}
 use Rattle.claim_functions.specs.Execution.{Execution, x_stop, x_on, x_call, x_case}
-use Rattle.claim_functions.specs.Counted.{counted, recordEvent, sequenceEvents, blockEvents}
+use Rattle.claim_functions.specs.Counted.{counted, record_event, sequence_events, block_events}
 use Rattle.lower_forms.proofs.Body.{not_none}
 use Rattle.claim_functions.proofs.Log.{log}
-use Rattle.claim_functions.proofs.Gotos.{in_block, run-to-inside}
+use Rattle.claim_functions.proofs.Gotos.{in_block, run_to_inside}
 use Rattle.claim_functions.proofs.Forward.{executed}
 use Rattle.claim_functions.proofs.Follow.{Ready, add_assoc₃}
 
@@ -59,21 +59,21 @@ carried_counted (interpreted k i ∷ es) = omega (arith, carried_counted es)
 -- a block carries out one at least
 record_one : {step : ℕ → ℕ → Machine → Machine × ℕ} {region : ℕ} {x : TimedInstr} {m : Machine}
     {next : Machine × ℕ} {before after : ℕ} (k i : ℕ) (fs : List Event)
-    (by : CarriedOut step region x m next before after) → 1 ≤ carried (recordEvent k i by ∷ fs)
-record_one k i fs (byManual n e f) = omega arith
-record_one k i fs (byInterpreter n e f) = omega arith
+    (by : CarriedOut step region x m next before after) → 1 ≤ carried (record_event k i by ∷ fs)
+record_one k i fs (by_manual n e f) = omega arith
+record_one k i fs (by_interpreter n e f) = omega arith
 
 sequence_one : {step : ℕ → ℕ → Machine → Machine × ℕ} {region before after : ℕ}
     {xs : List TimedInstr} {m : Machine} {out : Machine × ℕ} (k i : ℕ)
-    (s : Sequence step region before after xs m out) → 1 ≤ carried (sequenceEvents k i s)
+    (s : Sequence step region before after xs m out) → 1 ≤ carried (sequence_events k i s)
 sequence_one k i (last a b x xs m next alone by ends) = record_one k i [] by
 sequence_one k i (pair n x y xs target ret m half next e f g) = omega arith
 sequence_one k i (more a b c x xs m next out alone by stays e s) =
-    record_one k i (sequenceEvents k (i + 1) s) by
+    record_one k i (sequence_events k (i + 1) s) by
 
 block_one : {step : ℕ → ℕ → Machine → Machine × ℕ} {region multiplier : ℕ} {b : Block} {z : State}
     {m : Machine} {out : Machine × ℕ} {used : ℕ} (k : ℕ)
-    (by : Carries step region multiplier b z m out used) → 1 ≤ carried (blockEvents k by)
+    (by : Carries step region multiplier b z m out used) → 1 ≤ carried (block_events k by)
 block_one k (in_order n e s) = sequence_one k 0 s
 block_one k (granted n h e f g s) = sequence_one k 0 s
 block_one k (absent e f s) = omega arith
@@ -140,7 +140,7 @@ module _ (step : ℕ → ℕ → Machine → Machine × ℕ) (multiplier : ℕ) 
     (logs : (b : Block) → Member b
     → (n : ℕ) (z : State) (m : Machine) (out : Machine × ℕ) (used : ℕ) → Ready step n z m
     → (by : Carries (λ i. step (n + i)) (region b.addr) multiplier b z m out used)
-    → log (block_code ks (body_of multiplier b)) z ≡ blockEvents (block_key b) by)
+    → log (block_code ks (body_of multiplier b)) z ≡ block_events (block_key b) by)
     (labels : (k : ℕ) → T (among k ks)
     → (b : Block) × Member b
     × ((rest : Code) × LabelIn k f (nl ⨾ (block_code ks (body_of multiplier b) ⧺ rest)))) where
@@ -177,10 +177,10 @@ module _ (step : ℕ → ℕ → Machine → Machine × ℕ) (multiplier : ℕ) 
           → suc n ≤ carried es
       one es fs e h =
           let by = logs b i calls z m d.out d.used r d.by in
-          let sum : carried es ≡ carried (blockEvents (block_key b) d.by) + carried fs
+          let sum : carried es ≡ carried (block_events (block_key b) d.by) + carried fs
           = sym (carried_counted es) ∙ ap carried (e ∙ ap (λ l. l ++ counted fs) by)
-          ∙ carried_append (blockEvents (block_key b) d.by) (counted fs)
-          ∙ ap (λ k. carried (blockEvents (block_key b) d.by) + k) (carried_counted fs) in
+          ∙ carried_append (block_events (block_key b) d.by) (counted fs)
+          ∙ ap (λ k. carried (block_events (block_key b) d.by) + k) (carried_counted fs) in
           omega (arith, sum, block_one (block_key b) d.by)
 
       go : (g : Goes) → run (block_code ks (body_of multiplier b)) z ≡ some (l.end, g)
@@ -199,7 +199,7 @@ module _ (step : ℕ → ℕ → Machine → Machine × ℕ) (multiplier : ℕ) 
           t : (b : Block) × Member b
               × ((rest : Code) × LabelIn k f (nl ⨾ (block_code ks (body_of multiplier b) ⧺ rest)))
           t = labels k
-              (run-to-inside ks (block_code ks (body_of multiplier b))
+              (run_to_inside ks (block_code ks (body_of multiplier b))
               (in_block ks (body_of multiplier b)) z l.end k e)
 
           at : Code

@@ -7,7 +7,7 @@ use Rattle.c_tree.specs.Stmt.{Simple, label, Code, end, ◌⨾◌, when, braces,
 use Rattle.lower_forms.specs.Forms.{Body}
 use Rattle.lower_units.specs.Block.{body_key, nl, block_code}
 use Rattle.lower_units.specs.Units.{with_locals, labelled, group_code}
-use Rattle.claim_ways.proofs.Bare.{NoLabel, Bare, bare-block}
+use Rattle.claim_ways.proofs.Bare.{NoLabel, Bare, bare_block}
 use Rattle.claim_functions.specs.Execution.{LabelIn, l_here, l_later, l_when, l_braces}
 
 -- at a statement: it is the label, or the label stands after it
@@ -86,7 +86,7 @@ in_labelled {k} ks (b ∷ bs) {d} p = go (λ q. in_labelled ks bs q) (at_simple 
       (nl ⨾ labelled ks bs, sym e.1),
     )
     go f (inr q) =
-        more (f (past_simple tt (past_bare (block_code ks b) (bare-block ks b) (past_simple tt q))))
+        more (f (past_simple tt (past_bare (block_code ks b) (bare_block ks b) (past_simple tt q))))
 
 -- in the function of a group
 pub in_group_code : {k : ℕ} (bs : List Body) {d : Code} → LabelIn k (group_code bs) d
@@ -98,7 +98,7 @@ in_group_code bs p =
 
 -- in the function of a lone block there is none
 pub none_in_lone : {k : ℕ} (b : Body) {d : Code} → LabelIn k (with_locals (block_code [] b)) d → ⊥
-none_in_lone b p = none_in (block_code [] b) (bare-block [] b) (past_locals (block_code [] b) p)
+none_in_lone b p = none_in (block_code [] b) (bare_block [] b) (past_locals (block_code [] b) p)
 
 -- after other code
 pub after_code_lem : {k : ℕ} (c : Code) {d e : Code} → LabelIn k d e → LabelIn k (c ⧺ d) e

@@ -28,26 +28,26 @@ use Rattle.lower_forms.specs.Forms.{is_native}
 use Rattle.lower_forms.specs.Forms.{Native, Form, records_in, Body}
 use Rattle.lower_forms.specs.Block.{flush_ticks, pc_line, emit_shell, emit_pair, emit_instr, emit_instrs}
 use Rattle.lower_forms.specs.Block.{body_of}
-use Rattle.lower_forms.proofs.Steps.{with-scopes}
+use Rattle.lower_forms.proofs.Steps.{with_scopes}
 use Rattle.lower_forms.proofs.RecordCount.{record_count, instr_count_lem}
 use Rattle.lower_units.specs.Block.{body_key, nl, sp, native_text, shell_code, code_from}
 use Rattle.lower_units.specs.Text.{Leaves, Acts, continues, leaves}
 use Rattle.lower_units.specs.Records.{is_taken, RecordMeans, PairMeans}
 use Rattle.claim_meaning.specs.Block.{ActsAsStep, is_native_record, is_covered}
 use Rattle.claim_meaning.specs.Block.{Alone, leaves_by, Ends, final, away, transfers, CarriedOut}
-use Rattle.claim_meaning.specs.Block.{byManual, byInterpreter, Sequence, last, pair, more}
+use Rattle.claim_meaning.specs.Block.{by_manual, by_interpreter, Sequence, last, pair, more}
 use Rattle.claim_meaning.proofs.Shells.{Emitted, as_native, as_shell, emitted, some_form}
 use Rattle.claim_meaning.proofs.Shells.{after_address, GoesOn, goes_on}
 use Rattle.claim_meaning.proofs.Quiet.{native_quiet}
 use Rattle.claim_meaning.proofs.Covered.{Said, covered_native}
-use Rattle.claim_meaning.proofs.Carried.{AtRecord, left-now, left-later, stepped}
+use Rattle.claim_meaning.proofs.Carried.{AtRecord, left_now, left_later, stepped}
 use Rattle.claim_ways.specs.Ways.{Event, native_start, interpreted}
 use Rattle.claim_functions.specs.Execution.{act}
-use Rattle.claim_functions.specs.Counted.{recordEvent, sequenceEvents}
+use Rattle.claim_functions.specs.Counted.{record_event, sequence_events}
 use Rattle.claim_functions.proofs.Log.{led_on, log, log_append, silent_log, silent_on}
-use Rattle.claim_functions.proofs.Texts.{native-goes, native-leaves, lines_log, closing_log}
+use Rattle.claim_functions.proofs.Texts.{native_goes, native_leaves, lines_log, closing_log}
 use Rattle.lower_units.proofs.Thumbs.{neither}
-use Rattle.claim_meaning.proofs.Carried.{fall, fall-lt, own-set, ready_after}
+use Rattle.claim_meaning.proofs.Carried.{fall, fall_lt, own_set_lem, ready_after}
 
 -- what is known of a record of a block
 pub record Facts (ks : List ℕ) (b : Block) (x : TimedInstr) : Type 0 where
@@ -135,7 +135,7 @@ module _ (multiplier : ℕ) (ks : List ℕ) (b : Block) (step : ℕ → ℕ → 
       × (log (code_from ks body i (f ∷ fs)) z ≡ e ∷ [])
 
   module _ (x : TimedInstr) (k : Facts ks b x) where
-    native-one : (i cycles : ℕ) (r : Native) (fs : List Form)
+    native_one : (i cycles : ℕ) (r : Native) (fs : List Form)
         → (emit_instr b.thumb (region b.addr) cycles x).0 ≡ Form.native r
         → is_native_record (region b.addr) x ≡ true
         → (n : ℕ) (z : State) (m : Machine) → AtRecord step n z m → (next : Machine × ℕ)
@@ -143,8 +143,8 @@ module _ (multiplier : ℕ) (ks : List ℕ) (b : Block) (step : ℕ → ℕ → 
         → One x m next n (native_start (body_key body) i 1) i (Form.native r) fs z
         ⊎ Only x m next (native_start (body_key body) i 1) i (Form.native r) fs z
     unfolding body_of code_from log Rattle.c_meaning.specs.Exec.step
-    native-one i cycles r fs e natively n z m q next x' =
-        go (k.means.acts cycles r (own-set b x k.set cycles ∙ e) owner z m q.sound
+    native_one i cycles r fs e natively n z m q next x' =
+        go (k.means.acts cycles r (own_set_lem b x k.set cycles ∙ e) owner z m q.sound
         q.agrees
         (neither _ (passed x.instr.cond m) _ said.condition said.same) next x')
       where
@@ -170,7 +170,7 @@ module _ (multiplier : ℕ) (ks : List ℕ) (b : Block) (step : ℕ → ℕ → 
               rw natively t,
               to-next,
               ap (λ l. native_start (body_key body) i (records_in r) ∷ l)
-                  (native-goes ks b.addr owner r z next.0 c
+                  (native_goes ks b.addr owner r z next.0 c
                   (code_from ks body (i + records_in r) fs))
                   ∙ ap (λ (j : ℕ). native_start (body_key body) i j
                   ∷ log (code_from ks body (i + j) fs) c.end) one,
@@ -180,7 +180,7 @@ module _ (multiplier : ℕ) (ks : List ℕ) (b : Block) (step : ℕ → ℕ → 
               λ r rs e s p. let y : leaves_by (region b.addr) x m ≡ true =
                   rw natively t in true≢false (sym y ∙ s),
               ap (λ l. native_start (body_key body) i (records_in r) ∷ l)
-                  (native-leaves ks b.addr owner r z next l
+                  (native_leaves ks b.addr owner r z next l
                   (code_from ks body (i + records_in r) fs))
                   ∙ ap (λ (j : ℕ). native_start (body_key body) i j ∷ []) one,
             )
@@ -192,8 +192,8 @@ module _ (multiplier : ℕ) (ks : List ℕ) (b : Block) (step : ℕ → ℕ → 
       abbrev at : State
       at = set_c 15 x.instr.addr z
 
-      abbrev by-step : ActsAsStep (step n) at m
-      by-step = stepped x.instr.addr z m (left-now q.left) q.sound q.agrees
+      abbrev by_step : ActsAsStep (step n) at m
+      by_step = stepped x.instr.addr z m (left_now q.left) q.sound q.agrees
 
       -- the last record of the block
       last_one : log (code_from ks body i (emit_shell b.thumb high cycles x.instr ∷ [])) z
@@ -204,13 +204,13 @@ module _ (multiplier : ℕ) (ks : List ℕ) (b : Block) (step : ℕ → ℕ → 
           (after_address cycles x.instr.addr end z k.below)
 
       -- another
-      shell-one : (r : Form) (rs : List Form)
+      shell_one : (r : Form) (rs : List Form)
           → One x m (step n x.instr.addr m) (suc n) (interpreted (body_key body) i) i
           (emit_shell b.thumb high cycles x.instr) (r ∷ rs) z
           ⊎ Only x m (step n x.instr.addr m) (interpreted (body_key body) i) i
           (emit_shell b.thumb high cycles x.instr) (r ∷ rs) z
       unfolding code_from run runs
-      shell-one r rs = go (eqb (interp_answer at) (fall_through b.thumb x.instr)) refl
+      shell_one r rs = go (eqb (interp_answer at) (fall_through b.thumb x.instr)) refl
         where
           g : GoesOn at
           g = goes_on at q.declares
@@ -231,7 +231,7 @@ module _ (multiplier : ℕ) (ks : List ℕ) (b : Block) (step : ℕ → ℕ → 
               (after_address cycles x.instr.addr end z k.below)
               ∙ shell_log body i (fall_through b.thumb x.instr) fs at
               ∙ ap (λ o. interpreted (body_key body) i ∷ led_on o (log fs))
-              (g.goes body i (fall_through b.thumb x.instr) end (fall-lt b x)
+              (g.goes body i (fall_through b.thumb x.instr) end (fall_lt b x)
               ∙ ap (λ t. cond t (some (after, on)) (some (after, back (interp_answer at)))) e)
 
           stays : leaves_by (region b.addr) x m ≡ false
@@ -246,19 +246,19 @@ module _ (multiplier : ℕ) (ks : List ℕ) (b : Block) (step : ℕ → ℕ → 
               inl (
                 after,
                 record {
-                  left = left-later q.left refl;
+                  left = left_later q.left refl;
                   declares = g.declares;
-                  sound = by-step.sound;
-                  agrees = with-scopes by-step.same g.scopes;
+                  sound = by_step.sound;
+                  agrees = with_scopes by_step.same g.scopes;
                 },
                 stays,
-                sym by-step.answers ∙ eqb-true _ _ e ∙ fall b x k.set k.aligned,
+                sym by_step.answers ∙ eqb-true _ _ e ∙ fall b x k.set k.aligned,
                 logs true e,
               )
           go false e =
               inr (
                 λ s ss p l f. eqb-false _ _ e
-                    (by-step.answers ∙ f ∙ sym (fall b x k.set k.aligned)),
+                    (by_step.answers ∙ f ∙ sym (fall b x k.set k.aligned)),
                 logs false e,
               )
 
@@ -266,11 +266,11 @@ module _ (multiplier : ℕ) (ks : List ℕ) (b : Block) (step : ℕ → ℕ → 
     one : (i cycles : ℕ) (fs : List Form) (n after : ℕ) (z : State) (m : Machine)
         (next : Machine × ℕ) (by : CarriedOut step (region b.addr) x m next n after)
         → AtRecord step n z m
-        → One x m next after (recordEvent (body_key body) i by) i
+        → One x m next after (record_event (body_key body) i by) i
         (emit_instr b.thumb (region b.addr) cycles x).0 fs z
-        ⊎ Only x m next (recordEvent (body_key body) i by) i
+        ⊎ Only x m next (record_event (body_key body) i by) i
         (emit_instr b.thumb (region b.addr) cycles x).0 fs z
-    one i cycles fs n after z m next (byManual n' natively x') q =
+    one i cycles fs n after z m next (by_manual n' natively x') q =
         go (emitted b.thumb (region b.addr) cycles x) refl refl
       where
         go : {f : Form} {t : Bool} → Emitted b.thumb cycles x.instr f t
@@ -278,10 +278,10 @@ module _ (multiplier : ℕ) (ks : List ℕ) (b : Block) (step : ℕ → ℕ → 
             → is_native (emit_instr b.thumb (region b.addr) 0 x).0 ≡ t
             → One x m next n (native_start (body_key body) i 1) i f fs z
             ⊎ Only x m next (native_start (body_key body) i 1) i f fs z
-        go (as_native r) e t = native-one i cycles r fs e natively n z m q next x'
+        go (as_native r) e t = native_one i cycles r fs e natively n z m q next x'
         go (as_shell high) e t =
-            absurd (true≢false (sym natively ∙ ap is_native (own-set b x k.set 0) ∙ t))
-    one i cycles fs n after z m next (byInterpreter n' not-native made) q =
+            absurd (true≢false (sym natively ∙ ap is_native (own_set_lem b x k.set 0) ∙ t))
+    one i cycles fs n after z m next (by_interpreter n' not-native made) q =
         go (emitted b.thumb (region b.addr) cycles x) refl fs
       where
         go : {f : Form} {t : Bool} → Emitted b.thumb cycles x.instr f t
@@ -289,7 +289,7 @@ module _ (multiplier : ℕ) (ks : List ℕ) (b : Block) (step : ℕ → ℕ → 
             → One x m next (suc n) (interpreted (body_key body) i) i f fs z
             ⊎ Only x m next (interpreted (body_key body) i) i f fs z
         go (as_native r) t fs =
-            absurd (true≢false (sym t ∙ sym (ap is_native (own-set b x k.set 0)) ∙ not-native))
+            absurd (true≢false (sym t ∙ sym (ap is_native (own_set_lem b x k.set 0)) ∙ not-native))
         go (as_shell high) t [] =
             inr (
               λ r rs e s p. (let y : ◌≡◌ {A = ℕ} 0 1 = cc in omega arith),
@@ -302,34 +302,34 @@ module _ (multiplier : ℕ) (ks : List ℕ) (b : Block) (step : ℕ → ℕ → 
             (emit_shell b.thumb high cycles x.instr) (r ∷ rs) z
             ⊎ Only x m next (interpreted (body_key body) i) i
             (emit_shell b.thumb high cycles x.instr) (r ∷ rs) z)
-            made (shell-one not-native high i cycles n z m q r rs)
+            made (shell_one not-native high i cycles n z m q r rs)
 
   -- a fused pair
-  pair-log : (i c target ret : ℕ) (z : State) (next : Machine × ℕ) (fs : List Form)
+  pair_log : (i c target ret : ℕ) (z : State) (next : Machine × ℕ) (fs : List Form)
       → Leaves (native_text ks b.addr (Owner.native_of (body_key body)) (emit_pair c target ret)) z
       next
       → log (code_from ks body i (Form.native (emit_pair c target ret) ∷ fs)) z
       ≡ native_start (body_key body) i 2 ∷ []
   unfolding body_of code_from log Rattle.c_meaning.specs.Exec.step
-  pair-log i c target ret z next fs l =
+  pair_log i c target ret z next fs l =
       ap (λ l. native_start (body_key body) i 2 ∷ l)
-      (native-leaves ks b.addr (Owner.native_of (body_key body)) (emit_pair c target ret) z next
+      (native_leaves ks b.addr (Owner.native_of (body_key body)) (emit_pair c target ret) z next
       l (code_from ks body (i + 2) fs))
 
   -- a sequence has a record
-  some-record : {before after : ℕ} {xs : List TimedInstr} {m : Machine} {out : Machine × ℕ}
+  some_record : {before after : ℕ} {xs : List TimedInstr} {m : Machine} {out : Machine × ℕ}
       → Sequence step (region b.addr) before after xs m out
       → (y : TimedInstr) × (ys : List TimedInstr) × (xs ≡ y ∷ ys)
-  some-record (last i j x xs m next alone by ends) = (x, xs, refl)
-  some-record (pair n x y xs target ret m half next e f g) = (x, y ∷ xs, refl)
-  some-record (more i j k x xs m next out alone by stays e s) = (x, xs, refl)
+  some_record (last i j x xs m next alone by ends) = (x, xs, refl)
+  some_record (pair n x y xs target ret m half next e f g) = (x, y ∷ xs, refl)
+  some_record (more i j k x xs m next out alone by stays e s) = (x, xs, refl)
 
   -- records_in one after the other
   pub logged : {before after : ℕ} {xs : List TimedInstr} {m : Machine} {out : Machine × ℕ}
       (s : Sequence step (region b.addr) before after xs m out) → FactsFrom ks b xs
       → (i cycles : ℕ) (z : State) → AtRecord step before z m
       → log (code_from ks body i (emit_instrs b.thumb (region b.addr) cycles xs).0) z
-      ≡ sequenceEvents (body_key body) i s
+      ≡ sequence_events (body_key body) i s
   unfolding code_from
   logged (last before after x xs m next alone by ends) F i cycles z q =
       ap (λ fs. log (code_from ks body i fs) z)
@@ -350,21 +350,21 @@ module _ (multiplier : ℕ) (ks : List ℕ) (b : Block) (step : ℕ → ℕ → 
       nothing-after w stays p (away h) = absurd (h p)
       nothing-after w stays p (transfers t) = absurd (true≢false (sym t ∙ stays))
 
-      go : One x m next after (recordEvent (body_key body) i by) i
+      go : One x m next after (record_event (body_key body) i by) i
           (emit_instr b.thumb (region b.addr) cycles x).0 fs z
-          ⊎ Only x m next (recordEvent (body_key body) i by) i
+          ⊎ Only x m next (record_event (body_key body) i by) i
           (emit_instr b.thumb (region b.addr) cycles x).0 fs z
           → log (code_from ks body i ((emit_instr b.thumb (region b.addr) cycles x).0 ∷ fs)) z
-          ≡ recordEvent (body_key body) i by ∷ []
+          ≡ record_event (body_key body) i by ∷ []
       go (inl r) = r.4
-          ∙ ap (λ l. recordEvent (body_key body) i by ∷ l) (nothing-after r.0 r.2 r.3 ends)
+          ∙ ap (λ l. record_event (body_key body) i by ∷ l) (nothing-after r.0 r.2 r.3 ends)
       go (inr r) = r.1
   logged (pair n x y xs target ret m half next e f g) F i cycles z q =
       let c : ℕ = cycles + (x.cost + y.cost) in
       let o : Owner = Owner.native_of (body_key body) in
       ap (λ fs. log (code_from ks body i fs) z)
       (forms_pair b.thumb (region b.addr) cycles x y xs target ret e)
-      ∙ pair-log i c target ret z next (emit_instrs b.thumb (region b.addr) 0 xs).0
+      ∙ pair_log i c target ret z next (emit_instrs b.thumb (region b.addr) 0 xs).0
       (F.pairs [] xs x y refl target ret e c o z m q.sound q.agrees half next f g)
   logged (more before mid after x xs m next out alone by stays e s) F i cycles z q =
       ap (λ fs. log (code_from ks body i fs) z)
@@ -380,19 +380,19 @@ module _ (multiplier : ℕ) (ks : List ℕ) (b : Block) (step : ℕ → ℕ → 
 
       a-form : (r : Form) × (rs : List Form) × (fs ≡ r ∷ rs)
       a-form =
-          let a = some-record s in
+          let a = some_record s in
           let c : ℕ = (emit_instr b.thumb (region b.addr) cycles x).1 in
           let f = some_form b.thumb (region b.addr) c a.0 a.1 in
           (f.0, f.1, ap (λ ys. (emit_instrs b.thumb (region b.addr) c ys).0) a.2 ∙ f.2)
 
       go : ((w : State) → AtRecord step mid w next.0
-          → log (code_from ks body (i + 1) fs) w ≡ sequenceEvents (body_key body) (i + 1) s)
-          → One x m next mid (recordEvent (body_key body) i by) i
+          → log (code_from ks body (i + 1) fs) w ≡ sequence_events (body_key body) (i + 1) s)
+          → One x m next mid (record_event (body_key body) i by) i
           (emit_instr b.thumb (region b.addr) cycles x).0 fs z
-          ⊎ Only x m next (recordEvent (body_key body) i by) i
+          ⊎ Only x m next (record_event (body_key body) i by) i
           (emit_instr b.thumb (region b.addr) cycles x).0 fs z
           → log (code_from ks body i ((emit_instr b.thumb (region b.addr) cycles x).0 ∷ fs)) z
-          ≡ recordEvent (body_key body) i by ∷ sequenceEvents (body_key body) (i + 1) s
+          ≡ record_event (body_key body) i by ∷ sequence_events (body_key body) (i + 1) s
       go follow (inl r) =
-          r.4 ∙ ap (λ l. recordEvent (body_key body) i by ∷ l) (follow r.0 r.1)
+          r.4 ∙ ap (λ l. record_event (body_key body) i by ∷ l) (follow r.0 r.1)
       go follow (inr r) = absurd (r.0 a-form.0 a-form.1 a-form.2 stays e)

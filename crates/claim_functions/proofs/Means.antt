@@ -15,9 +15,9 @@ use Rattle.file_blocks.specs.Address.{region}
 use Rattle.base_lists.specs.Lists.{among as isAmong}
 use Rattle.file_blocks.proofs.Nowhere.{nowhere}
 use Rattle.plan_groups.specs.Plan.{groups}
-use Rattle.file_blocks.proofs.Accepted.{few-blocks, length-of}
-use Rattle.plan_groups.proofs.PlanLength.{groups-length}
-use Rattle.plan_groups.proofs.GroupLaws.{groups-once, group-inside, group-same}
+use Rattle.file_blocks.proofs.Accepted.{few_blocks, length_of_lem}
+use Rattle.plan_groups.proofs.PlanLength.{groups_length}
+use Rattle.plan_groups.proofs.GroupLaws.{groups_once, group_inside, group_same}
 use Rattle.base_lists.proofs.Places.{map_at, found_at}
 use Rattle.c_tree.specs.Stmt.{Code, end, ◌⨾◌, ◌⧺◌, block, group, Top, function}
 use Rattle.c_meaning.specs.State.{State}
@@ -33,12 +33,12 @@ use Rattle.claim_meaning.specs.Block.{Interprets, is_covered, Carries, in_order,
 use Rattle.claim_meaning.specs.Block.{refused, BlockMeans}
 use Rattle.claim_meaning.specs.Meaning.{MeaningOf}
 use Rattle.claim_meaning.proofs.Meaning.{meaning_of}
-use Rattle.file_blocks.proofs.Ranges.{accepted-consecutive, accepted-some, accepted-end}
-use Rattle.file_blocks.proofs.Ranges.{accepted-aligned}
+use Rattle.file_blocks.proofs.Ranges.{accepted_consecutive, accepted_some, accepted_end}
+use Rattle.file_blocks.proofs.Ranges.{accepted_aligned}
 use Rattle.claim_meaning.proofs.Blocks.{placed, start_below}
 use Rattle.claim_meaning.proofs.Carried.{left_all}
 use Rattle.claim_ways.specs.Ways.{LabelAt, Event}
-use Rattle.claim_ways.specs.Claim.{allUnits}
+use Rattle.claim_ways.specs.Claim.{all_units}
 use Rattle.claim_ways.proofs.Functions.{Own, head_foreign, end_foreign, InGroup, from_cut, Alone}
 use Rattle.claim_ways.proofs.Members.{File, bodies, key_of, member_of, same_place}
 use Rattle.claim_functions.specs.Execution.{Result, underway, returned, LabelIn, at_start}
@@ -46,8 +46,8 @@ use Rattle.claim_functions.specs.Execution.{parameter, Executes}
 use Rattle.claim_functions.specs.Labels.{LabelsPlain}
 use Rattle.claim_functions.proofs.Plain.{Distinct, plain_group, none_lone, none_forwarder}
 use Rattle.claim_functions.proofs.Plain.{once_group, group_distinct, keys_distinct}
-use Rattle.claim_functions.specs.Chain.{SameGroup, Chain, c-last, c-more}
-use Rattle.claim_functions.specs.Counted.{counted, blockEvents, chainEvents, lastEvents}
+use Rattle.claim_functions.specs.Chain.{SameGroup, Chain, c_last, c_more}
+use Rattle.claim_functions.specs.Counted.{counted, block_events, chain_events, last_events}
 use Rattle.claim_functions.specs.Means.{ExecutionMeans, ExecutionBegins, ExecutionGetsOn}
 use Rattle.claim_functions.specs.Determined.{ExecutionDetermined}
 use Rattle.claim_functions.proofs.Ways.{label_at}
@@ -55,12 +55,12 @@ use Rattle.claim_functions.proofs.Determined.{alike}
 use Rattle.claim_functions.proofs.Gotos.{among_key}
 use Rattle.claim_functions.proofs.GetsOn.{Gets, gets, gets_gap, gets_head, gets_case}
 use Rattle.claim_functions.proofs.GetsOn.{gets_forwarder}
-use Rattle.claim_functions.proofs.Pieces.{whole-none, whole-cut}
-use Rattle.claim_functions.proofs.Claim.{in-units}
+use Rattle.claim_functions.proofs.Pieces.{whole_none, whole_cut}
+use Rattle.claim_functions.proofs.Claim.{in_units}
 use Rattle.claim_functions.proofs.Log.{log, append_nil}
 use Rattle.claim_functions.proofs.Logged.{FactsFrom}
-use Rattle.claim_functions.proofs.BlockLog.{block-log}
-use Rattle.claim_functions.proofs.Follow.{Ready, Ended, ToCome, from-label, from_block}
+use Rattle.claim_functions.proofs.BlockLog.{block_log}
+use Rattle.claim_functions.proofs.Follow.{Ready, Ended, ToCome, from_label, from_block}
 use Rattle.claim_functions.proofs.Labels.{in_group_code, none_in_lone, to_label}
 use Rattle.claim_functions.proofs.Entering.{Early, From, in_function, past_gap, past_head}
 use Rattle.claim_functions.proofs.Entering.{past_forwarder, past_switch}
@@ -87,7 +87,7 @@ carries_as : {step : ℕ → ℕ → Machine → Machine × ℕ} {region multipl
     {m : Machine} {out : Machine × ℕ} {used : ℕ} (k : ℕ) (z : State)
     → y.answers 0 ≡ z.answers 0 → (by : Carries step region multiplier b y m out used)
     → (same : Carries step region multiplier b z m out used)
-    × (blockEvents k same ≡ blockEvents k by)
+    × (block_events k same ≡ block_events k by)
 carries_as k z p (in_order n e s) = (in_order n e s, refl)
 carries_as k z p (granted n h e f g s) = (granted n h e f (λ q. g (p ∙ q)) s, refl)
 carries_as k z p (absent e f s) = (absent e f s, refl)
@@ -96,15 +96,15 @@ carries_as k z p (refused h e f g s) = (refused h e f (sym p ∙ g) s, refl)
 chain_as : {step : ℕ → ℕ → Machine → Machine × ℕ} {multiplier : ℕ} {Member : Block → Type 0}
     {out : Machine × ℕ} {n k : ℕ} {y : State} {m : Machine} (z : State)
     → ((i : ℕ) → y.answers i ≡ z.answers i) → (c : Chain step multiplier Member out n k y m)
-    → (d : Chain step multiplier Member out n k z m) × (chainEvents d ≡ chainEvents c)
-    × (lastEvents d ≡ lastEvents c)
-chain_as z p (c-last b used i e by) =
-    let r = carries_as (block_key b) z (p 0) by in (c-last b used i e r.0, r.1, r.1)
-chain_as z p (c-more b used next w i e by l r c) =
+    → (d : Chain step multiplier Member out n k z m) × (chain_events d ≡ chain_events c)
+    × (last_events d ≡ last_events c)
+chain_as z p (c_last b used i e by) =
+    let r = carries_as (block_key b) z (p 0) by in (c_last b used i e r.0, r.1, r.1)
+chain_as z p (c_more b used next w i e by l r c) =
     let q = carries_as (block_key b) z (p 0) by in (
-      c-more b used next w i e q.0 (l.0, λ j. l.1 j ∙ p (l.0 + j)) r c,
+      c_more b used next w i e q.0 (l.0, λ j. l.1 j ∙ p (l.0 + j)) r c,
       ap
-          (λ l. l ++ chainEvents c) q.1,
+          (λ l. l ++ chain_events c) q.1,
       refl,
     )
 
@@ -137,54 +137,54 @@ module _ (multiplier limit max : ℕ) (f : List ℕ) (bs : List Block)
   }
 
   -- the bodies of a group
-  abbrev ofGroup : List ℕ → List Body
-  ofGroup g = bodies_of (bodies F) g
+  abbrev of_group : List ℕ → List Body
+  of_group g = bodies_of (bodies F) g
 
   -- the number of a member's key fits the parameter of the group's function
   fits : (g : List ℕ) → Memᴰ g (groups limit bs) → (n k : ℕ)
-      → get_elem? (map body_key (ofGroup g)) n ≡ some k → parameter n ≡ some n
+      → get_elem? (map body_key (of_group g)) n ≡ some k → parameter n ≡ some n
   unfolding bodies_of
   fits g among n k e =
-      let few : length bs ≤ 65536 = omega (arith, few-blocks f bs accepted, length-of f bs accepted)
+      let few : length bs ≤ 65536 = omega (arith, few_blocks f bs accepted, length_of_lem f bs accepted)
       in
       let short : length g ≤ length bs =
-      omega (arith, length_within g (groups limit bs) among, groups-length bs limit) in
-      let long : length (map body_key (ofGroup g)) ≡ length g = simp length_map in
+      omega (arith, length_within g (groups limit bs) among, groups_length bs limit) in
+      let long : length (map body_key (of_group g)) ≡ length g = simp length_map in
       ap (λ (j : ℕ). some j)
-      (mod-eq_of_lt (omega (arith, below_length (map body_key (ofGroup g)) n k e)))
+      (mod-eq_of_lt (omega (arith, below_length (map body_key (of_group g)) n k e)))
 
   -- a function of the units stands in a group of the plan
-  in_group : (t : Top) → Own t → Memᴰ t (allUnits (body_of multiplier) limit max bs)
-      → (g : List ℕ) × Memᴰ g (groups limit bs) × Memᴰ t (emit_group (ofGroup g))
-  unfolding allUnits units_by emit_c_chunked
+  in_group : (t : Top) → Own t → Memᴰ t (all_units (body_of multiplier) limit max bs)
+      → (g : List ℕ) × Memᴰ g (groups limit bs) × Memᴰ t (emit_group (of_group g))
+  unfolding all_units units_by emit_c_chunked
   in_group t o m =
       go (from_cut max (last_unit_end (bodies F)) (end_foreign (bodies F)) t o
       (map (bodies_of (bodies F)) (groups limit bs)) unit_head 0 m)
     where
       go : Memᴰ t unit_head ⊎ InGroup t (map (bodies_of (bodies F)) (groups limit bs))
-          → (g : List ℕ) × Memᴰ g (groups limit bs) × Memᴰ t (emit_group (ofGroup g))
+          → (g : List ℕ) × Memᴰ g (groups limit bs) × Memᴰ t (emit_group (of_group g))
       go (inl k) = absurd (head_foreign t o k)
       go (inr h) =
           let r = mathlib.Core.List.Memᴰ.of_map (bodies_of (bodies F)) (groups limit bs) h.1 in
           (r.0, r.1, subst (λ g. Memᴰ t (emit_group g)) (sym r.2) h.2)
 
   -- a body of a group is that of a block
-  block_of : (g : List ℕ) → Memᴰ g (groups limit bs) → (c : Body) → Memᴰ c (ofGroup g)
+  block_of : (g : List ℕ) → Memᴰ g (groups limit bs) → (c : Body) → Memᴰ c (of_group g)
       → (j : ℕ) × Memᴰ j g × (j < length bs) × (body_of multiplier (get_or bs j nowhere) ≡ c)
   block_of g m c h = member_of F g m c h
 
   -- bodies with one key, in two groups: the groups are one
-  one-group : (g h : List ℕ) → Memᴰ g (groups limit bs) → Memᴰ h (groups limit bs)
-      → (c d : Body) → Memᴰ c (ofGroup g) → Memᴰ d (ofGroup h)
+  one_group : (g h : List ℕ) → Memᴰ g (groups limit bs) → Memᴰ h (groups limit bs)
+      → (c d : Body) → Memᴰ c (of_group g) → Memᴰ d (of_group h)
       → body_key c ≡ body_key d → g ≡ h
-  one-group g h m n c d i j e =
+  one_group g h m n c d i j e =
       let p = block_of g m c i in
       let q = block_of h n d j in
       let same : p.0
       ≡ q.0 =
       same_place F p.0 q.0 p.2 q.2
       (ap body_key p.3 ∙ e ∙ sym (ap body_key q.3)) in
-      group-same limit bs g h m n p.0 p.1 (mathlib.Core.List.Memᴰ.cast same q.1)
+      group_same limit bs g h m n p.0 p.1 (mathlib.Core.List.Memᴰ.cast same q.1)
 
   module _ (i : ℕ) (b : Block) (found : get_elem? bs i ≡ some b)
       (covered : (d : Block) → SameGroup limit bs i d → (x : TimedInstr) → Memᴰ x d.instrs
@@ -198,16 +198,16 @@ module _ (multiplier limit max : ℕ) (f : List ℕ) (bs : List Block)
         (out : Machine × ℕ)
         × (c : Chain step multiplier (SameGroup limit bs i) out 0 (block_key b) z m)
         × Sound out.0 × Ended r out
-        × ((rest : List Event) × ToCome r rest × (chainEvents c ≡ counted es ++ rest)
-        × ((part : List Event) × (lastEvents c ≡ part ++ rest)))
+        × ((rest : List Event) × ToCome r rest × (chain_events c ≡ counted es ++ rest)
+        × ((part : List Event) × (last_events c ≡ part ++ rest)))
 
     -- so of one of which the same is counted, from after the head of a function
     claimed : (r : Result) (es es' : List Event) → counted es ≡ counted es'
         → ((out : Machine × ℕ)
         × (c : Chain step multiplier (SameGroup limit bs i) out 0 (block_key b) (in_function z) m)
         × Sound out.0 × Ended r out
-        × ((rest : List Event) × ToCome r rest × (chainEvents c ≡ counted es' ++ rest)
-        × ((part : List Event) × (lastEvents c ≡ part ++ rest))))
+        × ((rest : List Event) × ToCome r rest × (chain_events c ≡ counted es' ++ rest)
+        × ((part : List Event) × (last_events c ≡ part ++ rest))))
         → Claimed r es
     claimed r es es' e q = let c = chain_as z (λ j. refl) q.1 in (
       q.0,
@@ -251,8 +251,8 @@ module _ (multiplier limit max : ℕ) (f : List ℕ) (bs : List Block)
         record {
           each = λ x n.
               let p =
-              placed d.addr d.thumb d.instrs (accepted-consecutive f bs accepted d m)
-              (accepted-aligned f bs accepted d m) (accepted-end f bs accepted d m) x n
+              placed d.addr d.thumb d.instrs (accepted_consecutive f bs accepted d m)
+              (accepted_aligned f bs accepted d m) (accepted_end f bs accepted d m) x n
               in
               record {
                 means = k.every_record x n;
@@ -268,15 +268,15 @@ module _ (multiplier limit max : ℕ) (f : List ℕ) (bs : List Block)
     below : (d : Block) → SameGroup limit bs i d → d.addr < 4294967296
     below d h =
         let m = in_list bs h.3.0 d h.3.2 in
-        start_below d.thumb d.addr (length d.instrs) (accepted-some f bs accepted d m)
-        (accepted-end f bs accepted d m)
+        start_below d.thumb d.addr (length d.instrs) (accepted_some f bs accepted d m)
+        (accepted_end f bs accepted d m)
 
     logs : (ks : List ℕ) (d : Block) → SameGroup limit bs i d
         → (n : ℕ) (y : State) (o : Machine) (out : Machine × ℕ) (used : ℕ) → Ready step n y o
         → (by : Carries (λ i. step (n + i)) (region d.addr) multiplier d y o out used)
-        → log (block_code ks (body_of multiplier d)) y ≡ blockEvents (block_key d) by
+        → log (block_code ks (body_of multiplier d)) y ≡ block_events (block_key d) by
     logs ks d h n y o out used r by =
-        block-log multiplier ks d (λ i. step (n + i)) (facts ks d h) (below d h) y o out used
+        block_log multiplier ks d (λ i. step (n + i)) (facts ks d h) (below d h) y o out used
         (record {
           left = left_all r.left;
           declares = r.declares;
@@ -292,24 +292,24 @@ module _ (multiplier limit max : ℕ) (f : List ℕ) (bs : List Block)
         means [] b h (covered b h) (λ i. step (0 + i)) (in_function z) m ready.left
         ready.declares sound ready.agrees in
         let c : Chain step multiplier (SameGroup limit bs i) d.out 0 (block_key b) (in_function z)
-        m = c-last b d.used h refl d.by in
+        m = c_last b d.used h refl d.by in
         claimed r es es refl (
           d.out,
           c,
           d.sound,
           subst (λ r. Ended r d.out) (sym q.0) tt,
           (
-            chainEvents c,
-            subst (λ r. ToCome r (chainEvents c)) (sym q.0) tt,
+            chain_events c,
+            subst (λ r. ToCome r (chain_events c)) (sym q.0) tt,
             ap
-                (λ l. l ++ chainEvents c) (sym q.1),
+                (λ l. l ++ chain_events c) (sym q.1),
             ([], refl),
           ),
         )
 
     module _ (g : List ℕ) (among : Memᴰ g (groups limit bs)) (mine : Memᴰ i g) where
       -- a body of the group is that of a block that shares it
-      member : (c : Body) → Memᴰ c (ofGroup g)
+      member : (c : Body) → Memᴰ c (of_group g)
           → (d : Block) × SameGroup limit bs i d × (body_of multiplier d ≡ c)
       member c h =
           let r = block_of g among c h in (
@@ -318,46 +318,46 @@ module _ (multiplier limit max : ℕ) (f : List ℕ) (bs : List Block)
             r.3,
           )
 
-      labels : (k : ℕ) (d : Code) → LabelIn k (group_code (ofGroup g)) d
+      labels : (k : ℕ) (d : Code) → LabelIn k (group_code (of_group g)) d
           → (e : Block) × SameGroup limit bs i e × (block_key e ≡ k)
           × ((rest : Code)
-          × (d ≡ nl ⨾ (block_code (map body_key (ofGroup g)) (body_of multiplier e) ⧺ rest)))
+          × (d ≡ nl ⨾ (block_code (map body_key (of_group g)) (body_of multiplier e) ⧺ rest)))
       labels k d p =
-          let r = in_group_code (ofGroup g) p in
+          let r = in_group_code (of_group g) p in
           let s = member r.0 r.1 in (
             s.0,
             s.1,
             sym (key_of F s.0) ∙ ap body_key s.2 ∙ r.2,
             (
               r.3.0,
-              subst (λ c. d ≡ nl ⨾ (block_code (map body_key (ofGroup g)) c ⧺ r.3.0))
+              subst (λ c. d ≡ nl ⨾ (block_code (map body_key (of_group g)) c ⧺ r.3.0))
                   (sym s.2) r.3.1,
             ),
           )
 
       -- from the function of the group
-      grouped : (ts : List Top) (n : ℕ) → get_elem? (map body_key (ofGroup g)) n ≡ some (block_key b)
+      grouped : (ts : List Top) (n : ℕ) → get_elem? (map body_key (of_group g)) n ≡ some (block_key b)
           → SameGroup limit bs i b → (r : Result) (es : List Event)
-          → From ts (group_code (ofGroup g)) (some n) (group_code (ofGroup g)) (at_start z) r
+          → From ts (group_code (of_group g)) (some n) (group_code (of_group g)) (at_start z) r
           (counted es) → Claimed r es
       unfolding group_code
       grouped ts n e h r es x = go (past_switch e (past_gap (past_head z x)))
         where
           ks : List ℕ
-          ks = map body_key (ofGroup g)
+          ks = map body_key (of_group g)
 
-          at : (d : Code) → LabelIn (block_key b) (group_code (ofGroup g)) d
-              → From ts (group_code (ofGroup g)) (some n) d (in_function z) r (counted es)
+          at : (d : Code) → LabelIn (block_key b) (group_code (of_group g)) d
+              → From ts (group_code (of_group g)) (some n) d (in_function z) r (counted es)
               → Claimed r es
           at d p (inl q) = early h r es q
           at d p (inr q) =
               claimed r es q.1 q.2
-              (from-label step multiplier (SameGroup limit bs i) ts (group_code (ofGroup g)) ks
+              (from_label step multiplier (SameGroup limit bs i) ts (group_code (of_group g)) ks
               (means ks) covered (logs ks) labels q.3 0 (block_key b) m p ready)
 
           go : Early r (counted es)
-              ⊎ ((d : Code) × LabelIn (block_key b) (group_code (ofGroup g)) d
-              × From ts (group_code (ofGroup g)) (some n) d (in_function z) r (counted es))
+              ⊎ ((d : Code) × LabelIn (block_key b) (group_code (of_group g)) d
+              × From ts (group_code (of_group g)) (some n) d (in_function z) r (counted es))
               → Claimed r es
           go (inl q) = early h r es q
           go (inr q) = at q.0 q.1 q.2
@@ -382,7 +382,7 @@ module _ (multiplier limit max : ℕ) (f : List ℕ) (bs : List Block)
             refl ready)
 
     -- a body with the block's key is the block's
-    own_body : (g : List ℕ) → Memᴰ g (groups limit bs) → (c : Body) → Memᴰ c (ofGroup g)
+    own_body : (g : List ℕ) → Memᴰ g (groups limit bs) → (c : Body) → Memᴰ c (of_group g)
         → body_key c ≡ block_key b → Memᴰ i g × (body_of multiplier b ≡ c)
     own_body g among c h k =
         let r = block_of g among c h in
@@ -398,46 +398,46 @@ module _ (multiplier limit max : ℕ) (f : List ℕ) (bs : List Block)
 
     -- C gets on from the function of the group, and from that of a lone block
     module _ (g : List ℕ) (among : Memᴰ g (groups limit bs)) (mine : Memᴰ i g) where
-      found-label : (k : ℕ) → T (isAmong k (map body_key (ofGroup g)))
+      found_label : (k : ℕ) → T (isAmong k (map body_key (of_group g)))
           → (e : Block) × SameGroup limit bs i e
           × ((rest : Code)
-          × LabelIn k (group_code (ofGroup g))
-          (nl ⨾ (block_code (map body_key (ofGroup g)) (body_of multiplier e) ⧺ rest)))
-      found-label k t =
-          let c = mathlib.Core.List.Memᴰ.of_map body_key (ofGroup g) (among→mem k (map body_key (ofGroup g)) t) in
-          let r = to_label c.0 (ofGroup g) c.1 in
+          × LabelIn k (group_code (of_group g))
+          (nl ⨾ (block_code (map body_key (of_group g)) (body_of multiplier e) ⧺ rest)))
+      found_label k t =
+          let c = mathlib.Core.List.Memᴰ.of_map body_key (of_group g) (among→mem k (map body_key (of_group g)) t) in
+          let r = to_label c.0 (of_group g) c.1 in
           let s = member g among mine c.0 c.1 in (
             s.0,
             s.1,
             (
               r.0,
-              subst (λ e. LabelIn k (group_code (ofGroup g))
-                  (nl ⨾ (block_code (map body_key (ofGroup g)) e ⧺ r.0))) (sym s.2)
-                  (subst (λ j. LabelIn j (group_code (ofGroup g))
-                  (nl ⨾ (block_code (map body_key (ofGroup g)) c.0 ⧺ r.0))) c.2 r.1),
+              subst (λ e. LabelIn k (group_code (of_group g))
+                  (nl ⨾ (block_code (map body_key (of_group g)) e ⧺ r.0))) (sym s.2)
+                  (subst (λ j. LabelIn j (group_code (of_group g))
+                  (nl ⨾ (block_code (map body_key (of_group g)) c.0 ⧺ r.0))) c.2 r.1),
             ),
           )
 
-      grouped-gets : (ts : List Top) (j : ℕ)
-          → get_elem? (map body_key (ofGroup g)) j ≡ some (block_key b) → (n : ℕ)
-          → Gets ts (group_code (ofGroup g)) (some j) n (group_code (ofGroup g)) (at_start z)
+      grouped_gets : (ts : List Top) (j : ℕ)
+          → get_elem? (map body_key (of_group g)) j ≡ some (block_key b) → (n : ℕ)
+          → Gets ts (group_code (of_group g)) (some j) n (group_code (of_group g)) (at_start z)
       unfolding group_code
-      grouped-gets ts j e n =
-          let ks : List ℕ = map body_key (ofGroup g) in
+      grouped_gets ts j e n =
+          let ks : List ℕ = map body_key (of_group g) in
           let t =
-          found-label (block_key b) (among_key (block_key b) ks (in_list ks j (block_key b) e)) in
+          found_label (block_key b) (among_key (block_key b) ks (in_list ks j (block_key b) e)) in
           gets_head n z
           (gets_gap n (in_function z)
           (gets_case n (in_function z) e t.2.1
           (gets_gap n (in_function z)
-          (gets step multiplier (SameGroup limit bs i) ts (group_code (ofGroup g)) (some j) ks
-          (means ks) covered (logs ks) found-label n 0 t.0 t.1 t.2.0 (in_function z) m
+          (gets step multiplier (SameGroup limit bs i) ts (group_code (of_group g)) (some j) ks
+          (means ks) covered (logs ks) found_label n 0 t.0 t.1 t.2.0 (in_function z) m
           ready))))
 
-    lone-gets : (ts : List Top) → SameGroup limit bs i b → (n : ℕ)
+    lone_gets : (ts : List Top) → SameGroup limit bs i b → (n : ℕ)
         → Gets ts (with_locals (block_code [] (body_of multiplier b))) none n
         (with_locals (block_code [] (body_of multiplier b))) (at_start z)
-    lone-gets ts h n =
+    lone_gets ts h n =
         let f : Code = with_locals (block_code [] (body_of multiplier b)) in
         gets_head n z
         (subst (λ c. Gets ts f none n c (in_function z))
@@ -449,27 +449,27 @@ module _ (multiplier limit max : ℕ) (f : List ℕ) (bs : List Block)
         (es : List Event) where
       -- the call of a forwarder finds the function of the block's group
       forwarded : (g : List ℕ) → Memᴰ g (groups limit bs) → (a : Body)
-          → Memᴰ a (ofGroup g) → (n : ℕ)
-          → get_elem? (map body_key (ofGroup g)) n ≡ some (block_key b)
+          → Memᴰ a (of_group g) → (n : ℕ)
+          → get_elem? (map body_key (of_group g)) n ≡ some (block_key b)
           → Memᴰ i g → (h : Code) → Memᴰ (function (group (body_key a)) h) u.tree
           → From u.tree h (parameter n) h (at_start z) r (counted es) → Claimed r es
       forwarded g among a first n e mine h stands x =
           let q =
           in_group (function (group (body_key a)) h) tt
-          (in-units multiplier limit max f bs u made _ stands) in
-          let p = group_function (body_key a) h (ofGroup q.0) q.2 in
-          let same : q.0 ≡ g = one-group q.0 g q.1 among p.0 a p.1 first p.2 in
+          (in_units multiplier limit max f bs u made _ stands) in
+          let p = group_function (body_key a) h (of_group q.0) q.2 in
+          let same : q.0 ≡ g = one_group q.0 g q.1 among p.0 a p.1 first p.2 in
           grouped g among mine u.tree n e (g, among, mine, (i, mine, found)) r es
           (subst (λ c. From u.tree c (some n) c (at_start z) r (counted es))
-          (p.3 ∙ ap (λ l. group_code (ofGroup l)) same)
+          (p.3 ∙ ap (λ l. group_code (of_group l)) same)
           (subst (λ q. From u.tree h q h (at_start z) r (counted es))
           (fits g among n (block_key b) e) x))
 
       entered : (g : List ℕ) → Memᴰ g (groups limit bs) → (c : Code)
-          → Alone (block_key b) c (ofGroup g) ⊎ Forwards (block_key b) c (ofGroup g)
+          → Alone (block_key b) c (of_group g) ⊎ Forwards (block_key b) c (of_group g)
           → From u.tree c none c (at_start z) r (counted es) → Claimed r es
       entered g among c (inl a) x =
-          let here : Memᴰ a.0 (ofGroup g) =
+          let here : Memᴰ a.0 (of_group g) =
           subst (λ l. Memᴰ a.0 l) (sym a.1) (mathlib.Core.List.Memᴰ.head refl) in
           let o = own_body g among a.0 here a.2 in
           lone u.tree (g, among, o.0, (i, o.0, found)) r es
@@ -482,8 +482,8 @@ module _ (multiplier limit max : ℕ) (f : List ℕ) (bs : List Block)
           mine : Memᴰ i g
           mine =
               let k =
-              mathlib.Core.List.Memᴰ.of_map body_key (ofGroup g)
-              (in_list (map body_key (ofGroup g)) a.3.0 (block_key b) a.3.2) in
+              mathlib.Core.List.Memᴰ.of_map body_key (of_group g)
+              (in_list (map body_key (of_group g)) a.3.0 (block_key b) a.3.2) in
               (own_body g among k.0 k.1 k.2).0
 
           go : Early r (counted es)
@@ -497,8 +497,8 @@ module _ (multiplier limit max : ℕ) (f : List ℕ) (bs : List Block)
       meant c stands xs x =
           let q =
           in_group (function (block (block_key b)) c) tt
-          (in-units multiplier limit max f bs u made _ stands) in
-          entered q.0 q.1 c (block_function (block_key b) c (ofGroup q.0) q.2)
+          (in_units multiplier limit max f bs u made _ stands) in
+          entered q.0 q.1 c (block_function (block_key b) c (of_group q.0) q.2)
           (inr (xs, es, refl, x))
 
 pub execution_means : (multiplier limit max : ℕ) (f : List ℕ)
@@ -536,8 +536,8 @@ execution_gets_on multiplier limit max f bs accepted i b e u made c stands cover
     let F' : File = F multiplier limit max f bs accepted in
     let gs : List (List Body) = map (bodies_of (bodies F')) (groups limit bs) in
     let q =
-    whole-cut gs max (last_unit_end (bodies F')) (end_foreign (bodies F')) gs (λ g h. h) unit_head
-    0 (whole-none gs unit_head head_foreign) u made (function (block (block_key b)) c) tt
+    whole_cut gs max (last_unit_end (bodies F')) (end_foreign (bodies F')) gs (λ g h. h) unit_head
+    0 (whole_none gs unit_head head_foreign) u made (function (block (block_key b)) c) tt
     stands in
     let r = mathlib.Core.List.Memᴰ.of_map (bodies_of (bodies F')) (groups limit bs) q.1 in
     go r.0 r.1
@@ -547,27 +547,27 @@ execution_gets_on multiplier limit max f bs accepted i b e u made c stands cover
     (λ s h. q.3 s (subst (λ g. Memᴰ s (emit_group g)) r.2 h))
   where
     code : List ℕ → Code
-    code g = group_code (ofGroup multiplier limit max f bs accepted g)
+    code g = group_code (of_group multiplier limit max f bs accepted g)
 
     go : (g : List ℕ) → Memᴰ g (groups limit bs)
-        → Alone (block_key b) c (ofGroup multiplier limit max f bs accepted g)
-        ⊎ Forwards (block_key b) c (ofGroup multiplier limit max f bs accepted g)
-        → ((s : Top) → Memᴰ s (emit_group (ofGroup multiplier limit max f bs accepted g))
+        → Alone (block_key b) c (of_group multiplier limit max f bs accepted g)
+        ⊎ Forwards (block_key b) c (of_group multiplier limit max f bs accepted g)
+        → ((s : Top) → Memᴰ s (emit_group (of_group multiplier limit max f bs accepted g))
         → Memᴰ s u.tree) → Gets u.tree c none n c (at_start z)
     go g among (inl a) there =
-        let here : Memᴰ a.0 (ofGroup multiplier limit max f bs accepted g) =
+        let here : Memᴰ a.0 (of_group multiplier limit max f bs accepted g) =
         subst (λ l. Memᴰ a.0 l) (sym a.1) (mathlib.Core.List.Memᴰ.head refl) in
         let o =
         own_body multiplier limit max f bs accepted i b e covered step z m interprets sound
         agrees g among a.0 here a.2 in
         subst (λ d. Gets u.tree d none n d (at_start z))
         (sym (a.3 ∙ ap (λ d. with_locals (block_code [] d)) (sym o.1)))
-        (lone-gets multiplier limit max f bs accepted i b e covered step z m interprets sound agrees
+        (lone_gets multiplier limit max f bs accepted i b e covered step z m interprets sound agrees
         u.tree (g, among, o.0, (i, o.0, e)) n)
     go g among (inr a) there =
         let k =
-        mathlib.Core.List.Memᴰ.of_map body_key (ofGroup multiplier limit max f bs accepted g)
-        (in_list (map body_key (ofGroup multiplier limit max f bs accepted g)) a.3.0
+        mathlib.Core.List.Memᴰ.of_map body_key (of_group multiplier limit max f bs accepted g)
+        (in_list (map body_key (of_group multiplier limit max f bs accepted g)) a.3.0
         (block_key b) a.3.2) in
         let o =
         own_body multiplier limit max f bs accepted i b e covered step z m interprets sound
@@ -576,7 +576,7 @@ execution_gets_on multiplier limit max f bs accepted i b e u made c stands cover
         (gets_forwarder n z (there _ a.2)
         (subst (λ q. Gets u.tree (code g) q n (code g) (at_start z))
         (sym (fits multiplier limit max f bs accepted g among a.3.0 (block_key b) a.3.2))
-        (grouped-gets multiplier limit max f bs accepted i b e covered step z m interprets sound
+        (grouped_gets multiplier limit max f bs accepted i b e covered step z m interprets sound
         agrees g among o.0 u.tree a.3.0 a.3.2 n)))
 
 maps : {A B : Type 0} (f : B → ℕ) (g : A → B) (xs : List A)
@@ -587,13 +587,13 @@ maps f g (x ∷ xs) = ap (λ l. f (g x) ∷ l) (maps f g xs)
 -- a group has no key twice
 group_keys_lem : (multiplier limit max : ℕ) (f : List ℕ) (bs : List Block)
     (accepted : parse f ≡ Parsed.accepted bs) (g : List ℕ) → Memᴰ g (groups limit bs)
-    → Distinct (map body_key (ofGroup multiplier limit max f bs accepted g))
+    → Distinct (map body_key (of_group multiplier limit max f bs accepted g))
 unfolding bodies_of
 group_keys_lem multiplier limit max f bs accepted g m =
     subst Distinct (sym (maps body_key body g))
     (keys_distinct key g
     (λ i j p q e. same_place F' i j (inside i p) (inside j q) (sym (is i p) ∙ e ∙ is j q))
-    (group_distinct g (groups limit bs) m (λ i p. groups-once limit bs i (inside i p))))
+    (group_distinct g (groups limit bs) m (λ i p. groups_once limit bs i (inside i p))))
   where
     F' : File
     F' = F multiplier limit max f bs accepted
@@ -605,7 +605,7 @@ group_keys_lem multiplier limit max f bs accepted g m =
     key i = body_key (body i)
 
     inside : (i : ℕ) → Memᴰ i g → i < length bs
-    inside i p = group-inside limit bs g m i p
+    inside i p = group_inside limit bs g m i p
 
     is : (i : ℕ) → Memᴰ i g → key i ≡ body_key (body_of multiplier (get_or bs i nowhere))
     is i p = ap body_key (map_at (body_of multiplier) bs i nowhere default_body (inside i p))
@@ -615,8 +615,8 @@ unfolding LabelsPlain
 labels_plain multiplier limit max f bs accepted u made h c (inl stands) k d p =
     let q =
     in_group multiplier limit max f bs accepted (function (block h) c) tt
-    (in-units multiplier limit max f bs u made _ stands) in
-    absurd (go (block_function h c (ofGroup multiplier limit max f bs accepted q.0) q.2))
+    (in_units multiplier limit max f bs u made _ stands) in
+    absurd (go (block_function h c (of_group multiplier limit max f bs accepted q.0) q.2))
   where
     go : {g : List Body} → Alone h c g ⊎ Forwards h c g → ⊥
     go (inl a) = none_lone a.0 (subst (λ x. LabelAt k x d) a.3 p)
@@ -624,8 +624,8 @@ labels_plain multiplier limit max f bs accepted u made h c (inl stands) k d p =
 labels_plain multiplier limit max f bs accepted u made h c (inr stands) k d p =
     let q =
     in_group multiplier limit max f bs accepted (function (group h) c) tt
-    (in-units multiplier limit max f bs u made _ stands) in
-    let g : List Body = ofGroup multiplier limit max f bs accepted q.0 in
+    (in_units multiplier limit max f bs u made _ stands) in
+    let g : List Body = of_group multiplier limit max f bs accepted q.0 in
     let r = group_function h c g q.2 in
     let at : LabelIn k (group_code g) d = plain_group g (subst (λ x. LabelAt k x d) r.3 p) in (
       subst (λ x. LabelIn k x d) (sym r.3) at,
@@ -642,17 +642,17 @@ one_function : (multiplier limit max : ℕ) (f : List ℕ) (bs : List Block)
 one_function multiplier limit max f bs accepted u made k g h m n =
     let p =
     in_group multiplier limit max f bs accepted (function (group k) g) tt
-    (in-units multiplier limit max f bs u made _ m) in
+    (in_units multiplier limit max f bs u made _ m) in
     let q =
     in_group multiplier limit max f bs accepted (function (group k) h) tt
-    (in-units multiplier limit max f bs u made _ n) in
-    let a = group_function k g (ofGroup multiplier limit max f bs accepted p.0) p.2 in
-    let b = group_function k h (ofGroup multiplier limit max f bs accepted q.0) q.2 in
+    (in_units multiplier limit max f bs u made _ n) in
+    let a = group_function k g (of_group multiplier limit max f bs accepted p.0) p.2 in
+    let b = group_function k h (of_group multiplier limit max f bs accepted q.0) q.2 in
     let same : q.0
     ≡ p.0 =
-    one-group multiplier limit max f bs accepted q.0 p.0 q.1 p.1 b.0 a.0
+    one_group multiplier limit max f bs accepted q.0 p.0 q.1 p.1 b.0 a.0
     b.1 a.1 (b.2 ∙ sym a.2) in
-    b.3 ∙ ap (λ l. group_code (ofGroup multiplier limit max f bs accepted l)) same ∙ sym a.3
+    b.3 ∙ ap (λ l. group_code (of_group multiplier limit max f bs accepted l)) same ∙ sym a.3
 
 pub execution_determined : (multiplier limit max : ℕ) (f : List ℕ)
     → ExecutionDetermined multiplier limit max f

@@ -19,11 +19,11 @@ module _ (all : List (List Body)) where
       → (g : List Body) × Memᴰ g all × Memᴰ t (emit_group g)
       × ((s : Top) → Memᴰ s (emit_group g) → Memᴰ s ts)
 
-  pub whole-none : (ts : List Top) → Foreign ts → Whole ts
-  whole-none ts h t o m = absurd (h t o m)
+  pub whole_none : (ts : List Top) → Foreign ts → Whole ts
+  whole_none ts h t o m = absurd (h t o m)
 
-  whole-both : (ss ts : List Top) → Whole ss → Whole ts → Whole (ss ++ ts)
-  whole-both ss ts f g t o m = go (Memᴰ.append_cases ss m)
+  whole_both : (ss ts : List Top) → Whole ss → Whole ts → Whole (ss ++ ts)
+  whole_both ss ts f g t o m = go (Memᴰ.append_cases ss m)
     where
       go : Memᴰ t ss ⊎ Memᴰ t ts
           → (h : List Body) × Memᴰ h all × Memᴰ t (emit_group h)
@@ -31,28 +31,28 @@ module _ (all : List (List Body)) where
       go (inl k) = let r = f t o k in (r.0, r.1, r.2, λ s q. Memᴰ.append_left ts (r.3 s q))
       go (inr k) = let r = g t o k in (r.0, r.1, r.2, λ s q. Memᴰ.append_right ss (r.3 s q))
 
-  whole-group : (g : List Body) → Memᴰ g all → Whole (emit_group g)
-  whole-group g h t o m = (g, h, m, λ s q. q)
+  whole_group : (g : List Body) → Memᴰ g all → Whole (emit_group g)
+  whole_group g h t o m = (g, h, m, λ s q. q)
 
   module _ (max : ℕ) (closed : List Top) (apart : Foreign closed) where
-    pub whole-cut : (gs : List (List Body)) → ((g : List Body) → Memᴰ g gs → Memᴰ g all)
+    pub whole_cut : (gs : List (List Body)) → ((g : List Body) → Memᴰ g gs → Memᴰ g all)
         → (ts : List Top) (n : ℕ) → Whole ts
         → (u : TranslationUnit) → Memᴰ u (cut max closed ts n gs) → Whole u.tree
     unfolding cut
-    whole-cut [] h ts n w u (Memᴰ.head e) =
-        subst (λ v. Whole v.tree) (sym e) (whole-both ts closed w (whole-none closed apart))
-    whole-cut [] h ts n w u (Memᴰ.tail m) = absurd (Memᴰ.not-nil m)
-    whole-cut (g ∷ gs) h ts n w u m =
+    whole_cut [] h ts n w u (Memᴰ.head e) =
+        subst (λ v. Whole v.tree) (sym e) (whole_both ts closed w (whole_none closed apart))
+    whole_cut [] h ts n w u (Memᴰ.tail m) = absurd (Memᴰ.not-nil m)
+    whole_cut (g ∷ gs) h ts n w u m =
         pick (leb max (length (text_of (ts ++ emit_group g))))
         (cut max closed unit_head (n + length g) gs)
         (cut max closed (ts ++ emit_group g) (n + length g) gs)
-        (λ m. whole-cut gs (λ x k. h x (Memᴰ.tail k)) unit_head (n + length g)
-        (whole-none unit_head head_foreign) u m)
-        (λ m. whole-cut gs (λ x k. h x (Memᴰ.tail k)) (ts ++ emit_group g) (n + length g) with-g
+        (λ m. whole_cut gs (λ x k. h x (Memᴰ.tail k)) unit_head (n + length g)
+        (whole_none unit_head head_foreign) u m)
+        (λ m. whole_cut gs (λ x k. h x (Memᴰ.tail k)) (ts ++ emit_group g) (n + length g) with-g
         u m) m
       where
         with-g : Whole (ts ++ emit_group g)
-        with-g = whole-both ts (emit_group g) w (whole-group g (h g (Memᴰ.head refl)))
+        with-g = whole_both ts (emit_group g) w (whole_group g (h g (Memᴰ.head refl)))
 
         pick : (x : Bool) (us vs : List TranslationUnit) → (Memᴰ u us → Whole u.tree)
             → (Memᴰ u vs → Whole u.tree)

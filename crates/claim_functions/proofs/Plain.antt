@@ -12,7 +12,7 @@ use Rattle.lower_forms.specs.Forms.{Body}
 use Rattle.lower_units.specs.Block.{body_key, nl, sp, block_code}
 use Rattle.lower_units.specs.Units.{with_locals, labelled, group_code}
 use Rattle.claim_ways.specs.Ways.{LabelAt, here, later, in_when, past_when, in_braces, past_braces}
-use Rattle.claim_ways.proofs.Bare.{NoLabel, Bare, bare-block}
+use Rattle.claim_ways.proofs.Bare.{NoLabel, Bare, bare_block}
 use Rattle.claim_functions.specs.Execution.{LabelIn, l_here, l_later}
 use Rattle.claim_ways.proofs.Functions.{forwarder}
 use Rattle.claim_functions.proofs.Labels.{Some, some_in, at_simple, past_simple, past_bare}
@@ -77,7 +77,7 @@ plain_labelled {k} ks (b ∷ bs) {d} p = go (λ q. plain_labelled ks bs q) (at_p
         l_later (l_later
         (after_code_lem (block_code ks b)
         (l_later
-        (f (past_place tt (bare_past (block_code ks b) (bare-block ks b) (past_place tt q)))))))
+        (f (past_place tt (bare_past (block_code ks b) (bare_block ks b) (past_place tt q)))))))
 
 pub plain_group : {k : ℕ} (bs : List Body) {d : Code} → LabelAt k (group_code bs) d
     → LabelIn k (group_code bs) d
@@ -106,7 +106,7 @@ plain_group bs p =
 pub none_lone : {k : ℕ} (b : Body) {d : Code} → LabelAt k (with_locals (block_code [] b)) d → ⊥
 unfolding with_locals
 none_lone b p =
-    bare_none (block_code [] b) (bare-block [] b)
+    bare_none (block_code [] b) (bare_block [] b)
     (past_place tt
     (past_place tt
     (past_place tt (past_place tt (past_place tt (past_place tt (past_place tt p)))))))
@@ -131,7 +131,7 @@ once_labelled {k} ks (b ∷ bs) h {d} {e} p q =
     rest = nl ⨾ (block_code ks b ⧺ (nl ⨾ labelled ks bs))
 
     inner : {x : Code} → LabelIn k rest x → LabelIn k (labelled ks bs) x
-    inner r = past_simple tt (past_bare (block_code ks b) (bare-block ks b) (past_simple tt r))
+    inner r = past_simple tt (past_bare (block_code ks b) (bare_block ks b) (past_simple tt r))
 
     twice : {x : Code} → label k ≡ label (body_key b) → LabelIn k rest x → ⊥
     twice l r =

@@ -15,7 +15,7 @@ use Rattle.lower_forms.specs.Forms.{Lines, Native, straight, straight_if, branch
 use Rattle.lower_forms.specs.Forms.{pop, Body}
 use Rattle.lower_units.specs.Block.{lines, native_text, closing}
 use Rattle.lower_units.specs.Text.{Continues, Leaves, destination}
-use Rattle.lower_units.proofs.Statements.{lines-each, closing-each, native-each}
+use Rattle.lower_units.proofs.Statements.{lines_each, closing_each, native_each}
 use Rattle.claim_ways.proofs.Entered.{lines_append}
 use Rattle.claim_ways.specs.Ways.{Event}
 use Rattle.claim_functions.proofs.Outcomes.{goes_of, on_not_to}
@@ -26,19 +26,19 @@ use Rattle.claim_functions.proofs.Log.{led_on, log, log_append, Silent, silent_l
 -- transfer
 silent_lines : (o : Owner) (n : ℕ) (ls : Lines) → EachStatement Silent (lines o n ls end)
 silent_lines o n ls =
-    lines-each Silent (λ l n. refl) (λ o p. refl) (λ o k. refl) (λ o e. refl) (λ o t e. refl) o n ls
+    lines_each Silent (λ l n. refl) (λ o p. refl) (λ o k. refl) (λ o e. refl) (λ o t e. refl) o n ls
     end tt
 
 silent_native : (ks : List ℕ) (a : ℕ) (o : Owner) (r : Native)
     → EachStatement Silent (native_text ks a o r end)
 silent_native ks a o r =
-    native-each Silent (λ l n. refl) (λ o p. refl) (λ o k. refl) (λ o e. refl) (λ o t e. refl) ks a
+    native_each Silent (λ l n. refl) (λ o p. refl) (λ o k. refl) (λ o e. refl) (λ o t e. refl) ks a
     o r end tt
 
 pub closing_log : (ks : List ℕ) (b : Body) (z : State) → log (closing ks b) z ≡ []
 closing_log ks b z =
     silent_log (closing ks b)
-    (closing-each Silent (λ l n. refl) (λ o p. refl) (λ o k. refl) (λ o e. refl) (λ o t e. refl) ks
+    (closing_each Silent (λ l n. refl) (λ o p. refl) (λ o k. refl) (λ o e. refl) (λ o t e. refl) ks
     b) z
 
 -- the text of a native record stands before what is after it, or drops that
@@ -72,10 +72,10 @@ past_away c d z u g k h e p =
 
 module _ (ks : List ℕ) (a : ℕ) (o : Owner) (r : Native) (z : State) where
   -- text that goes on
-  pub native-goes : (m : Machine) (t : Continues (native_text ks a o r) z m) (c : Code)
+  pub native_goes : (m : Machine) (t : Continues (native_text ks a o r) z m) (c : Code)
       → log (native_text ks a o r c) z ≡ log c t.end
   unfolding run runs step
-  native-goes m t c = go (shape ks a o r)
+  native_goes m t c = go (shape ks a o r)
     where
       go : ((c : Code) → native_text ks a o r c ≡ native_text ks a o r end ⧺ c)
           ⊎ ((c : Code) → native_text ks a o r c ≡ native_text ks a o r end)
@@ -89,9 +89,9 @@ module _ (ks : List ℕ) (a : ℕ) (o : Owner) (r : Native) (z : State) where
           ∙ t.goes (goto common 0 ⨾ end))))
 
   -- text that leaves
-  pub native-leaves : (out : Machine × ℕ) → Leaves (native_text ks a o r) z out → (c : Code)
+  pub native_leaves : (out : Machine × ℕ) → Leaves (native_text ks a o r) z out → (c : Code)
       → log (native_text ks a o r c) z ≡ []
-  native-leaves out t c = go (shape ks a o r)
+  native_leaves out t c = go (shape ks a o r)
     where
       go : ((c : Code) → native_text ks a o r c ≡ native_text ks a o r end ⧺ c)
           ⊎ ((c : Code) → native_text ks a o r c ≡ native_text ks a o r end)

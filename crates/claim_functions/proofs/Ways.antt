@@ -9,7 +9,7 @@ use Rattle.c_tree.specs.Expr.{u32, x-pc, var, Expr}
 use Rattle.c_tree.specs.Stmt.{Test, Owner, Simple, gap, record_mark, plain, label, goto, ret, ret_if}
 use Rattle.c_tree.specs.Stmt.{interp, ret_interp, call, switch, Code, end, ◌⨾◌, ◌⧺◌, Top}
 use Rattle.c_meaning.specs.State.{State, bind, put, interp_answer, after_interp}
-use Rattle.c_meaning.specs.Eval.{evalAs}
+use Rattle.c_meaning.specs.Eval.{eval_as}
 use Rattle.c_meaning.specs.Exec.{Goes, on, to, back, exec, returns, step}
 use Rattle.c_meaning.specs.Helpers.{rotated, called}
 use Rattle.claim_ways.specs.Ways.{LabelAt, here, later, past_when, past_braces, Event, reach, said}
@@ -57,19 +57,19 @@ module _ (ts : List Top) (f : Code) where
   After c (back v) xs es = (xs ≡ []) × (es ≡ [])
 
   -- if (t) return v, by what t says, and what v is
-  over-retIf : (o : Owner) (t : Test) (v : Expr) (c : Code) (q : Option (Bool × State)) (u : State)
+  over_ret_if : (o : Owner) (t : Test) (v : Expr) (c : Code) (q : Option (Bool × State)) (u : State)
       (g : Goes) (xs : List Bool) (es : List Event)
       → bind q (λ r. cond r.0 (returns rotated called v r.1) (some (r.1, on))) ≡ some (u, g)
       → After c g xs es
       → Way ts f (ret_if o t v ⨾ c) ((heard o t q).0 ++ xs) ((heard o t q).1 ++ es)
-  over-retIf o t v c none u g xs es e a = absurd (not_none e)
-  over-retIf o t v c (some r) u g xs es e a = go r.0 e
+  over_ret_if o t v c none u g xs es e a = absurd (not_none e)
+  over_ret_if o t v c (some r) u g xs es e a = go r.0 e
     where
       go : (x : Bool) → cond x (returns rotated called v r.1) (some (r.1, on)) ≡ some (u, g)
           → Way ts f (ret_if o t v ⨾ c) (x ∷ xs)
           (reach o ∷ said t x ∷ (cond x (reach o ∷ []) [] ++ es))
       go true e =
-          let b = only_back (evalAs rotated u32 v r.1) r.1 u g e in
+          let b = only_back (eval_as rotated u32 v r.1) r.1 u g e in
           let n = subst (λ h. After c h xs es) b.1 a in
           rw n.1 w_leave
       go false e = w_stay (subst (λ h. After c h xs es) (ap goes_of (sym e)) a)
@@ -88,10 +88,10 @@ module _ (ts : List Top) (f : Code) where
   over (goto o k) c z u g xs es e a =
       let r = subst (λ h. After c h xs es) (ap goes_of (sym e)) a in w_goto r.1 r.2
   over (ret o t) c z u g xs es e a =
-      let b = only_back (evalAs rotated u32 t z) z u g e in
+      let b = only_back (eval_as rotated u32 t z) z u g e in
       let n = subst (λ h. After c h xs es) b.1 a in
       rw n.1 w_ret
-  over (ret_if o t v) c z u g xs es e a = over-retIf o t v c (ask t z) u g xs es e a
+  over (ret_if o t v) c z u g xs es e a = over_ret_if o t v c (ask t z) u g xs es e a
   over (interp k i) c z u g xs es e a =
       w_interp
       (subst (λ h. After c h xs es)

@@ -31,12 +31,12 @@ module _ (step : ℕ → ℕ → Machine → Machine × ℕ) (multiplier : ℕ) 
   -- machine m, and n calls of interp_one made before, blocks are carried out one after the other,
   -- each as the claim on a block's text says; the last leads to out
   pub data Chain (out : Machine × ℕ) : ℕ → ℕ → State → Machine → Type 0 where
-    c-last : {n k : ℕ} {z : State} {m : Machine} (b : Block) (used : ℕ) → Member b → block_key b ≡ k
+    c_last : {n k : ℕ} {z : State} {m : Machine} (b : Block) (used : ℕ) → Member b → block_key b ≡ k
         → Carries (λ i. step (n + i)) (region b.addr) multiplier b z m out used
         → Chain out n k z m
     -- the next one has the key that this one leads to, and starts in a later state that agrees with
     -- what this one leaves
-    c-more : {n k : ℕ} {z : State} {m : Machine} (b : Block) (used : ℕ) (next : Machine × ℕ)
+    c_more : {n k : ℕ} {z : State} {m : Machine} (b : Block) (used : ℕ) (next : Machine × ℕ)
         (y : State) → Member b → block_key b ≡ k
         → Carries (λ i. step (n + i)) (region b.addr) multiplier b z m next used
         → Later z y → Reaches y next → Chain out (n + used) next.1 y next.0

@@ -9,7 +9,7 @@ use Rattle.c_meaning.specs.State.{State}
 use Rattle.lower_forms.specs.Block.{hash_of, body_of}
 use Rattle.lower_units.specs.Units.{TranslationUnit, units}
 use Rattle.claim_ways.specs.Ways.{Event, Way}
-use Rattle.claim_ways.specs.Claim.{allUnits, WayClaim}
+use Rattle.claim_ways.specs.Claim.{all_units, WayClaim}
 use Rattle.claim_functions.specs.Execution.{Result, Executes}
 
 module _ (multiplier limit max : ℕ) (f : List ℕ) where
@@ -27,7 +27,7 @@ module _ (multiplier limit max : ℕ) (f : List ℕ) where
   -- it is a way through the units, with the same answers and events
   unfoldable pub ExecutionsAreWays : Type 0
   ExecutionsAreWays =
-      EachExecution λ i bs c xs es. Way (allUnits (body_of multiplier) limit max bs) c c xs es
+      EachExecution λ i bs c xs es. Way (all_units (body_of multiplier) limit max bs) c c xs es
 
   -- demand 3 holds of it
   unfoldable pub ExecutionClaim : Type 0

@@ -16,7 +16,7 @@ use Rattle.claim_ways.specs.Ways.{Event}
 use Rattle.claim_ways.specs.Claim.{carried}
 use Rattle.claim_functions.specs.Execution.{underway, returned, Executes}
 use Rattle.claim_functions.specs.Chain.{SameGroup, Reaches, Chain}
-use Rattle.claim_functions.specs.Counted.{counted, chainEvents, lastEvents}
+use Rattle.claim_functions.specs.Counted.{counted, chain_events, last_events}
 
 module _ (multiplier limit max : ℕ) (f : List ℕ) where
   -- of a file, if it is accepted: every unit, and every block with its function c in the unit,
@@ -45,7 +45,7 @@ module _ (multiplier limit max : ℕ) (f : List ℕ) where
       → (out : Machine × ℕ)
       × (chain : Chain step multiplier (SameGroup limit bs i) out 0 (block_key b) z m)
       × (v ≡ out.1) × Sound out.0 × Reaches y out
-      × (counted es ≡ chainEvents chain)
+      × (counted es ≡ chain_events chain)
 
   -- each execution that is under way has carried out a beginning of such a chain, all of its blocks
   -- but the last, and of that a beginning: rest is to come
@@ -55,8 +55,8 @@ module _ (multiplier limit max : ℕ) (f : List ℕ) where
       → (out : Machine × ℕ)
       × (chain : Chain step multiplier (SameGroup limit bs i) out 0 (block_key b) z m)
       × Sound out.0
-      × ((begun rest : List Event) × (lastEvents chain ≡ begun ++ rest)
-      × (chainEvents chain ≡ counted es ++ rest))
+      × ((begun rest : List Event) × (last_events chain ≡ begun ++ rest)
+      × (chain_events chain ≡ counted es ++ rest))
 
   -- C gets on from there: an execution of the function returns, or there are some that carry out as
   -- many instructions as is wished

@@ -30,13 +30,13 @@ use Rattle.lower_forms.proofs.Gives.{lt_true}
 use Rattle.lower_units.specs.Block.{nl, sp, code_from, defer, under_guard, block_code}
 use Rattle.lower_units.specs.Text.{Leaves}
 use Rattle.lower_units.specs.Records.{RecordMeans, PairMeans, ClosingMeans}
-use Rattle.claim_meaning.specs.Block.{is_covered, Sequence, Carries, in_order, granted, absent}
+use Rattle.claim_meaning.specs.Block.{is_covered, Sequence, Carries, in_order_lem, granted, absent}
 use Rattle.claim_meaning.specs.Block.{refused, BlockMeans}
 use Rattle.lower_units.proofs.Exits.{moved_on}
 use Rattle.file_blocks.proofs.Ranges.{Consecutive}
-use Rattle.claim_meaning.proofs.Carried.{through, KnownFrom, Left, left_all, left-now}
-use Rattle.claim_meaning.proofs.Carried.{left-later, AtRecord, Done, stepped}
-use Rattle.claim_meaning.proofs.Carried.{interpreter-leaves, carries}
+use Rattle.claim_meaning.proofs.Carried.{through, KnownFrom, Left, left_all, left_now}
+use Rattle.claim_meaning.proofs.Carried.{left_later, AtRecord, Done, stepped}
+use Rattle.claim_meaning.proofs.Carried.{interpreter_leaves, carries}
 
 -- some instructions that end inside 2^32 start below it
 pub start_below : (t : Bool) (a n : ℕ) → 1 ≤ n → a + n * size_of t ≤ 4294967296 → a < 4294967296
@@ -150,7 +150,7 @@ module _ (multiplier : ℕ) (ks : List ℕ) (b : Block) (step : ℕ → ℕ → 
   all_done [] k h z m q = absurd (not-suc-le-zero h)
   all_done (x ∷ xs) k h z m q = carries multiplier ks b step xs x k 0 0 0 z m q
 
-  module _ (k : KnownFrom multiplier ks b b.instrs) (some-instr : 1 ≤ length b.instrs)
+  module _ (k : KnownFrom multiplier ks b b.instrs) (some_instr : 1 ≤ length b.instrs)
       (below : b.addr < 4294967296)
       (z : State) (m : Machine) (q : AtRecord step 0 z m) where
     -- what is claimed of it
@@ -170,7 +170,7 @@ module _ (multiplier : ℕ) (ks : List ℕ) (b : Block) (step : ℕ → ℕ → 
         → Claim
     unfolding body_of
     in_order_lem by y p e =
-        let d = all_done b.instrs k some-instr y m p in (
+        let d = all_done b.instrs k some_instr y m p in (
           d.out,
           d.after,
           by d.out d.after d.sequence,
@@ -182,38 +182,38 @@ module _ (multiplier : ℕ) (ks : List ℕ) (b : Block) (step : ℕ → ℕ → 
 
     -- the block, by whether it stands in ROM or BIOS, whether it has code bytes, and what the guard
     -- says
-    block-done : (o : Bool) (h : Option ℕ) (t : Bool) → outside_rom_bios b.addr ≡ o
+    block_done : (o : Bool) (h : Option ℕ) (t : Bool) → outside_rom_bios b.addr ≡ o
         → hash_of multiplier b ≡ h → eqb (z.answers 0) 0 ≡ t
         → Claim
     unfolding under_guard
-    block-done false h t e f g =
-        in_order_lem (λ out n s. in_order n e s) z q (run_block multiplier ks b z false h e f)
-    block-done true none t e f g =
-        let s = stepped b.addr z m (left-now q.left) q.sound q.agrees in (
+    block_done false h t e f g =
+        in_order_lem (λ out n s. in_order_lem n e s) z q (run_block multiplier ks b z false h e f)
+    block_done true none t e f g =
+        let s = stepped b.addr z m (left_now q.left) q.sound q.agrees in (
           step 0 b.addr m,
           1,
           absent e f refl,
           s.sound,
-          interpreter-leaves b.addr z m (left-now q.left) q.sound q.agrees z.scopes
+          interpreter_leaves b.addr z m (left_now q.left) q.sound q.agrees z.scopes
               λ c. run_block multiplier ks b z true none e f
               ∙ run_defer multiplier b 4 (nl ⨾ end) z below,
-          left-later q.left refl,
+          left_later q.left refl,
         )
-    block-done true (some h) true e f g =
+    block_done true (some h) true e f g =
         let s =
-        stepped b.addr (enter (answered z)) m (left-now q.left) q.sound
+        stepped b.addr (enter (answered z)) m (left_now q.left) q.sound
         (moved_on q.agrees refl refl) in (
           step 0 b.addr m,
           1,
           refused h e f (eqb-true _ _ g) refl,
           s.sound,
-          interpreter-leaves b.addr (enter (answered z)) m (left-now q.left) q.sound
+          interpreter_leaves b.addr (enter (answered z)) m (left_now q.left) q.sound
               (moved_on q.agrees refl refl) z.scopes λ c.
               run_block multiplier ks b z true (some h) e f
               ∙ run_refused multiplier ks b h z below g,
-          left-later q.left refl,
+          left_later q.left refl,
         )
-    block-done true (some h) false e f g =
+    block_done true (some h) false e f g =
         in_order_lem (λ out n s. granted n h e f (eqb-false _ _ g) s) (answered z)
         (record {
           left = record { each = q.left.each };
@@ -235,13 +235,13 @@ pub block_means : (multiplier : ℕ) (ks : List ℕ) (b : Block)
     → Consecutive b.addr b.thumb b.instrs → 1 ≤ length b.instrs
     → b.addr + length b.instrs * size_of b.thumb ≤ 2 ^ 32
     → b.addr % size_of b.thumb ≡ 0 → BlockMeans multiplier ks b
-block_means multiplier ks b means pairs closing ranges consecutive some-instr inside aligned covered
+block_means multiplier ks b means pairs closing ranges consecutive some_instr inside aligned covered
     step z m interprets declares sound agrees =
     let d =
-    block-done multiplier ks b step
+    block_done multiplier ks b step
     (known multiplier ks b means pairs closing ranges consecutive inside aligned covered)
-    some-instr
-    (start_below b.thumb b.addr (length b.instrs) some-instr inside) z m
+    some_instr
+    (start_below b.thumb b.addr (length b.instrs) some_instr inside) z m
     (record { left = left_all interprets; declares = declares; sound = sound; agrees = agrees })
     (outside_rom_bios b.addr) (hash_of multiplier b)
     (eqb (z.answers 0) 0) refl refl refl

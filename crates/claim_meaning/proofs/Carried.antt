@@ -34,13 +34,13 @@ use Rattle.lower_forms.specs.Forms.{Native, Form, records_in}
 use Rattle.lower_forms.specs.Block.{emit_shell, emit_pair, emit_instr, fused_or, cons_form, emit_instrs}
 use Rattle.lower_forms.specs.Block.{body_of}
 use Rattle.lower_forms.specs.Agree.{Agrees}
-use Rattle.lower_forms.proofs.Steps.{with-scopes}
+use Rattle.lower_forms.proofs.Steps.{with_scopes}
 use Rattle.lower_units.specs.Block.{body_key, nl, native_text, closing, code_from}
 use Rattle.lower_units.specs.Text.{Continues, Leaves, Acts, continues, leaves}
 use Rattle.lower_units.specs.Records.{is_taken, RecordMeans, PairMeans, ClosingMeans}
 use Rattle.claim_meaning.specs.Block.{ActsAsStep, Interprets, is_covered, Alone}
-use Rattle.claim_meaning.specs.Block.{leaves_by, final, away, transfers, CarriedOut, byManual}
-use Rattle.claim_meaning.specs.Block.{byInterpreter, Sequence, last, pair, more}
+use Rattle.claim_meaning.specs.Block.{leaves_by, final, away, transfers, CarriedOut, by_manual}
+use Rattle.claim_meaning.specs.Block.{by_interpreter, Sequence, last, pair, more}
 use Rattle.lower_units.proofs.Exits.{with_pc}
 use Rattle.claim_meaning.proofs.Closing.{after_even}
 use Rattle.claim_meaning.proofs.Shells.{Emitted, as_native, as_shell, emitted, some_form}
@@ -68,14 +68,14 @@ module _ (b : Block) (x : TimedInstr) where
       (even_key_of b.thumb ((x.instr.addr + size_of b.thumb) % 4294967296)
       (after_even b.thumb x.instr.addr aligned))
 
-  pub fall-lt : fall_through b.thumb x.instr < 4294967296
-  fall-lt = key_of_lt b.thumb _ (mod-lt (x.instr.addr + size_of x.instr.thumb) (lit< tt))
+  pub fall_lt : fall_through b.thumb x.instr < 4294967296
+  fall_lt = key_of_lt b.thumb _ (mod-lt (x.instr.addr + size_of x.instr.thumb) (lit< tt))
 
   -- its form there is that of its own set
-  pub own-set : x.instr.thumb ≡ b.thumb → (cycles : ℕ)
+  pub own_set_lem : x.instr.thumb ≡ b.thumb → (cycles : ℕ)
       → (emit_instr x.instr.thumb (region b.addr) cycles x).0
       ≡ (emit_instr b.thumb (region b.addr) cycles x).0
-  own-set set cycles = ap (λ (t : Bool). (emit_instr t (region b.addr) cycles x).0) set
+  own_set_lem set cycles = ap (λ (t : Bool). (emit_instr t (region b.addr) cycles x).0) set
 
 -- text that does what other text does from another state leaves as that does
 abbrev pub through : {text other : Code → Code} {z y : State} {out : Machine × ℕ}
@@ -137,13 +137,13 @@ left_all {step} {z} h =
 
 module _ {step : ℕ → ℕ → Machine → Machine × ℕ} {n : ℕ} {z : State} (l : Left step n z) where
   -- the next of them
-  pub left-now : Interprets (step n) (z.interpreter 0)
-  left-now = subst (λ (i : ℕ). Interprets (step i) (z.interpreter 0)) (add-zero n) (l.each 0)
+  pub left_now : Interprets (step n) (z.interpreter 0)
+  left_now = subst (λ (i : ℕ). Interprets (step i) (z.interpreter 0)) (add-zero n) (l.each 0)
 
   -- those after it
-  pub left-later : {y : State} → y.interpreter ≡ (λ (k : ℕ). z.interpreter (suc k))
+  pub left_later : {y : State} → y.interpreter ≡ (λ (k : ℕ). z.interpreter (suc k))
       → Left step (suc n) y
-  left-later {y} e = record {
+  left_later {y} e = record {
     each = λ k.
         let shift : n + suc k ≡ suc n + k = omega arith in
         subst (λ (f : ℕ → Interpreter). Interprets (step (suc n + k)) (f k)) (sym e)
@@ -201,19 +201,19 @@ module _ {step : ℕ → Machine → Machine × ℕ} (a : ℕ) (z : State) (m : 
   stepped = interprets (set_c 15 a z) m refl sound (with_pc agrees a)
 
   -- text that returns its answer
-  abbrev pub interpreter-leaves : {text : Code → Code} {y : State} (fs : List Scope)
+  abbrev pub interpreter_leaves : {text : Code → Code} {y : State} (fs : List Scope)
       → ((c : Code)
       → run (text c) y
       ≡ some (set_scopes fs (after_interp (set_c 15 a z)), back (interp_answer (set_c 15 a z))))
       → Leaves text y (step a m)
-  interpreter-leaves fs ends =
+  interpreter_leaves fs ends =
       record {
         end = set_scopes fs (after_interp (set_c 15 a z));
         exit = back (interp_answer (set_c 15 a z));
         ends = ends;
         leads = ap some stepped.answers;
         pc = stepped.pc;
-        same = with-scopes stepped.same fs;
+        same = with_scopes stepped.same fs;
       }
 
 module _ (multiplier : ℕ) (ks : List ℕ) (b : Block) (step : ℕ → ℕ → Machine → Machine × ℕ) where
@@ -231,17 +231,17 @@ module _ (multiplier : ℕ) (ks : List ℕ) (b : Block) (step : ℕ → ℕ → 
     module _ (natively : is_native (emit_instr b.thumb (region b.addr) 0 x).0 ≡ true) where
       said : Said x.instr
       said =
-          covered_native (region b.addr) x (ap is_native (own-set b x k.set 0) ∙ natively)
+          covered_native (region b.addr) x (ap is_native (own_set_lem b x k.set 0) ∙ natively)
           k.covered
 
-      native-done : (xs : List TimedInstr) (fs : List Form) → Alone x xs → After x xs fs
+      native_done : (xs : List TimedInstr) (fs : List Form) → Alone x xs → After x xs fs
           → (i cycles : ℕ) (r : Native)
           → (emit_instr b.thumb (region b.addr) cycles x).0 ≡ Form.native r
           → (before : ℕ) (z : State) (m : Machine) → AtRecord step before z m
           → Done step before multiplier ks b (x ∷ xs) m i (Form.native r ∷ fs) z
       unfolding body_of code_from run runs
-      native-done xs fs alone onward i cycles r e before z m q =
-          go (k.means.acts cycles r (own-set b x k.set cycles ∙ e) owner z m q.sound
+      native_done xs fs alone onward i cycles r e before z m q =
+          go (k.means.acts cycles r (own_set_lem b x k.set cycles ∙ e) owner z m q.sound
           q.agrees
           (neither _ (passed x.instr.cond m) _ said.condition said.same) next
           outcome.1)
@@ -251,24 +251,24 @@ module _ (multiplier : ℕ) (ks : List ℕ) (b : Block) (step : ℕ → ℕ → 
 
           outcome : (next : Machine × ℕ) × (execute x.instr m ≡ some next)
           outcome =
-              k.means.said cycles r (own-set b x k.set cycles ∙ e) said.instruction
+              k.means.said cycles r (own_set_lem b x k.set cycles ∙ e) said.instruction
               said.predictable m
 
           next : Machine × ℕ
           next = outcome.0
 
           carried : CarriedOut step (region b.addr) x m next before before
-          carried = byManual before (ap is_native (own-set b x k.set 0) ∙ natively) outcome.1
+          carried = by_manual before (ap is_native (own_set_lem b x k.set 0) ∙ natively) outcome.1
 
           still : Sound next.0
           still = execute_sound x.instr m k.ranged q.sound next outcome.1
 
           -- it leaves the block where it is a transfer that is taken
           leaving : is_taken x.instr m ≡ true → leaves_by (region b.addr) x m ≡ true
-          leaving t = rw (ap is_native (own-set b x k.set 0) ∙ natively) t
+          leaving t = rw (ap is_native (own_set_lem b x k.set 0) ∙ natively) t
 
           stays : is_taken x.instr m ≡ false → leaves_by (region b.addr) x m ≡ false
-          stays t = rw (ap is_native (own-set b x k.set 0) ∙ natively) t
+          stays t = rw (ap is_native (own_set_lem b x k.set 0) ∙ natively) t
 
           go : Acts (native_text ks b.addr owner r) (is_taken x.instr m) z next
               (key_after x.instr)
@@ -309,46 +309,46 @@ module _ (multiplier : ℕ) (ks : List ℕ) (b : Block) (step : ℕ → ℕ → 
 
     -- a shell
     module _ (not-native : is_native (emit_instr b.thumb (region b.addr) 0 x).0 ≡ false) where
-      shell-carried : (n : ℕ) (m : Machine)
+      shell_carried : (n : ℕ) (m : Machine)
           → CarriedOut step (region b.addr) x m (step n x.instr.addr m) n (suc n)
-      shell-carried n m = byInterpreter n (ap is_native (own-set b x k.set 0) ∙ not-native) refl
+      shell_carried n m = by_interpreter n (ap is_native (own_set_lem b x k.set 0) ∙ not-native) refl
 
-      shell-stays : (m : Machine) → leaves_by (region b.addr) x m ≡ false
-      shell-stays m = rw (ap is_native (own-set b x k.set 0) ∙ not-native)
+      shell_stays : (m : Machine) → leaves_by (region b.addr) x m ≡ false
+      shell_stays m = rw (ap is_native (own_set_lem b x k.set 0) ∙ not-native)
 
       module _ (high : Bool) (i cycles before : ℕ) (z : State) (m : Machine)
           (q : AtRecord step before z m) where
         -- what the interpreter makes of it
-        abbrev by-step : ActsAsStep (step before) (set_c 15 x.instr.addr z) m
-        by-step = stepped x.instr.addr z m (left-now q.left) q.sound q.agrees
+        abbrev by_step : ActsAsStep (step before) (set_c 15 x.instr.addr z) m
+        by_step = stepped x.instr.addr z m (left_now q.left) q.sound q.agrees
 
-        shell-last : Done step before multiplier ks b (x ∷ []) m i
+        shell_last : Done step before multiplier ks b (x ∷ []) m i
             (emit_shell b.thumb high cycles x.instr ∷ []) z
         unfolding code_from
-        shell-last =
+        shell_last =
             record {
               out = step before x.instr.addr m;
               after = suc before;
               sequence =
                   last before (suc before) x [] m (step before x.instr.addr m) tt
-                  (shell-carried before m) (final refl);
-              sound = by-step.sound;
+                  (shell_carried before m) (final refl);
+              sound = by_step.sound;
               leaves =
-                  interpreter-leaves x.instr.addr z m (left-now q.left) q.sound
+                  interpreter_leaves x.instr.addr z m (left_now q.left) q.sound
                   q.agrees z.scopes λ c.
                   after_address cycles x.instr.addr _ z k.below
                   ∙ run_return (body_key (body_of multiplier b)) i
                   (nl ⨾ cond high (closing ks (body_of multiplier b)) end)
                   (set_c 15 x.instr.addr z);
-              left = left-later q.left refl;
+              left = left_later q.left refl;
             }
 
-        shell-done : (xs : List TimedInstr) (r : Form) (rs : List Form) → Alone x xs
+        shell_done : (xs : List TimedInstr) (r : Form) (rs : List Form) → Alone x xs
             → After x xs (r ∷ rs)
             → Done step before multiplier ks b (x ∷ xs) m i
             (emit_shell b.thumb high cycles x.instr ∷ r ∷ rs) z
         unfolding code_from
-        shell-done xs r rs alone onward =
+        shell_done xs r rs alone onward =
             go (eqb (interp_answer (set_c 15 x.instr.addr z)) (fall_through b.thumb x.instr))
             refl
           where
@@ -372,7 +372,7 @@ module _ (multiplier : ℕ) (ks : List ℕ) (b : Block) (step : ℕ → ℕ → 
             starts t e =
                 after_address cycles x.instr.addr _ z k.below
                 ∙ g.goes (body_of multiplier b) i (fall_through b.thumb x.instr)
-                (code_from ks (body_of multiplier b) (i + 1) (r ∷ rs)) (fall-lt b x)
+                (code_from ks (body_of multiplier b) (i + 1) (r ∷ rs)) (fall_lt b x)
                 ∙ ap branches e
 
             go : (t : Bool)
@@ -382,15 +382,15 @@ module _ (multiplier : ℕ) (ks : List ℕ) (b : Block) (step : ℕ → ℕ → 
                 (emit_shell b.thumb high cycles x.instr ∷ r ∷ rs) z
             go true e =
                 let to-next =
-                sym by-step.answers ∙ eqb-true _ _ e ∙ fall b x k.set k.aligned in
+                sym by_step.answers ∙ eqb-true _ _ e ∙ fall b x k.set k.aligned in
                 let d =
                 onward before (suc before) m (step before x.instr.addr m)
-                (shell-carried before m) (shell-stays m) to-next (i + 1) after
+                (shell_carried before m) (shell_stays m) to-next (i + 1) after
                 (record {
-                  left = left-later q.left refl;
+                  left = left_later q.left refl;
                   declares = g.declares;
-                  sound = by-step.sound;
-                  agrees = with-scopes by-step.same g.scopes;
+                  sound = by_step.sound;
+                  agrees = with_scopes by_step.same g.scopes;
                 })
                 in
                 record {
@@ -407,25 +407,25 @@ module _ (multiplier : ℕ) (ks : List ℕ) (b : Block) (step : ℕ → ℕ → 
                   after = suc before;
                   sequence =
                       last before (suc before) x xs m (step before x.instr.addr m) alone
-                      (shell-carried before m)
+                      (shell_carried before m)
                       (away (λ p. eqb-false _ _ e
-                      (by-step.answers ∙ p ∙ sym (fall b x k.set k.aligned))));
-                  sound = by-step.sound;
+                      (by_step.answers ∙ p ∙ sym (fall b x k.set k.aligned))));
+                  sound = by_step.sound;
                   leaves =
-                      interpreter-leaves x.instr.addr z m (left-now q.left) q.sound
+                      interpreter_leaves x.instr.addr z m (left_now q.left) q.sound
                       q.agrees g.scopes (λ c. starts false e);
-                  left = left-later q.left refl;
+                  left = left_later q.left refl;
                 }
 
   -- a fused pair, whatever stands after it
-  pair-done : (x y : TimedInstr) → Known ks b x → Known ks b y → PairMeans ks b.addr x y
+  pair_done : (x y : TimedInstr) → Known ks b x → Known ks b y → PairMeans ks b.addr x y
       → (target ret : ℕ) → fuse x.instr y.instr ≡ Pair target ret
       → (xs : List TimedInstr) (fs : List Form) (i cycles before : ℕ) (z : State) (m : Machine)
       → AtRecord step before z m
       → Done step before multiplier ks b (x ∷ y ∷ xs) m i
       (Form.native (emit_pair cycles target ret) ∷ fs) z
   unfolding body_of code_from run runs
-  pair-done x y k l means target ret e xs fs i cycles before z m q =
+  pair_done x y k l means target ret e xs fs i cycles before z m q =
       let o : Owner = Owner.native_of (body_key (body_of multiplier b)) in
       let t =
       means target ret e cycles o z m q.sound q.agrees half.0 next.0 half.1
@@ -526,15 +526,15 @@ module _ (multiplier : ℕ) (ks : List ℕ) (b : Block) (step : ℕ → ℕ → 
             → is_native (emit_instr b.thumb (region b.addr) 0 x).0 ≡ n
             → Done step before multiplier ks b (x ∷ []) m i (f ∷ []) z
         go (as_native r) e t =
-            native-done x k t [] [] tt (after_last x means) i cycles r e before z m q
-        go (as_shell high) e t = shell-last x k t high i cycles before z m q
+            native_done x k t [] [] tt (after_last x means) i cycles r e before z m q
+        go (as_shell high) e t = shell_last x k t high i cycles before z m q
 
     -- another that is not fused
-    alone-done : (y : TimedInstr) (ys : List TimedInstr) (r : Form) (rs : List Form)
+    alone_done : (y : TimedInstr) (ys : List TimedInstr) (r : Form) (rs : List Form)
         → Alone x (y ∷ ys) → After x (y ∷ ys) (r ∷ rs)
         → Done step before multiplier ks b (x ∷ y ∷ ys) m i
         ((emit_instr b.thumb (region b.addr) cycles x).0 ∷ r ∷ rs) z
-    alone-done y ys r rs alone onward =
+    alone_done y ys r rs alone onward =
         go (emitted b.thumb (region b.addr) cycles x) refl refl
       where
         go : {f : Form} {n : Bool} → Emitted b.thumb cycles x.instr f n
@@ -542,9 +542,9 @@ module _ (multiplier : ℕ) (ks : List ℕ) (b : Block) (step : ℕ → ℕ → 
             → is_native (emit_instr b.thumb (region b.addr) 0 x).0 ≡ n
             → Done step before multiplier ks b (x ∷ y ∷ ys) m i (f ∷ r ∷ rs) z
         go (as_native s) e t =
-            native-done x k t (y ∷ ys) (r ∷ rs) alone onward i cycles s e before z m q
+            native_done x k t (y ∷ ys) (r ∷ rs) alone onward i cycles s e before z m q
         go (as_shell high) e t =
-            shell-done x k t high i cycles before z m q (y ∷ ys) r rs alone onward
+            shell_done x k t high i cycles before z m q (y ∷ ys) r rs alone onward
 
   -- the text of records, from one on
   pub carries : (xs : List TimedInstr) (x : TimedInstr) → KnownFrom multiplier ks b (x ∷ xs)
@@ -575,10 +575,10 @@ module _ (multiplier : ℕ) (ks : List ℕ) (b : Block) (step : ℕ → ℕ → 
           let f = some_form b.thumb (region b.addr) s.1 y ys in
           subst (λ (rs : List Form). Done step before multiplier ks b (x ∷ y ∷ ys) m i (s.0 ∷ rs)
           z) (sym f.2)
-          (alone-done x (first k) i cycles before z m q y ys f.0 f.1 e
+          (alone_done x (first k) i cycles before z m q y ys f.0 f.1 e
           (subst (λ (rs : List Form). After x (y ∷ ys) rs) f.2
           (after_more x y ys fs.0 e (λ j n u. follow j s.1 n u))))
       go follow (Pair target ret) e =
-          pair-done x y (first k) (first (others k)) (k.pairs [] ys x y refl) target ret e ys
+          pair_done x y (first k) (first (others k)) (k.pairs [] ys x y refl) target ret e ys
           (emit_instrs b.thumb (region b.addr) 0 ys).0 i
           (cycles + (x.cost + y.cost)) before z m q

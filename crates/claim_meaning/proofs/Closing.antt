@@ -19,7 +19,7 @@ use Rattle.lower_units.specs.Block.{body_end, native_text, closing, exit_code}
 use Rattle.file_records.specs.BlockRecord.{key_plus}
 use Rattle.lower_units.specs.Text.{Leaves}
 use Rattle.lower_units.specs.Records.{ClosingMeans}
-use Rattle.lower_units.proofs.Exits.{jump-leaves}
+use Rattle.lower_units.proofs.Exits.{jump_leaves}
 use Rattle.file_blocks.proofs.Ranges.{Consecutive}
 
 -- one instruction further
@@ -74,12 +74,12 @@ closing_means multiplier ks b placed aligned us x e z m g =
     subst (λ (a : ℕ). Leaves
     (λ c. exit_code ks b.addr common (flush_ticks cycles ++ pc_line a)
     (key_plus (body_end (body_of multiplier b)) b.thumb)) z (m, key_after x.instr))
-    end-address
+    end_address
     (subst (λ (k : ℕ). Leaves
     (λ c. exit_code ks b.addr common (flush_ticks cycles ++ pc_line (following x.instr)) k) z
     (m, key_after x.instr))
     same
-    (jump-leaves ks b.addr common cycles false 0 (following x.instr) (key_after x.instr)
+    (jump_leaves ks b.addr common cycles false 0 (following x.instr) (key_after x.instr)
     (lit< tt) below word.0 word.1 g))
   where
     cycles : ℕ
@@ -94,9 +94,9 @@ closing_means multiplier ks b placed aligned us x e z m g =
         ≡ key_plus ((b.addr + length b.instrs * size_of b.thumb) % 4294967296) b.thumb
     same = rw (at.0, at.1, e, length-append) (same_key b.thumb b.addr (length us))
 
-    end-address : following x.instr
+    end_address : following x.instr
         ≡ (b.addr + length b.instrs * size_of b.thumb) % 4294967296
-    end-address = rw (at.0, at.1, e, length-append) (same_end b.thumb b.addr (length us))
+    end_address = rw (at.0, at.1, e, length-append) (same_end b.thumb b.addr (length us))
 
     below : following x.instr < 4294967296
     below = mod-lt (x.instr.addr + size_of x.instr.thumb) (lit< tt)

@@ -11,8 +11,8 @@ use Rattle.lower_units.proofs.RecordMeans.{record_means}
 use Rattle.lower_units.proofs.Thumbs.{thumb_means, thumb_pair_means}
 use Rattle.lower_units.proofs.Pairs.{pair_means}
 use Rattle.claim_meaning.specs.Meaning.{MeaningOf}
-use Rattle.file_blocks.proofs.Ranges.{accepted-ranges, accepted-consecutive, accepted-some}
-use Rattle.file_blocks.proofs.Ranges.{accepted-end, accepted-aligned}
+use Rattle.file_blocks.proofs.Ranges.{accepted_ranges, accepted_consecutive, accepted_some}
+use Rattle.file_blocks.proofs.Ranges.{accepted_end, accepted_aligned}
 use Rattle.claim_meaning.proofs.Closing.{closing_means}
 use Rattle.claim_meaning.proofs.Blocks.{Placed, placed, block_means}
 use Rattle.claim_meaning.proofs.State.{keeps_state}
@@ -25,7 +25,7 @@ meaning_of multiplier f bs accepted b m ks =
       own_set = λ x h. (stands x h).set;
       even = λ x h. aligned_even b.thumb x.instr.addr (stands x h).aligned;
       sound =
-          λ x h n next s e. execute_sound x.instr n (accepted-ranges f bs accepted b m x h) s
+          λ x h n next s e. execute_sound x.instr n (accepted_ranges f bs accepted b m x h) s
           next e;
       every_record = every_record;
       thumb = λ x h. thumb_means ks b.addr (region b.addr) x;
@@ -33,28 +33,28 @@ meaning_of multiplier f bs accepted b m ks =
       thumb_pairs = λ us vs x y e. thumb_pair_means ks b.addr x y;
       closing = closing;
       whole =
-          block_means multiplier ks b every_record pairs closing (accepted-ranges f bs accepted b m)
-          (accepted-consecutive f bs accepted b m)
-          (accepted-some f bs accepted b m) (accepted-end f bs accepted b m)
-          (accepted-aligned f bs accepted b m);
+          block_means multiplier ks b every_record pairs closing (accepted_ranges f bs accepted b m)
+          (accepted_consecutive f bs accepted b m)
+          (accepted_some f bs accepted b m) (accepted_end f bs accepted b m)
+          (accepted_aligned f bs accepted b m);
       state =
           keeps_state multiplier b
           (λ x h. record {
             set = (stands x h).set;
             even = aligned_even b.thumb x.instr.addr (stands x h).aligned;
-            ranges = accepted-ranges f bs accepted b m x h;
+            ranges = accepted_ranges f bs accepted b m x h;
           });
     }
   where
     stands : (x : TimedInstr) → Memᴰ x b.instrs → Placed b.thumb x
     stands =
-        placed b.addr b.thumb b.instrs (accepted-consecutive f bs accepted b m)
-        (accepted-aligned f bs accepted b m) (accepted-end f bs accepted b m)
+        placed b.addr b.thumb b.instrs (accepted_consecutive f bs accepted b m)
+        (accepted_aligned f bs accepted b m) (accepted_end f bs accepted b m)
 
     every_record : (x : TimedInstr) → Memᴰ x b.instrs
         → RecordMeans ks b.addr (region b.addr) x
     every_record x h =
-        record_means ks b.addr (region b.addr) x (accepted-ranges f bs accepted b m x h)
+        record_means ks b.addr (region b.addr) x (accepted_ranges f bs accepted b m x h)
 
     pairs : (us vs : List TimedInstr) (x y : TimedInstr) → b.instrs ≡ us ++ (x ∷ y ∷ vs)
         → PairMeans ks b.addr x y
@@ -63,5 +63,5 @@ meaning_of multiplier f bs accepted b m ks =
     closing : (us : List TimedInstr) (x : TimedInstr) → b.instrs ≡ us ++ (x ∷ [])
         → ClosingMeans ks (body_of multiplier b) x.instr
     closing =
-        closing_means multiplier ks b (accepted-consecutive f bs accepted b m)
-        (accepted-aligned f bs accepted b m)
+        closing_means multiplier ks b (accepted_consecutive f bs accepted b m)
+        (accepted_aligned f bs accepted b m)

@@ -18,7 +18,7 @@ use Rattle.c_tree.specs.Expr.{u32, x-pc}
 use Rattle.c_tree.specs.Stmt.{common, Code, ◌⨾◌, ret_interp}
 use Rattle.c_meaning.specs.State.{bind, update, index, Scope, State, set_c, set_scopes, interp_answer}
 use Rattle.c_meaning.specs.State.{after_interp, Declares}
-use Rattle.c_meaning.specs.Eval.{eval, evalAs}
+use Rattle.c_meaning.specs.Eval.{eval, eval_as}
 use Rattle.c_meaning.specs.Exec.{back, exec, asks, step, runs}
 use Rattle.c_meaning.specs.Perform.{execs, perform}
 use Rattle.c_meaning.specs.Helpers.{run}
@@ -43,46 +43,46 @@ pub data Emitted (thumb : Bool) (cycles : ℕ) (i : Instr) : Form → Bool → T
   as_shell : (high : Bool) → Emitted thumb cycles i (emit_shell thumb high cycles i) false
 
 module _ (thumb : Bool) (region cycles : ℕ) (x : TimedInstr) where
-  lines-emitted : (touchesBus : Bool) (o : Option Lines)
+  lines_emitted : (touchesBus : Bool) (o : Option Lines)
       → Emitted thumb cycles x.instr (emit_lines thumb touchesBus cycles x o).0
       (is_native (emit_lines thumb touchesBus 0 x o).0)
-  lines-emitted touchesBus none = as_shell false
-  lines-emitted touchesBus (some ls) = as_native _
+  lines_emitted touchesBus none = as_shell false
+  lines_emitted touchesBus (some ls) = as_native _
 
-  straight-emitted : (touchesBus : Bool)
+  straight_emitted : (touchesBus : Bool)
       → Emitted thumb cycles x.instr
       (emit_lines thumb touchesBus cycles x (inline_body thumb x.instr)).0
       (is_native (emit_lines thumb touchesBus 0 x (inline_body thumb x.instr)).0)
-  straight-emitted touchesBus = lines-emitted touchesBus (inline_body thumb x.instr)
+  straight_emitted touchesBus = lines_emitted touchesBus (inline_body thumb x.instr)
 
   -- an exit, native or not
-  exit-emitted : (b : Bool) (r s : Native) (p q : Form × ℕ)
+  exit_emitted : (b : Bool) (r s : Native) (p q : Form × ℕ)
       → Emitted thumb cycles x.instr p.0 (is_native q.0)
       → Emitted thumb cycles x.instr (cond b (Form.native r, 0) p).0
       (is_native (cond b (Form.native s, 0) q).0)
-  exit-emitted true r s p q e = as_native r
-  exit-emitted false r s p q e = e
+  exit_emitted true r s p q e = as_native r
+  exit_emitted false r s p q e = e
 
   op_emitted : (op : Op)
       → Emitted thumb cycles x.instr (emit_op thumb region cycles x op).0
       (is_native (emit_op thumb region 0 x op).0)
-  op_emitted (Alu op s rd rn op2) = straight-emitted false
-  op_emitted (Mul acc s rd rn rs rm) = straight-emitted false
-  op_emitted (MulLong signed acc s hi lo rs rm) = straight-emitted false
-  op_emitted (Swap byte rd rm rn) = straight-emitted false
-  op_emitted (Bx rm) = exit-emitted (native_exit region x.instr) _ _ _ _ (straight-emitted false)
+  op_emitted (Alu op s rd rn op2) = straight_emitted false
+  op_emitted (Mul acc s rd rn rs rm) = straight_emitted false
+  op_emitted (MulLong signed acc s hi lo rs rm) = straight_emitted false
+  op_emitted (Swap byte rd rm rn) = straight_emitted false
+  op_emitted (Bx rm) = exit_emitted (native_exit region x.instr) _ _ _ _ (straight_emitted false)
   op_emitted (Branch link target) = as_native _
   op_emitted (ThumbBlHigh lr) = as_shell true
-  op_emitted (ThumbBlLow off) = straight-emitted false
-  op_emitted (Mem load width signed rd rn offset pre up writeback) = straight-emitted true
+  op_emitted (ThumbBlLow off) = straight_emitted false
+  op_emitted (Mem load width signed rd rn offset pre up writeback) = straight_emitted true
   op_emitted (BlockMem load rn rlist pre up s_bit writeback) =
-      exit-emitted (is_pop region x.instr load rn rlist pre up s_bit writeback) _ _ _ _
-      (straight-emitted true)
-  op_emitted (Mrs spsr rd) = straight-emitted false
-  op_emitted (MsrReg spsr fields rm) = straight-emitted false
-  op_emitted (MsrImm spsr fields value) = straight-emitted false
-  op_emitted (Swi imm) = straight-emitted false
-  op_emitted (Undefined raw) = straight-emitted false
+      exit_emitted (is_pop region x.instr load rn rlist pre up s_bit writeback) _ _ _ _
+      (straight_emitted true)
+  op_emitted (Mrs spsr rd) = straight_emitted false
+  op_emitted (MsrReg spsr fields rm) = straight_emitted false
+  op_emitted (MsrImm spsr fields value) = straight_emitted false
+  op_emitted (Swi imm) = straight_emitted false
+  op_emitted (Undefined raw) = straight_emitted false
 
   pub emitted : Emitted thumb cycles x.instr (emit_instr thumb region cycles x).0
       (is_native (emit_instr thumb region 0 x).0)
@@ -182,7 +182,7 @@ pub record GoesOn (z : State) : Type 0 where
       (some (set_scopes scopes (after_interp z), back (interp_answer z)))
 
 pub goes_on : (z : State) → Declares z.scopes (u32, x-pc) → GoesOn z
-unfolding run runs step asks eval evalAs
+unfolding run runs step asks eval eval_as
 goes_on z d = go z.scopes refl d
   where
     go : (ss : List Scope) → z.scopes ≡ ss → Declares ss (u32, x-pc) → GoesOn z

@@ -21,8 +21,8 @@ use Rattle.file_blocks.specs.Address.{region}
 use Rattle.armv4t_manual.specs.Machine.{Machine, thumb_state}
 use Rattle.armv4t_manual.specs.Execute.{key_after, operation, execute}
 use Rattle.armv4t_manual.proofs.Kept.{Each, execute_each}
-use Rattle.armv4t_manual.proofs.State.{execute-state, key_after_bit}
-use Rattle.claim_meaning.specs.Block.{CarriedOut, byManual, byInterpreter, Sequence, last}
+use Rattle.armv4t_manual.proofs.State.{execute_state, key_after_bit}
+use Rattle.claim_meaning.specs.Block.{CarriedOut, by_manual, by_interpreter, Sequence, last}
 use Rattle.claim_meaning.specs.Block.{pair, more, in_order, granted, absent, refused}
 use Rattle.claim_meaning.specs.Block.{StepsKeepState, KeepsState}
 
@@ -67,12 +67,12 @@ pair_leads_on i j m target ret half e f =
 
 module _ (step : ℕ → ℕ → Machine → Machine × ℕ) (keeps : StepsKeepState step) (place : ℕ)
     (thumb : Bool) where
-  carried-state : (x : TimedInstr) → OfSet thumb x → (m : Machine) (next : Machine × ℕ)
+  carried_state : (x : TimedInstr) → OfSet thumb x → (m : Machine) (next : Machine × ℕ)
       {before after : ℕ} → thumb_state m ≡ thumb → CarriedOut step place x m next before after
       → thumb_state next.0 ≡ bit next.1 0
-  carried-state x o m next own (byManual n e f) =
-      execute-state x.instr m o.even (own ∙ sym o.set) o.ranges next f
-  carried-state x o m next own (byInterpreter n e f) =
+  carried_state x o m next own (by_manual n e f) =
+      execute_state x.instr m o.even (own ∙ sym o.set) o.ranges next f
+  carried_state x o m next own (by_interpreter n e f) =
       subst (λ (q : Machine × ℕ). thumb_state q.0 ≡ bit q.1 0) f (keeps n x.instr.addr m)
 
   -- where it leads on, T is that of the set
@@ -82,30 +82,30 @@ module _ (step : ℕ → ℕ → Machine → Machine × ℕ) (keeps : StepsKeepS
   still x o next p e =
       p ∙ ap (λ (k : ℕ). bit k 0) e ∙ key_after_bit x.instr o.even ∙ o.set
 
-  sequence-state : {before after : ℕ} {xs : List TimedInstr} {m : Machine} {out : Machine × ℕ}
+  sequence_state : {before after : ℕ} {xs : List TimedInstr} {m : Machine} {out : Machine × ℕ}
       → ((x : TimedInstr) → Memᴰ x xs → OfSet thumb x) → thumb_state m ≡ thumb
       → Sequence step place before after xs m out → thumb_state out.0 ≡ bit out.1 0
-  sequence-state o own (last i j x xs m next alone by ends) =
-      carried-state x (o x (Memᴰ.head refl)) m next own by
-  sequence-state o own (pair n x y xs target ret m half next e f g) =
+  sequence_state o own (last i j x xs m next alone by ends) =
+      carried_state x (o x (Memᴰ.head refl)) m next own by
+  sequence_state o own (pair n x y xs target ret m half next e f g) =
       let ox = o x (Memᴰ.head refl) in
       let oy = o y (Memᴰ.tail (Memᴰ.head refl)) in
-      let p = execute-state x.instr m ox.even (own ∙ sym ox.set) ox.ranges half f in
+      let p = execute_state x.instr m ox.even (own ∙ sym ox.set) ox.ranges half f in
       let q = pair_leads_on x.instr y.instr m target ret half e f in
-      execute-state y.instr half.0 oy.even (still x ox half p q ∙ sym oy.set)
+      execute_state y.instr half.0 oy.even (still x ox half p q ∙ sym oy.set)
       oy.ranges next g
-  sequence-state o own (more i j k x xs m next out alone by stays e s) =
+  sequence_state o own (more i j k x xs m next out alone by stays e s) =
       let ox = o x (Memᴰ.head refl) in
-      sequence-state (λ y n. o y (Memᴰ.tail n))
-      (still x ox next (carried-state x ox m next own by) e) s
+      sequence_state (λ y n. o y (Memᴰ.tail n))
+      (still x ox next (carried_state x ox m next own by) e) s
 
 -- a block whose records are so
 pub keeps_state : (multiplier : ℕ) (b : Block)
     → ((x : TimedInstr) → Memᴰ x b.instrs → OfSet b.thumb x) → KeepsState multiplier b
 keeps_state multiplier b o step keeps z m out used own (in_order n e s) =
-    sequence-state step keeps (region b.addr) b.thumb o own s
+    sequence_state step keeps (region b.addr) b.thumb o own s
 keeps_state multiplier b o step keeps z m out used own (granted n h e f g s) =
-    sequence-state step keeps (region b.addr) b.thumb o own s
+    sequence_state step keeps (region b.addr) b.thumb o own s
 keeps_state multiplier b o step keeps z m out used own (absent e f s) =
     subst (λ (q : Machine × ℕ). thumb_state q.0 ≡ bit q.1 0) s (keeps 0 b.addr m)
 keeps_state multiplier b o step keeps z m out used own (refused h e f g s) =

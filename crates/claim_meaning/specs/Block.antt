@@ -101,9 +101,9 @@ module _ (step : ℕ → ℕ → Machine → Machine × ℕ) (region : ℕ) wher
   -- interpreter
   pub data CarriedOut (x : TimedInstr) (m : Machine) (next : Machine × ℕ) : (before after : ℕ)
       → Type 0 where
-    byManual : (n : ℕ) → is_native_record region x ≡ true → execute x.instr m ≡ some next
+    by_manual : (n : ℕ) → is_native_record region x ≡ true → execute x.instr m ≡ some next
         → CarriedOut x m next n n
-    byInterpreter : (n : ℕ) → is_native_record region x ≡ false → step n x.instr.addr m ≡ next
+    by_interpreter : (n : ℕ) → is_native_record region x ≡ false → step n x.instr.addr m ≡ next
         → CarriedOut x m next n (suc n)
 
   -- from a machine to another and a key, by records one after the other from the first on, with the

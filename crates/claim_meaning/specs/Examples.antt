@@ -11,7 +11,7 @@ use Rattle.armv4t.specs.Fused.{fuse}
 use Rattle.file_instrs.specs.declared.decode.TimedInstr.{TimedInstr}
 use Rattle.c_tree.specs.Stmt.{common, end}
 use Rattle.c_meaning.specs.State.{bind, State, empty}
-use Rattle.c_meaning.specs.Eval.{eval, evalAs}
+use Rattle.c_meaning.specs.Eval.{eval, eval_as}
 use Rattle.c_meaning.specs.Exec.{Goes, back, exec, step, runs}
 use Rattle.c_meaning.specs.Helpers.{run}
 use Rattle.lower_forms.specs.InlineBody.{listed, inline_body}
@@ -64,5 +64,5 @@ to_thumb_key :
     bind {B = ℕ × Goes}
     (run (native_text [] 0x08000100 common (emit_pair 2 0x0800010a 0x08000107) end) zeros)
     (λ q. some (q.0.c 16, q.1)) ≡ some (0, back 0x0800010b)
-unfolding native_text transfer run runs step exec eval evalAs
+unfolding native_text transfer run runs step exec eval eval_as
 to_thumb_key = refl

@@ -68,28 +68,28 @@ module _ (thumb : Bool) (region cycles addr : ℕ) (c : Cond) (own : Bool) (cost
       lined_on thumb touchesBus cycles (at op) (inline_body thumb (at op).instr)
       ∙ sym (and-false (is_al c))
 
-  op-leaves : (op : Op) → drops_form (emit_instr thumb region cycles (at op)).0
+  op_leaves : (op : Op) → drops_form (emit_instr thumb region cycles (at op)).0
       ≡ drops_rest region (at op).instr
   unfolding emit_instr drops_rest_by
-  op-leaves (Alu op s rd rn op2) = straight_on false (Alu op s rd rn op2)
-  op-leaves (Mul acc s rd rn rs rm) = straight_on false (Mul acc s rd rn rs rm)
-  op-leaves (MulLong signed acc s hi lo rs rm) =
+  op_leaves (Alu op s rd rn op2) = straight_on false (Alu op s rd rn op2)
+  op_leaves (Mul acc s rd rn rs rm) = straight_on false (Mul acc s rd rn rs rm)
+  op_leaves (MulLong signed acc s hi lo rs rm) =
       straight_on false (MulLong signed acc s hi lo rs rm)
-  op-leaves (Swap byte rd rm rn) = straight_on false (Swap byte rd rm rn)
-  op-leaves (Bx rm) =
+  op_leaves (Swap byte rd rm rn) = straight_on false (Swap byte rd rm rn)
+  op_leaves (Bx rm) =
       exited_on (is_al c && not (eqb region 0))
       (bx (flush_ticks (cycles + cost)) (reg_expr (at (Bx rm)).instr rm))
       (emit_straight thumb false cycles (at (Bx rm))) refl
       (lined_on thumb false cycles (at (Bx rm)) (inline_body thumb (at (Bx rm)).instr))
       ∙ alone (is_al c && not (eqb region 0)) (is_al c)
-  op-leaves (Branch link target) =
+  op_leaves (Branch link target) =
       branched thumb (cycles + cost) (at (Branch link target)) link target (is_al c) refl
       ∙ sym (and-true (is_al c))
-  op-leaves (ThumbBlHigh lr) = sym (and-false (is_al c))
-  op-leaves (ThumbBlLow off) = straight_on false (ThumbBlLow off)
-  op-leaves (Mem load width signed rd rn offset pre up writeback) =
+  op_leaves (ThumbBlHigh lr) = sym (and-false (is_al c))
+  op_leaves (ThumbBlLow off) = straight_on false (ThumbBlLow off)
+  op_leaves (Mem load width signed rd rn offset pre up writeback) =
       straight_on true (Mem load width signed rd rn offset pre up writeback)
-  op-leaves (BlockMem load rn rlist pre up s_bit writeback) =
+  op_leaves (BlockMem load rn rlist pre up s_bit writeback) =
       let t : ListFields = record {
         load = load;
         rn = rn;
@@ -104,16 +104,16 @@ module _ (thumb : Bool) (region cycles addr : ℕ) (c : Cond) (own : Bool) (cost
       (emit_pop thumb (cycles + cost) rn (listed rlist 15)) (emit_straight thumb true cycles (at o))
       refl (lined_on thumb true cycles (at o) (inline_body thumb (at o).instr))
       ∙ alone (pops_pc t && (is_al c && not (eqb region 0))) (is_al c)
-  op-leaves (Mrs spsr rd) = straight_on false (Mrs spsr rd)
-  op-leaves (MsrReg spsr fields rm) = straight_on false (MsrReg spsr fields rm)
-  op-leaves (MsrImm spsr fields value) = straight_on false (MsrImm spsr fields value)
-  op-leaves (Swi imm) = straight_on false (Swi imm)
-  op-leaves (Undefined raw) = straight_on false (Undefined raw)
+  op_leaves (Mrs spsr rd) = straight_on false (Mrs spsr rd)
+  op_leaves (MsrReg spsr fields rm) = straight_on false (MsrReg spsr fields rm)
+  op_leaves (MsrImm spsr fields value) = straight_on false (MsrImm spsr fields value)
+  op_leaves (Swi imm) = straight_on false (Swi imm)
+  op_leaves (Undefined raw) = straight_on false (Undefined raw)
 
 -- an instruction that is not fused drops the rest of the block exactly if it is an unconditional
 -- native exit
 pub form_leaves : (thumb : Bool) (region cycles : ℕ) (x : TimedInstr)
     → drops_form (emit_instr thumb region cycles x).0 ≡ drops_rest region x.instr
 form_leaves thumb region cycles x =
-    op-leaves thumb region cycles x.instr.addr x.instr.cond x.instr.thumb x.cost
+    op_leaves thumb region cycles x.instr.addr x.instr.cond x.instr.thumb x.cost
     x.instr.op

@@ -129,42 +129,42 @@ module _ (thumb : Bool) (region cycles addr : ℕ) (c : Cond) (own : Bool) (cost
   abbrev at : Op → TimedInstr
   at op = timed addr c op own cost
 
-  straight-shell : (touchesBus : Bool) (op : Op)
+  straight_shell : (touchesBus : Bool) (op : Op)
       → is_shell (emit_straight thumb touchesBus cycles (at op)).0
       ≡ not (is_some (op_body thumb (at op).instr op))
   unfolding inline_body
-  straight-shell touchesBus op =
+  straight_shell touchesBus op =
       lined thumb touchesBus cycles (at op) (op_body thumb (at op).instr op)
 
-  op-shell : (op : Op) → is_shell (emit_instr thumb region cycles (at op)).0
+  op_shell : (op : Op) → is_shell (emit_instr thumb region cycles (at op)).0
       ≡ is_some (reason_of region (at op).instr)
   unfolding emit_instr reason_by inline_body
-  op-shell (Alu op s rd rn op2) =
+  op_shell (Alu op s rd rn op2) =
       let o : Op = Alu op s rd rn op2 in
-      straight-shell false o
+      straight_shell false o
       ∙ alu_reason (eqb rd 15) (at o).instr op2 (alu_body op s rd (reg_expr (at o).instr rn)) refl
       (λ b. refl)
-  op-shell (Mul acc s rd rn rs rm) =
-      straight-shell false (Mul acc s rd rn rs rm)
+  op_shell (Mul acc s rd rn rs rm) =
+      straight_shell false (Mul acc s rd rn rs rm)
       ∙ unlined (eqb rd 15) (each_on_line (mul_body acc s rd rn rs rm))
       ∙ some_if (eqb rd 15) PcResult
-  op-shell (MulLong signed acc s hi lo rs rm) = refl
-  op-shell (Swap byte rd rm rn) = refl
-  op-shell (Bx rm) =
+  op_shell (MulLong signed acc s hi lo rs rm) = refl
+  op_shell (Swap byte rd rm rn) = refl
+  op_shell (Bx rm) =
       exited (is_al c && not (eqb region 0))
       (bx (flush_ticks (cycles + cost)) (reg_expr (at (Bx rm)).instr rm))
       (emit_straight thumb false cycles (at (Bx rm)))
       ∙ bx_reason (is_al c) (eqb region 0)
-  op-shell (Branch link target) = refl
-  op-shell (ThumbBlHigh lr) = refl
-  op-shell (ThumbBlLow off) = refl
-  op-shell (Mem load width signed rd rn offset pre up writeback) =
+  op_shell (Branch link target) = refl
+  op_shell (ThumbBlHigh lr) = refl
+  op_shell (ThumbBlLow off) = refl
+  op_shell (Mem load width signed rd rn offset pre up writeback) =
       let o : Op = Mem load width signed rd rn offset pre up writeback in
-      straight-shell true o
+      straight_shell true o
       ∙ mem_reason (eqb rd 15) (at o).instr offset
       (mem_body (base_expr thumb (at o).instr rn) up pre
       (access load width signed rd rn (not pre || writeback))) refl (λ e. refl)
-  op-shell (BlockMem load rn rlist pre up s_bit writeback) =
+  op_shell (BlockMem load rn rlist pre up s_bit writeback) =
       let t : ListFields = record {
         load = load;
         rn = rn;
@@ -179,22 +179,22 @@ module _ (thumb : Bool) (region cycles addr : ℕ) (c : Cond) (own : Bool) (cost
       exited native-pop (emit_pop thumb (cycles + cost) rn (listed rlist 15))
       (emit_straight thumb true cycles (at o))
       ∙ ap (cond native-pop false)
-      (straight-shell true o
+      (straight_shell true o
       ∙ unlined (s_bit || eqb rlist 0 || eqb rn 15 || loads_pc t)
       (block_mem_body (at o).instr load rn (is_listed rlist rn) pre up writeback (listed rlist 16)))
       ∙ list_reason_lem (pops_pc t) s_bit (eqb rlist 0) (eqb rn 15) (loads_pc t) (is_al c) (eqb region 0)
       (pop_facts t)
-  op-shell (Mrs spsr rd) = refl
-  op-shell (MsrReg spsr fields rm) = refl
-  op-shell (MsrImm spsr fields value) = refl
-  op-shell (Swi imm) = refl
-  op-shell (Undefined raw) = refl
+  op_shell (Mrs spsr rd) = refl
+  op_shell (MsrReg spsr fields rm) = refl
+  op_shell (MsrImm spsr fields value) = refl
+  op_shell (Swi imm) = refl
+  op_shell (Undefined raw) = refl
 
 -- an instruction that is not fused, in a block of a region, is a shell exactly if there is a reason
 pub shell_reason : (thumb : Bool) (region cycles : ℕ) (x : TimedInstr)
     → is_shell (emit_instr thumb region cycles x).0 ≡ is_some (reason_of region x.instr)
 shell_reason thumb region cycles x =
-    op-shell thumb region cycles x.instr.addr x.instr.cond x.instr.thumb x.cost
+    op_shell thumb region cycles x.instr.addr x.instr.cond x.instr.thumb x.cost
     x.instr.op
 
 -- so it is native exactly if there is none

@@ -31,68 +31,68 @@ use Rattle.claim_reasons.proofs.Walked.{none_before, shell_from, shell_at}
 
 module _ (k i : ℕ) where
   -- plain statements call nothing
-  of-line : (o : Owner) (ps : List Plain) (c : Code) → interp_calls k i (line o ps c)
+  of_line : (o : Owner) (ps : List Plain) (c : Code) → interp_calls k i (line o ps c)
       ≡ interp_calls k i c
-  of-line o [] c = refl
-  of-line o (p ∷ []) c = zero-add (interp_calls k i c)
-  of-line o (p ∷ q ∷ ps) c = zero-add _ ∙ zero-add _ ∙ of-line o (q ∷ ps) c
+  of_line o [] c = refl
+  of_line o (p ∷ []) c = zero-add (interp_calls k i c)
+  of_line o (p ∷ q ∷ ps) c = zero-add _ ∙ zero-add _ ∙ of_line o (q ∷ ps) c
 
-  of-lines : (o : Owner) (n : ℕ) (ls : Lines) (c : Code) → interp_calls k i (lines o n ls c)
+  of_lines : (o : Owner) (n : ℕ) (ls : Lines) (c : Code) → interp_calls k i (lines o n ls c)
       ≡ interp_calls k i c
-  of-lines o n [] c = refl
-  of-lines o n (l ∷ ls) c = zero-add _ ∙ of-line o l (nl ⨾ lines o n ls c) ∙ zero-add _
-      ∙ of-lines o n ls c
+  of_lines o n [] c = refl
+  of_lines o n (l ∷ ls) c = zero-add _ ∙ of_line o l (nl ⨾ lines o n ls c) ∙ zero-add _
+      ∙ of_lines o n ls c
 
-  of-goto : (y : Bool) (o : Owner) (n key : ℕ) (c : Code) → interp_calls k i (goto_code y o n key c)
+  of_goto : (y : Bool) (o : Owner) (n key : ℕ) (c : Code) → interp_calls k i (goto_code y o n key c)
       ≡ interp_calls k i c
   unfolding goto_code
-  of-goto true o n key c = omega arith
-  of-goto false o n key c = omega arith
+  of_goto true o n key c = omega arith
+  of_goto false o n key c = omega arith
 
-  of-transfer : (ks : List ℕ) (a : ℕ) (o : Owner) (n key : ℕ) (c : Code) → interp_calls k i
+  of_transfer : (ks : List ℕ) (a : ℕ) (o : Owner) (n key : ℕ) (c : Code) → interp_calls k i
       (transfer ks a o n key c) ≡ interp_calls k i c
   unfolding transfer
-  of-transfer ks a o n key c = by (among key ks)
+  of_transfer ks a o n key c = by (among key ks)
     where
       by : (t : Bool)
           → interp_calls k i
           (cond t (goto_code (leb (clear_bit0 key) a) o n key c)
           (sp n ⨾ ret o (lit word key) ⨾ nl ⨾ c))
           ≡ interp_calls k i c
-      by true = of-goto (leb (clear_bit0 key) a) o n key c
+      by true = of_goto (leb (clear_bit0 key) a) o n key c
       by false = omega arith
 
-  of-exit : (ks : List ℕ) (a : ℕ) (o : Owner) (ls : Lines) (key : ℕ) → interp_calls k i
+  of_exit : (ks : List ℕ) (a : ℕ) (o : Owner) (ls : Lines) (key : ℕ) → interp_calls k i
       (exit_code ks a o ls key) ≡ 0
-  of-exit ks a o ls key = of-lines o 4 ls (transfer ks a o 4 key end) ∙ of-transfer ks a o 4 key end
+  of_exit ks a o ls key = of_lines o 4 ls (transfer ks a o 4 key end) ∙ of_transfer ks a o 4 key end
 
-  of-closing : (ks : List ℕ) (b : Body) → interp_calls k i (closing ks b) ≡ 0
+  of_closing : (ks : List ℕ) (b : Body) → interp_calls k i (closing ks b) ≡ 0
   unfolding closing
-  of-closing ks b = of-exit ks b.addr common (closing_lines b) _
+  of_closing ks b = of_exit ks b.addr common (closing_lines b) _
 
   -- a native record calls nothing; after one that drops the rest nothing stands
-  of-native : (ks : List ℕ) (a : ℕ) (o : Owner) (r : Native) (c : Code) → interp_calls k i
+  of_native : (ks : List ℕ) (a : ℕ) (o : Owner) (r : Native) (c : Code) → interp_calls k i
       (native_text ks a o r c) ≡ cond (drops r) 0 (interp_calls k i c)
   unfolding native_text
-  of-native ks a o (straight t l) c = of-lines o 4 t _ ∙ omega (arith, of-lines o 8 l (sp 4 ⨾ end))
-  of-native ks a o (straight_if t e l) c = of-lines o 4 t _ ∙ omega (
+  of_native ks a o (straight t l) c = of_lines o 4 t _ ∙ omega (arith, of_lines o 8 l (sp 4 ⨾ end))
+  of_native ks a o (straight_if t e l) c = of_lines o 4 t _ ∙ omega (
     arith,
-    of-lines o 8 l
+    of_lines o 8 l
         (sp 6 ⨾ end),
   )
-  of-native ks a o (branch_if t e l key) c =
-      of-lines o 4 t _ ∙ omega (
+  of_native ks a o (branch_if t e l key) c =
+      of_lines o 4 t _ ∙ omega (
         arith,
-        of-line o l (nl ⨾ transfer ks a o 8 key
+        of_line o l (nl ⨾ transfer ks a o 8 key
             (sp 6 ⨾ end)),
-        of-transfer ks a o 8 key (sp 6 ⨾ end),
+        of_transfer ks a o 8 key (sp 6 ⨾ end),
       )
-  of-native ks a o (jump t key) c = of-exit ks a o t key
-  of-native ks a o (pair t key) c = of-exit ks a o t key
-  of-native ks a o (bx t e) c = of-lines o 4 t _ ∙ omega arith
-  of-native ks a o (pop t p l q e) c = of-lines o 4 t _ ∙ omega (
+  of_native ks a o (jump t key) c = of_exit ks a o t key
+  of_native ks a o (pair t key) c = of_exit ks a o t key
+  of_native ks a o (bx t e) c = of_lines o 4 t _ ∙ omega arith
+  of_native ks a o (pop t p l q e) c = of_lines o 4 t _ ∙ omega (
     arith,
-    of-lines o 6 l
+    of_lines o 6 l
         (sp 6 ⨾ plain o q ⨾ leave o e),
   )
 
@@ -106,9 +106,9 @@ unless true t m = rw (and-false t)
 unless false t m = refl
 
 module _ (ks : List ℕ) (b : Body) (i : ℕ) where
-  last-closing : (key : ℕ) (h : Bool) → interp_calls key i (cond h (closing ks b) end) ≡ 0
-  last-closing key true = of-closing key i ks b
-  last-closing key false = refl
+  last_closing : (key : ℕ) (h : Bool) → interp_calls key i (cond h (closing ks b) end) ≡ 0
+  last_closing key true = of_closing key i ks b
+  last_closing key false = refl
 
   -- a call marked with record p, and what stands after it
   one_more : (t : Bool) (p : ℕ) (m : Bool) → (eqb i p ≡ true → m ≡ false)
@@ -121,17 +121,17 @@ module _ (ks : List ℕ) (b : Body) (i : ℕ) where
   pub of_code : (key p : ℕ) (fs : List Form)
       → interp_calls key i (code_from ks b p fs) ≡ one_if (eqb key (body_key b) && shell_from i p fs)
   unfolding code_from shell_from
-  of_code key p [] = rw (of-closing key i ks b, and-false (eqb key (body_key b)))
+  of_code key p [] = rw (of_closing key i ks b, and-false (eqb key (body_key b)))
   of_code key p (Form.native r ∷ rs) =
       zero-add _
-      ∙ of-native key i ks b.addr (Owner.native_of (body_key b)) r (code_from ks b
+      ∙ of_native key i ks b.addr (Owner.native_of (body_key b)) r (code_from ks b
       (p + records_in r) rs)
       ∙ ap (cond (drops r) 0) (of_code key (p + records_in r) rs)
       ∙ unless (drops r) (eqb key (body_key b)) (shell_from i (p + records_in r) rs)
   of_code key p (shell h t k ∷ []) =
-      of-lines key i common 4 t
+      of_lines key i common 4 t
       (sp 4 ⨾ ret_interp (body_key b) p ⨾ nl ⨾ cond h (closing ks b) end)
-      ∙ rw (last-closing key h)
+      ∙ rw (last_closing key h)
       (omega (
         arith,
         one_more (eqb key (body_key b)) p false (λ e. refl),
@@ -139,7 +139,7 @@ module _ (ks : List ℕ) (b : Body) (i : ℕ) where
             (eqb key (body_key b))),
       ))
   of_code key p (shell h t k ∷ r ∷ rs) =
-      of-lines key i common 4 t (shell_code b p k (code_from ks b (p + 1) (r ∷ rs)))
+      of_lines key i common 4 t (shell_code b p k (code_from ks b (p + 1) (r ∷ rs)))
       ∙ rw (of_code key (p + 1) (r ∷ rs))
       (omega (
         arith,

@@ -107,11 +107,11 @@ module _ (thumb : Bool) (area cycles p : ℕ) (x : TimedInstr) (rs : List Form) 
         next,
       )
 
-  later-said : (j : ℕ) (ys : List TimedInstr) (os : List (Option Said))
+  later_said : (j : ℕ) (ys : List TimedInstr) (os : List (Option Said))
       → shell_from (p + 1 + j) (p + 1) rs ≡ is_some (get_or os j none)
       → shell_from (p + suc j) p (form ∷ rs)
       ≡ is_some (get_or (cond (drops_rest area x.instr) (nothing_of ys) os) j none)
-  later-said j ys os e =
+  later_said j ys os e =
       later j
       ∙ ap (λ (m : Bool). not (drops_rest area x.instr) && m) e
       ∙ stopped (drops_rest area x.instr) ys os j
@@ -142,17 +142,17 @@ module _ (thumb : Bool) (area cycles p : ℕ) (x y : TimedInstr) (rest : List Ti
       (emit_instrs thumb area (emit_instr thumb area cycles x).1 (y ∷ rest)).0
   by_first (Pair target ret) = refl
 
-  by-later : (f : Fused) (j : ℕ)
+  by_later : (f : Fused) (j : ℕ)
       → shell_from (p + 1 + j) (p + 1)
       (emit_instrs thumb area (emit_instr thumb area cycles x).1 (y ∷ rest)).0
       ≡ is_some (get_or (said_each area (y ∷ rest)) j none)
       → shell_from (p + suc j) p (loop f) ≡ is_some (get_or (said f) (suc j) none)
   unfolding shell_from
-  by-later Nothing j e =
-      later-said thumb area cycles p x
+  by_later Nothing j e =
+      later_said thumb area cycles p x
       (emit_instrs thumb area (emit_instr thumb area cycles x).1 (y ∷ rest)).0 j (y ∷ rest)
       (said_each area (y ∷ rest)) e
-  by-later (Pair target ret) j e = sym (ap is_some (nothing_at (y ∷ rest) j))
+  by_later (Pair target ret) j e = sym (ap is_some (nothing_at (y ∷ rest) j))
 
 walked : (thumb : Bool) (area cycles p j : ℕ) (xs : List TimedInstr)
     → shell_from (p + j) p (emit_instrs thumb area cycles xs).0
@@ -161,11 +161,11 @@ unfolding emit_instrs said_each shell_from
 walked thumb area cycles p j [] = refl
 walked thumb area cycles p zero (x ∷ []) = here thumb area cycles p x []
 walked thumb area cycles p (suc j) (x ∷ []) =
-    later-said thumb area cycles p x [] j [] [] refl
+    later_said thumb area cycles p x [] j [] [] refl
 walked thumb area cycles p zero (x ∷ y ∷ rest) =
     by_first thumb area cycles p x y rest (fuse x.instr y.instr)
 walked thumb area cycles p (suc j) (x ∷ y ∷ rest) =
-    by-later thumb area cycles p x y rest (fuse x.instr y.instr) j
+    by_later thumb area cycles p x y rest (fuse x.instr y.instr) j
     (walked thumb area (emit_instr thumb area cycles x).1 (p + 1) j (y ∷ rest))
 
 -- what is said of the instruction with index i of a block, by whether its text has its code

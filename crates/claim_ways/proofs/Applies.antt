@@ -10,7 +10,7 @@ use native.Mathlib.Decide.{ℕ_discrete}
 use lib.ListN.{length, get_or}
 use Rattle.file_blocks.specs.Parse.{Block, block_key}
 use Rattle.plan_groups.specs.Plan.{groups}
-use Rattle.plan_groups.proofs.GroupLaws.{groups-once, group-inside, group_of}
+use Rattle.plan_groups.proofs.GroupLaws.{groups_once, group_inside, group_of}
 use Rattle.base_lists.proofs.Places.{map_at, found_at}
 use Rattle.base_lists.specs.Lists.{count}
 use Rattle.base_lists.proofs.Counts.{count_append, count_here, count_other}
@@ -21,12 +21,12 @@ use Rattle.lower_units.specs.Block.{body_key}
 use Rattle.lower_units.specs.Units.{emit_group, unit_head, last_unit_end, default_body, bodies_of}
 use Rattle.lower_units.specs.Units.{emit_c_chunked, units_by}
 use Rattle.claim_ways.proofs.Faithful.{Faithful}
-use Rattle.claim_ways.specs.Claim.{times_carried, allUnits}
+use Rattle.claim_ways.specs.Claim.{times_carried, all_units}
 use Rattle.claim_ways.specs.Applies.{function_count, body_events, AppliesToBlock, AppliesOf}
 use Rattle.claim_ways.proofs.Members.{File, bodies, key_of, is_member, same_place}
 use Rattle.claim_ways.proofs.Entered.{first_carried, entered}
-use Rattle.claim_ways.proofs.Pieces.{Part, group-part, in_part, in_groups, no_end}
-use Rattle.claim_ways.proofs.Pieces.{functions-cut, group-count}
+use Rattle.claim_ways.proofs.Pieces.{Part, group_part, in_part, in_groups, no_end}
+use Rattle.claim_ways.proofs.Pieces.{functions_cut, group_count}
 use Rattle.file_blocks.proofs.Nowhere.{nowhere}
 
 count_none : (k : ℕ) → count k [] ≡ 0
@@ -69,34 +69,34 @@ module _ (F : File) (i : ℕ) (h : i < length F.bs) where
       (keys_of g (λ x m. inside x (Memᴰ.tail m)))
 
   -- the key of block i stands in a group as often as the block
-  count-key : (g : List ℕ) → ((j : ℕ) → Memᴰ j g → j < length bs)
+  count_key : (g : List ℕ) → ((j : ℕ) → Memᴰ j g → j < length bs)
       → count (key i) (map body_key (bodies_of (bodies F) g)) ≡ count i g
-  count-key g inside = ap (count (key i)) (keys_of g inside)
+  count_key g inside = ap (count (key i)) (keys_of g inside)
       ∙ count_map key i g (λ j m e. same_place F i j h (inside j m) e)
 
-  in-groups : (gs : List (List ℕ))
+  in_groups_lem : (gs : List (List ℕ))
       → ((g : List ℕ) → Memᴰ g gs → (j : ℕ) → Memᴰ j g → j < length bs)
       → in_groups (key i) (map (bodies_of (bodies F)) gs) ≡ count i (flatten gs)
   unfolding flatten count
-  in-groups [] inside = refl
-  in-groups (g ∷ gs) inside =
-      let one = group-count (key i) (bodies_of (bodies F) g)
-      ∙ count-key g (inside g (Memᴰ.head refl)) in
-      let more = in-groups gs (λ x m. inside x (Memᴰ.tail m)) in
+  in_groups_lem [] inside = refl
+  in_groups_lem (g ∷ gs) inside =
+      let one = group_count (key i) (bodies_of (bodies F) g)
+      ∙ count_key g (inside g (Memᴰ.head refl)) in
+      let more = in_groups_lem gs (λ x m. inside x (Memᴰ.tail m)) in
       omega (arith, one, more, count_append i g (flatten gs))
 
   module _ (max : ℕ) where
-    one_function : function_count (key i) (allUnits body_of limit max bs) ≡ 1
-    unfolding allUnits units_by emit_c_chunked
+    one_function : function_count (key i) (all_units body_of limit max bs) ≡ 1
+    unfolding all_units units_by emit_c_chunked
     one_function =
         let none : function_count (key i) unit_head ≡ 0 = refl in
-        functions-cut (key i) max (last_unit_end (bodies F)) (no_end (key i) (bodies F))
+        functions_cut (key i) max (last_unit_end (bodies F)) (no_end (key i) (bodies F))
         (map (bodies_of (bodies F)) (groups limit bs)) unit_head 0
         ∙ omega (
           arith,
           none,
-          in-groups (groups limit bs) (group-inside limit bs),
-          groups-once limit
+          in_groups_lem (groups limit bs) (group_inside limit bs),
+          groups_once limit
               bs i h,
         )
 
@@ -106,7 +106,7 @@ module _ (F : File) (i : ℕ) (h : i < length F.bs) where
     part : Part (emit_group (bodies_of (bodies F) mine)) (units_by body_of limit max bs)
     unfolding units_by emit_c_chunked
     part =
-        group-part max (last_unit_end (bodies F)) (bodies_of (bodies F) mine)
+        group_part max (last_unit_end (bodies F)) (bodies_of (bodies F) mine)
         (map (bodies_of (bodies F)) (groups limit bs)) unit_head 0
         (Memᴰ.map (bodies_of (bodies F)) (group_of limit bs i h).1)
 
@@ -119,17 +119,17 @@ module _ (F : File) (i : ℕ) (h : i < length F.bs) where
     filled : 1 ≤ record_counts (body_of (get_or bs i nowhere)).forms
     filled = let m = is_member F i h in omega (arith, m.filled, m.whole)
 
-    pub applies-to : (b : Block) → get_or bs i nowhere ≡ b → AppliesToBlock body_of limit max bs i b
-    unfolding allUnits
-    applies-to b e =
+    pub applies_to : (b : Block) → get_or bs i nowhere ≡ b → AppliesToBlock body_of limit max bs i b
+    unfolding all_units
+    applies_to b e =
         let w =
-        entered (allUnits body_of limit max bs) (body_of (get_or bs i nowhere))
+        entered (all_units body_of limit max bs) (body_of (get_or bs i nowhere))
         (bodies_of (bodies F) mine) here
         (λ t m. in_part t (emit_group (bodies_of (bodies F) mine)) (units_by body_of limit max bs) part
         m) in
         let k : key i ≡ block_key b = key_of F (get_or bs i nowhere) ∙ ap block_key e in
         record {
-          single = subst (λ n. function_count n (allUnits body_of limit max bs) ≡ 1) k one_function;
+          single = subst (λ n. function_count n (all_units body_of limit max bs) ≡ 1) k one_function;
           members = mine;
           grouped = (group_of limit bs i h).1;
           among = (group_of limit bs i h).2;
@@ -166,4 +166,4 @@ applies_of hash_of body_of faithful limit max f bs accepted i b e =
       limit = limit;
     } in
     let at = found_at bs i nowhere b e in
-    applies-to F i at.0 max b at.1
+    applies_to F i at.0 max b at.1

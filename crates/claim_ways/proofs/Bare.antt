@@ -9,7 +9,7 @@ use Rattle.lower_forms.specs.Forms.{Lines, Native, Form, shell, records_in, Body
 use Rattle.lower_units.specs.Block.{lines, closing, native_text, code_from, under_guard, block_code}
 use Rattle.file_blocks.specs.Address.{outside_rom_bios}
 use Rattle.c_tree.proofs.Statements.{EachStatement}
-use Rattle.lower_units.proofs.Statements.{lines-each, closing-each, native-each}
+use Rattle.lower_units.proofs.Statements.{lines_each, closing_each, native_each}
 
 -- a text without labels
 abbrev pub NoLabel : Simple → Type 0
@@ -30,37 +30,37 @@ Bare c = EachStatement NoLabel c
 
 bare_lines : (o : Owner) (n : ℕ) (ls : Lines) (c : Code) → Bare c → Bare (lines o n ls c)
 bare_lines o n ls c h =
-    lines-each NoLabel (λ l n. tt) (λ o p. tt) (λ o k. tt) (λ o e. tt) (λ o t e. tt) o n ls c h
+    lines_each NoLabel (λ l n. tt) (λ o p. tt) (λ o k. tt) (λ o e. tt) (λ o t e. tt) o n ls c h
 
 bare_cond : (x : Bool) (c d : Code) → Bare c → Bare d → Bare (cond x c d)
 bare_cond true c d h k = h
 bare_cond false c d h k = k
 
 module _ (ks : List ℕ) (b : Body) where
-  bare-closing : Bare (closing ks b)
-  bare-closing =
-      closing-each NoLabel (λ l n. tt) (λ o p. tt) (λ o k. tt) (λ o e. tt) (λ o t e. tt) ks b
+  bare_closing : Bare (closing ks b)
+  bare_closing =
+      closing_each NoLabel (λ l n. tt) (λ o p. tt) (λ o k. tt) (λ o e. tt) (λ o t e. tt) ks b
 
-  bare-native : (o : Owner) (r : Native) (c : Code) → Bare c → Bare (native_text ks b.addr o r c)
-  bare-native o r c h =
-      native-each NoLabel (λ l n. tt) (λ o p. tt) (λ o k. tt) (λ o e. tt) (λ o t e. tt) ks b.addr
+  bare_native : (o : Owner) (r : Native) (c : Code) → Bare c → Bare (native_text ks b.addr o r c)
+  bare_native o r c h =
+      native_each NoLabel (λ l n. tt) (λ o p. tt) (λ o k. tt) (λ o e. tt) (λ o t e. tt) ks b.addr
       o r c h
 
-  bare-code : (rs : List Form) (p : ℕ) → Bare (code_from ks b p rs)
+  bare_code : (rs : List Form) (p : ℕ) → Bare (code_from ks b p rs)
   unfolding code_from
-  bare-code [] p = bare-closing
-  bare-code (Form.native r ∷ rs) p = (tt, bare-native _ r _ (bare-code rs (p + records_in r)))
-  bare-code (shell h t e ∷ []) p =
-      bare_lines _ 4 t _ (tt, (tt, (tt, bare_cond h (closing ks b) end bare-closing tt)))
-  bare-code (shell h t e ∷ r ∷ rs) p =
-      bare_lines _ 4 t _ (tt, (tt, (tt, (tt, (tt, bare-code (r ∷ rs) (p + 1))))))
+  bare_code [] p = bare_closing
+  bare_code (Form.native r ∷ rs) p = (tt, bare_native _ r _ (bare_code rs (p + records_in r)))
+  bare_code (shell h t e ∷ []) p =
+      bare_lines _ 4 t _ (tt, (tt, (tt, bare_cond h (closing ks b) end bare_closing tt)))
+  bare_code (shell h t e ∷ r ∷ rs) p =
+      bare_lines _ 4 t _ (tt, (tt, (tt, (tt, (tt, bare_code (r ∷ rs) (p + 1))))))
 
-  bare-guard : (y : Option ℕ) → Bare (under_guard ks b y)
+  bare_guard : (y : Option ℕ) → Bare (under_guard ks b y)
   unfolding under_guard
-  bare-guard none = (tt, (tt, (tt, (tt, (tt, tt)))))
-  bare-guard (some h) = (tt, ((tt, (tt, (tt, (tt, (tt, tt))))), (tt, bare-code b.forms 0)))
+  bare_guard none = (tt, (tt, (tt, (tt, (tt, tt)))))
+  bare_guard (some h) = (tt, ((tt, (tt, (tt, (tt, (tt, tt))))), (tt, bare_code b.forms 0)))
 
-  pub bare-block : Bare (block_code ks b)
+  pub bare_block : Bare (block_code ks b)
   unfolding block_code
-  bare-block =
-      bare_cond (outside_rom_bios b.addr) _ _ (bare-guard b.hash) (bare-code b.forms 0)
+  bare_block =
+      bare_cond (outside_rom_bios b.addr) _ _ (bare_guard b.hash) (bare_code b.forms 0)

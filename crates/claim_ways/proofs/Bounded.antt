@@ -115,9 +115,9 @@ module _ (limit : ℕ) where
   quiet_of b a w s e i q_other = omega arith
   quiet_of b a w s e i q_gate = omega arith
 
-  pub spent-rules : (g : List Body) → total g ≤ limit → (b : Body) → Memᴰ b g → Member b
+  pub spent_rules : (g : List Body) → total g ≤ limit → (b : Body) → Memᴰ b g → Member b
       → Rules (Spent limit g) b (map body_key g)
-  spent-rules g small b m h = record {
+  spent_rules g small b m h = record {
     Inv = λ p w s. s + w + at_least (suc b.addr) g ≤ limit;
     Pre = λ s. s + at_least b.addr g ≤ limit;
     quiet = λ p w s e i q. quiet_of b (at_least (suc b.addr) g) w s e i q;

@@ -16,7 +16,7 @@ use Rattle.file_records.specs.BlockRecord.{length_of}
 use Rattle.file_blocks.specs.Parse.{Block, block_key}
 use Rattle.file_blocks.specs.Address.{outside_rom_bios}
 use Rattle.plan_groups.specs.Plan.{groups}
-use Rattle.plan_groups.proofs.GroupLaws.{groups-once}
+use Rattle.plan_groups.proofs.GroupLaws.{groups_once}
 use Rattle.c_tree.specs.Expr.{Expr}
 use Rattle.c_tree.specs.Stmt.{guard, gate, other, Owner, switch, label, interp, ret, Code}
 use Rattle.c_tree.specs.Stmt.{end}
@@ -61,7 +61,7 @@ two_are_several limit bs i j m = (
 pub lone_or_several : (limit : ℕ) (bs : List Block) (i : ℕ) → i < length bs
     → Lone limit bs i ⊎ Several limit bs i
 lone_or_several limit bs i h =
-    go (some_list i (groups limit bs) (omega (arith, groups-once limit bs i h)))
+    go (some_list i (groups limit bs) (omega (arith, groups_once limit bs i h)))
   where
     go : (g : List ℕ) × Memᴰ g (groups limit bs) × Memᴰ i g
         → Lone limit bs i ⊎ Several limit bs i
@@ -72,16 +72,16 @@ lone_or_several limit bs i h =
 
 module _ (toHash : Block → Option ℕ) (limit : ℕ) (bs : List Block) (i : ℕ) where
   -- one instruction more than the limit in a gateless run, in a group of several
-  pub over-the-limit : Several limit bs i → (k : ℕ) (e : Expr)
+  pub over_the_limit : Several limit bs i → (k : ℕ) (e : Expr)
       → WayClaim toHash limit bs i (round k e limit) → ⊥
-  over-the-limit s k e c =
+  over_the_limit s k e c =
       omega (arith, c.bounded s [] (round k e limit) [] refl (round_gateless k e limit).0)
 
   -- the same after the gate's no, so that the run is not the way's beginning, and before its yes
-  pub between-gates : Several limit bs i → (k : ℕ) (e : Expr)
+  pub between_gates : Several limit bs i → (k : ℕ) (e : Expr)
       → WayClaim toHash limit bs i (said gate false ∷ (round k e limit ++ (said gate true ∷ [])))
       → ⊥
-  between-gates s k e c =
+  between_gates s k e c =
       omega (
         arith,
         c.bounded s (said gate false ∷ []) (round k e limit) (said gate true ∷ []) refl
@@ -89,9 +89,9 @@ module _ (toHash : Block → Option ℕ) (limit : ℕ) (bs : List Block) (i : �
       )
 
   -- the second of a pair carried out once more by the interpreter, in a lone block
-  pub twice-in-a-lone-block : Lone limit bs i
+  pub twice_in_a_lone_block : Lone limit bs i
       → WayClaim toHash limit bs i (native_start 8 0 2 ∷ interpreted 8 1 ∷ []) → ⊥
-  twice-in-a-lone-block l c = omega (arith, c.once l 8 1)
+  twice_in_a_lone_block l c = omega (arith, c.once l 8 1)
 
   module _ (b : Block) (h : ℕ) (m : Memᴰ b bs) (o : T (outside_rom_bios b.addr))
       (e : toHash b ≡ some h) where
@@ -118,26 +118,26 @@ module _ (toHash : Block → Option ℕ) (limit : ℕ) (bs : List Block) (i : �
 
     -- so neither the start of a native record of that block may follow, where it is outside ROM and
     -- BIOS, nor a native statement of it
-    pub unguarded-record : WayClaim toHash limit bs i
+    pub unguarded_record : WayClaim toHash limit bs i
         (refusals ++ (native_start (block_key b) 0 1 ∷ [])) → ⊥
-    unguarded-record c =
+    unguarded_record c =
         not_passed (c.guarded refusals [] (native_start (block_key b) 0 1) refl b m refl o)
 
-    pub unguarded-statement : WayClaim toHash limit bs i
+    pub unguarded_statement : WayClaim toHash limit bs i
         (refusals ++ (reach (Owner.native_of (block_key b)) ∷ [])) → ⊥
-    unguarded-statement c =
+    unguarded_statement c =
         not_passed (c.guarded refusals [] (reach (Owner.native_of (block_key b))) refl b m refl o)
 
 module _ (ts : List Top) (f : Code) (o : Owner) (e : Expr) where
   -- a way goes on after a label, and after the interpreter's answer
-  pub over-a-label : (k i j : ℕ)
+  pub over_a_label : (k i j : ℕ)
       → Way ts f (label k ⨾ interp i j ⨾ ret o e ⨾ end) [] (interpreted i j ∷ reach o ∷ [])
-  over-a-label k i j = w_label (w_interp w_ret)
+  over_a_label k i j = w_label (w_interp w_ret)
 
   -- a switch may take its default, or none of its entries
-  pub default-taken : (ks : List ℕ)
+  pub default_taken : (ks : List ℕ)
       → Way ts f (switch ks ⨾ ret o e ⨾ end) [] (reach Owner.common ∷ [])
-  default-taken ks = w_default
+  default_taken ks = w_default
 
-  pub past-a-switch : (ks : List ℕ) → Way ts f (switch ks ⨾ ret o e ⨾ end) [] (reach o ∷ [])
-  past-a-switch ks = w_past w_ret
+  pub past_a_switch : (ks : List ℕ) → Way ts f (switch ks ⨾ ret o e ⨾ end) [] (reach o ∷ [])
+  past_a_switch ks = w_past w_ret

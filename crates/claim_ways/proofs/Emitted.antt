@@ -81,14 +81,14 @@ module _ (L : Logic) (b : Body) (ks : List ℕ) (R : Rules L b ks) where
   Fits p w c K = (s : S) → Inv p w s → Ok L c s K
 
   module _ (p w : ℕ) (o : Owner) (u : Quiet b (reach o)) where
-    ok-ret : (t : Expr) (c : Code) (K : S → Type 0) → Fits p w (sp 1 ⨾ ret o t ⨾ c) K
-    ok-ret t c K s i = (quiet p w s (reach o) i u).0
+    ok_ret : (t : Expr) (c : Code) (K : S → Type 0) → Fits p w (sp 1 ⨾ ret o t ⨾ c) K
+    ok_ret t c K s i = (quiet p w s (reach o) i u).0
 
-    ok-retIf : (t : Test) → ((x : Bool) → Quiet b (said t x))
+    ok_ret_if : (t : Test) → ((x : Bool) → Quiet b (said t x))
         → (e : Expr) (c : Code) (K : S → Type 0)
         → ((s : S) → Inv p w s → Ok L c (step (step s (reach o)) (said t false)) K)
         → Fits p w (ret_if o t e ⨾ c) K
-    ok-retIf t v e c K f s i =
+    ok_ret_if t v e c K f s i =
         let a = quiet p w s (reach o) i u in (
           a.0,
           λ x. (
@@ -106,23 +106,23 @@ module _ (L : Logic) (b : Body) (ks : List ℕ) (R : Rules L b ks) where
         go true j = (quiet p w _ (reach o) j u).0
         go false j = f s i
 
-    ok-line : (ts : List Plain) (c : Code) (K : S → Type 0) → Fits p w c K
+    ok_line : (ts : List Plain) (c : Code) (K : S → Type 0) → Fits p w c K
         → Fits p w (line o ts c) K
-    ok-line [] c K f s i = f s i
-    ok-line (t ∷ []) c K f s i =
+    ok_line [] c K f s i = f s i
+    ok_line (t ∷ []) c K f s i =
         let a = quiet p w s (reach o) i u in (a.0, f (step s (reach o)) a.1)
-    ok-line (t ∷ v ∷ ts) c K f s i = let a = quiet p w s (reach o) i u in
-        (a.0, ok-line (v ∷ ts) c K f (step s (reach o)) a.1)
+    ok_line (t ∷ v ∷ ts) c K f s i = let a = quiet p w s (reach o) i u in
+        (a.0, ok_line (v ∷ ts) c K f (step s (reach o)) a.1)
 
-    ok-lines : (n : ℕ) (ls : Lines) (c : Code) (K : S → Type 0) → Fits p w c K
+    ok_lines : (n : ℕ) (ls : Lines) (c : Code) (K : S → Type 0) → Fits p w c K
         → Fits p w (lines o n ls c) K
-    ok-lines n [] c K f = f
-    ok-lines n (l ∷ ls) c K f = ok-line l (nl ⨾ lines o n ls c) K (ok-lines n ls c K f)
+    ok_lines n [] c K f = f
+    ok_lines n (l ∷ ls) c K f = ok_line l (nl ⨾ lines o n ls c) K (ok_lines n ls c K f)
 
     -- if (cond) { body } rest
-    ok-when : (t : Expr) (c d : Code) (K : S → Type 0) → Fits p w c (λ s. Ok L d s K) → Fits p w d K
+    ok_when : (t : Expr) (c d : Code) (K : S → Type 0) → Fits p w c (λ s. Ok L d s K) → Fits p w d K
         → Fits p w (when o false (other t) c d) K
-    ok-when t c d K f g s i =
+    ok_when t c d K f g s i =
         let a = quiet p w s (reach o) i u in (
           a.0,
           λ x. let e =
@@ -138,116 +138,116 @@ module _ (L : Logic) (b : Body) (ks : List ℕ) (R : Rules L b ks) where
         go true j = f _ j
         go false j = g _ j
 
-    ok-goto : (n k : ℕ) → Memᴰ k ks → (y : Bool) → (T (not y) → b.addr < clear_bit0 k)
+    ok_goto : (n k : ℕ) → Memᴰ k ks → (y : Bool) → (T (not y) → b.addr < clear_bit0 k)
         → (c : Code) (K : S → Type 0) → Fits p w (goto_code y o n k c) K
     unfolding goto_code
-    ok-goto n k m true h c K =
-        ok-retIf gate (λ x. q_gate) (lit word k) (nl ⨾ sp n ⨾ goto o k ⨾ nl ⨾ c) K
+    ok_goto n k m true h c K =
+        ok_ret_if gate (λ x. q_gate) (lit word k) (nl ⨾ sp n ⨾ goto o k ⨾ nl ⨾ c) K
         (λ s i.
         let a = quiet p w s (reach o) i u in
         let d = quiet p w _ (said gate false) a.1 q_gate in
         ((quiet p w _ (reach o) d.1 u).0, back p w _ k o false a.1 m))
-    ok-goto n k m false h c K = λ s i. let a = quiet p w s (reach o) i u in
+    ok_goto n k m false h c K = λ s i. let a = quiet p w s (reach o) i u in
         (a.0, up p w (step s (reach o)) k a.1 m (h tt))
 
-    ok-transfer : (n k : ℕ) (c : Code) (K : S → Type 0) → Fits p w (transfer ks b.addr o n k c) K
+    ok_transfer : (n k : ℕ) (c : Code) (K : S → Type 0) → Fits p w (transfer ks b.addr o n k c) K
     unfolding transfer
-    ok-transfer n k c K = go (among k ks) (among→mem k ks)
+    ok_transfer n k c K = go (among k ks) (among→mem k ks)
       where
         go : (x : Bool) → (T x → Memᴰ k ks)
             → Fits p w
             (cond x (goto_code (leb (clear_bit0 k) b.addr) o n k c)
             (sp n ⨾ ret o (lit word k) ⨾ nl ⨾ c)) K
         go true m =
-            ok-goto n k (m tt) (leb (clear_bit0 k) b.addr) (nleb→lt (clear_bit0 k) b.addr) c K
+            ok_goto n k (m tt) (leb (clear_bit0 k) b.addr) (nleb→lt (clear_bit0 k) b.addr) c K
         go false m = λ s i. (quiet p w s (reach o) i u).0
 
     -- { flags; if (e) { d } }, and c after it
-    ok-conditional : (e : Expr) (d c : Code) (K : S → Type 0) → Fits p w d (λ s. Ok L c s K)
+    ok_conditional : (e : Expr) (d c : Code) (K : S → Type 0) → Fits p w d (λ s. Ok L c s K)
         → Fits p w c K → Fits p w (conditional o e d c) K
-    ok-conditional e d c K f g =
-        ok-line flags (gap true 6 ⨾ when o false (other e) d (sp 1 ⨾ end)) (λ s. Ok L c s K)
-        (ok-when e d (sp 1 ⨾ end) (λ s. Ok L c s K) f g)
+    ok_conditional e d c K f g =
+        ok_line flags (gap true 6 ⨾ when o false (other e) d (sp 1 ⨾ end)) (λ s. Ok L c s K)
+        (ok_when e d (sp 1 ⨾ end) (λ s. Ok L c s K) f g)
 
     -- one statement
-    ok-plain : (q : Plain) (c : Code) (K : S → Type 0) → Fits p w c K → Fits p w (plain o q ⨾ c) K
-    ok-plain q c K f = ok-line (q ∷ []) c K f
+    ok_plain : (q : Plain) (c : Code) (K : S → Type 0) → Fits p w c K → Fits p w (plain o q ⨾ c) K
+    ok_plain q c K f = ok_line (q ∷ []) c K f
 
-    ok-toThumb : (K : S → Type 0) → Fits p w (to_thumb o) K
-    ok-toThumb K s i = let a = quiet p w s (reach o) i u in
+    ok_to_thumb : (K : S → Type 0) → Fits p w (to_thumb o) K
+    ok_to_thumb K s i = let a = quiet p w s (reach o) i u in
         let d = quiet p w _ (reach o) a.1 u in (a.0, (d.0, (quiet p w _ (reach o) d.1 u).0))
 
-    ok-toArm : (K : S → Type 0) → Fits p w (to_arm o) K
-    ok-toArm K s i = let a = quiet p w s (reach o) i u in let d = quiet p w _ (reach o) a.1 u in
+    ok_to_arm : (K : S → Type 0) → Fits p w (to_arm o) K
+    ok_to_arm K s i = let a = quiet p w s (reach o) i u in let d = quiet p w _ (reach o) a.1 u in
         (a.0, (d.0, (quiet p w _ (reach o) d.1 u).0))
 
     -- the text of one native record
-    ok-native : (r : Native) (c : Code) (K : S → Type 0) → Fits p w c K
+    ok_native : (r : Native) (c : Code) (K : S → Type 0) → Fits p w c K
         → Fits p w (native_text ks b.addr o r c) K
     unfolding native_text
-    ok-native (straight t l) c K f =
-        ok-lines 4 t _ K (ok-lines 8 l (sp 4 ⨾ end) (λ s. Ok L c s K) f)
-    ok-native (straight_if t e l) c K f =
+    ok_native (straight t l) c K f =
+        ok_lines 4 t _ K (ok_lines 8 l (sp 4 ⨾ end) (λ s. Ok L c s K) f)
+    ok_native (straight_if t e l) c K f =
         let d : Code = nl ⨾ lines o 8 l (sp 6 ⨾ end) in
-        ok-lines 4 t (conditional o e d c) K
-        (ok-conditional e d c K (ok-lines 8 l (sp 6 ⨾ end) (λ s. Ok L c s K) f) f)
-    ok-native (branch_if t e l k) c K f =
+        ok_lines 4 t (conditional o e d c) K
+        (ok_conditional e d c K (ok_lines 8 l (sp 6 ⨾ end) (λ s. Ok L c s K) f) f)
+    ok_native (branch_if t e l k) c K f =
         let d : Code = nl ⨾ transfer ks b.addr o 8 k (sp 6 ⨾ end) in
-        ok-lines 4 t (conditional o e (sp 1 ⨾ line o l d) c) K
-        (ok-conditional e (sp 1 ⨾ line o l d) c K
-        (ok-line l d (λ s. Ok L c s K) (ok-transfer 8 k (sp 6 ⨾ end) (λ s. Ok L c s K))) f)
-    ok-native (jump t k) c K f = ok-lines 4 t _ K (ok-transfer 4 k end K)
-    ok-native (pair t k) c K f = ok-lines 4 t _ K (ok-transfer 4 k end K)
-    ok-native (bx t e) c K f =
+        ok_lines 4 t (conditional o e (sp 1 ⨾ line o l d) c) K
+        (ok_conditional e (sp 1 ⨾ line o l d) c K
+        (ok_line l d (λ s. Ok L c s K) (ok_transfer 8 k (sp 6 ⨾ end) (λ s. Ok L c s K))) f)
+    ok_native (jump t k) c K f = ok_lines 4 t _ K (ok_transfer 4 k end K)
+    ok_native (pair t k) c K f = ok_lines 4 t _ K (ok_transfer 4 k end K)
+    ok_native (bx t e) c K f =
         let d : Code =
         when o false (other (bin band (v32 x-t) (lit udec 1))) (to_thumb o) (to_arm o) in
-        ok-lines 4 t _ K
-        (ok-plain (declare (u32, x-t) e []) (gap true 6 ⨾ d) K
-        (ok-when (bin band (v32 x-t) (lit udec 1)) (to_thumb o) (to_arm o) K
-        (ok-toThumb (λ s. Ok L (to_arm o) s K)) (ok-toArm K)))
-    ok-native (pop t q l m v) c K f =
-        ok-lines 4 t _ K
-        (ok-plain q (nl ⨾ lines o 6 l (sp 6 ⨾ plain o m ⨾ leave o v)) K
-        (ok-lines 6 l (sp 6 ⨾ plain o m ⨾ leave o v) K
-        (ok-plain m (leave o v) K (ok-ret v (sp 1 ⨾ end) K))))
+        ok_lines 4 t _ K
+        (ok_plain (declare (u32, x-t) e []) (gap true 6 ⨾ d) K
+        (ok_when (bin band (v32 x-t) (lit udec 1)) (to_thumb o) (to_arm o) K
+        (ok_to_thumb (λ s. Ok L (to_arm o) s K)) (ok_to_arm K)))
+    ok_native (pop t q l m v) c K f =
+        ok_lines 4 t _ K
+        (ok_plain q (nl ⨾ lines o 6 l (sp 6 ⨾ plain o m ⨾ leave o v)) K
+        (ok_lines 6 l (sp 6 ⨾ plain o m ⨾ leave o v) K
+        (ok_plain m (leave o v) K (ok_ret v (sp 1 ⨾ end) K))))
 
-  ok-closing : (p w : ℕ) (K : S → Type 0) → Fits p w (closing ks b) K
+  ok_closing : (p w : ℕ) (K : S → Type 0) → Fits p w (closing ks b) K
   unfolding closing
-  ok-closing p w K =
-      ok-lines p w common q_none 4 (closing_lines b) _ K (ok-transfer p w common q_none 4 _ end K)
+  ok_closing p w K =
+      ok_lines p w common q_none 4 (closing_lines b) _ K (ok_transfer p w common q_none 4 _ end K)
 
-  ok-code : (rs : List Form) (p : ℕ) (K : S → Type 0)
+  ok_code : (rs : List Form) (p : ℕ) (K : S → Type 0)
       → Fits p (record_counts rs) (code_from ks b p rs) K
   unfolding code_from
-  ok-code [] p K s i = ok-closing p 0 K s i
-  ok-code (Form.native r ∷ rs) p K s i =
+  ok_code [] p K s i = ok_closing p 0 K s i
+  ok_code (Form.native r ∷ rs) p K s i =
       let d = carry p (records_in r) (record_counts rs) s i in (
         d.0,
-        ok-native (p + records_in r) (record_counts rs) (Owner.native_of (body_key b)) q_native r _ K
-            (ok-code rs (p + records_in r) K) _ d.1,
+        ok_native (p + records_in r) (record_counts rs) (Owner.native_of (body_key b)) q_native r _ K
+            (ok_code rs (p + records_in r) K) _ d.1,
       )
-  ok-code (shell h t e ∷ []) p K s i =
-      ok-lines _ _ _ q_none 4 t (sp 4 ⨾ ret_interp (body_key b) p ⨾ nl ⨾ cond h (closing ks b) end) K
+  ok_code (shell h t e ∷ []) p K s i =
+      ok_lines _ _ _ q_none 4 t (sp 4 ⨾ ret_interp (body_key b) p ⨾ nl ⨾ cond h (closing ks b) end) K
       (λ s' j. (shells p 0 s' j).0) s i
-  ok-code (shell h t e ∷ r ∷ rs) p K s i =
-      ok-lines _ _ _ q_none 4 t _ K
+  ok_code (shell h t e ∷ r ∷ rs) p K s i =
+      ok_lines _ _ _ q_none 4 t _ K
       (λ s' j.
       let d = shells p (record_counts (r ∷ rs)) s' j in (
         d.0,
-        ok-retIf _ _ common q_none (other (bin ne (v32 x-pc) (lit word e))) (λ x. q_other)
+        ok_ret_if _ _ common q_none (other (bin ne (v32 x-pc) (lit word e))) (λ x. q_other)
             (v32 x-pc) (nl ⨾ code_from ks b (p + 1) (r ∷ rs)) K
             (λ s'' j'.
             let a = quiet _ _ s'' (reach common) j' q_none in
-            ok-code (r ∷ rs) (p + 1) K _
+            ok_code (r ∷ rs) (p + 1) K _
             (quiet _ _ _ (said (other (bin ne (v32 x-pc) (lit word e))) false) a.1 q_other
             ).1)
             _ d.1,
       ))
       s i
 
-  pub ok-block : (K : S → Type 0) (s : S) → Pre s → Ok L (block_code ks b) s K
+  pub ok_block : (K : S → Type 0) (s : S) → Pre s → Ok L (block_code ks b) s K
   unfolding block_code under_guard
-  ok-block K s i = go (outside_rom_bios b.addr) (λ t. free s t i)
+  ok_block K s i = go (outside_rom_bios b.addr) (λ t. free s t i)
     where
       ask : (h : ℕ) → b.hash ≡ some h → Ok L (under_guard ks b (some h)) s K
       ask h e = ((asks s h true i).0, λ x. ((asks s h x i).1, pass x))
@@ -259,7 +259,7 @@ module _ (L : Logic) (b : Body) (ks : List ℕ) (R : Rules L b ks) where
               (λ s'. Ok L (code_from ks b 0 b.forms) s' K))
               (Ok L (code_from ks b 0 b.forms)
               (step (step s (reach common)) (said (guard b.addr (body_length b) h) x)) K)
-          pass true = ok-code b.forms 0 K _ (yes_of s h e i)
+          pass true = ok_code b.forms 0 K _ (yes_of s h e i)
           pass false = defers _ (asks s h false i).2
 
       under : (y : Option ℕ) → b.hash ≡ y → Ok L (under_guard ks b y) s K
@@ -269,4 +269,4 @@ module _ (L : Logic) (b : Body) (ks : List ℕ) (R : Rules L b ks) where
       go : (x : Bool) → (T (not x) → Inv 0 (record_counts b.forms) s)
           → Ok L (cond x (under_guard ks b b.hash) (code_from ks b 0 b.forms)) s K
       go true f = under b.hash refl
-      go false f = ok-code b.forms 0 K s (f tt)
+      go false f = ok_code b.forms 0 K s (f tt)

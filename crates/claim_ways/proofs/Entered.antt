@@ -87,77 +87,77 @@ module _ (ts : List Top) (f : Code) (ls : List Event) where
   Through c =
       (xs : List Bool) × (es : List Event) × Way ts f c xs es × (answers_and_records es ≡ ls)
 
-  over-gap : (l : Bool) (n : ℕ) (c : Code) → Through c → Through (gap l n ⨾ c)
-  over-gap l n c r = (r.0, r.1, w_gap r.2, r.3)
+  over_gap : (l : Bool) (n : ℕ) (c : Code) → Through c → Through (gap l n ⨾ c)
+  over_gap l n c r = (r.0, r.1, w_gap r.2, r.3)
 
   over_plain : (o : Owner) (p : Plain) (c : Code) → Through c → Through (plain o p ⨾ c)
   over_plain o p c r = (r.0, _, w_plain r.2, r.3)
 
-  over-line : (o : Owner) (ps : List Plain) (c : Code) → Through c → Through (line o ps c)
-  over-line o [] c r = r
-  over-line o (p ∷ []) c r = over_plain o p c r
-  over-line o (p ∷ q ∷ ps) c r = over_plain o p _ (over-gap false 1 _ (over-line o (q ∷ ps) c r))
+  over_line : (o : Owner) (ps : List Plain) (c : Code) → Through c → Through (line o ps c)
+  over_line o [] c r = r
+  over_line o (p ∷ []) c r = over_plain o p c r
+  over_line o (p ∷ q ∷ ps) c r = over_plain o p _ (over_gap false 1 _ (over_line o (q ∷ ps) c r))
 
-  over-lines : (o : Owner) (n : ℕ) (ls : Lines) (c : Code) → Through c → Through (lines o n ls c)
-  over-lines o n [] c r = r
-  over-lines o n (l ∷ ls) c r =
-      over-gap false n _
-      (over-line o l (nl ⨾ lines o n ls c) (over-gap true 0 _ (over-lines o n ls c r)))
+  over_lines : (o : Owner) (n : ℕ) (ls : Lines) (c : Code) → Through c → Through (lines o n ls c)
+  over_lines o n [] c r = r
+  over_lines o n (l ∷ ls) c r =
+      over_gap false n _
+      (over_line o l (nl ⨾ lines o n ls c) (over_gap true 0 _ (over_lines o n ls c r)))
 
-  over-braces : (b c : Code) → Through (b ⧺ c) → Through (braces b c)
-  over-braces b c r = (r.0, r.1, w_braces r.2, r.3)
+  over_braces : (b c : Code) → Through (b ⧺ c) → Through (braces b c)
+  over_braces b c r = (r.0, r.1, w_braces r.2, r.3)
 
   -- past a condition of the text's own that does not hold
-  over-when : (o : Owner) (e : Expr) (b c : Code) → Through c → Through (when o false (other e) b c)
-  over-when o e b c r = (false ∷ r.0, _, w_when r.2, r.3)
+  over_when : (o : Owner) (e : Expr) (b c : Code) → Through c → Through (when o false (other e) b c)
+  over_when o e b c r = (false ∷ r.0, _, w_when r.2, r.3)
 
-  over-conditional : (o : Owner) (e : Expr) (b c : Code) → Through c
+  over_conditional : (o : Owner) (e : Expr) (b c : Code) → Through c
       → Through (conditional o e b c)
-  over-conditional o e b c r =
-      over-gap false 4 _
-      (over-braces _ _
-      (over-gap false 1 _
+  over_conditional o e b c r =
+      over_gap false 4 _
+      (over_braces _ _
+      (over_gap false 1 _
       (subst Through
       (line_append o flags (gap true 6 ⨾ when o false (other e) b (sp 1 ⨾ end)) (nl ⨾ c))
-      (over-line o flags _
-      (over-gap true 6 _ (over-when o e b _ (over-gap false 1 _ (over-gap true 0 c r))))))))
+      (over_line o flags _
+      (over_gap true 6 _ (over_when o e b _ (over_gap false 1 _ (over_gap true 0 c r))))))))
 
   -- past a native form that does not leave
-  over-native : (ks : List ℕ) (a : ℕ) (o : Owner) (r : Native) (c : Code) → leaves r ≡ false
+  over_native : (ks : List ℕ) (a : ℕ) (o : Owner) (r : Native) (c : Code) → leaves r ≡ false
       → Through c → Through (native_text ks a o r c)
   unfolding native_text
-  over-native ks a o (straight t l) c h r =
-      over-lines o 4 t _
-      (over-gap false 4 _
-      (over-braces _ _
-      (over-gap true 0 _
+  over_native ks a o (straight t l) c h r =
+      over_lines o 4 t _
+      (over_gap false 4 _
+      (over_braces _ _
+      (over_gap true 0 _
       (subst Through (lines_append o 8 l (sp 4 ⨾ end) (nl ⨾ c))
-      (over-lines o 8 l _ (over-gap false 4 _ (over-gap true 0 c r)))))))
-  over-native ks a o (straight_if t e l) c h r = over-lines o 4 t _ (over-conditional o e _ c r)
-  over-native ks a o (branch_if t e l k) c h r = over-lines o 4 t _ (over-conditional o e _ c r)
-  over-native ks a o (jump t k) c h r = absurd (true≢false h)
-  over-native ks a o (pair t k) c h r = absurd (true≢false h)
-  over-native ks a o (bx t e) c h r = absurd (true≢false h)
-  over-native ks a o (pop t p l q e) c h r = absurd (true≢false h)
+      (over_lines o 8 l _ (over_gap false 4 _ (over_gap true 0 c r)))))))
+  over_native ks a o (straight_if t e l) c h r = over_lines o 4 t _ (over_conditional o e _ c r)
+  over_native ks a o (branch_if t e l k) c h r = over_lines o 4 t _ (over_conditional o e _ c r)
+  over_native ks a o (jump t k) c h r = absurd (true≢false h)
+  over_native ks a o (pair t k) c h r = absurd (true≢false h)
+  over_native ks a o (bx t e) c h r = absurd (true≢false h)
+  over_native ks a o (pop t p l q e) c h r = absurd (true≢false h)
 
   before : (c d : Code) → Through c → Through (c ⧺ d)
   before c d r = (r.0, r.1, extend d r.2, r.3)
 
-  over-locals : (c : Code) → Through c → Through (with_locals c)
+  over_locals : (c : Code) → Through c → Through (with_locals c)
   unfolding with_locals
-  over-locals c r =
-      over-gap true 4 _
+  over_locals c r =
+      over_gap true 4 _
       (over_plain common _ _
-      (over-gap true 4 _
+      (over_gap true 4 _
       (over_plain common _ _
-      (over-gap false 1 _ (over_plain common _ _ (over-gap true 0 c r))))))
+      (over_gap false 1 _ (over_plain common _ _ (over_gap true 0 c r))))))
 
 module _ (ts : List Top) (f : Code) (ks : List ℕ) (b : Body) where
-  from-code : (i : ℕ) (rs : List Form)
+  from_code : (i : ℕ) (rs : List Form)
       → Through ts f (form_events (body_key b) i rs) (code_from ks b i rs)
   unfolding code_from form_events
-  from-code i [] = ([], [], stop, refl)
-  from-code i (Form.native r ∷ rs) = go (from-code (i + records_in r) rs) (leaves r) refl
+  from_code i [] = ([], [], stop, refl)
+  from_code i (Form.native r ∷ rs) = go (from_code (i + records_in r) rs) (leaves r) refl
     where
       go : Through ts f (form_events (body_key b) (i + records_in r) rs)
           (code_from ks b (i + records_in r) rs) → (x : Bool) → leaves r ≡ x
@@ -168,15 +168,15 @@ module _ (ts : List Top) (f : Code) (ks : List ℕ) (b : Body) where
       go rest true e = ([], _, w_record stop, refl)
       go rest false e =
           let w =
-          over-native ts f (form_events (body_key b) (i + records_in r) rs) ks b.addr
+          over_native ts f (form_events (body_key b) (i + records_in r) rs) ks b.addr
           (Owner.native_of (body_key b)) r _ e rest in
           (w.0, _, w_record w.2, ap (λ l. native_start (body_key b) i (records_in r) ∷ l) w.3)
-  from-code i (shell x t e ∷ []) =
-      over-lines ts f (form_events (body_key b) i (shell x t e ∷ [])) common 4 t _
+  from_code i (shell x t e ∷ []) =
+      over_lines ts f (form_events (body_key b) i (shell x t e ∷ [])) common 4 t _
       ([], _, w_gap w_ret_interp, refl)
-  from-code i (shell x t e ∷ r ∷ rs) =
-      let w = from-code (i + 1) (r ∷ rs) in
-      over-lines ts f (form_events (body_key b) i (shell x t e ∷ r ∷ rs)) common 4 t _ (
+  from_code i (shell x t e ∷ r ∷ rs) =
+      let w = from_code (i + 1) (r ∷ rs) in
+      over_lines ts f (form_events (body_key b) i (shell x t e ∷ r ∷ rs)) common 4 t _ (
         false ∷ w.0,
         _,
         w_gap (w_interp (w_gap (w_stay (w_gap w.2)))),
@@ -191,7 +191,7 @@ module _ (ts : List Top) (f : Code) (ks : List ℕ) (b : Body) where
       under : (y : Option ℕ) → Through ts f (guarded_events b y) (under_guard ks b y)
       under none = ([], _, w_gap (w_plain (w_gap w_ret_interp)), refl)
       under (some y) =
-          let all = from-code 0 b.forms in (
+          let all = from_code 0 b.forms in (
             true ∷ all.0,
             _,
             w_gap (w_when (w_gap all.2)),
@@ -203,7 +203,7 @@ module _ (ts : List Top) (f : Code) (ks : List ℕ) (b : Body) where
           (cond x (guarded_events b b.hash) (form_events (body_key b) 0 b.forms))
           (cond x (under_guard ks b b.hash) (code_from ks b 0 b.forms))
       go true = under b.hash
-      go false = from-code 0 b.forms
+      go false = from_code 0 b.forms
 
 -- records are counted alike where other events are left out
 counted_alike : (h j : ℕ) (es : List Event)
@@ -276,15 +276,15 @@ to_label ks b (c ∷ bs) (Memᴰ.tail m) =
 
 module _ (ts : List Top) (b : Body) where
   -- through the switch of its group
-  from-group : (g : List Body) → Memᴰ b g
+  from_group : (g : List Body) → Memᴰ b g
       → Through ts (group_code g) (body_events b) (group_code g)
   unfolding group_code with_locals
-  from-group g m =
+  from_group g m =
       let p = to_label (map body_key g) b g m in
       let r =
       before ts (group_code g) (body_events b) (block_code (map body_key g) b) p.0
       (from_block ts (group_code g) (map body_key g) b) in
-      over-locals ts (group_code g) (body_events b) _ (
+      over_locals ts (group_code g) (body_events b) _ (
         r.0,
         r.1,
         w_gap
@@ -297,15 +297,15 @@ module _ (ts : List Top) (b : Body) where
   forwards : (g : List Body) → Memᴰ b g → (k : ℕ)
       → Memᴰ (function (group k) (group_code g)) ts → (n : ℕ)
       → Through ts (forwarder k n) (body_events b) (forwarder k n)
-  forwards g m k q n = let r = from-group g m in (r.0, r.1, w_gap (w_call q r.2), r.3)
+  forwards g m k q n = let r = from_group g m in (r.0, r.1, w_gap (w_call q r.2), r.3)
 
-  has-forwarder : (k n : ℕ) (bs : List Body) → Memᴰ b bs
+  has_forwarder : (k n : ℕ) (bs : List Body) → Memᴰ b bs
       → (j : ℕ) × Memᴰ (function (block (body_key b)) (forwarder k j)) (forwarders k n bs)
   unfolding forwarders
-  has-forwarder k n (c ∷ bs) (Memᴰ.head e) =
+  has_forwarder k n (c ∷ bs) (Memᴰ.head e) =
       (n, Memᴰ.head (ap (λ x. function (block (body_key x)) (forwarder k n)) e))
-  has-forwarder k n (c ∷ bs) (Memᴰ.tail m) =
-      let r = has-forwarder k (suc n) bs m in (r.0, Memᴰ.tail r.1)
+  has_forwarder k n (c ∷ bs) (Memᴰ.tail m) =
+      let r = has_forwarder k (suc n) bs m in (r.0, Memᴰ.tail r.1)
 
   -- its function in its group, and a way from there through the block's text
   pub entered : (g : List Body) → Memᴰ b g
@@ -316,12 +316,12 @@ module _ (ts : List Top) (b : Body) where
   entered (a ∷ []) (Memᴰ.head e) all = (
     with_locals (block_code [] b),
     Memᴰ.head (ap (λ x. function (block (body_key x)) (with_locals (block_code [] x))) e),
-    over-locals ts (with_locals (block_code [] b)) (body_events b) (block_code [] b)
+    over_locals ts (with_locals (block_code [] b)) (body_events b) (block_code [] b)
         (from_block ts (with_locals (block_code [] b)) [] b),
   )
   entered (a ∷ []) (Memᴰ.tail m) all = absurd (Memᴰ.not-nil m)
   entered (a ∷ d ∷ g) m all =
-      let r = has-forwarder (body_key a) 0 (a ∷ d ∷ g) m in (
+      let r = has_forwarder (body_key a) 0 (a ∷ d ∷ g) m in (
         forwarder (body_key a) r.0,
         Memᴰ.tail (Memᴰ.tail r.1),
         forwards (a ∷ d ∷ g) m (body_key a) (all _ (Memᴰ.head refl)) r.0,

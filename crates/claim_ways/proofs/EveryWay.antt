@@ -12,7 +12,7 @@ use Rattle.armv4t.specs.Bit0.{clear_bit0}
 use Rattle.armv4t.specs.Instr.{size_of}
 use Rattle.file_blocks.specs.Parse.{Block, block_key}
 use Rattle.plan_groups.specs.Plan.{groups}
-use Rattle.plan_groups.proofs.GroupLaws.{group-same}
+use Rattle.plan_groups.proofs.GroupLaws.{group_same}
 use Rattle.c_tree.specs.Stmt.{guard, Code, block, group, Top, function}
 use Rattle.lower_forms.specs.Forms.{Body}
 use Rattle.lower_units.specs.Block.{body_key, block_code}
@@ -21,12 +21,12 @@ use Rattle.lower_units.specs.Units.{with_locals, group_code, emit_group, unit_he
 use Rattle.lower_units.specs.Units.{bodies_of, emit_c_chunked, units_by}
 use Rattle.claim_ways.specs.Ways.{Event, said, Way, stop, w_gap, w_call}
 use Rattle.claim_ways.proofs.Faithful.{Faithful}
-use Rattle.claim_ways.specs.Claim.{AtNative, allUnits, Passed, WayClaim, ClaimOf}
+use Rattle.claim_ways.specs.Claim.{AtNative, all_units, Passed, WayClaim, ClaimOf}
 use Rattle.claim_ways.proofs.Logic.{Follow}
-use Rattle.claim_ways.proofs.Followed.{group-follows}
-use Rattle.claim_ways.proofs.Bounded.{total, Spent, at_most_total, spent-rules, parts}
+use Rattle.claim_ways.proofs.Followed.{group_follows}
+use Rattle.claim_ways.proofs.Bounded.{total, Spent, at_most_total, spent_rules, parts}
 use Rattle.claim_ways.proofs.Once.{lone_rises, once_of}
-use Rattle.claim_ways.proofs.Guarded.{Allowed, Apart, History, history-rules, lone-seen}
+use Rattle.claim_ways.proofs.Guarded.{Allowed, Apart, History, history_rules, lone_seen}
 use Rattle.claim_ways.proofs.Guarded.{guarded_of}
 use Rattle.base_lists.proofs.Places.{found_at}
 use Rattle.claim_ways.proofs.Functions.{Own, head_foreign, end_foreign, InGroup, from_cut}
@@ -49,13 +49,13 @@ module _ (limit : ℕ) (bodies : List Body) (apart : Apart bodies) where
   abbrev Both : List Body → List Event → Type 0
   Both g es = Follow (Spent limit g) es 0 × Follow (History bodies) es []
 
-  group-both : (g : List Body) → Many g → Good limit bodies g
+  group_both : (g : List Body) → Many g → Good limit bodies g
       → {ts : List Top} {xs : List Bool} {es : List Event}
       → Way ts (group_code g) (group_code g) xs es → Both g es
-  group-both (b ∷ c ∷ g) v h w =
+  group_both (b ∷ c ∷ g) v h w =
       let small : total (b ∷ c ∷ g) ≤ limit = h.small tt in (
-        group-follows (Spent limit (b ∷ c ∷ g)) b (c ∷ g)
-            (λ d m. spent-rules limit (b ∷ c ∷ g) small d m (h.members d m)) 0
+        group_follows (Spent limit (b ∷ c ∷ g)) b (c ∷ g)
+            (λ d m. spent_rules limit (b ∷ c ∷ g) small d m (h.members d m)) 0
             (record {
               first = omega arith;
               second = omega arith;
@@ -63,8 +63,8 @@ module _ (limit : ℕ) (bodies : List Body) (apart : Apart bodies) where
               fourth = omega arith;
             })
             (λ k m. omega (arith, at_most_total (clear_bit0 k) (b ∷ c ∷ g))) w,
-        group-follows (History bodies) b (c ∷ g)
-            (λ d m. history-rules bodies apart d (h.inside d m) (map body_key (b ∷ c ∷ g))) []
+        group_follows (History bodies) b (c ∷ g)
+            (λ d m. history_rules bodies apart d (h.inside d m) (map body_key (b ∷ c ∷ g))) []
             (record {
               first = λ d n a. absurd a;
               second = λ d n a. absurd a;
@@ -77,10 +77,10 @@ module _ (F : File) (max : ℕ) where
   open F use {hash_of, body_of, faithful, bs, limit}
 
   -- a function of the units stands in a group of the plan
-  in_group : (t : Top) → Own t → Memᴰ t (allUnits body_of limit max bs)
+  in_group : (t : Top) → Own t → Memᴰ t (all_units body_of limit max bs)
       → (g : List ℕ) × Memᴰ g (groups limit bs)
       × Memᴰ t (emit_group (bodies_of (bodies F) g))
-  unfolding allUnits units_by emit_c_chunked
+  unfolding all_units units_by emit_c_chunked
   in_group t o m =
       go (from_cut max (last_unit_end (bodies F)) (end_foreign (bodies F)) t o
       (map (bodies_of (bodies F)) (groups limit bs)) unit_head 0 m)
@@ -95,22 +95,22 @@ module _ (F : File) (max : ℕ) where
 
   -- a way from a forwarder
   forwarded : (k n : ℕ) {xs : List Bool} {es : List Event}
-      → Way (allUnits body_of limit max bs) (forwarder k n) (forwarder k n) xs es
+      → Way (all_units body_of limit max bs) (forwarder k n) (forwarder k n) xs es
       → (g : List Body) × Both limit (bodies F) (apart F) g es
   forwarded k n {xs} {es} w = go (called w)
     where
       go : (es ≡ [])
-          ⊎ ((c : Code) × Memᴰ (function (group k) c) (allUnits body_of limit max bs)
-          × Way (allUnits body_of limit max bs) c c xs es)
+          ⊎ ((c : Code) × Memᴰ (function (group k) c) (all_units body_of limit max bs)
+          × Way (all_units body_of limit max bs) c c xs es)
           → (g : List Body) × Both limit (bodies F) (apart F) g es
       go (inl e) = ([], subst (Both limit (bodies F) (apart F) []) (sym e) (tt, tt))
       go (inr r) =
           let q = in_group (function (group k) r.0) tt r.1 in
           let p = group_stands k r.0 (bodies_of (bodies F) q.0) q.2 in (
             bodies_of (bodies F) q.0,
-            group-both limit (bodies F) (apart F) (bodies_of (bodies F) q.0) p.0
+            group_both limit (bodies F) (apart F) (bodies_of (bodies F) q.0) p.0
                 (good F q.0 q.1)
-                (subst (λ c. Way (allUnits body_of limit max bs) c c xs es) p.1 r.2),
+                (subst (λ c. Way (all_units body_of limit max bs) c c xs es) p.1 r.2),
           )
 
   -- what is known of a body is known of its block
@@ -124,8 +124,8 @@ module _ (F : File) (max : ℕ) where
         p.2,
   )
 
-  is-guarded : (b : Block) → T (outside_rom_bios b.addr) → T (outside_rom_bios (body_of b).addr)
-  is-guarded b t = subst (λ (a : ℕ). T (outside_rom_bios a)) (sym (faithful.addr b)) t
+  is_guarded : (b : Block) → T (outside_rom_bios b.addr) → T (outside_rom_bios (body_of b).addr)
+  is_guarded b t = subst (λ (a : ℕ). T (outside_rom_bios a)) (sym (faithful.addr b)) t
 
   seen : (es us vs : List Event) (e : Event) → es ≡ us ++ (e ∷ vs)
       → Follow (History (bodies F)) es [] → (b : Block) → Memᴰ b bs → AtNative (block_key b) e
@@ -135,7 +135,7 @@ module _ (F : File) (max : ℕ) where
       passed b us
       (guarded_of (bodies F) us vs e (subst (λ es'. Follow (History (bodies F)) es' []) p h)
       (body_of b) (mathlib.Core.List.Memᴰ.map body_of m)
-      (subst (λ k. AtNative k e) (sym (key_of F b)) n) (is-guarded b t))
+      (subst (λ k. AtNative k e) (sym (key_of F b)) n) (is_guarded b t))
 
   -- block i stands in the group of its function
   here : (i : ℕ) → i < length bs → (g : List ℕ) → Memᴰ g (groups limit bs) → (b : Body)
@@ -149,30 +149,30 @@ module _ (F : File) (max : ℕ) where
 
   module _ (i : ℕ) (h : i < length bs) (g : List ℕ) (m : Memᴰ g (groups limit bs))
       (es : List Event) where
-    kept-lone : (b : Body) → bodies_of (bodies F) g ≡ b ∷ []
+    kept_lone : (b : Body) → bodies_of (bodies F) g ≡ b ∷ []
         → body_key b ≡ block_key (get_or bs i nowhere)
         → {xs : List Bool}
-        → Way (allUnits body_of limit max bs) (with_locals (block_code [] b))
+        → Way (all_units body_of limit max bs) (with_locals (block_code [] b))
         (with_locals (block_code [] b)) xs es → WayClaim hash_of limit bs i es
-    kept-lone b e k w =
+    kept_lone b e k w =
         let there : Memᴰ b (bodies_of (bodies F) g) =
         subst (λ l. Memᴰ b l) (sym e) (mathlib.Core.List.Memᴰ.head refl) in
         let single : length g ≡ 1 = one F g b e in
         let mine : Memᴰ i g = here i h g m b there k in
         record {
           bounded = λ v us ps vs p q.
-              let same : v.0 ≡ g = group-same limit bs v.0 g v.1 m i v.2 mine in
+              let same : v.0 ≡ g = group_same limit bs v.0 g v.1 m i v.2 mine in
               absurd (let z : length v.0 ≡ length g = ap length same in omega (arith, v.3));
           once = λ v k j. once_of k j es (lone_rises b w);
           guarded =
               λ us vs e' p. seen es us vs e' p
-              (lone-seen (bodies F) (apart F) b ((good F g m).inside b there) w);
+              (lone_seen (bodies F) (apart F) b ((good F g m).inside b there) w);
         }
 
-    kept-several : Many (bodies_of (bodies F) g) → (b : Body) → Memᴰ b (bodies_of (bodies F) g)
+    kept_several : Many (bodies_of (bodies F) g) → (b : Body) → Memᴰ b (bodies_of (bodies F) g)
         → body_key b ≡ block_key (get_or bs i nowhere)
         → (g' : List Body) → Both limit (bodies F) (apart F) g' es → WayClaim hash_of limit bs i es
-    kept-several v b n k g' q =
+    kept_several v b n k g' q =
         let mine : Memᴰ i g = here i h g m b n k in
         record {
           bounded =
@@ -180,7 +180,7 @@ module _ (F : File) (max : ℕ) where
               (subst (λ es'. Follow (Spent limit g') es' 0) p q.0) z;
           once = λ s k j.
               let same : (i ∷ []) ≡ g =
-              group-same limit bs (i ∷ []) g s m i (mathlib.Core.List.Memᴰ.head refl) mine in
+              group_same limit bs (i ∷ []) g s m i (mathlib.Core.List.Memᴰ.head refl) mine in
               absurd (let z : 1 ≡ length g = ap length same in omega (arith, several F g v));
           guarded = λ us vs e p. seen es us vs e p q.1;
         }
@@ -188,16 +188,16 @@ module _ (F : File) (max : ℕ) where
     kept : (c : Code)
         → Alone (block_key (get_or bs i nowhere)) c (bodies_of (bodies F) g)
         ⊎ Among (block_key (get_or bs i nowhere)) c (bodies_of (bodies F) g)
-        → (xs : List Bool) → Way (allUnits body_of limit max bs) c c xs es
+        → (xs : List Bool) → Way (all_units body_of limit max bs) c c xs es
         → WayClaim hash_of limit bs i es
     kept c (inl a) xs w =
-        kept-lone a.0 a.1 a.2
-        (subst (λ d. Way (allUnits body_of limit max bs) d d xs es) a.3 w)
+        kept_lone a.0 a.1 a.2
+        (subst (λ d. Way (all_units body_of limit max bs) d d xs es) a.3 w)
     kept c (inr a) xs w =
         let q =
         forwarded a.2.0 a.2.1
-        (subst (λ d. Way (allUnits body_of limit max bs) d d xs es) a.2.2 w) in
-        kept-several a.0 a.1.0 a.1.1 a.1.2 q.0 q.1
+        (subst (λ d. Way (all_units body_of limit max bs) d d xs es) a.2.2 w) in
+        kept_several a.0 a.1.0 a.1.1 a.1.2 q.0 q.1
 
 -- demand 3
 pub every_way : (hash_of : Block → Option ℕ) (body_of : Block → Body) → Faithful hash_of body_of
@@ -218,7 +218,7 @@ every_way hash_of body_of faithful limit max f bs accepted i b e c m xs es w =
     let k : ℕ = block_key (get_or bs i nowhere) in
     let g =
     in_group F max (function (block k) c) tt
-    (subst (λ d. Memᴰ (function (block (block_key d)) c) (allUnits body_of limit max bs))
+    (subst (λ d. Memᴰ (function (block (block_key d)) c) (all_units body_of limit max bs))
     (sym at.1) m) in
     kept F max i at.0 g.0 g.1 es c (block_stands k c (bodies_of (bodies F) g.0) g.2)
     xs w

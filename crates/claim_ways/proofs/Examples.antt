@@ -25,7 +25,7 @@ use Rattle.claim_ways.specs.Ways.{w_when, w_unanswered, w_braces, stop}
 use Rattle.claim_ways.specs.Claim.{carried, times_carried}
 use Rattle.claim_ways.specs.Applies.{form_events, body_events, answers_and_records}
 use Rattle.claim_ways.proofs.Functions.{trees, forwarder}
-use Rattle.claim_ways.proofs.Pieces.{group-part, in_part}
+use Rattle.claim_ways.proofs.Pieces.{group_part, in_part}
 
 -- a branch to itself if EQ
 abbrev loop : Body
@@ -67,7 +67,7 @@ unfolding emit_c_chunked emit_group bodies_of
 there max =
     in_part (function (group 0x08000100) (group_code both)) (emit_group both)
     (emit_c_chunked max both ((0 ∷ 1 ∷ []) ∷ []))
-    (group-part max (last_unit_end both) both (both ∷ []) unit_head 0 (Memᴰ.head refl))
+    (group_part max (last_unit_end both) both (both ∷ []) unit_head 0 (Memᴰ.head refl))
     (Memᴰ.head refl)
 
 -- the code from the loop's label on

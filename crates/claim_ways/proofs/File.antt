@@ -9,32 +9,32 @@ use Rattle.file_records.specs.Trailer.{block_count, block_start}
 use Rattle.file_records.specs.BlockRecord.{addr_at, thumb_at, count_at}
 use Rattle.file_blocks.specs.Parse.{Block, Parsed, block_at, parse, block_key}
 use Rattle.file_blocks.specs.Read.{record_at}
-use Rattle.file_blocks.proofs.Accepted.{length-of, has-instr, address-aligned, record-reads}
-use Rattle.file_blocks.proofs.Keys.{block_is, block-key, keys-differ}
+use Rattle.file_blocks.proofs.Accepted.{length_of_lem, has_instr, address_aligned, record_reads}
+use Rattle.file_blocks.proofs.Keys.{block_is, block_key_lem, keys_differ}
 use Rattle.lower_units.proofs.Aligned.{aligned_even}
 
 module _ (f : List ℕ) (bs : List Block) (accepted : parse f ≡ Parsed.accepted bs) where
   long : length bs ≡ block_count f
-  long = length-of f bs accepted
+  long = length_of_lem f bs accepted
 
   module _ (i : ℕ) (d : Block) (h : i < length bs) where
     inside : i < block_count f
     inside = omega (arith, long)
 
-    pub block-even : (get_or bs i d).addr % 2 ≡ 0
+    pub block_even : (get_or bs i d).addr % 2 ≡ 0
     unfolding block_at
-    block-even =
+    block_even =
         ap (λ (b : Block). b.addr % 2) (block_is f bs accepted i d inside)
         ∙ aligned_even (thumb_at f (block_start f i)) (addr_at f (block_start f i))
-        (address-aligned f bs accepted i inside)
+        (address_aligned f bs accepted i inside)
 
-    pub block-filled : 1 ≤ length (get_or bs i d).instrs
+    pub block_filled : 1 ≤ length (get_or bs i d).instrs
     unfolding record_at
-    block-filled =
+    block_filled =
         let same : length (get_or bs i d).instrs ≡ count_at f (block_start f i)
         = ap (λ (b : Block). length b.instrs) (block_is f bs accepted i d inside)
-        ∙ sym (record-reads f bs accepted i inside).count in
-        omega (arith, same, has-instr f bs accepted i inside)
+        ∙ sym (record_reads f bs accepted i inside).count in
+        omega (arith, same, has_instr f bs accepted i inside)
 
   -- two blocks with one key are one
   pub one_key : (d : Block) (i j : ℕ) → i < length bs → j < length bs
@@ -42,5 +42,5 @@ module _ (f : List ℕ) (bs : List Block) (accepted : parse f ≡ Parsed.accepte
   one_key d i j h l e =
       let here : i < block_count f = omega (arith, long) in
       let there : j < block_count f = omega (arith, long) in
-      keys-differ f bs accepted i j here there
-      (sym (block-key f bs accepted i d here) ∙ e ∙ block-key f bs accepted j d there)
+      keys_differ f bs accepted i j here there
+      (sym (block_key_lem f bs accepted i d here) ∙ e ∙ block_key_lem f bs accepted j d there)

@@ -16,7 +16,7 @@ use Rattle.claim_ways.specs.Ways.{Event, said, Way}
 use Rattle.claim_ways.specs.Claim.{AtNative}
 use Rattle.claim_ways.proofs.Logic.{Logic, Follow}
 use Rattle.claim_ways.proofs.Emitted.{Quiet, q_native, q_none, q_other, q_gate, Rules}
-use Rattle.claim_ways.proofs.Followed.{lone-follows}
+use Rattle.claim_ways.proofs.Followed.{lone_follows}
 
 -- the guard said yes to the block's address, length and hash
 abbrev pub Allowed : Body → List Event → Type 0
@@ -52,8 +52,8 @@ module _ (bs : List Body) (apart : Apart bs) (b : Body) (m : Memᴰ b bs) where
   quiet_of s e f q_other = (λ c n a. absurd a, later b s _ f)
   quiet_of s e f q_gate = (λ c n a. absurd a, later b s _ f)
 
-  pub history-rules : (ks : List ℕ) → Rules (History bs) b ks
-  history-rules ks = record {
+  pub history_rules : (ks : List ℕ) → Rules (History bs) b ks
+  history_rules ks = record {
     Inv = λ p w s. T (outside_rom_bios b.addr) → Allowed b s;
     Pre = λ s. Unit {0};
     quiet = λ p w s e i q. quiet_of s e i q;
@@ -68,12 +68,12 @@ module _ (bs : List Body) (apart : Apart bs) (b : Body) (m : Memᴰ b bs) where
     defers = λ s i. (λ c n a. absurd a, λ c n a. absurd a);
   }
 
-  pub lone-seen : {ts : List Top} {xs : List Bool} {es : List Event}
+  pub lone_seen : {ts : List Top} {xs : List Bool} {es : List Event}
       → Way ts (with_locals (block_code [] b)) (with_locals (block_code [] b)) xs es
       → Follow (History bs) es []
-  unfolding history-rules
-  lone-seen w =
-      lone-follows (History bs) b (history-rules []) []
+  unfolding history_rules
+  lone_seen w =
+      lone_follows (History bs) b (history_rules []) []
       (record {
         first = λ c n a. absurd a;
         second = λ c n a. absurd a;

@@ -11,7 +11,7 @@ use Rattle.file_blocks.specs.Parse.{Block, Parsed, parse, block_key}
 use Rattle.plan_groups.specs.Plan.{groups}
 use Rattle.plan_groups.proofs.Components.{counts_of}
 use Rattle.plan_groups.proofs.Cutting.{instructions}
-use Rattle.plan_groups.proofs.GroupLaws.{group-limit, group-inside}
+use Rattle.plan_groups.proofs.GroupLaws.{group_limit, group_inside}
 use Rattle.base_lists.proofs.Places.{map_at, member_at, place_of}
 use Rattle.lower_forms.specs.Forms.{Body}
 use Rattle.lower_units.specs.Block.{body_key}
@@ -19,7 +19,7 @@ use Rattle.lower_units.specs.Units.{default_body, bodies_of}
 use Rattle.claim_ways.proofs.Faithful.{Faithful}
 use Rattle.claim_ways.proofs.Bounded.{Member, total}
 use Rattle.claim_ways.proofs.Guarded.{Apart}
-use Rattle.claim_ways.proofs.File.{block-even, block-filled, one_key}
+use Rattle.claim_ways.proofs.File.{block_even, block_filled, one_key}
 use Rattle.claim_ways.proofs.Functions.{Many}
 use Rattle.file_blocks.proofs.Nowhere.{nowhere}
 
@@ -56,26 +56,26 @@ module _ (F : File) where
   unfolding bodies_of
   member_of g m b n =
       let r = Memᴰ.of_map (λ (i : ℕ). get_or bodies i default_body) g n in
-      let inside : r.0 < length bs = group-inside limit bs g m r.0 r.1 in
+      let inside : r.0 < length bs = group_inside limit bs g m r.0 r.1 in
       (r.0, r.1, inside, sym (map_at body_of bs r.0 nowhere default_body inside) ∙ r.2)
 
   pub is_member : (i : ℕ) → i < length bs → Member (body_of (get_or bs i nowhere))
   is_member i h =
       record {
         even = ap (λ (a : ℕ). a % 2) (faithful.addr (get_or bs i nowhere))
-            ∙ block-even bytes bs accepted i nowhere h;
+            ∙ block_even bytes bs accepted i nowhere h;
         filled =
             omega (
               arith,
               faithful.count (get_or bs i nowhere),
-              block-filled bytes bs accepted i
+              block_filled bytes bs accepted i
                   nowhere h,
             );
         whole = faithful.whole (get_or bs i nowhere);
       }
 
-  in-bodies : (i : ℕ) → i < length bs → Memᴰ (body_of (get_or bs i nowhere)) bodies
-  in-bodies i h = Memᴰ.map body_of (member_at bs i nowhere h)
+  in_bodies : (i : ℕ) → i < length bs → Memᴰ (body_of (get_or bs i nowhere)) bodies
+  in_bodies i h = Memᴰ.map body_of (member_at bs i nowhere h)
 
   -- the counts of the plan are those of the bodies
   count_at : (cs : List Block) (i : ℕ)
@@ -107,8 +107,8 @@ module _ (F : File) where
       record {
         members = λ b n. let r = member_of g m b n in subst Member r.3 (is_member r.0 r.2);
         inside = λ b n. let r = member_of g m b n in
-            subst (λ c. Memᴰ c bodies) r.3 (in-bodies r.0 r.2);
-        small = λ v. omega (arith, total_of g, group-limit limit bs g m (several g v));
+            subst (λ c. Memᴰ c bodies) r.3 (in_bodies r.0 r.2);
+        small = λ v. omega (arith, total_of g, group_limit limit bs g m (several g v));
       }
 
   -- a block of the file by its place

@@ -15,7 +15,7 @@ use Rattle.claim_ways.specs.Ways.{Event, reach, said, native_start, interpreted,
 use Rattle.claim_ways.specs.Claim.{times_carried}
 use Rattle.claim_ways.proofs.Logic.{Logic, Follow}
 use Rattle.claim_ways.proofs.Emitted.{Quiet, q_native, q_none, q_other, q_gate, Rules}
-use Rattle.claim_ways.proofs.Followed.{lone-follows}
+use Rattle.claim_ways.proofs.Followed.{lone_follows}
 
 abbrev ahead : ℕ → Event → ℕ
 ahead s (reach o) = s
@@ -58,7 +58,7 @@ pub lone_rises : (b : Body) {ts : List Top} {xs : List Bool} {es : List Event}
     → Way ts (with_locals (block_code [] b)) (with_locals (block_code [] b)) xs es → Follow Rising es 0
 unfolding rising_rules
 lone_rises b w =
-    lone-follows Rising b (rising_rules b) 0
+    lone_follows Rising b (rising_rules b) 0
     (record { first = tt; second = tt; third = tt; fourth = tt }) (omega arith) w
 
 -- one event: none of the indices below the state, and each index at most once

@@ -75,10 +75,10 @@ module _ (max : ℕ) (closed : List Top) where
           }
       go false us vs p = p
 
-  pub group-part : (g : List Body) (gs : List (List Body)) (ts : List Top) (n : ℕ) → Memᴰ g gs
+  pub group_part : (g : List Body) (gs : List (List Body)) (ts : List Top) (n : ℕ) → Memᴰ g gs
       → Part (emit_group g) (cut max closed ts n gs)
   unfolding cut
-  group-part g (h ∷ gs) ts n (Memᴰ.head e) =
+  group_part g (h ∷ gs) ts n (Memᴰ.head e) =
       subst (λ x. Part (emit_group x) (cut max closed ts n (h ∷ gs))) (sym e)
       (go (leb max (length (text_of (ts ++ emit_group h))))
       (cut max closed unit_head (n + length h) gs)
@@ -103,11 +103,11 @@ module _ (max : ℕ) (closed : List Top) where
             piece = ap (λ (l : List Top). ts ++ l) (sym (append_nil (emit_group h)));
           }
       go false us vs p = p
-  group-part g (h ∷ gs) ts n (Memᴰ.tail m) =
+  group_part g (h ∷ gs) ts n (Memᴰ.tail m) =
       go (leb max (length (text_of (ts ++ emit_group h)))) (cut max closed unit_head (n + length h) gs)
       (cut max closed (ts ++ emit_group h) (n + length h) gs)
-      (group-part g gs unit_head (n + length h) m)
-      (group-part g gs (ts ++ emit_group h) (n + length h) m)
+      (group_part g gs unit_head (n + length h) m)
+      (group_part g gs (ts ++ emit_group h) (n + length h) m)
     where
       go : (y : Bool) (us vs : List TranslationUnit) → Part (emit_group g) us → Part (emit_group g) vs
           → Part (emit_group g)
@@ -133,37 +133,37 @@ in_part t x us p m =
     (Memᴰ.append_right p.before (Memᴰ.append_left p.after m)))
 
 module _ (k : ℕ) where
-  functions-append : (s t : List Top)
+  functions_append : (s t : List Top)
       → function_count k (s ++ t) ≡ function_count k s + function_count k t
-  functions-append [] t = omega arith
-  functions-append (x ∷ s) t = omega (arith, functions-append s t)
+  functions_append [] t = omega arith
+  functions_append (x ∷ s) t = omega (arith, functions_append s t)
 
   -- the functions of some groups
   abbrev pub in_groups : List (List Body) → ℕ
   in_groups [] = 0
   in_groups (g ∷ gs) = function_count k (emit_group g) + in_groups gs
 
-  no-extern : (bs : List Body) → function_count k (map (λ (b : Body). extern (body_key b)) bs) ≡ 0
-  no-extern [] = refl
-  no-extern (b ∷ bs) = omega (arith, no-extern bs)
+  no_extern : (bs : List Body) → function_count k (map (λ (b : Body). extern (body_key b)) bs) ≡ 0
+  no_extern [] = refl
+  no_extern (b ∷ bs) = omega (arith, no_extern bs)
 
   pub no_end : (bs : List Body) → function_count k (last_unit_end bs) ≡ 0
   unfolding last_unit_end
   no_end bs =
-      functions-append (map (λ (b : Body). extern (body_key b)) bs) _ ∙ omega (arith, no-extern bs)
+      functions_append (map (λ (b : Body). extern (body_key b)) bs) _ ∙ omega (arith, no_extern bs)
 
   -- the units have those of the groups and no other
-  pub functions-cut : (max : ℕ) (closed : List Top) → function_count k closed ≡ 0
+  pub functions_cut : (max : ℕ) (closed : List Top) → function_count k closed ≡ 0
       → (gs : List (List Body)) (ts : List Top) (n : ℕ)
       → function_count k (trees (cut max closed ts n gs)) ≡ function_count k ts + in_groups gs
   unfolding cut flatten
-  functions-cut max closed z [] ts n =
-      functions-append (ts ++ closed) [] ∙ omega (arith, functions-append ts closed)
-  functions-cut max closed z (g ∷ gs) ts n =
+  functions_cut max closed z [] ts n =
+      functions_append (ts ++ closed) [] ∙ omega (arith, functions_append ts closed)
+  functions_cut max closed z (g ∷ gs) ts n =
       go (leb max (length (text_of (ts ++ emit_group g)))) (cut max closed unit_head (n + length g) gs)
       (cut max closed (ts ++ emit_group g) (n + length g) gs)
-      (functions-cut max closed z gs unit_head (n + length g))
-      (functions-cut max closed z gs (ts ++ emit_group g) (n + length g))
+      (functions_cut max closed z gs unit_head (n + length g))
+      (functions_cut max closed z gs (ts ++ emit_group g) (n + length g))
     where
       go : (y : Bool) (us vs : List TranslationUnit)
           → function_count k (trees us) ≡ function_count k unit_head + in_groups gs
@@ -172,19 +172,19 @@ module _ (k : ℕ) where
           (trees (cond y
           (record { tree = ts ++ emit_group g; done = n + length g; last = false } ∷ us) vs))
           ≡ function_count k ts + (function_count k (emit_group g) + in_groups gs)
-      go true us vs p q = functions-append (ts ++ emit_group g) (trees us)
-          ∙ omega (arith, functions-append ts (emit_group g), p)
-      go false us vs p q = omega (arith, functions-append ts (emit_group g), q)
+      go true us vs p q = functions_append (ts ++ emit_group g) (trees us)
+          ∙ omega (arith, functions_append ts (emit_group g), p)
+      go false us vs p q = omega (arith, functions_append ts (emit_group g), q)
 
-  forwarders-count : (a n : ℕ) (bs : List Body)
+  forwarders_count : (a n : ℕ) (bs : List Body)
       → function_count k (forwarders a n bs) ≡ count_of k (map body_key bs)
   unfolding forwarders count_of
-  forwarders-count a n [] = refl
-  forwarders-count a n (b ∷ bs) = omega (arith, forwarders-count a (suc n) bs)
+  forwarders_count a n [] = refl
+  forwarders_count a n (b ∷ bs) = omega (arith, forwarders_count a (suc n) bs)
 
   -- a group has one for each member
-  pub group-count : (g : List Body) → function_count k (emit_group g) ≡ count_of k (map body_key g)
+  pub group_count : (g : List Body) → function_count k (emit_group g) ≡ count_of k (map body_key g)
   unfolding emit_group emit_block count_of
-  group-count [] = refl
-  group-count (b ∷ []) = omega arith
-  group-count (b ∷ c ∷ g) = omega (arith, forwarders-count (body_key b) 0 (b ∷ c ∷ g))
+  group_count [] = refl
+  group_count (b ∷ []) = omega arith
+  group_count (b ∷ c ∷ g) = omega (arith, forwarders_count (body_key b) 0 (b ∷ c ∷ g))

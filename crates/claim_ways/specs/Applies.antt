@@ -16,7 +16,7 @@ use Rattle.lower_forms.specs.Block.{body_of}
 use Rattle.lower_units.specs.Block.{body_key, body_length}
 use Rattle.lower_units.specs.Units.{TranslationUnit, emit_group, bodies_of, units_by}
 use Rattle.claim_ways.specs.Ways.{Event, reach, said, native_start, interpreted, Way}
-use Rattle.claim_ways.specs.Claim.{times_carried, allUnits}
+use Rattle.claim_ways.specs.Claim.{times_carried, all_units}
 
 -- 1 for the function of the block with the key k, else 0
 abbrev pub function_times : ℕ → Top → ℕ
@@ -97,7 +97,7 @@ module _ (toBody : Block → Body) where
   -- what demand 3 applies to in block i, which is b
   pub record AppliesToBlock (limit max : ℕ) (bs : List Block) (i : ℕ) (b : Block) : Type 0 where
     -- over all units it has one function
-    pub single : function_count (block_key b) (allUnits toBody limit max bs) ≡ 1
+    pub single : function_count (block_key b) (all_units toBody limit max bs) ≡ 1
     -- its group stands in one piece in a unit, and the function in that piece
     pub members : List ℕ
     pub grouped : Memᴰ members (groups limit bs)
@@ -115,7 +115,7 @@ module _ (toBody : Block → Body) where
     -- other, the first among them; and nothing else is, nor is the gate consulted
     pub answers : List Bool
     pub events : List Event
-    pub way : Way (allUnits toBody limit max bs) code code answers events
+    pub way : Way (all_units toBody limit max bs) code code answers events
     pub through : answers_and_records events ≡ body_events (toBody b)
     pub first : 1 ≤ times_carried (block_key b) 0 events
 

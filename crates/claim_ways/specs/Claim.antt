@@ -63,8 +63,8 @@ Lone limit bs i = Memᴰ (i ∷ []) (groups limit bs)
 
 module _ (toBody : Block → Body) where
   -- all that stands in the units of some blocks
-  unfoldable pub allUnits : ℕ → ℕ → List Block → List Top
-  allUnits limit max bs =
+  unfoldable pub all_units : ℕ → ℕ → List Block → List Top
+  all_units limit max bs =
       flatten (map (λ (u : TranslationUnit). u.tree) (units_by toBody limit max bs))
 
 module _ (toHash : Block → Option ℕ) where
@@ -96,6 +96,6 @@ module _ (toHash : Block → Option ℕ) (toBody : Block → Body) where
   ClaimOf limit max f =
       (bs : List Block) → AcceptedAs f bs
       → (i : ℕ) (b : Block) → get_elem? bs i ≡ some b
-      → (c : Code) → Memᴰ (function (block (block_key b)) c) (allUnits toBody limit max bs)
-      → (xs : List Bool) (es : List Event) → Way (allUnits toBody limit max bs) c c xs es
+      → (c : Code) → Memᴰ (function (block (block_key b)) c) (all_units toBody limit max bs)
+      → (xs : List Bool) (es : List Event) → Way (all_units toBody limit max bs) c c xs es
       → WayClaim toHash limit bs i es

@@ -15,13 +15,13 @@ use Rattle.file_blocks.specs.Read.{fused_next, next_of}
 
 module _ (thumb : Bool) (region cycles : ℕ) (x : TimedInstr) where
   -- an instruction that makes no pair
-  pub instrs-alone : (ys : List TimedInstr) → next_of x.instr ys ≡ Next.Alone
+  pub instrs_alone : (ys : List TimedInstr) → next_of x.instr ys ≡ Next.Alone
       → emit_instrs thumb region cycles (x ∷ ys)
       ≡ cons_form (emit_instr thumb region cycles x).0
       (emit_instrs thumb region (emit_instr thumb region cycles x).1 ys)
   unfolding emit_instrs
-  instrs-alone [] e = refl
-  instrs-alone (y ∷ ys) e = by (fuse x.instr y.instr) e
+  instrs_alone [] e = refl
+  instrs_alone (y ∷ ys) e = by (fuse x.instr y.instr) e
     where
       by : (o : Fused) → fused_next o y.cost ≡ Next.Alone
           → fused_or o
@@ -35,14 +35,14 @@ module _ (thumb : Bool) (region cycles : ℕ) (x : TimedInstr) where
       by (Fused.Pair target ret) e = absurd (let z : ◌≡◌ {A = ℕ} 0 1 = cc in omega arith)
 
   -- a fused pair, whatever stands after it
-  pub instrs-pair : (ys : List TimedInstr) (target ret cost : ℕ)
+  pub instrs_pair : (ys : List TimedInstr) (target ret cost : ℕ)
       → next_of x.instr ys ≡ Next.Pair target ret cost
       → (fs : List Form)
       × ((emit_instrs thumb region cycles (x ∷ ys)).0
       ≡ Form.native (emit_pair (cycles + (x.cost + cost)) target ret) ∷ fs)
   unfolding emit_instrs
-  instrs-pair [] target ret cost e = absurd (let z : ◌≡◌ {A = ℕ} 0 1 = cc in omega arith)
-  instrs-pair (y ∷ ys) target ret cost e = by (fuse x.instr y.instr) e
+  instrs_pair [] target ret cost e = absurd (let z : ◌≡◌ {A = ℕ} 0 1 = cc in omega arith)
+  instrs_pair (y ∷ ys) target ret cost e = by (fuse x.instr y.instr) e
     where
       by : (o : Fused) → fused_next o y.cost ≡ Next.Pair target ret cost
           → (fs : List Form)

@@ -9,12 +9,12 @@ use Rattle.emit_block.specs.Walk.{IsMember}
 
 module _ {f work : List ℕ} {m : Member} {ks : List ℕ} (s : IsMember f work m ks) (key : ℕ) where
   -- a block with others in its group
-  pub inside-group : (r : Bool) → m.several ≡ true → SaysInGroup f work m.rows key r
+  pub inside_group : (r : Bool) → m.several ≡ true → SaysInGroup f work m.rows key r
       → among key ks ≡ r
-  inside-group r e found =
+  inside_group r e found =
       let same : ks ≡ group_keys s.limit f s.group = rw e at s.keys in
       ap (among key) same ∙ sym (found s.limit s.group s.rows)
 
   -- a lone block
-  pub inside-lone : m.several ≡ false → among key ks ≡ false
-  inside-lone e = ap (among key) (rw e at s.keys)
+  pub inside_lone : m.several ≡ false → among key ks ≡ false
+  inside_lone e = ap (among key) (rw e at s.keys)

@@ -17,7 +17,7 @@ use Rattle.emit_instr.specs.declared.step.Step.{Step}
 use Rattle.emit_instr.specs.Onward.{Onward}
 use Rattle.file_blocks.specs.Read.{instrs_of, next_of}
 use Rattle.emit_block.specs.Walk.{forms_from, Recorded}
-use Rattle.emit_block.proofs.FormsFrom.{instrs-alone, instrs-pair}
+use Rattle.emit_block.proofs.FormsFrom.{instrs_alone, instrs_pair}
 
 own_most : (r : Form) (n : ℕ) → own r n ≤ n
 own_most (native r) n = omega arith
@@ -44,7 +44,7 @@ module _ (f : List ℕ) (r : BlockRecord) (first : ℕ) (ks : List ℕ) (b : Bod
     (x : TimedInstr) (out : List ℕ) (at : ℕ) (out' : List ℕ) (s : Step)
     (here : drop j (instrs_of f r first) ≡ x ∷ drop (suc j) (instrs_of f r first)) where
   -- an instruction that makes no pair
-  pub alone-recorded : next_of x.instr (drop (suc j) (instrs_of f r first)) ≡ Next.Alone
+  pub alone_recorded : next_of x.instr (drop (suc j) (instrs_of f r first)) ≡ Next.Alone
       → x.cost ≤ 65535
       → s.cycles ≡ (emit_instr r.thumb (region r.addr) cycles x).1
       → Onward out at
@@ -54,13 +54,13 @@ module _ (f : List ℕ) (r : BlockRecord) (first : ℕ) (ks : List ℕ) (b : Bod
       (cond s.done end (code_from ks b (j + 1) (forms_from f r first (suc j) s.cycles).0)) out'
       s.at
       → Recorded f r first ks b j cycles out at out' s
-  alone-recorded alone small pending onward =
+  alone_recorded alone small pending onward =
       let form : Form = (emit_instr r.thumb (region r.addr) cycles x).0 in
       let ys : List TimedInstr = drop (suc j) (instrs_of f r first) in
       let all : forms_from f r first j cycles
       ≡ cons_form form (forms_from f r first (suc j) s.cycles) =
       ap (emit_instrs r.thumb (region r.addr) cycles) here
-      ∙ instrs-alone r.thumb (region r.addr) cycles x ys alone
+      ∙ instrs_alone r.thumb (region r.addr) cycles x ys alone
       ∙ ap (λ (n : ℕ). cons_form form (emit_instrs r.thumb (region r.addr) n ys))
       (sym pending) in
       record {
@@ -78,7 +78,7 @@ module _ (f : List ℕ) (r : BlockRecord) (first : ℕ) (ks : List ℕ) (b : Bod
       }
 
   -- a fused pair: nothing stands after it
-  pub pair-recorded : (target ret cost : ℕ)
+  pub pair_recorded : (target ret cost : ℕ)
       → next_of x.instr (drop (suc j) (instrs_of f r first)) ≡ Next.Pair target ret cost
       → s.done ≡ true → s.cycles ≡ 0
       → ((fs : List Form)
@@ -86,9 +86,9 @@ module _ (f : List ℕ) (r : BlockRecord) (first : ℕ) (ks : List ℕ) (b : Bod
       (code_from ks b j (Form.native (emit_pair (cycles + (x.cost + cost)) target ret) ∷ fs)) end
       out' s.at)
       → Recorded f r first ks b j cycles out at out' s
-  pair-recorded target ret cost next done none onward =
+  pair_recorded target ret cost next done none onward =
       let forms =
-      instrs-pair r.thumb (region r.addr) cycles x (drop (suc j) (instrs_of f r first))
+      instrs_pair r.thumb (region r.addr) cycles x (drop (suc j) (instrs_of f r first))
       target ret cost next in
       let all : (forms_from f r first j cycles).0
       ≡ Form.native (emit_pair (cycles + (x.cost + cost)) target ret) ∷ forms.0 =

@@ -93,31 +93,31 @@ module _ {f : List ℕ} {r : BlockRecord} {first : ℕ} {ks : List ℕ} {b : Bod
 -- where the closing transfer of a block goes
 module _ {f : List ℕ} {i : ℕ} {r : BlockRecord} {first : ℕ} {b : Body} (is : IsBlock f i r first)
     (body : IsBody f r first b) where
-  end-address : (thumb : Bool) (addr count : ℕ)
+  end_address : (thumb : Bool) (addr count : ℕ)
       → (addr + length_of count thumb) % 2 ^ 32 ≡ (addr + size_of thumb * count) % 2 ^ 32
-  end-address true addr count = omega arith
-  end-address false addr count = omega arith
+  end_address true addr count = omega arith
+  end_address false addr count = omega arith
 
   -- the lines before it set PC to the address after the block
-  pub end-lines : (cycles next : ℕ) → cycles ≡ (forms_from f r first 0 0).1
+  pub end_lines : (cycles next : ℕ) → cycles ≡ (forms_from f r first 0 0).1
       → next ≡ (r.addr + size_of r.thumb * r.count) % 2 ^ 32
       → closing_lines b ≡ flush_ticks cycles ++ pc_line next
-  end-lines cycles next pending e =
+  end_lines cycles next pending e =
       rw (body.addr, body.thumb, body.count)
       (ap₂ (λ (c a : ℕ). flush_ticks c ++ pc_line a) (body.pending ∙ sym pending)
-      (end-address r.thumb r.addr r.count ∙ sym e))
+      (end_address r.thumb r.addr r.count ∙ sym e))
 
-  end-even : (thumb : Bool) (addr count : ℕ) → key_of addr thumb ≡ key_plus addr thumb
+  end_even : (thumb : Bool) (addr count : ℕ) → key_of addr thumb ≡ key_plus addr thumb
       → key_plus ((addr + length_of count thumb) % 2 ^ 32) thumb
       ≡ key_of ((addr + size_of thumb * count) % 2 ^ 32) thumb
-  end-even true addr count e = omega (arith, e)
-  end-even false addr count e = omega (arith, e)
+  end_even true addr count e = omega (arith, e)
+  end_even false addr count e = omega (arith, e)
 
   -- its target is the key of that address
-  pub end-key : (next key : ℕ) → next ≡ (r.addr + size_of r.thumb * r.count) % 2 ^ 32
+  pub end_key : (next key : ℕ) → next ≡ (r.addr + size_of r.thumb * r.count) % 2 ^ 32
       → key ≡ key_of next r.thumb
       → key_plus (body_end b) b.thumb ≡ key
-  end-key next key e k =
+  end_key next key e k =
       rw (body.addr, body.thumb, body.count)
-      (end-even r.thumb r.addr r.count (key_plus_lem is)
+      (end_even r.thumb r.addr r.count (key_plus_lem is)
       ∙ ap (λ (n : ℕ). key_of n r.thumb) (sym e) ∙ sym k)

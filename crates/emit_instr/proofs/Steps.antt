@@ -9,9 +9,9 @@ use Rattle.emit_instr.specs.Steps.{FormWritten}
 
 module _ {o o' ks : List ℕ} {at j : ℕ} {b : Body} {fs : List Form} {r : Step} where
   -- a form that equals the one written
-  pub same-form : (f g : Form × ℕ) → f ≡ g → FormWritten o at ks b j f fs o' r
+  pub same_form : (f g : Form × ℕ) → f ≡ g → FormWritten o at ks b j f fs o' r
       → FormWritten o at ks b j g fs o' r
-  same-form f g e s = subst (λ (x : Form × ℕ). FormWritten o at ks b j x fs o' r) e s
+  same_form f g e s = subst (λ (x : Form × ℕ). FormWritten o at ks b j x fs o' r) e s
 
   -- the forms after it are still to be written
   pub goes_on : {f : Form × ℕ} → r.done ≡ false → FormWritten o at ks b j f fs o' r

@@ -28,12 +28,12 @@ use Rattle.emit_instr.proofs.Onward.{by}
 
 module _ {o o' : List ℕ} {at r : ℕ} (ks : List ℕ) (b : Body) (j : ℕ) where
   -- an exit, whose text has nothing after it, from the block's address
-  pub exit-step : (n : Native) (src : ℕ) (fs : List Form) → b.addr ≡ src
+  pub exit_step : (n : Native) (src : ℕ) (fs : List Form) → b.addr ≡ src
       → Wrote o at
       (code_text
       (native_text ks src (Owner.native_of (body_key b)) n (code_from ks b (j + records_in n) fs))) o' r
       → Onward o at (code_from ks b j (Form.native n ∷ fs)) end o' r
-  exit-step n src fs q w =
+  exit_step n src fs q w =
       by _ end w
       (λ k. code_native ks b j n fs k
       ∙ ap (λ (a : ℕ). flat
@@ -41,22 +41,22 @@ module _ {o o' : List ℕ} {at r : ℕ} (ks : List ℕ) (b : Body) (j : ℕ) whe
       (native_text ks a (Owner.native_of (body_key b)) n (code_from ks b (j + records_in n) fs))) k) q)
 
   -- lines in braces, after a condition or not
-  pub lowered-step : (al : Bool) (t : Lines) (e : Expr) (l : Lines) (fs : List Form)
+  pub lowered_step : (al : Bool) (t : Lines) (e : Expr) (l : Lines) (fs : List Form)
       → Wrote o at (lines_text 4 t ▸ lowered al e l) o' r
       → Onward o at (code_from ks b j (Form.native (cond al (straight t l) (straight_if t e l)) ∷ fs))
       (code_from ks b (j + 1) fs) o' r
-  lowered-step true t e l fs w =
+  lowered_step true t e l fs w =
       by _ _ w
       (λ k. code_native ks b j (straight t l) fs k
       ∙ straight_text ks b.addr (Owner.native_of (body_key b)) t l (code_from ks b (j + 1) fs) k)
-  lowered-step false t e l fs w =
+  lowered_step false t e l fs w =
       by _ _ w
       (λ k. code_native ks b j (straight_if t e l) fs k
       ∙ straight_if_text ks b.addr (Owner.native_of (body_key b)) t e l
       (code_from ks b (j + 1) fs) k)
 
   -- a branch that is always taken, from the block's address
-  pub jump-step : (al : Bool) (t u : Lines) (e : Expr) (l : List Plain) (key src : ℕ)
+  pub jump_step : (al : Bool) (t u : Lines) (e : Expr) (l : List Plain) (key src : ℕ)
       (fs : List Form) → al ≡ true → b.addr ≡ src
       → Wrote o at
       (code_text
@@ -64,11 +64,11 @@ module _ {o o' : List ℕ} {at r : ℕ} (ks : List ℕ) (b : Body) (j : ℕ) whe
       r
       → Onward o at (code_from ks b j (Form.native (cond al (jump t key) (branch_if u e l key)) ∷ fs))
       end o' r
-  jump-step true t u e l key src fs p q w = exit-step (jump t key) src fs q w
-  jump-step false t u e l key src fs p q w = absurd (true≢false (sym p))
+  jump_step true t u e l key src fs p q w = exit_step (jump t key) src fs q w
+  jump_step false t u e l key src fs p q w = absurd (true≢false (sym p))
 
   -- a branch after a condition
-  pub branch-step : (al : Bool) (t u : Lines) (e : Expr) (l : List Plain) (key src : ℕ)
+  pub branch_step : (al : Bool) (t u : Lines) (e : Expr) (l : List Plain) (key src : ℕ)
       (fs : List Form) → al ≡ false → b.addr ≡ src
       → Wrote o at
       ((lines_text 4 u ▸ before_condition ▸ expr_text e) ▸ after_condition
@@ -78,8 +78,8 @@ module _ {o o' : List ℕ} {at r : ℕ} (ks : List ℕ) (b : Body) (j : ℕ) whe
       o' r
       → Onward o at (code_from ks b j (Form.native (cond al (jump t key) (branch_if u e l key)) ∷ fs))
       (code_from ks b (j + 1) fs) o' r
-  branch-step true t u e l key src fs p q w = absurd (true≢false p)
-  branch-step false t u e l key src fs p q w =
+  branch_step true t u e l key src fs p q w = absurd (true≢false p)
+  branch_step false t u e l key src fs p q w =
       by _ _ w
       (λ k. code_native ks b j (branch_if u e l key) fs k
       ∙ branch_text ks b.addr (Owner.native_of (body_key b)) u e l key (code_from ks b (j + 1) fs)
@@ -92,15 +92,15 @@ module _ {o o' : List ℕ} {at r : ℕ} (ks : List ℕ) (b : Body) (j : ℕ) whe
       ▸ code_text (code_from ks b (j + 1) fs)) k) q)
 
   -- a shell that has others after it
-  pub shell-step : (high last : Bool) (t : Lines) (key : ℕ) (fs : List Form) → last ≡ is_empty fs
+  pub shell_step : (high last : Bool) (t : Lines) (key : ℕ) (fs : List Form) → last ≡ is_empty fs
       → last ≡ false
       → Wrote o at (code_text (lines common 4 t (shell_code b j key end))) o' r
       → Onward o at (code_from ks b j (shell high t key ∷ fs))
       (cond (not high && last) end (code_from ks b (j + 1) fs)) o' r
-  shell-step high last t key [] p q w = absurd (true≢false (sym p ∙ q))
-  shell-step high true t key (f ∷ fs) p q w = absurd (true≢false q)
-  shell-step true false t key (f ∷ fs) p q w = by _ _ w (λ k. code_shell ks b j true t key f fs k)
-  shell-step false false t key (f ∷ fs) p q w = by _ _ w (λ k. code_shell ks b j false t key f fs k)
+  shell_step high last t key [] p q w = absurd (true≢false (sym p ∙ q))
+  shell_step high true t key (f ∷ fs) p q w = absurd (true≢false q)
+  shell_step true false t key (f ∷ fs) p q w = by _ _ w (λ k. code_shell ks b j true t key f fs k)
+  shell_step false false t key (f ∷ fs) p q w = by _ _ w (λ k. code_shell ks b j false t key f fs k)
 
   -- the last shell; after an unfused half stands the closing transfer
   pub last_step : (high last : Bool) (t : Lines) (key : ℕ) (fs : List Form) → last ≡ is_empty fs
@@ -115,12 +115,12 @@ module _ {o o' : List ℕ} {at r : ℕ} (ks : List ℕ) (b : Body) (j : ℕ) whe
   last_step false true t key [] p q w = by _ _ w (λ k. code_last ks b j false t key k)
 
   -- the end of a block, by the cycles pending there and where it goes on
-  pub closing-step : (cycles next key src : ℕ) → closing_lines b ≡ flush_ticks cycles ++ pc_line next
+  pub closing_step : (cycles next key src : ℕ) → closing_lines b ≡ flush_ticks cycles ++ pc_line next
       → key_plus (body_end b) b.thumb ≡ key → b.addr ≡ src
       → Wrote o at (code_text (exit_code ks src common (flush_ticks cycles ++ pc_line next) key)) o' r
       → Onward o at (code_from ks b j []) end o' r
   unfolding code_from
-  closing-step cycles next key src p q e w =
+  closing_step cycles next key src p q e w =
       by _ end w
       (λ k. closing_text ks b cycles next key k p q
       ∙ ap (λ (a : ℕ). flat (code_text (exit_code ks a common (flush_ticks cycles ++ pc_line next) key))

@@ -9,7 +9,7 @@ use native.Mathlib.Nat.{add-zero}
 use native.Mathlib.Omega.{arith}
 use lib.ListN.{length, length-append}
 use Rattle.base_fitting.specs.Steps.{total}
-use Rattle.base_fitting.proofs.Laws.{fit-more, fit-over, total_more}
+use Rattle.base_fitting.proofs.Laws.{fit_more, fit_over, total_more}
 use Rattle.base_text.specs.Doc.{nothing, print, each}
 use Rattle.base_text.specs.Wrote.{Wrote}
 use Rattle.base_text.proofs.Laws.{seq, kept, wrote_as, each_append}
@@ -53,23 +53,23 @@ total_lines (l ∷ ls) =
 
 module _ {text₀ : List ℕ} {all : List Line} {text : List ℕ} {at : ℕ} where
   -- the rest by another name
-  pub putting-as : {rest rest' : List Line} → rest ≡ rest' → Putting text₀ all rest text at
+  pub putting_as : {rest rest' : List Line} → rest ≡ rest' → Putting text₀ all rest text at
       → Putting text₀ all rest' text at
-  putting-as e put = subst (λ (ls : List Line). Putting text₀ all ls text at) e put
+  putting_as e put = subst (λ (ls : List Line). Putting text₀ all ls text at) e put
 
   -- a line that fits is written
-  line-more : {l : Line} {rest : List Line} → Putting text₀ all (l ∷ rest) text at
+  line_more : {l : Line} {rest : List Line} → Putting text₀ all (l ∷ rest) text at
       → line_length l ≤ length text₀ - at → {text' : List ℕ} {r : ℕ}
       → Wrote text at (line_text l) text' r → Putting text₀ all rest text' (at + line_length l)
   unfolding print
-  line-more {l} {rest} put fits {text'} {r} w =
+  line_more {l} {rest} put fits {text'} {r} w =
       let more : r ≡ at + line_length l =
       omega (arith, w.next, put.wrote.small, put.within) in
       record {
         made = put.made ++ (l ∷ []);
         parts = put.parts ∙ sym (append_assoc put.made (l ∷ []) rest);
         so =
-            fit-more line_length _ _ _ put.so
+            fit_more line_length _ _ _ put.so
             (omega (arith, ap length put.parts, length-append put.made (l ∷ rest)))
             (omega (arith, put.bytes, put.within, total_lines put.made));
         wrote =
@@ -116,22 +116,22 @@ module _ {text₀ : List ℕ} {all : List Line} {text : List ℕ} {at : ℕ} whe
   said_more k (some s) os after put size e fits {text'} w =
       subst (Putting text₀ all (lines_of (suc k) os ++ after) text')
       (let same : at + line_length (record { number = k; said = s }) ≡ at + size =
-      omega (arith, e) in same) (line-more put (omega (arith, e, fits)) w)
+      omega (arith, e) in same) (line_more put (omega (arith, e, fits)) w)
 
   -- the line does not fit
-  said-over : (k : ℕ) (o : Option Said) (os : List (Option Said)) (after : List Line)
+  said_over : (k : ℕ) (o : Option Said) (os : List (Option Said)) (after : List Line)
       → Putting text₀ all (lines_of k (o ∷ os) ++ after) text at → (size : ℕ)
       → size ≡ length (print (line_if o)) → length text₀ - at < size
       → (total : ℕ) → Put text₀ all total text (record { next = k; length = at })
   unfolding lines_of print
-  said-over k none os after put size e over total = absurd (omega (arith, e))
-  said-over k (some s) os after put size e over total =
+  said_over k none os after put size e over total = absurd (omega (arith, e))
+  said_over k (some s) os after put size e over total =
       record {
         made = put.made;
         rest = record { number = k; said = s } ∷ (lines_of (suc k) os ++ after);
         parts = put.parts;
         fits =
-            fit-over line_length _ _ _ put.so
+            fit_over line_length _ _ _ put.so
             (omega (arith, e, put.bytes, total_lines put.made));
         wrote = put.wrote;
         bytes = put.bytes;
@@ -174,13 +174,13 @@ rest_end area e k after =
 module _ (area : ℕ) {x : TimedInstr} {ys xs : List TimedInstr} (here : xs ≡ x ∷ ys) (k : ℕ)
     (after : List Line) where
   -- those of all of them, by whether it makes a pair
-  rest-is : (t : Bool) → pairs x.instr ys ≡ t → lines_of k (said_each area xs) ++ after
+  rest_is : (t : Bool) → pairs x.instr ys ≡ t → lines_of k (said_each area xs) ++ after
       ≡ lines_of k
       (cond t (nothing_of (x ∷ ys))
       (said_of area x.instr ∷ cond (drops_rest area x.instr) (nothing_of ys) (said_each area ys)))
       ++ after
   unfolding said_each
-  rest-is t e =
+  rest_is t e =
       ap (λ (l : List TimedInstr). lines_of k (said_each area l) ++ after) here
       ∙ ap
       (λ (b : Bool). lines_of k
@@ -189,9 +189,9 @@ module _ (area : ℕ) {x : TimedInstr} {ys xs : List TimedInstr} (here : xs ≡ 
       ++ after) e
 
   -- it makes one, and no line is left
-  pub rest-pair : pairs x.instr ys ≡ true → lines_of k (said_each area xs) ++ after ≡ after
-  rest-pair p =
-      rest-is true p ∙ ap (λ (ls : List Line). ls ++ after) (lines_nothing k (x ∷ ys))
+  pub rest_pair : pairs x.instr ys ≡ true → lines_of k (said_each area xs) ++ after ≡ after
+  rest_pair p =
+      rest_is true p ∙ ap (λ (ls : List Line). ls ++ after) (lines_nothing k (x ∷ ys))
 
   -- it makes none
   module _ (alone : pairs x.instr ys ≡ false) {whole : List ℕ} {all : List Line}
@@ -211,7 +211,7 @@ module _ (area : ℕ) {x : TimedInstr} {ys xs : List TimedInstr} (here : xs ≡ 
           → Progressed whole all after end text (record { next = k; length = at })
       alone-over over h =
           progress_over h
-          (said-over k (said_of area x.instr) _ after (putting-as (rest-is false alone) put) size
+          (said_over k (said_of area x.instr) _ after (putting_as (rest_is false alone) put) size
           size_is (omega (arith, kept put.wrote)))
 
       module _ (fits : size ≤ length text - at) {text' : List ℕ} {r : ℕ}
@@ -219,7 +219,7 @@ module _ (area : ℕ) {x : TimedInstr} {ys xs : List TimedInstr} (here : xs ≡ 
         next : Putting whole all (lines_of (suc k) others ++ after) text' (at + size)
         unfolding others
         next =
-            said_more k (said_of area x.instr) _ after (putting-as (rest-is false alone) put)
+            said_more k (said_of area x.instr) _ after (putting_as (rest_is false alone) put)
             size size_is (omega (arith, kept put.wrote))
             (subst (λ (q : Option Said). Wrote text at (line_if q) text' r) told w)
 
@@ -228,7 +228,7 @@ module _ (area : ℕ) {x : TimedInstr} {ys xs : List TimedInstr} (here : xs ≡ 
             → Putting whole all after text' (at + size)
         unfolding others
         alone-drops d =
-            putting-as
+            putting_as
             (ap
             (λ (b : Bool). lines_of (suc k) (cond b (nothing_of ys) (said_each area ys)) ++ after) d
             ∙ ap (λ (ls : List Line). ls ++ after) (lines_nothing (suc k) ys)) next
@@ -238,7 +238,7 @@ module _ (area : ℕ) {x : TimedInstr} {ys xs : List TimedInstr} (here : xs ≡ 
             → Putting whole all (lines_of (suc k) (said_each area ys) ++ after) text' (at + size)
         unfolding others
         alone-on d =
-            putting-as
+            putting_as
             (ap
             (λ (b : Bool). lines_of (suc k) (cond b (nothing_of ys) (said_each area ys)) ++ after) d)
             next

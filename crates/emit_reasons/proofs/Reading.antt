@@ -82,9 +82,9 @@ said_first_lem area (x ∷ xs) = by (pairs x.instr xs)
 
 -- the first, as it was read
 module _ (area : ℕ) (x : TimedInstr) (ys xs : List TimedInstr) (here : xs ≡ x ∷ ys) where
-  pub first-pair : pairs x.instr ys ≡ true → none ≡ said_first area xs
+  pub first_pair : pairs x.instr ys ≡ true → none ≡ said_first area xs
   unfolding said_first
-  first-pair p =
+  first_pair p =
       sym
       (ap (said_first area) here
       ∙ ap (λ (t : Bool). cond t none (said_of area x.instr)) p)
@@ -118,14 +118,14 @@ module _ {area : ℕ} {xs : List TimedInstr} {n j : ℕ} (come : Coming area xs 
         (let e : n - j ≡ suc (n - suc j) = omega arith in e)
 
     -- it ends there
-    pub coming-ends : (pairs x.instr (drop (suc j) xs) || drops_rest area x.instr) ≡ true
+    pub coming_ends : (pairs x.instr (drop (suc j) xs) || drops_rest area x.instr) ≡ true
         → false ≡ reached area xs n
-    coming-ends t = sym (step ∙ rw t)
+    coming_ends t = sym (step ∙ rw t)
 
     -- it goes on
-    pub coming-on : (pairs x.instr (drop (suc j) xs) || drops_rest area x.instr) ≡ false
+    pub coming_on : (pairs x.instr (drop (suc j) xs) || drops_rest area x.instr) ≡ false
         → Coming area xs n (j + 1)
-    coming-on t =
+    coming_on t =
         record {
           same =
               step
@@ -135,9 +135,9 @@ module _ {area : ℕ} {xs : List TimedInstr} {n j : ℕ} (come : Coming area xs 
         }
 
   -- it is there
-  pub coming-there : n ≤ j → true ≡ reached area xs n
+  pub coming_there : n ≤ j → true ≡ reached area xs n
   unfolding reached
-  coming-there h =
+  coming_there h =
       sym
       (come.same ∙ ap (reached area (drop j xs)) (let e : n - j ≡ 0 = omega arith in e))
 
@@ -150,32 +150,32 @@ module _ (f : List ℕ) (r : BlockRecord) (first n : ℕ) where
   coded = not (outside_rom_bios r.addr) || r.present
 
   -- without their code, nothing
-  pub from-absent : coded ≡ false → drop n (said_in_record f r first) ≡ nothing_of (drop n xs)
+  pub from_absent : coded ≡ false → drop n (said_in_record f r first) ≡ nothing_of (drop n xs)
   unfolding said_in_record
-  from-absent h =
+  from_absent h =
       ap (λ (t : Bool). drop n (cond t (said_each (region r.addr) xs) (nothing_of xs))) h
       ∙ drop_nothing n xs
 
   module _ (h : coded ≡ true) {area : ℕ} (e : area ≡ region r.addr) where
-    from-coded : (t : Bool) → reached area xs n ≡ t
+    from_coded : (t : Bool) → reached area xs n ≡ t
         → drop n (said_in_record f r first)
         ≡ cond t (said_each area (drop n xs)) (nothing_of (drop n xs))
     unfolding said_in_record
-    from-coded t g =
+    from_coded t g =
         ap (λ (b : Bool). drop n (cond b (said_each (region r.addr) xs) (nothing_of xs))) h
         ∙ ap (λ (k : ℕ). drop n (said_each k xs)) (sym e)
         ∙ said_from area xs n
         ∙ ap (λ (b : Bool). cond b (said_each area (drop n xs)) (nothing_of (drop n xs))) g
 
     -- where the walk does not come there, nothing
-    pub from-unreached : reached area xs n ≡ false
+    pub from_unreached : reached area xs n ≡ false
         → drop n (said_in_record f r first) ≡ nothing_of (drop n xs)
-    from-unreached g = from-coded false g
+    from_unreached g = from_coded false g
 
     -- else what is said of those from there on
-    pub from-reached : reached area xs n ≡ true
+    pub from_reached : reached area xs n ≡ true
         → drop n (said_in_record f r first) ≡ said_each area (drop n xs)
-    from-reached g = from-coded true g
+    from_reached g = from_coded true g
 
 -- one of a list is the first from its place on
 get_drop : {A : Type 0} (ys : List A) (n : ℕ) (d : A) → get_or ys n d ≡ get_or (drop n ys) 0 d

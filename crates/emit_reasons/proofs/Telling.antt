@@ -15,9 +15,9 @@ use Rattle.emit_reasons.specs.Steps.{why_of}
 
 module _ (area : ℕ) (i : Instr) (why : Why) (told : why_of why ≡ reason_of area i) where
   -- a shell's
-  pub said-shell : (kind : Kind) (reason : Reason) → why ≡ Why.Shell reason → kind ≡ kind_of i.op
+  pub said_shell : (kind : Kind) (reason : Reason) → why ≡ Why.Shell reason → kind ≡ kind_of i.op
       → said_by (Sentence.Of i.addr kind reason) ≡ said_of area i
-  said-shell kind reason g k =
+  said_shell kind reason g k =
       ap (λ (n : Kind). said_by (Sentence.Of i.addr n reason)) k
       ∙ ap
       (map
@@ -25,8 +25,8 @@ module _ (area : ℕ) (i : Instr) (why : Why) (told : why_of why ≡ reason_of a
       (sym (ap why_of g) ∙ told)
 
   -- nothing of native code
-  pub said-native : why ≡ Why.Native → said_by Sentence.Nothing ≡ said_of area i
-  said-native g =
+  pub said_native : why ≡ Why.Native → said_by Sentence.Nothing ≡ said_of area i
+  said_native g =
       ap
       (map
       (λ (r : Reason). record { addr = i.addr; kind = kind_of i.op; reason = r }))

@@ -18,13 +18,13 @@ use Rattle.file_blocks.specs.Parse.{Block, blocks_of, Accepted}
 use Rattle.file_blocks.specs.declared.read.BlockRecord.{BlockRecord}
 use Rattle.file_blocks.specs.declared.read.FoundBlock.{FoundBlock}
 use Rattle.file_blocks.specs.Read.{found_block}
-use Rattle.file_blocks.proofs.Accepted.{length-of, record-reads}
-use Rattle.file_blocks.proofs.IsBlock.{nth_block, found-record}
+use Rattle.file_blocks.proofs.Accepted.{length_of_lem, record_reads}
+use Rattle.file_blocks.proofs.IsBlock.{nth_block, found_record}
 use Rattle.plan_groups.specs.Plan.{groups}
 use Rattle.plan_members.specs.Members.{members_of, start_of}
 use Rattle.plan_members.specs.Prepared.{HoldsPlan}
-use Rattle.plan_members.proofs.Places.{start_next, start-inside, group-left, group-has}
-use Rattle.plan_members.proofs.Places.{row-member, row-block-inside, blocks-all}
+use Rattle.plan_members.proofs.Places.{start_next, start_inside, group_left, group_has}
+use Rattle.plan_members.proofs.Places.{row_member, row_block_inside, blocks_all}
 use Rattle.lower_forms.specs.Forms.{Body}
 use Rattle.lower_forms.specs.Block.{body_of}
 use Rattle.lower_units.specs.Units.{TranslationUnit, emit_group, text_of, default_body, bodies_of}
@@ -44,10 +44,10 @@ body_counts f i r ok inside found =
     let d : Block = record { addr = 0; thumb = false; instrs = []; code = none } in
     ap (λ (b : Body). b.count)
     (map_at (body_of hash_multiplier) (blocks_of f) i d default_body
-    (omega (arith, length-of f (blocks_of f) ok)))
+    (omega (arith, length_of_lem f (blocks_of f) ok)))
     ∙ ap (λ (b : Block). length b.instrs) (nth_block f i d inside)
-    ∙ sym (record-reads f (blocks_of f) ok i inside).count
-    ∙ sym (ap (λ (b : BlockRecord). b.count) (found-record f i r found))
+    ∙ sym (record_reads f (blocks_of f) ok i inside).count
+    ∙ sym (ap (λ (b : BlockRecord). b.count) (found_record f i r found))
 
 -- one member more
 members_more : (bs : List Body) (is : List ℕ) (i : ℕ)
@@ -83,9 +83,9 @@ module _ {f : List ℕ} {limit : ℕ} {work : List ℕ} {g : ℕ} {rows : Rows}
 
   module _ {k bound : ℕ} (to : BoundTo f limit g k bound) where
     -- a row more
-    pub bound-more : (more : ℕ) → rows.first + k < rows.end
+    pub bound_more : (more : ℕ) → rows.first + k < rows.end
         → IsBlockBound f (get_or members k 0) more → BoundTo f limit g (k + 1) (bound + more)
-    bound-more more inside is_bound =
+    bound_more more inside is_bound =
         let here : k < length members = omega (arith, rows_all) in
         record {
           most =
@@ -96,9 +96,9 @@ module _ {f : List ℕ} {limit : ℕ} {work : List ℕ} {g : ℕ} {rows : Rows}
                     (omega (
                       arith,
                       is.ready.all,
-                      row-member is.ready (rows.first + k) g k
+                      row_member is.ready (rows.first + k) g k
                           (omega (arith, is.first)) here,
-                      row-block-inside is.ready (rows.first + k) g k
+                      row_block_inside is.ready (rows.first + k) g k
                           (omega (arith, is.first)) here,
                     )),
                 members_more (file_bodies f) (take k members) (get_or members k 0),
@@ -143,16 +143,16 @@ longest_none f limit =
 module _ {f : List ℕ} {n limit : ℕ} {work : List ℕ} (ready : HoldsPlan f n limit work)
     {p longest : ℕ} (to : LongestTo f limit p longest) where
   -- a group more
-  pub longest-more : (end bound longest' : ℕ) → p < n
+  pub longest_more : (end bound longest' : ℕ) → p < n
       → end ≡ start_of (groups limit (blocks_of f)) (suc to.group)
       → length
       (text_of (emit_group (bodies_of (file_bodies f) (members_of limit (blocks_of f) to.group))))
       ≤ bound
       → longest ≤ longest' → bound ≤ longest' → LongestTo f limit end longest'
-  longest-more end bound longest' left ends fits keeps holds =
+  longest_more end bound longest' left ends fits keeps holds =
       record {
         group = suc to.group;
-        within = omega (arith, group-left ready to.group (omega (arith, to.here)));
+        within = omega (arith, group_left ready to.group (omega (arith, to.here)));
         here = ends;
         longer = λ h below.
             elim (dec_lt h to.group) [
@@ -164,15 +164,15 @@ module _ {f : List ℕ} {n limit : ℕ} {work : List ℕ} (ready : HoldsPlan f n
       }
 
   -- all groups
-  pub longest-all : (max bound : ℕ) → n ≤ p
+  pub longest_all : (max bound : ℕ) → n ≤ p
       → bound ≡ min (max + (4200 + 100 * n + longest)) max_usize → Bounds f limit max bound
   unfolding units_by
-  longest-all max bound over is u m =
+  longest_all max bound over is u m =
       omega (
         arith,
         units_within hash_multiplier limit max longest (blocks_of f) each u m,
         units_short f (blocks_of f) ready.accepted hash_multiplier limit max u m,
-        blocks-all ready,
+        blocks_all ready,
       )
     where
       count : to.group ≡ length (groups limit (blocks_of f))
@@ -182,9 +182,9 @@ module _ {f : List ℕ} {n limit : ℕ} {work : List ℕ} (ready : HoldsPlan f n
                 (omega (
                   arith,
                   to.here,
-                  group-has ready to.group l,
+                  group_has ready to.group l,
                   start_next (groups limit (blocks_of f)) to.group,
-                  start-inside ready (suc to.group),
+                  start_inside ready (suc to.group),
                 ))
             | no d ↦ omega (arith, to.within)
           ]

@@ -17,7 +17,7 @@ use Rattle.file_blocks.specs.Parse.{blocks_of, Accepted}
 use Rattle.plan_groups.specs.Plan.{groups}
 use Rattle.plan_members.specs.Members.{start_of}
 use Rattle.plan_members.specs.Prepared.{HoldsPlan}
-use Rattle.plan_members.proofs.Places.{start_next, start-inside, group-left, group-has}
+use Rattle.plan_members.proofs.Places.{start_next, start_inside, group_left, group_has}
 use Rattle.c_tree.specs.Stmt.{Top}
 use Rattle.lower_forms.specs.Forms.{Body}
 use Rattle.lower_units.specs.Units.{TranslationUnit, emit_group, unit_head, last_unit_end, text_of, cut}
@@ -50,21 +50,21 @@ module _ (f : List ℕ) (limit max : ℕ) where
   abbrev gs : List (List ℕ)
   gs = groups limit (blocks_of f)
 
-  abbrev groupTree : ℕ → List Top
-  groupTree j = emit_group (bodies_of (file_bodies f) (get_or gs j []))
+  abbrev group_tree : ℕ → List Top
+  group_tree j = emit_group (bodies_of (file_bodies f) (get_or gs j []))
 
   -- the unit that is handed on after group j
   abbrev handed : List Top → ℕ → TranslationUnit
-  handed ts j = record { tree = ts ++ groupTree j; done = start_of gs (suc j); last = false }
+  handed ts j = record { tree = ts ++ group_tree j; done = start_of gs (suc j); last = false }
 
   -- a group: the unit is handed on, or goes on
-  cut-group : (ts : List Top) (j : ℕ) → j < length gs
+  cut_group : (ts : List Top) (j : ℕ) → j < length gs
       → units_with f limit max ts j
-      ≡ cond (leb max (length (text_of (ts ++ groupTree j))))
+      ≡ cond (leb max (length (text_of (ts ++ group_tree j))))
       (handed ts j ∷ units_from f limit max (suc j))
-      (units_with f limit max (ts ++ groupTree j) (suc j))
+      (units_with f limit max (ts ++ group_tree j) (suc j))
   unfolding cut bodies_of
-  cut-group ts j h =
+  cut_group ts j h =
       let size : start_of gs j + length (bodies_of (file_bodies f) (get_or gs j []))
       ≡ start_of gs (suc j) =
       omega (
@@ -77,15 +77,15 @@ module _ (f : List ℕ) (limit max : ℕ) where
       (map (bodies_of (file_bodies f)) hs)) (drop-cons gs j [] h)
       ∙ ap
       (λ (n : ℕ).
-      cond (leb max (length (text_of (ts ++ groupTree j))))
-      (record { tree = ts ++ groupTree j; done = n; last = false }
+      cond (leb max (length (text_of (ts ++ group_tree j))))
+      (record { tree = ts ++ group_tree j; done = n; last = false }
       ∷ cut max (last_unit_end (file_bodies f)) unit_head n
       (map (bodies_of (file_bodies f)) (drop (suc j) gs)))
-      (cut max (last_unit_end (file_bodies f)) (ts ++ groupTree j) n
+      (cut max (last_unit_end (file_bodies f)) (ts ++ group_tree j) n
       (map (bodies_of (file_bodies f)) (drop (suc j) gs))))
       size
 
-  pub cut-handed : (ts : List Top) (j : ℕ) → j < length (groups limit (blocks_of f))
+  pub cut_handed : (ts : List Top) (j : ℕ) → j < length (groups limit (blocks_of f))
       → max ≤ length
       (text_of (ts
       ++ emit_group (bodies_of (file_bodies f) (get_or (groups limit (blocks_of f)) j []))))
@@ -96,10 +96,10 @@ module _ (f : List ℕ) (limit max : ℕ) where
         last = false;
       }
       ∷ units_from f limit max (suc j)
-  cut-handed ts j h long =
-      cut-group ts j h
+  cut_handed ts j h long =
+      cut_group ts j h
       ∙ ap (λ (x : Bool). cond x (handed ts j ∷ units_from f limit max (suc j))
-      (units_with f limit max (ts ++ groupTree j) (suc j))) (le-leb _ _ long)
+      (units_with f limit max (ts ++ group_tree j) (suc j))) (le-leb _ _ long)
 
   pub cut_on : (ts : List Top) (j : ℕ) → j < length (groups limit (blocks_of f))
       → length
@@ -110,12 +110,12 @@ module _ (f : List ℕ) (limit max : ℕ) where
       (ts ++ emit_group (bodies_of (file_bodies f) (get_or (groups limit (blocks_of f)) j [])))
       (suc j)
   cut_on ts j h short =
-      cut-group ts j h
+      cut_group ts j h
       ∙ ap (λ (x : Bool). cond x (handed ts j ∷ units_from f limit max (suc j))
-      (units_with f limit max (ts ++ groupTree j) (suc j))) (lt-leb _ _ short)
+      (units_with f limit max (ts ++ group_tree j) (suc j))) (lt-leb _ _ short)
 
   -- after the last group
-  pub cut-end : (ts : List Top) (j : ℕ) → j ≡ length (groups limit (blocks_of f))
+  pub cut_end : (ts : List Top) (j : ℕ) → j ≡ length (groups limit (blocks_of f))
       → units_with f limit max ts j
       ≡ record {
         tree = ts ++ last_unit_end (file_bodies f);
@@ -123,7 +123,7 @@ module _ (f : List ℕ) (limit max : ℕ) where
         last = true;
       } ∷ []
   unfolding cut
-  cut-end ts j e =
+  cut_end ts j e =
       ap (λ (hs : List (List ℕ)). cut max (last_unit_end (file_bodies f)) ts (start_of gs j)
       (map (bodies_of (file_bodies f)) hs)) (ap (λ (i : ℕ). drop i gs) e ∙ drop-length gs)
 
@@ -177,16 +177,16 @@ module _ {f : List ℕ} {n limit : ℕ} {work : List ℕ} (ready : HoldsPlan f n
       (emit_group (bodies_of (file_bodies f) (get_or (groups limit (blocks_of f)) (g + w.size) []))))
       (most : max ≤ max_usize) where
     pub inside : g + w.size < length (groups limit (blocks_of f))
-    inside = group-left ready (g + w.size) (omega (arith, w.here))
+    inside = group_left ready (g + w.size) (omega (arith, w.here))
 
     pub one_more : suc (g + w.size) ≡ g + suc w.size
     one_more = omega arith
 
-    pub walked-bytes : at' ≡ after 0 (sofar ++ next)
-    walked-bytes = long ∙ ap (λ (m : ℕ). after m next) w.bytes ∙ after_both sofar next
+    pub walked_bytes : at' ≡ after 0 (sofar ++ next)
+    walked_bytes = long ∙ ap (λ (m : ℕ). after m next) w.bytes ∙ after_both sofar next
 
-    pub walked-tree : sofar ++ next ≡ unit_groups f limit g (suc w.size)
-    walked-tree = sym (grown_next (file_bodies f) unit_head (groups limit (blocks_of f)) g w.size inside)
+    pub walked_tree : sofar ++ next ≡ unit_groups f limit g (suc w.size)
+    walked_tree = sym (grown_next (file_bodies f) unit_head (groups limit (blocks_of f)) g w.size inside)
 
     -- a group after which the unit goes on
     unfoldable pub walked_more : at' < max → Walked f limit max g end at'
@@ -195,15 +195,15 @@ module _ {f : List ℕ} {n limit : ℕ} {work : List ℕ} (ready : HoldsPlan f n
           size = suc w.size;
           within = omega (arith, inside);
           here = ends ∙ ap (start_of (groups limit (blocks_of f))) one_more;
-          bytes = walked-bytes ∙ ap (after 0) walked-tree;
-          units = w.units ∙ cut_on f limit max sofar (g + w.size) inside (omega (arith, walked-bytes))
-              ∙ ap₂ (units_with f limit max) walked-tree one_more;
+          bytes = walked_bytes ∙ ap (after 0) walked_tree;
+          units = w.units ∙ cut_on f limit max sofar (g + w.size) inside (omega (arith, walked_bytes))
+              ∙ ap₂ (units_with f limit max) walked_tree one_more;
         }
 
     -- a group after which it is handed on
-    unfoldable pub walked-handed : (start : ℕ) → start ≡ start_of (groups limit (blocks_of f)) g → max ≤ at'
+    unfoldable pub walked_handed : (start : ℕ) → start ≡ start_of (groups limit (blocks_of f)) g → max ≤ at'
         → FirstUnit f limit max g (record { start = start; end = end; length = at'; last = false })
-    walked-handed start first enough =
+    walked_handed start first enough =
         record {
           size = suc w.size;
           takes =
@@ -213,12 +213,12 @@ module _ {f : List ℕ} {n limit : ℕ} {work : List ℕ} (ready : HoldsPlan f n
                 end = ends
                     ∙ ap (start_of (groups limit (blocks_of f))) one_more;
               };
-          bytes = walked-bytes ∙ ap (after 0) walked-tree;
+          bytes = walked_bytes ∙ ap (after 0) walked_tree;
           units =
               w.units
-              ∙ cut-handed f limit max sofar (g + w.size) inside (omega (arith, walked-bytes))
+              ∙ cut_handed f limit max sofar (g + w.size) inside (omega (arith, walked_bytes))
               ∙ ap₂ (λ (ts : List Top) (d : ℕ). record { tree = ts; done = d; last = false }
-              ∷ units_from f limit max (suc (g + w.size))) walked-tree (sym ends)
+              ∷ units_from f limit max (suc (g + w.size))) walked_tree (sym ends)
               ∙ ap (λ (j : ℕ). record
               { tree = unit_groups f limit g (suc w.size); done = end; last = false }
               ∷ units_from f limit max j) one_more;
@@ -237,7 +237,7 @@ module _ {f : List ℕ} {n limit : ℕ} {work : List ℕ} (ready : HoldsPlan f n
             ∙ after_both sofar (last_unit_end (file_bodies f));
         units =
             w.units
-            ∙ cut-end f limit max sofar (g + w.size) all
+            ∙ cut_end f limit max sofar (g + w.size) all
             ∙ ap (λ (d : ℕ). record
             { tree = sofar ++ last_unit_end (file_bodies f); done = d; last = true } ∷ [])
             (sym w.here);
@@ -250,9 +250,9 @@ module _ {f : List ℕ} {n limit : ℕ} {work : List ℕ} (ready : HoldsPlan f n
                 (omega (
                   arith,
                   w.here,
-                  group-has ready (g + w.size) l,
+                  group_has ready (g + w.size) l,
                   start_next (groups limit (blocks_of f)) (g + w.size),
-                  start-inside ready (suc (g + w.size)),
+                  start_inside ready (suc (g + w.size)),
                 ))
             | no d ↦ omega (arith, w.within)
           ]
@@ -296,8 +296,8 @@ unit_of f limit g size e =
 module _ {f : List ℕ} {limit max i p : ℕ} (s : StartsAt f limit max i p) {e : Extent}
     (u : FirstUnit f limit max s.group e) where
   -- a unit that is not the last
-  unfoldable pub starts-next : e.last ≡ false → StartsAt f limit max (i + 1) e.end
-  starts-next on =
+  unfoldable pub starts_next : e.last ≡ false → StartsAt f limit max (i + 1) e.end
+  starts_next on =
       record {
         group = s.group + u.size;
         within = u.takes.within;
@@ -309,9 +309,9 @@ module _ {f : List ℕ} {limit max i p : ℕ} (s : StartsAt f limit max i p) {e 
       }
 
   -- none after the last
-  pub starts-past : e.last ≡ true → (k : ℕ) → i < k
+  pub starts_past : e.last ≡ true → (k : ℕ) → i < k
       → drop k (units hash_multiplier limit max (blocks_of f)) ≡ []
-  starts-past over k later =
+  starts_past over k later =
       ap (λ (j : ℕ). drop j (units hash_multiplier limit max (blocks_of f)))
       (let same : k ≡ i + suc (k - suc i) = omega arith in same)
       ∙ sym (drop-drop (suc (k - suc i)) i (units hash_multiplier limit max (blocks_of f)))
@@ -321,19 +321,19 @@ module _ {f : List ℕ} {limit max i p : ℕ} (s : StartsAt f limit max i p) {e 
       ∙ drop_nil (k - suc i)
 
   -- the unit stands in the list
-  pub unit-found : get_elem? (units hash_multiplier limit max (blocks_of f)) i
+  pub unit_found : get_elem? (units hash_multiplier limit max (blocks_of f)) i
       ≡ some (unit_of f limit s.group u.size e)
-  unit-found = front_at (units hash_multiplier limit max (blocks_of f)) i _ _ (s.units ∙ u.units)
+  unit_found = front_at (units hash_multiplier limit max (blocks_of f)) i _ _ (s.units ∙ u.units)
 
   -- its length is exact
-  pub unit-bytes : Accepted f
+  pub unit_bytes : Accepted f
       → e.length ≡ length (text_of (unit_tree f limit s.group u.size e.last))
   unfolding units_by
-  unit-bytes ok =
+  unit_bytes ok =
       omega (
         arith,
         u.bytes,
-        units_short f (blocks_of f) ok hash_multiplier limit max _ (found_in _ i _ unit-found),
+        units_short f (blocks_of f) ok hash_multiplier limit max _ (found_in _ i _ unit_found),
       )
 
 -- the unit that is looked for
@@ -350,8 +350,8 @@ starts_unit {f} {limit} {max} {k} {p} {e} ok s u =
           };
       first = u;
       unit = unit_of f limit s.group u.size e;
-      found = unit-found s u;
-      bytes = unit-bytes s u ok;
+      found = unit_found s u;
+      bytes = unit_bytes s u ok;
       done = refl;
       last = refl;
       tree = refl;

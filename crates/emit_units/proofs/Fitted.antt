@@ -10,7 +10,7 @@ use lib.ListN.{drop_of_length-le}
 use lib.Seq.{take_all}
 use Rattle.base_fitting.specs.Fitting.{fitting}
 use Rattle.base_fitting.specs.Steps.{total, FitSoFar, HasFront}
-use Rattle.base_fitting.proofs.Laws.{fit_none, fit-more, fit-full, fit-over, fit_all, front_none}
+use Rattle.base_fitting.proofs.Laws.{fit_none, fit_more, fit_full, fit_over, fit_all, front_none}
 use Rattle.base_fitting.proofs.Laws.{front_more, front_set}
 use Rattle.base_hash.specs.Fnv.{hash_multiplier}
 use Rattle.base_text.specs.Wrote.{Wrote}
@@ -23,7 +23,7 @@ use Rattle.emit_units.specs.Texts.{unit_length, texts_of, done_with, ends_file}
 use Rattle.emit_units.specs.Units.{unit_tree, units_from, FirstUnit, MadeUnit, StartsAt}
 use Rattle.emit_units.specs.Bounds.{Bounds}
 use Rattle.emit_units.specs.Fronts.{FitUnit, PutUnits, PutLengths}
-use Rattle.emit_units.proofs.Cuts.{unit_of, starts-next, found_in, unit-found, unit-bytes}
+use Rattle.emit_units.proofs.Cuts.{unit_of, starts_next, found_in, unit_found, unit_bytes}
 use Rattle.emit_units.proofs.Written.{made_text}
 
 -- one unit more: its text, the sizes in all, the blocks done, whether it is the last
@@ -68,7 +68,7 @@ pub unit_bounded : {f : List ℕ} {limit max k p bound : ℕ} {e : Extent} → A
     → (s : StartsAt f limit max k p) → FirstUnit f limit max s.group e
     → Bounds f limit max bound → e.length ≤ bound
 unit_bounded ok s u bounds =
-    omega (arith, unit-bytes s u ok, bounds _ (found_in _ _ _ (unit-found s u)))
+    omega (arith, unit_bytes s u ok, bounds _ (found_in _ _ _ (unit_found s u)))
 
 -- a unit that was written, and fits
 pub unit_fits : {f : List ℕ} {limit max k p : ℕ} {part part' : List ℕ} {e : Extent} → Accepted f
@@ -77,7 +77,7 @@ pub unit_fits : {f : List ℕ} {limit max k p : ℕ} {part part' : List ℕ} {e 
     → FitUnit f limit max s.group part part' e
 unfolding text_of
 unit_fits ok s m fits =
-    let bytes = unit-bytes s m.first ok in
+    let bytes = unit_bytes s m.first ok in
     record {
       first = m.first;
       fits = λ h. record { same = (whole (made_text m) (omega (arith, bytes))).0 };
@@ -138,68 +138,68 @@ module _ {size : TranslationUnit → ℕ} {room : ℕ} {f : List ℕ} {limit max
     (go : Going size room f limit max k p lengths₀ lengths count end) {e : Extent}
     (first : FirstUnit f limit max go.starts.group e) where
   -- the unit that is next
-  abbrev pub nextUnit : TranslationUnit
-  nextUnit = unit_of f limit go.starts.group first.size e
+  abbrev pub next_unit : TranslationUnit
+  next_unit = unit_of f limit go.starts.group first.size e
 
   -- those after it
   abbrev pub later : Bool → List TranslationUnit
   later last = cond last [] (units_from f limit max (go.starts.group + first.size))
 
-  pub so-next : FitSoFar size room (length lengths₀)
+  pub so_next : FitSoFar size room (length lengths₀)
       (drop k (units hash_multiplier limit max (blocks_of f))) go.list.made
-      (nextUnit ∷ later e.last)
-  so-next =
+      (next_unit ∷ later e.last)
+  so_next =
       subst (FitSoFar size room (length lengths₀)
       (drop k (units hash_multiplier limit max (blocks_of f))) go.list.made)
       (go.next ∙ first.units) go.list.so
 
-  pub next-size : e.length ≡ unit_length nextUnit
-  next-size = unit-bytes go.starts first ok
+  pub next_size : e.length ≡ unit_length next_unit
+  next_size = unit_bytes go.starts first ok
 
-  module _ (fits : total size go.list.made + size nextUnit ≤ room)
+  module _ (fits : total size go.list.made + size next_unit ≤ room)
       (place : count < length lengths₀) (all : length lengths ≡ length lengths₀) where
-    pub sizes-set : HasFront (map unit_length (go.list.made ++ (nextUnit ∷ []))) lengths₀
+    pub sizes_set : HasFront (map unit_length (go.list.made ++ (next_unit ∷ []))) lengths₀
         (set lengths count e.length)
-    sizes-set =
+    sizes_set =
         let here : length (map unit_length go.list.made) ≡ count =
         omega (arith, go.list.counted, length_map go.list.made unit_length) in
         subst (λ (ns : List ℕ). HasFront ns lengths₀ (set lengths count e.length))
-        (sym (sizes_more go.list.made nextUnit))
+        (sym (sizes_more go.list.made next_unit))
         (subst (λ (m : ℕ). HasFront (map unit_length go.list.made ++ (m ∷ [])) lengths₀
-        (set lengths count e.length)) next-size
+        (set lengths count e.length)) next_size
         (subst (λ (m : ℕ). HasFront (map unit_length go.list.made ++ (e.length ∷ [])) lengths₀
         (set lengths m e.length)) here
         (front_set (map unit_length go.list.made) e.length go.list.sizes
         (omega (arith, here, all)))))
 
     -- its length is set
-    unfoldable pub list-more : (last : Bool) → e.last ≡ last
+    unfoldable pub list_more : (last : Bool) → e.last ≡ last
         → Listed size room f limit max k p lengths₀ (set lengths count e.length) (count + 1)
         e.end last
-    list-more last is =
+    list_more last is =
         record {
-          made = go.list.made ++ (nextUnit ∷ []);
+          made = go.list.made ++ (next_unit ∷ []);
           rest = later last;
           so =
               subst (λ (b : Bool). FitSoFar size room (length lengths₀)
               (drop k (units hash_multiplier limit max (blocks_of f)))
-              (go.list.made ++ (nextUnit ∷ [])) (later b)) is
-              (fit-more size _ _ _ so-next (omega (arith, go.list.counted)) fits);
-          sizes = sizes-set;
-          counted = omega (arith, go.list.counted, length-append go.list.made (nextUnit ∷ []));
-          done = sym (done_more p go.list.made nextUnit);
-          ends = sym is ∙ sym (ends_more false go.list.made nextUnit);
+              (go.list.made ++ (next_unit ∷ [])) (later b)) is
+              (fit_more size _ _ _ so_next (omega (arith, go.list.counted)) fits);
+          sizes = sizes_set;
+          counted = omega (arith, go.list.counted, length-append go.list.made (next_unit ∷ []));
+          done = sym (done_more p go.list.made next_unit);
+          ends = sym is ∙ sym (ends_more false go.list.made next_unit);
         }
 
     -- and others follow
     unfoldable pub going_more : e.last ≡ false
         → Going size room f limit max k p lengths₀ (set lengths count e.length) (count + 1)
         e.end
-    unfolding list-more starts-next
+    unfolding list_more starts_next
     going_more on =
-        let s = starts-next go.starts first on in
+        let s = starts_next go.starts first on in
         record {
-          list = list-more false on;
+          list = list_more false on;
           starts =
               record {
                 group = go.starts.group + first.size;
@@ -286,45 +286,45 @@ module _ {f : List ℕ} {limit max k p : ℕ} {text₀ lengths₀ text lengths :
     {count at end : ℕ} (ok : Accepted f)
     (put : Putting f limit max k p text₀ lengths₀ text lengths count at end) where
   -- no place is left
-  pub putting-full : length lengths₀ ≤ count
+  pub putting_full : length lengths₀ ≤ count
       → PutUnits f limit max k p text₀ lengths₀ text lengths
       (record { count = count; length = at; end = end; last = false })
-  putting-full full =
+  putting_full full =
       units_done put.go.list put.texts put.bytes
-      (fit-full unit_length _ _ _ put.go.list.so (omega (arith, put.go.list.counted)))
+      (fit_full unit_length _ _ _ put.go.list.so (omega (arith, put.go.list.counted)))
 
   module _ {part : List ℕ} {e : Extent} (same : length text ≡ length text₀)
       (lent : FitUnit f limit max put.go.starts.group
       (take (length text - at) (drop at text)) part e) where
     abbrev unit : TranslationUnit
-    unit = nextUnit ok put.go lent.first
+    unit = next_unit ok put.go lent.first
 
     -- what is lent is all from there on
-    all-lent : take (length text - at) (drop at text) ≡ drop at text
-    all-lent = take_all (length text - at) (drop at text) (omega (arith, length-drop at text))
+    all_lent : take (length text - at) (drop at text) ≡ drop at text
+    all_lent = take_all (length text - at) (drop at text) (omega (arith, length-drop at text))
 
     size : e.length ≡ unit_length unit
-    size = next-size ok put.go lent.first
+    size = next_size ok put.go lent.first
 
     -- it does not fit
-    pub putting-over : length text - at < e.length
+    pub putting_over : length text - at < e.length
         → PutUnits f limit max k p text₀ lengths₀ (part_back text at part) lengths
         (record { count = count; length = at; end = end; last = false })
-    putting-over over =
+    putting_over over =
         subst (λ (t : List ℕ). PutUnits f limit max k p text₀ lengths₀ t lengths
         (record { count = count; length = at; end = end; last = false }))
         (sym (take-append-drop at text)
         ∙ ap (λ (q : List ℕ). take at text ++ q)
-        (sym (lent.kept (omega (arith, ap length all-lent, length-drop at text)) ∙ all-lent))
+        (sym (lent.kept (omega (arith, ap length all_lent, length-drop at text)) ∙ all_lent))
         ∙ part_back_lem text at part)
         (units_done put.go.list put.texts put.bytes
-        (fit-over unit_length _ _ _ (so-next ok put.go lent.first)
+        (fit_over unit_length _ _ _ (so_next ok put.go lent.first)
         (omega (arith, size, put.bytes, total_texts put.go.list.made))))
 
     module _ (room : e.length ≤ length text - at) (within : at ≤ length text) where
       -- it fits
-      pub unit-room : total unit_length put.go.list.made + unit_length unit ≤ length text₀
-      unit-room = omega (arith, size, put.bytes, total_texts put.go.list.made)
+      pub unit_room : total unit_length put.go.list.made + unit_length unit ≤ length text₀
+      unit_room = omega (arith, size, put.bytes, total_texts put.go.list.made)
 
       texts : HasFront (texts_of (put.go.list.made ++ (unit ∷ []))) text₀ (part_back text at part)
       texts =
@@ -335,9 +335,9 @@ module _ {f : List ℕ} {limit max k p : ℕ} {text₀ lengths₀ text lengths :
           (subst (λ (m : ℕ). HasFront (texts_of put.go.list.made ++ text_of unit.tree) text₀
           (take m text ++ part)) (sym put.bytes)
           (front_more (texts_of put.go.list.made) (text_of unit.tree) put.texts
-          ((lent.fits (omega (arith, ap length all-lent, length-drop at text))).same
+          ((lent.fits (omega (arith, ap length all_lent, length-drop at text))).same
           ∙ ap (λ (t : List ℕ). text_of unit.tree ++ drop (unit_length unit) t)
-          (all-lent ∙ ap (λ (m : ℕ). drop m text) put.bytes)))))
+          (all_lent ∙ ap (λ (m : ℕ). drop m text) put.bytes)))))
 
       bytes : at + e.length ≡ length (texts_of (put.go.list.made ++ (unit ∷ [])))
       bytes =
@@ -351,23 +351,23 @@ module _ {f : List ℕ} {limit max k p : ℕ} {text₀ lengths₀ text lengths :
 
       module _ (place : count < length lengths₀) (all : length lengths ≡ length lengths₀) where
         -- others follow
-        pub putting-more : e.last ≡ false
+        pub putting_more : e.last ≡ false
             → Putting f limit max k p text₀ lengths₀ (part_back text at part)
             (set lengths count e.length) (count + 1) (at + e.length) e.end
-        unfolding going_more list-more
-        putting-more on =
+        unfolding going_more list_more
+        putting_more on =
             record {
-              go = going_more ok put.go lent.first unit-room place all on;
+              go = going_more ok put.go lent.first unit_room place all on;
               texts = texts;
               bytes = bytes;
             }
 
         -- it is the last
-        pub putting-last : e.last ≡ true
+        pub putting_last : e.last ≡ true
             → PutUnits f limit max k p text₀ lengths₀ (part_back text at part)
             (set lengths count e.length)
             (record { count = count + 1; length = at + e.length; end = e.end; last = true })
-        unfolding list-more
-        putting-last over =
-            let l = list-more ok put.go lent.first unit-room place all true over in
+        unfolding list_more
+        putting_last over =
+            let l = list_more ok put.go lent.first unit_room place all true over in
             units_done l texts bytes (fit_all unit_length _ _ _ l.so)

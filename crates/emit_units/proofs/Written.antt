@@ -23,7 +23,7 @@ use Rattle.lower_units.proofs.Measured.{hashed_written, hashed_length}
 use Rattle.emit_units.specs.declared.extents.Extent.{Extent}
 use Rattle.emit_group.specs.Groups.{file_bodies, group_text}
 use Rattle.emit_units.specs.Units.{after, grown, unit_groups, unit_tree, unit_doc, MadeUnit}
-use Rattle.emit_units.proofs.Cuts.{Walked, walked_none, walked_more, walked-handed}
+use Rattle.emit_units.proofs.Cuts.{Walked, walked_none, walked_more, walked_handed}
 use Rattle.emit_units.proofs.Cuts.{walked_end, inside}
 
 -- bodies as they are written are themselves
@@ -91,9 +91,9 @@ module _ {hashing : Bool} {f : List ℕ} {n limit : ℕ} {work : List ℕ}
     long = group_after hashing f (get_or gs (g + m.walked.size) []) put
 
     -- one group more
-    wrote-more : Wrote o₁ from
+    wrote_more : Wrote o₁ from
         (each (group_text hashing f) (take (suc m.walked.size) (drop g gs))) o₃ at'
-    wrote-more =
+    wrote_more =
         rw (sym (add-one m.walked.size))
         (each_more (group_text hashing f) (drop g gs) [] m.walked.size
         (omega (arith, length-drop g gs, inside ready m.walked left _ _ ends long most))
@@ -104,35 +104,35 @@ module _ {hashing : Bool} {f : List ℕ} {n limit : ℕ} {work : List ℕ}
         add-one k = omega arith
 
     -- a group after which the unit goes on
-    pub making-more : at' < max → Making hashing f limit max g end from at' o₁ o₃
+    pub making_more : at' < max → Making hashing f limit max g end from at' o₁ o₃
     unfolding walked_more
-    making-more short =
+    making_more short =
         record {
           walked = walked_more ready m.walked left _ _ ends long most short;
-          wrote = wrote-more;
+          wrote = wrote_more;
         }
 
     -- a group after which it is handed on
-    pub making-handed : {o : List ℕ} (start : ℕ) → start ≡ start_of (groups limit (blocks_of f)) g
+    pub making_handed : {o : List ℕ} (start : ℕ) → start ≡ start_of (groups limit (blocks_of f)) g
         → max ≤ at' → Wrote o 0 (unit_text unit_head) o₁ from
         → MadeUnit hashing f limit max g o o₃
         (record { start = start; end = end; length = at'; last = false })
-    unfolding walked-handed
-    making-handed start first enough head =
+    unfolding walked_handed
+    making_handed start first enough head =
         record {
-          first = walked-handed ready m.walked left _ _ ends long most start first enough;
-          wrote = wrote_as (seq head wrote-more) refl;
+          first = walked_handed ready m.walked left _ _ ends long most start first enough;
+          wrote = wrote_as (seq head wrote_more) refl;
         }
 
   -- where no row is left
-  pub making-end : {o o₃ : List ℕ} {r : ℕ} (start : ℕ)
+  pub making_end : {o o₃ : List ℕ} {r : ℕ} (start : ℕ)
       → start ≡ start_of (groups limit (blocks_of f)) g → n ≤ q
       → Wrote o 0 (unit_text unit_head) o₁ from
       → Wrote o₂ at (unit_text (last_unit_end (file_bodies f))) o₃ r
       → MadeUnit hashing f limit max g o o₃
       (record { start = start; end = q; length = r; last = true })
   unfolding text_of walked_end
-  making-end start first none_left head put =
+  making_end start first none_left head put =
       record {
         first = walked_end ready m.walked start _ first none_left put.next;
         wrote = seq (seq head m.wrote) put;

@@ -92,82 +92,82 @@ pub record Reads (f : List ℕ) (b : Block) (r : BlockRecord) : Type 0 where
   pub code : b.code ≡ cond r.present (some (code_bytes f r)) none
 
 module _ (f : List ℕ) (bs : List Block) (accepted : parse f ≡ Parsed.accepted bs) where
-  no-rule : (o : Option Rule) → parsed f o ≡ Parsed.accepted bs → o ≡ none
-  no-rule none e = refl
-  no-rule (some r) e = absurd (let z : ◌≡◌ {A = ℕ} 0 1 = cc in omega arith)
+  no_rule : (o : Option Rule) → parsed f o ≡ Parsed.accepted bs → o ≡ none
+  no_rule none e = refl
+  no_rule (some r) e = absurd (let z : ◌≡◌ {A = ℕ} 0 1 = cc in omega arith)
 
   -- no rule of the file is broken
-  pub all-kept : first_broken f (rules f) ≡ none
+  pub all_kept : first_broken f (rules f) ≡ none
   unfolding parse
-  all-kept = no-rule (first_broken f (rules f)) accepted
+  all_kept = no_rule (first_broken f (rules f)) accepted
 
   -- the blocks are those of the records
   pub blocks_of_lem : bs ≡ blocks_from f (block_count f) 0 0
   unfolding parse
   blocks_of_lem =
       let same : Parsed.accepted (blocks_from f (block_count f) 0 0) ≡ Parsed.accepted bs =
-      sym (ap (parsed f) all-kept) ∙ accepted in
+      sym (ap (parsed f) all_kept) ∙ accepted in
       cc
 
-  pub length-of : length bs ≡ block_count f
-  length-of = ap length blocks_of_lem ∙ length_blocks f (block_count f) 0 0
+  pub length_of_lem : length bs ≡ block_count f
+  length_of_lem = ap length blocks_of_lem ∙ length_blocks f (block_count f) 0 0
 
   kept : (r : Rule) → Memᴰ r (rules f) → broken f r ≡ false
-  kept r m = each_kept f (rules f) r all-kept m
+  kept r m = each_kept f (rules f) r all_kept m
 
-  pub trailer-right : trailer_right f ≡ true
-  trailer-right =
+  pub trailer_right_lem : trailer_right f ≡ true
+  trailer_right_lem =
       not-false _ (kept Rule.trailer (Memᴰ.tail (Memᴰ.tail (Memᴰ.head refl))))
 
-  pub sections-of : Sections f
-  sections-of = sections f trailer-right
+  pub sections_of : Sections f
+  sections_of = sections f trailer_right_lem
 
   -- the rules hold of each record
-  pub block-right : (i : ℕ) → i < block_count f → block_right f (block_start f i) ≡ true
-  block-right i h =
+  pub block_right_lem : (i : ℕ) → i < block_count f → block_right f (block_start f i) ≡ true
+  block_right_lem i h =
       not-false _
       (kept (Rule.block i)
       (in_blocks f
       (Memᴰ.cast (ap Rule.block (sym (zero-add i))) (block_rules_lem (block_count f) 0 i h).0)))
 
-  pub key-rises : (i : ℕ) → i < block_count f → key_rises f i ≡ true
-  key-rises i h =
+  pub key_rises_lem : (i : ℕ) → i < block_count f → key_rises f i ≡ true
+  key_rises_lem i h =
       not-false _
       (kept (Rule.order i)
       (in_blocks f
       (Memᴰ.cast (ap Rule.order (sym (zero-add i))) (block_rules_lem (block_count f) 0 i h).1)))
 
-  pub instr-right : (i : ℕ) → i < instr_count f → instr_right f (instr_start f i) ≡ true
-  instr-right i h =
+  pub instr_right_lem : (i : ℕ) → i < instr_count f → instr_right f (instr_start f i) ≡ true
+  instr_right_lem i h =
       not-false _
       (kept (Rule.instr i)
       (in_instrs f
       (Memᴰ.cast (ap Rule.instr (sym (zero-add i))) (instr_rules_lem (instr_count f) 0 i h))))
 
   -- the readers find each record
-  pub block-found : (i : ℕ) → i < length bs
+  pub block_found : (i : ℕ) → i < length bs
       → found_block f i ≡ FoundBlock.At (record_at f (block_start f i))
-  block-found i h =
-      sym (reading.block-there f i _ (omega (arith, length-of)) refl
-      (omega (arith, length-of, sections-of)))
+  block_found i h =
+      sym (reading.block_there f i _ (omega (arith, length_of_lem)) refl
+      (omega (arith, length_of_lem, sections_of)))
 
-  pub instr-found : (i addr : ℕ) (thumb : Bool) → i < instr_count f
+  pub instr_found : (i addr : ℕ) (thumb : Bool) → i < instr_count f
       → found_instr f i addr thumb ≡ FoundInstr.At (timed_at f (instr_start f i) addr thumb)
-  instr-found i addr thumb h =
-      sym (reading.instr-there f i _ addr thumb h refl (omega (arith, sections-of)))
+  instr_found i addr thumb h =
+      sym (reading.instr_there f i _ addr thumb h refl (omega (arith, sections_of)))
 
   -- the limits hold
   limits : within_limits f ≡ true
   limits = not-false _ (kept Rule.limits (Memᴰ.tail (Memᴰ.head refl)))
 
-  pub few-blocks : block_count f ≤ 65536
-  few-blocks =
+  pub few_blocks : block_count f ≤ 65536
+  few_blocks =
       let never : 65536 < block_count f → ⊥ =
       λ h. true≢false (sym limits ∙ sym (by-record.many-blocks f h)) in
       omega arith
 
-  pub few-instrs : instr_count f ≤ 1048576
-  few-instrs =
+  pub few_instrs : instr_count f ≤ 1048576
+  few_instrs =
       let never : 1048576 < instr_count f → ⊥ =
       λ h. true≢false (sym limits ∙ sym (by-record.many-instrs f h)) in
       omega arith
@@ -177,47 +177,47 @@ module _ (f : List ℕ) (bs : List Block) (accepted : parse f ≡ Parsed.accepte
   sums = eqb-true _ _ (not-false _ (kept Rule.sum (in_sum f)))
 
   -- so the blocks have I instructions in all
-  pub instrs-of : instr_total bs ≡ instr_count f
+  pub instrs_of_lem : instr_total bs ≡ instr_count f
   unfolding count_sum
-  instrs-of = ap instr_total blocks_of_lem ∙ sym (zero-add _) ∙ total_blocks f (block_count f) 0 0
+  instrs_of_lem = ap instr_total blocks_of_lem ∙ sym (zero-add _) ∙ total_blocks f (block_count f) 0 0
       ∙ ap (count_sum f) (zero-add (block_count f)) ∙ sums
 
-  unless-false : (b : Bool) → (b ≡ false → ⊥) → b ≡ true
-  unless-false true never = refl
-  unless-false false never = absurd (never refl)
+  unless_false : (b : Bool) → (b ≡ false → ⊥) → b ≡ true
+  unless_false true never = refl
+  unless_false false never = absurd (never refl)
 
   -- what the rules say of block i
   module _ (i : ℕ) (inside : i < block_count f) where
     right : block_right f (block_start f i) ≡ true
-    right = block-right i inside
+    right = block_right_lem i inside
 
-    pub has-instr : 1 ≤ count_at f (block_start f i)
-    has-instr =
+    pub has_instr : 1 ≤ count_at f (block_start f i)
+    has_instr =
         let never : count_at f (block_start f i) < 1 → ⊥ =
         λ h. true≢false (sym right ∙ sym (by-record.no-count f (block_start f i) h)) in
         omega arith
 
-    pub few-in-block : count_at f (block_start f i) ≤ 65535
-    few-in-block =
+    pub few_in_block : count_at f (block_start f i) ≤ 65535
+    few_in_block =
         let never : 65535 < count_at f (block_start f i) → ⊥ =
         λ h. true≢false (sym right ∙ sym (by-record.large-count f (block_start f i) h)) in
         omega arith
 
-    pub ends-inside : addr_at f (block_start f i) + length_at f (block_start f i) ≤ 2 ^ 32
-    ends-inside =
+    pub ends_inside : addr_at f (block_start f i) + length_at f (block_start f i) ≤ 2 ^ 32
+    ends_inside =
         let never : 2 ^ 32 < addr_at f (block_start f i) + length_at f (block_start f i) → ⊥ =
         λ h. true≢false (sym right ∙ sym (by-record.end-past f (block_start f i) h)) in
         omega arith
 
-    pub address-aligned : addr_at f (block_start f i) % size_of (thumb_at f (block_start f i)) ≡ 0
+    pub address_aligned : addr_at f (block_start f i) % size_of (thumb_at f (block_start f i)) ≡ 0
     unfolding aligned
-    address-aligned =
+    address_aligned =
         eqb-true _ _
-        (unless-false (aligned f (block_start f i))
+        (unless_false (aligned f (block_start f i))
         (λ h. true≢false (sym right ∙ sym (by-record.not_aligned f (block_start f i) h))))
 
-    pub instrs-inside : count_sum f i + count_at f (block_start f i) ≤ instr_count f
-    instrs-inside = omega (arith, sum_above f i (block_count f) inside, sums)
+    pub instrs_inside : count_sum f i + count_at f (block_start f i) ≤ instr_count f
+    instrs_inside = omega (arith, sum_above f i (block_count f) inside, sums)
 
     -- present code bytes are inside the file
     pub code_inside : present_at f (block_start f i) ≡ true
@@ -228,13 +228,13 @@ module _ (f : List ℕ) (bs : List Block) (accepted : parse f ≡ Parsed.accepte
         (code_count f) ≡ true = (rw e at (by-record.code-kept f (block_start f i) right)) in
         let below : code_offset_at f (block_start f i) + length_at f (block_start f i) ≤ code_count f =
         leb-true _ _ within in
-        omega (arith, below, sections-of)
+        omega (arith, below, sections_of)
 
     -- the reader gives the fields of the block
-    pub record-reads : Reads f (block_at f (block_start f i) (count_sum f i))
+    pub record_reads : Reads f (block_at f (block_start f i) (count_sum f i))
         (record_at f (block_start f i))
     unfolding block_at record_at code_bytes
-    record-reads =
+    record_reads =
         record {
           addr = refl;
           thumb = refl;
@@ -249,14 +249,14 @@ module _ (f : List ℕ) (bs : List Block) (accepted : parse f ≡ Parsed.accepte
         same_code true e = rw (e, le-leb _ _ (code_inside e))
         same_code false e = rw e
 
-    pub instr-reads : (j : ℕ) (d : TimedInstr) → j < count_at f (block_start f i)
+    pub instr_reads : (j : ℕ) (d : TimedInstr) → j < count_at f (block_start f i)
         → found_instr f (count_sum f i + j)
         (addr_at f (block_start f i) + size_of (thumb_at f (block_start f i)) * j)
         (thumb_at f (block_start f i))
         ≡ FoundInstr.At (get_or (block_at f (block_start f i) (count_sum f i)).instrs j d)
     unfolding block_at
-    instr-reads j d h =
-        instr-found (count_sum f i + j) _ _ (omega (arith, instrs-inside))
+    instr_reads j d h =
+        instr_found (count_sum f i + j) _ _ (omega (arith, instrs_inside))
         ∙ ap FoundInstr.At
         (sym (instr_of f (count_at f (block_start f i)) (count_sum f i) (addr_at f (block_start f i))
         (thumb_at f (block_start f i)) j d h))

@@ -7,7 +7,7 @@ use Rattle.file_records.specs.Trailer.{block_count}
 use Rattle.file_blocks.specs.Refusal.{Rule, first_broken, rules}
 use Rattle.file_blocks.specs.Parse.{Parsed, parsed, parse, blocks_of, instr_total, Accepted}
 use Rattle.file_blocks.specs.Found.{checked}
-use Rattle.file_blocks.proofs.Accepted.{length-of}
+use Rattle.file_blocks.proofs.Accepted.{length_of_lem}
 
 by_refusal : (p : Parsed) (n i : ℕ) → Checked.Refused n i ≡ checked p → p ≡ Parsed.refused n i
 unfolding checked
@@ -29,20 +29,20 @@ by_counts f (some r) b k e = absurd (let z : ◌≡◌ {A = ℕ} 0 1 = cc in ome
 
 module _ (f : List ℕ) (r : Checked) (e : r ≡ checked (parse f)) where
   -- a file that the check refuses
-  pub refused-file : (n i : ℕ) → r ≡ Checked.Refused n i → parse f ≡ Parsed.refused n i
-  refused-file n i is = by_refusal (parse f) n i (sym is ∙ e)
+  pub refused_file : (n i : ℕ) → r ≡ Checked.Refused n i → parse f ≡ Parsed.refused n i
+  refused_file n i is = by_refusal (parse f) n i (sym is ∙ e)
 
-  accepted-all : (b k : ℕ) → r ≡ Checked.Accepted b k
+  accepted_all : (b k : ℕ) → r ≡ Checked.Accepted b k
       → Accepted f × (b ≡ length (blocks_of f)) × (k ≡ instr_total (blocks_of f))
   unfolding parse
-  accepted-all b k is = by_counts f (first_broken f (rules f)) b k (sym is ∙ e)
+  accepted_all b k is = by_counts f (first_broken f (rules f)) b k (sym is ∙ e)
 
   -- a file that the check accepts, and its counts
-  pub accepted-file : (b k : ℕ) → r ≡ Checked.Accepted b k → Accepted f
-  accepted-file b k is = (accepted-all b k is).0
+  pub accepted_file : (b k : ℕ) → r ≡ Checked.Accepted b k → Accepted f
+  accepted_file b k is = (accepted_all b k is).0
 
-  pub accepted-blocks : (b k : ℕ) → r ≡ Checked.Accepted b k → b ≡ block_count f
-  accepted-blocks b k is = (accepted-all b k is).1 ∙ length-of f (blocks_of f) (accepted-file b k is)
+  pub accepted_blocks : (b k : ℕ) → r ≡ Checked.Accepted b k → b ≡ block_count f
+  accepted_blocks b k is = (accepted_all b k is).1 ∙ length_of_lem f (blocks_of f) (accepted_file b k is)
 
-  pub accepted-instrs : (b k : ℕ) → r ≡ Checked.Accepted b k → k ≡ instr_total (blocks_of f)
-  accepted-instrs b k is = (accepted-all b k is).2
+  pub accepted_instrs : (b k : ℕ) → r ≡ Checked.Accepted b k → k ≡ instr_total (blocks_of f)
+  accepted_instrs b k is = (accepted_all b k is).2

@@ -30,10 +30,10 @@ same_rule : (r s : Rule) → number r ≡ number s → place r ≡ place s → r
 same_rule r s e h = sym (rule_of_lem r) ∙ ap₂ rule_of e h ∙ rule_of_lem s
 
 module _ (f : List ℕ) where
-  refused-rule : (o : Option Rule) (r : Rule) → parsed f o ≡ Parsed.refused (number r) (place r)
+  refused_rule : (o : Option Rule) (r : Rule) → parsed f o ≡ Parsed.refused (number r) (place r)
       → o ≡ some r
-  refused-rule none r e = absurd (let z : ◌≡◌ {A = ℕ} 0 1 = cc in omega arith)
-  refused-rule (some s) r e =
+  refused_rule none r e = absurd (let z : ◌≡◌ {A = ℕ} 0 1 = cc in omega arith)
+  refused_rule (some s) r e =
       let n : number s ≡ number r = cc in
       let i : place s ≡ place r = cc in
       ap some (same_rule s r n i)
@@ -45,19 +45,19 @@ module _ (f : List ℕ) where
   applied r a = is_found (broken f) (rules f) r a
 
   -- a rule's refusal is given exactly if the rule applies
-  pub refused-exactly : (r : Rule) → (parse f ≡ Parsed.refused (number r) (place r)) ↔ Applies f r
+  pub refused_exactly : (r : Rule) → (parse f ≡ Parsed.refused (number r) (place r)) ↔ Applies f r
   unfolding parse
-  refused-exactly r = (
-    λ e. applies r (refused-rule (first_broken f (rules f)) r e),
+  refused_exactly r = (
+    λ e. applies r (refused_rule (first_broken f (rules f)) r e),
     λ a. ap (parsed f)
         (applied r a),
   )
 
   -- a file is accepted exactly if no rule applies
-  pub accepted-exactly : (parse f ≡ Parsed.accepted (blocks_from f (block_count f) 0 0)) ↔
+  pub accepted_exactly : (parse f ≡ Parsed.accepted (blocks_from f (block_count f) 0 0)) ↔
       ((r : Rule) → Applies f r → ⊥)
   unfolding parse
-  accepted-exactly = (
+  accepted_exactly = (
     λ e r a. clash (sym e ∙ ap (parsed f) (applied r a)),
     λ never. go (first_broken f (rules f))
         refl never,

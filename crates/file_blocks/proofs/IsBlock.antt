@@ -7,8 +7,8 @@ use Rattle.file_records.specs.Trailer.{block_count, instr_count, block_start}
 use Rattle.file_records.specs.BlockRecord.{length_of, count_sum}
 use Rattle.file_blocks.specs.Parse.{Block, block_at, blocks_of, Accepted}
 use Rattle.file_blocks.specs.Read.{record_at, found_block, IsBlock}
-use Rattle.file_blocks.proofs.Accepted.{block_of, length-of, block-found, few-instrs}
-use Rattle.file_blocks.proofs.Accepted.{has-instr, ends-inside, instrs-inside}
+use Rattle.file_blocks.proofs.Accepted.{block_of, length_of_lem, block_found, few_instrs}
+use Rattle.file_blocks.proofs.Accepted.{has_instr, ends_inside, instrs_inside}
 
 -- the reader of block records misses none
 pub missing : (f : List ℕ) → Accepted f → (i : ℕ) → found_block f i ≡ FoundBlock.Nothing
@@ -16,7 +16,7 @@ pub missing : (f : List ℕ) → Accepted f → (i : ℕ) → found_block f i �
 missing f ok i e =
     let no : i < block_count f
     → ⊥ = λ h. let z : ◌≡◌ {A = ℕ} 0 1 =
-    cc (block-found f (blocks_of f) ok i (omega (arith, length-of f (blocks_of f) ok))) in
+    cc (block_found f (blocks_of f) ok i (omega (arith, length_of_lem f (blocks_of f) ok))) in
     omega arith in
     omega arith
 
@@ -43,34 +43,34 @@ module _ (f : List ℕ) (i : ℕ) (b : BlockRecord) (found : found_block f i ≡
   pub found_inside : i < block_count f
   found_inside = ltb-true _ _ both.0
 
-  pub found-record : b ≡ record_at f (block_start f i)
-  found-record = both.1
+  pub found_record : b ≡ record_at f (block_start f i)
+  found_record = both.1
 
 -- what a pass over the records has of block i
 module _ {f : List ℕ} {i : ℕ} {b : BlockRecord} {first : ℕ} (is : IsBlock f i b first) where
   pub block_inside : i < block_count f
   block_inside = found_inside f i b is.found
 
-  pub block-record : b ≡ record_at f (block_start f i)
-  block-record = found-record f i b is.found
+  pub block_record : b ≡ record_at f (block_start f i)
+  block_record = found_record f i b is.found
 
-  pub some-instr : 1 ≤ b.count
+  pub some_instr : 1 ≤ b.count
   unfolding record_at
-  some-instr = rw block-record (has-instr f (blocks_of f) is.accepted i block_inside)
+  some_instr = rw block_record (has_instr f (blocks_of f) is.accepted i block_inside)
 
   pub ends : b.addr + length_of b.count b.thumb ≤ 2 ^ 32
   unfolding record_at
-  ends = rw block-record (ends-inside f (blocks_of f) is.accepted i block_inside)
+  ends = rw block_record (ends_inside f (blocks_of f) is.accepted i block_inside)
 
-  pub instrs-counted : first + b.count ≤ instr_count f
+  pub instrs_counted : first + b.count ≤ instr_count f
   unfolding record_at
-  instrs-counted =
-      rw (block-record, is.starts) (instrs-inside f (blocks_of f) is.accepted i block_inside)
+  instrs_counted =
+      rw (block_record, is.starts) (instrs_inside f (blocks_of f) is.accepted i block_inside)
 
   -- the sum of the counts before the next block, which does not wrap
-  pub sum-next : (first + b.count) % 2 ^ 64 ≡ count_sum f (i + 1)
+  pub sum_next : (first + b.count) % 2 ^ 64 ≡ count_sum f (i + 1)
   unfolding count_sum record_at
-  sum-next =
+  sum_next =
       let small : first + b.count < 2 ^ 64 =
-      omega (arith, instrs-counted, few-instrs f (blocks_of f) is.accepted) in
-      mod-eq_of_lt small ∙ rw (is.starts, block-record, add-one i)
+      omega (arith, instrs_counted, few_instrs f (blocks_of f) is.accepted) in
+      mod-eq_of_lt small ∙ rw (is.starts, block_record, add-one i)

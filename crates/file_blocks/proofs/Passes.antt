@@ -5,7 +5,7 @@ use mathlib.Core.Option.{none, some}
 use lib.Dec.{leb-zero}
 use borrow.Author.Tests.{lt-leb}
 use native.Mathlib.Nat.{sub-zero}
-use Rattle.file_records.proofs.Rules.{large-count}
+use Rattle.file_records.proofs.Rules.{large_count}
 use Rattle.file_records.specs.Trailer.{blocks_back, block_count, instrs_back, instr_count, block_start}
 use Rattle.file_records.specs.BlockRecord.{key_at, count_at, block_right, key_rises, count_sum}
 use Rattle.file_instrs.specs.InstrRecord.{instr_right}
@@ -39,33 +39,33 @@ next_instrs n i h =
 module _ (f : List ℕ) (rest : List Rule) (start n i : ℕ) (starts : start ≡ length f - blocks_back f)
     (inside : i < n) where
   -- block i breaks a rule of its record
-  pub block-broken : block_right f (start + 16 * i) ≡ false
+  pub block_broken : block_right f (start + 16 * i) ≡ false
       → first_broken f (block_rules (n - i) i ++ rest) ≡ some (Rule.block i)
-  block-broken e = rw (next_rules n i inside, ← starts, e)
+  block_broken e = rw (next_rules n i inside, ← starts, e)
 
   -- block i keeps those, and its key is not above the last
-  pub order-broken : block_right f (start + 16 * i) ≡ true → key_at f (start + 16 * i) < least_key f i
+  pub order_broken : block_right f (start + 16 * i) ≡ true → key_at f (start + 16 * i) < least_key f i
       → first_broken f (block_rules (n - i) i ++ rest) ≡ some (Rule.order i)
-  order-broken e h = rw (next_rules n i inside, ← starts, e, rises f i, ← starts, lt-leb _ _ h)
+  order_broken e h = rw (next_rules n i inside, ← starts, e, rises f i, ← starts, lt-leb _ _ h)
 
   -- block i breaks no rule
-  pub block-kept : block_right f (start + 16 * i) ≡ true → least_key f i ≤ key_at f (start + 16 * i)
+  pub block_kept : block_right f (start + 16 * i) ≡ true → least_key f i ≤ key_at f (start + 16 * i)
       → first_broken f (block_rules (n - i) i ++ rest)
       ≡ first_broken f (block_rules (n - (i + 1)) (i + 1) ++ rest)
-  block-kept e h = rw (next_rules n i inside, ← starts, e, rises f i, ← starts, le-leb _ _ h)
+  block_kept e h = rw (next_rules n i inside, ← starts, e, rises f i, ← starts, le-leb _ _ h)
 
 module _ (f : List ℕ) (start i : ℕ) (starts : start ≡ length f - blocks_back f) where
-  pub least-next : key_at f (start + 16 * i) + 1 ≡ least_key f (i + 1)
+  pub least_next : key_at f (start + 16 * i) + 1 ≡ least_key f (i + 1)
   unfolding least_key
-  least-next = rw (starts, add-one i)
+  least_next = rw (starts, add-one i)
 
-  pub sum-next : count_sum f i + count_at f (start + 16 * i) ≡ count_sum f (i + 1)
+  pub sum_next : count_sum f i + count_at f (start + 16 * i) ≡ count_sum f (i + 1)
   unfolding count_sum
-  sum-next = rw (starts, add-one i)
+  sum_next = rw (starts, add-one i)
 
 pub count_small : (f : List ℕ) (at : ℕ) → block_right f at ≡ true → count_at f at ≤ 65535
 count_small f at e =
-    let no : 65535 < count_at f at → ⊥ = λ h. true≢false (sym e ∙ sym (large-count f at h)) in
+    let no : 65535 < count_at f at → ⊥ = λ h. true≢false (sym e ∙ sym (large_count f at h)) in
     omega arith
 
 -- what a pass over the blocks keeps
@@ -78,9 +78,9 @@ pub record Blocks (f : List ℕ) (blocks least total i : ℕ) : Type 0 where
       ≡ first_broken f (block_rules (blocks - i) i ++ (Rule.sum ∷ []))
 
 module _ (f : List ℕ) (n : ℕ) (all : n ≡ block_count f) where
-  pub blocks-none : Blocks f n 0 0 0
+  pub blocks_none : Blocks f n 0 0 0
   unfolding least_key count_sum
-  blocks-none =
+  blocks_none =
       record {
         inside = zero-le;
         key = refl;
@@ -94,14 +94,14 @@ module _ (f : List ℕ) (n : ℕ) (all : n ≡ block_count f) where
     none_left = omega arith
 
     -- after the last block, the counts sum to I
-    pub sum-right : count_sum f i ≡ instr_count f
+    pub sum_right : count_sum f i ≡ instr_count f
         → first_broken f (block_rules (n - i) i ++ (Rule.sum ∷ [])) ≡ none
-    sum-right e = rw (none_left, ← (done ∙ all), eq-eqb _ _ e)
+    sum_right e = rw (none_left, ← (done ∙ all), eq-eqb _ _ e)
 
     -- or they do not
-    pub sum-wrong : (count_sum f i ≡ instr_count f → ⊥)
+    pub sum_wrong : (count_sum f i ≡ instr_count f → ⊥)
         → first_broken f (block_rules (n - i) i ++ (Rule.sum ∷ [])) ≡ some Rule.sum
-    sum-wrong e = rw (none_left, ← (done ∙ all), ne_eqb _ _ e)
+    sum_wrong e = rw (none_left, ← (done ∙ all), ne_eqb _ _ e)
 
 module _ (f : List ℕ) (start n i : ℕ) (starts : start ≡ length f - instrs_back f) (inside : i < n)
   where
@@ -116,9 +116,9 @@ module _ (f : List ℕ) (start n i : ℕ) (starts : start ≡ length f - instrs_
     instr-kept e = rw (next_instrs n i inside, ← starts, e)
 
 module _ (f : List ℕ) (n : ℕ) (all : n ≡ instr_count f) where
-  pub instrs-none : first_broken f (instr_rules (instr_count f) 0)
+  pub instrs_none : first_broken f (instr_rules (instr_count f) 0)
       ≡ first_broken f (instr_rules (n - 0) 0)
-  instrs-none = rw (sub-zero, all)
+  instrs_none = rw (sub-zero, all)
 
   pub instrs_all : (i : ℕ) → i ≡ n → first_broken f (instr_rules (n - i) i) ≡ none
   instrs_all i done =

@@ -17,9 +17,9 @@ use Rattle.file_instrs.specs.Decode.{flag_at, alu_at, mul_at, mul_long_at, mem_a
 use Rattle.file_instrs.specs.Decode.{ops_at, op_at, timed_at}
 use Rattle.file_blocks.specs.Parse.{Block, Parsed, instrs_from, block_at, blocks_from, parse}
 use Rattle.file_blocks.specs.Read.{record_at}
-use Rattle.file_blocks.proofs.Accepted.{blocks_of_lem, instr-right, has-instr, ends-inside}
-use Rattle.file_blocks.proofs.Accepted.{few-in-block, address-aligned, instrs-inside}
-use Rattle.file_blocks.proofs.Accepted.{record-reads}
+use Rattle.file_blocks.proofs.Accepted.{blocks_of_lem, instr_right_lem, has_instr, ends_inside}
+use Rattle.file_blocks.proofs.Accepted.{few_in_block, address_aligned, instrs_inside}
+use Rattle.file_blocks.proofs.Accepted.{record_reads}
 use Rattle.armv4t.specs.InRange.{InRange}
 
 -- instructions of a block's set, one after the other from an address on
@@ -172,9 +172,9 @@ module _ (f : List ℕ) (at : ℕ) (right : instr_right f at ≡ true) where
         refl 9 15 refl,
   )
 
-  mul-long : byte_at f at ≡ 2 → InRange (mul_long_at f at)
+  mul_long : byte_at f at ≡ 2 → InRange (mul_long_at f at)
   unfolding mul_long_at largest
-  mul-long e = (
+  mul_long e = (
     byte 2 _ e refl 7 15 refl,
     byte 2 _ e refl 8 15 refl,
     byte 2 _ e refl 9 15 refl,
@@ -203,27 +203,27 @@ module _ (f : List ℕ) (at : ℕ) (right : instr_right f at ≡ true) where
   unfolding largest
   bl_low_lem e = half 7 _ e refl refl refl
 
-  block-mem : byte_at f at ≡ 9 → InRange (block_mem_at f at)
+  block_mem : byte_at f at ≡ 9 → InRange (block_mem_at f at)
   unfolding block_mem_at largest
-  block-mem e = (byte 9 _ e refl 6 15 refl, half 9 _ e refl refl refl)
+  block_mem e = (byte 9 _ e refl 6 15 refl, half 9 _ e refl refl refl)
 
   -- each kind has its operation in range, so the record has
-  record-fits : InRange (op_at f at)
+  record_fits : InRange (op_at f at)
   unfolding op_at
-  record-fits =
+  record_fits =
       selected (byte_at f at) 0 (byte_at f at) (ops_at f at) (free_op (byte_at f at)) (sym (zero-add _)) (
         λ e. alu e (byte_at f (at + 8)) refl,
         (
           mul,
           (
-            mul-long,
+            mul_long,
             (
               λ e. free_fits 3,
               (
                 bx,
                 (
                   branch,
-                  (bl_high_lem, (bl_low_lem, (λ e. mem e (byte_at f (at + 8)) refl, (block-mem, tt)))),
+                  (bl_high_lem, (bl_low_lem, (λ e. mem e (byte_at f (at + 8)) refl, (block_mem, tt)))),
                 ),
               ),
             ),
@@ -297,22 +297,22 @@ module _ (f : List ℕ) (bs : List Block) (accepted : parse f ≡ Parsed.accepte
       (subst (λ (l : List Block). Memᴰ b l) (blocks_of_lem f bs accepted) m))
 
   -- each instruction has its fields in range
-  pub accepted-ranges : (x : TimedInstr) → Memᴰ x b.instrs → InRange x.instr.op
+  pub accepted_ranges : (x : TimedInstr) → Memᴰ x b.instrs → InRange x.instr.op
   unfolding block_at
-  accepted-ranges x mx =
+  accepted_ranges x mx =
       let at = block_start f place.at in
       let r =
       from_record f (count_at f at) (count_sum f place.at) _ _ x
       (subst (λ (c : Block). Memᴰ x c.instrs) place.same mx) in
       rw r.same
-      (record-fits f (instr_start f r.at)
-      (instr-right f bs accepted r.at
-      (omega (arith, instrs-inside f bs accepted place.at place.inside))))
+      (record_fits f (instr_start f r.at)
+      (instr_right_lem f bs accepted r.at
+      (omega (arith, instrs_inside f bs accepted place.at place.inside))))
 
   -- its instructions are of its set, and stand after each other from its address on
-  pub accepted-consecutive : Consecutive b.addr b.thumb b.instrs
+  pub accepted_consecutive : Consecutive b.addr b.thumb b.instrs
   unfolding block_at
-  accepted-consecutive =
+  accepted_consecutive =
       rw place.same
       (follow f (count_at f (block_start f place.at)) (count_sum f place.at) _ _)
 
@@ -320,22 +320,22 @@ module _ (f : List ℕ) (bs : List Block) (accepted : parse f ≡ Parsed.accepte
   count : count_at f (block_start f place.at)
       ≡ length (block_at f (block_start f place.at) (count_sum f place.at)).instrs
   unfolding record_at
-  count = (record-reads f bs accepted place.at place.inside).count
+  count = (record_reads f bs accepted place.at place.inside).count
 
   -- it has an instruction
-  pub accepted-some : 1 ≤ length b.instrs
-  accepted-some = rw (place.same, ← count) (has-instr f bs accepted place.at place.inside)
+  pub accepted_some : 1 ≤ length b.instrs
+  accepted_some = rw (place.same, ← count) (has_instr f bs accepted place.at place.inside)
 
   -- and at most 65,535
-  pub accepted-few : length b.instrs ≤ 65535
-  accepted-few = rw (place.same, ← count) (few-in-block f bs accepted place.at place.inside)
+  pub accepted_few : length b.instrs ≤ 65535
+  accepted_few = rw (place.same, ← count) (few_in_block f bs accepted place.at place.inside)
 
   -- its end is not past 2^32
-  pub accepted-end : b.addr + length b.instrs * size_of b.thumb ≤ 2 ^ 32
+  pub accepted_end : b.addr + length b.instrs * size_of b.thumb ≤ 2 ^ 32
   unfolding block_at
-  accepted-end = rw (place.same, ← count) (ends-inside f bs accepted place.at place.inside)
+  accepted_end = rw (place.same, ← count) (ends_inside f bs accepted place.at place.inside)
 
   -- its address is even for Thumb, a multiple of 4 for ARM
-  pub accepted-aligned : b.addr % size_of b.thumb ≡ 0
+  pub accepted_aligned : b.addr % size_of b.thumb ≡ 0
   unfolding block_at
-  accepted-aligned = rw place.same (address-aligned f bs accepted place.at place.inside)
+  accepted_aligned = rw place.same (address_aligned f bs accepted place.at place.inside)

@@ -10,8 +10,8 @@ use Rattle.file_blocks.specs.declared.read.BlockRecord.{BlockRecord}
 use Rattle.file_blocks.specs.declared.read.FoundInstr.{FoundInstr}
 use Rattle.file_blocks.specs.Parse.{instrs_from, blocks_of}
 use Rattle.file_blocks.specs.Read.{read_instr, IsBlock}
-use Rattle.file_blocks.proofs.Accepted.{shift, next_addr_lem, instr-found, few-instrs}
-use Rattle.file_blocks.proofs.IsBlock.{ends, instrs-counted}
+use Rattle.file_blocks.proofs.Accepted.{shift, next_addr_lem, instr_found, few_instrs}
+use Rattle.file_blocks.proofs.IsBlock.{ends, instrs_counted}
 
 -- instruction j of consecutive ones from record k on
 abbrev pub instr_at : List ℕ → ℕ → ℕ → Bool → ℕ → TimedInstr
@@ -57,23 +57,23 @@ addr_below addr count j false h e = omega arith
 -- block i of an accepted file
 module _ {f : List ℕ} {i : ℕ} {b : BlockRecord} {first : ℕ} (is : IsBlock f i b first) where
   -- each instruction of the block is found
-  pub instr-there : (j : ℕ) → j < b.count
+  pub instr_there : (j : ℕ) → j < b.count
       → read_instr f b first j ≡ FoundInstr.At (instr_at f first b.addr b.thumb j)
-  instr-there j h =
+  instr_there j h =
       let place : first + j < 2 ^ 64 =
-      omega (arith, instrs-counted is, few-instrs f (blocks_of f) is.accepted) in
+      omega (arith, instrs_counted is, few_instrs f (blocks_of f) is.accepted) in
       let address : b.addr + size_of b.thumb * j < 2 ^ 32 =
       addr_below b.addr b.count j b.thumb h (ends is) in
       rw (mod-eq_of_lt place, mod-eq_of_lt address)
-      (instr-found f (blocks_of f) is.accepted (first + j) _ b.thumb
-      (omega (arith, instrs-counted is)))
+      (instr_found f (blocks_of f) is.accepted (first + j) _ b.thumb
+      (omega (arith, instrs_counted is)))
 
   -- so what is read is that instruction
   pub read_as : (j : ℕ) (r : FoundInstr) (x : TimedInstr) → j < b.count → r ≡ read_instr f b first j
       → r ≡ FoundInstr.At x → x ≡ instr_at f first b.addr b.thumb j
-  read_as j r x h e g = cc (instr-there j h)
+  read_as j r x h e g = cc (instr_there j h)
 
   -- and something is read
-  pub not-missing : (j : ℕ) (r : FoundInstr) → j < b.count → r ≡ read_instr f b first j
+  pub not_missing : (j : ℕ) (r : FoundInstr) → j < b.count → r ≡ read_instr f b first j
       → r ≡ FoundInstr.Nothing → ⊥
-  not-missing j r h e g = let z : ◌≡◌ {A = ℕ} 0 1 = cc (instr-there j h) in omega arith
+  not_missing j r h e g = let z : ◌≡◌ {A = ℕ} 0 1 = cc (instr_there j h) in omega arith

@@ -12,10 +12,10 @@ use Rattle.file_blocks.proofs.ReadInstrs.{instr_at, drop_instr, drop_all, read_a
 module _ {f : List ℕ} {i : ℕ} {r : BlockRecord} {first : ℕ} (is : IsBlock f i r first) (j : ℕ)
     (inside : j < r.count) where
   -- the instruction that was read, and those after it
-  pub here-read : (q : FoundInstr) (x : TimedInstr) → q ≡ read_instr f r first j
+  pub here_read : (q : FoundInstr) (x : TimedInstr) → q ≡ read_instr f r first j
       → q ≡ FoundInstr.At x
       → drop j (instrs_of f r first) ≡ x ∷ drop (suc j) (instrs_of f r first)
-  here-read q x e g =
+  here_read q x e g =
       drop_instr f r.thumb r.count first r.addr j inside
       ∙ ap (λ (y : TimedInstr). y ∷ drop (suc j) (instrs_of f r first))
       (sym (read_as is j q x inside e g))
@@ -30,10 +30,10 @@ module _ {f : List ℕ} {i : ℕ} {r : BlockRecord} {first : ℕ} (is : IsBlock 
       ∙ ap (λ (n : ℕ). drop n (instrs_of f r first)) (sym all))
 
   -- what another makes with the one after it
-  pub next-read : (x : Instr) (q : FoundInstr) (y : TimedInstr) → (j + 1 ≡ r.count → ⊥)
+  pub next_read : (x : Instr) (q : FoundInstr) (y : TimedInstr) → (j + 1 ≡ r.count → ⊥)
       → q ≡ read_instr f r first (j + 1) → q ≡ FoundInstr.At y
       → next_of x (y ∷ []) ≡ next_of x (drop (suc j) (instrs_of f r first))
-  next-read x q y more e g =
+  next_read x q y more e g =
       let below : suc j < r.count = omega arith in
       let same : y ≡ instr_at f first r.addr r.thumb (suc j) =
       read_as is (suc j) q y below (e ∙ ap (read_instr f r first) (add-one j)) g in

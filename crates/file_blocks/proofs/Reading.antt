@@ -18,33 +18,33 @@ module _ (f : List ℕ) (i start : ℕ) where
   unfolding found_block
   no_block h = simp (le-ltb _ _ h)
 
-  pub no-instr : (addr : ℕ) (thumb : Bool) → instr_count f ≤ i
+  pub no_instr : (addr : ℕ) (thumb : Bool) → instr_count f ≤ i
       → FoundInstr.Nothing ≡ found_instr f i addr thumb
   unfolding found_instr
-  no-instr addr thumb h = simp (le-ltb _ _ h)
+  no_instr addr thumb h = simp (le-ltb _ _ h)
 
-  pub block-past : start ≡ length f - blocks_back f → length f < start + 16 * i + 16
+  pub block_past : start ≡ length f - blocks_back f → length f < start + 16 * i + 16
       → FoundBlock.Nothing ≡ found_block f i
   unfolding found_block
-  block-past e h = rw (← e, lt-leb _ _ h, and-false)
+  block_past e h = rw (← e, lt-leb _ _ h, and-false)
 
-  pub instr-past : (addr : ℕ) (thumb : Bool) → start ≡ length f - instrs_back f
+  pub instr_past : (addr : ℕ) (thumb : Bool) → start ≡ length f - instrs_back f
       → length f < start + 16 * i + 16
       → FoundInstr.Nothing ≡ found_instr f i addr thumb
   unfolding found_instr
-  instr-past addr thumb e h = rw (← e, lt-leb _ _ h, and-false)
+  instr_past addr thumb e h = rw (← e, lt-leb _ _ h, and-false)
 
-  pub block-there : i < block_count f → start ≡ length f - blocks_back f
+  pub block_there : i < block_count f → start ≡ length f - blocks_back f
       → start + 16 * i + 16 ≤ length f
       → FoundBlock.At (record_at f (start + 16 * i)) ≡ found_block f i
   unfolding found_block
-  block-there b e h = rw (lt-ltb _ _ b, ← e, le-leb _ _ h)
+  block_there b e h = rw (lt-ltb _ _ b, ← e, le-leb _ _ h)
 
-  pub instr-there : (addr : ℕ) (thumb : Bool) → i < instr_count f → start ≡ length f - instrs_back f
+  pub instr_there : (addr : ℕ) (thumb : Bool) → i < instr_count f → start ≡ length f - instrs_back f
       → start + 16 * i + 16 ≤ length f
       → FoundInstr.At (timed_at f (start + 16 * i) addr thumb) ≡ found_instr f i addr thumb
   unfolding found_instr
-  instr-there addr thumb b e h = rw (lt-ltb _ _ b, ← e, le-leb _ _ h)
+  instr_there addr thumb b e h = rw (lt-ltb _ _ b, ← e, le-leb _ _ h)
 
 -- the code bytes of a record, whose length the code computed
 module _ (f : List ℕ) (b : BlockRecord) (n : ℕ) (long : n ≡ length_of b.count b.thumb) where
@@ -52,13 +52,13 @@ module _ (f : List ℕ) (b : BlockRecord) (n : ℕ) (long : n ≡ length_of b.co
   unfolding code_bytes
   no_code e = rw e
 
-  pub code-past : b.present ≡ true → length f < b.offset + n → [] ≡ code_bytes f b
+  pub code_past : b.present ≡ true → length f < b.offset + n → [] ≡ code_bytes f b
   unfolding code_bytes
-  code-past e h = rw (e, ← long, lt-leb _ _ h)
+  code_past e h = rw (e, ← long, lt-leb _ _ h)
 
-  pub code-there : b.present ≡ true → b.offset + n ≤ length f
+  pub code_there : b.present ≡ true → b.offset + n ≤ length f
       → take (b.offset + n - b.offset) (drop b.offset f) ≡ code_bytes f b
   unfolding code_bytes
-  code-there e h =
+  code_there e h =
       rw (e, ← long, le-leb _ _ h)
       (ap (λ (k : ℕ). take k (drop b.offset f)) (add-sub_cancel_left b.offset n))

@@ -109,35 +109,35 @@ found_none none e = refl
 found_none (some r) e = absurd (let z : ◌≡◌ {A = ℕ} 0 1 = cc in omega arith)
 
 module _ (f : List ℕ) where
-  last-pass : (ys : List Rule)
+  last_pass : (ys : List Rule)
       → or_else (found (first_broken f ys)) (checked (parsed f none))
       ≡ checked (parsed f (first_broken f ys))
-  last-pass ys = rw append_nil at (passes f ys [])
+  last_pass ys = rw append_nil at (passes f ys [])
 
   pub too_short : length f < 32 → Checked.Refused 1 0 ≡ checked (parse f)
   unfolding parse checked
   too_short h = simp (lt-leb _ _ h)
 
   module _ (long : 32 ≤ length f) where
-    pub over-limits : within_limits f ≡ false → Checked.Refused 2 0 ≡ checked (parse f)
+    pub over_limits : within_limits f ≡ false → Checked.Refused 2 0 ≡ checked (parse f)
     unfolding parse checked
-    over-limits e = simp (le-leb _ _ long, e)
+    over_limits e = simp (le-leb _ _ long, e)
 
-    pub wrong-trailer : within_limits f ≡ true → trailer_right f ≡ false
+    pub wrong_trailer : within_limits f ≡ true → trailer_right f ≡ false
         → Checked.Refused 3 0 ≡ checked (parse f)
     unfolding parse checked
-    wrong-trailer e h = simp (le-leb _ _ long, e, h)
+    wrong_trailer e h = simp (le-leb _ _ long, e, h)
 
     -- with a right trailer, the pass over the blocks decides, and then the one over the
     -- instructions
-    in-passes : within_limits f ≡ true → trailer_right f ≡ true
+    in_passes : within_limits f ≡ true → trailer_right f ≡ true
         → or_else (found (first_broken f (block_rules (block_count f) 0 ++ (Rule.sum ∷ []))))
         (or_else (found (first_broken f (instr_rules (instr_count f) 0))) (checked (parsed f none)))
         ≡ checked (parse f)
     unfolding parse
-    in-passes e h =
+    in_passes e h =
         ap (or_else (found (first_broken f (block_rules (block_count f) 0 ++ (Rule.sum ∷ [])))))
-        (last-pass (instr_rules (instr_count f) 0))
+        (last_pass (instr_rules (instr_count f) 0))
         ∙ passes f (block_rules (block_count f) 0 ++ (Rule.sum ∷ [])) (instr_rules (instr_count f) 0)
         ∙ ap (λ (l : List Rule). checked (parsed f (first_broken f l)))
         (append_assoc (block_rules (block_count f) 0) (Rule.sum ∷ []) (instr_rules (instr_count f) 0))
@@ -163,16 +163,16 @@ module _ (f : List ℕ) where
   module _ (long : 32 ≤ length f) (few : within_limits f ≡ true) (right : trailer_right f ≡ true)
       (r : Found)
       (blocks : r ≡ found (first_broken f (block_rules (block_count f) 0 ++ (Rule.sum ∷ [])))) where
-    pub blocks-refused : (n i : ℕ) → r ≡ Found.Broken n i → Checked.Refused n i ≡ checked (parse f)
-    blocks-refused n i e = rw (← blocks, e) at (in-passes long few right)
+    pub blocks_refused : (n i : ℕ) → r ≡ Found.Broken n i → Checked.Refused n i ≡ checked (parse f)
+    blocks_refused n i e = rw (← blocks, e) at (in_passes long few right)
 
     module _ (e : r ≡ Found.Nothing) (q : Found)
         (instrs : q ≡ found (first_broken f (instr_rules (instr_count f) 0))) where
-      pub instrs-refused : (n i : ℕ) → q ≡ Found.Broken n i
+      pub instrs_refused : (n i : ℕ) → q ≡ Found.Broken n i
           → Checked.Refused n i ≡ checked (parse f)
-      instrs-refused n i g = rw (← blocks, e, ← instrs, g) at (in-passes long few right)
+      instrs_refused n i g = rw (← blocks, e, ← instrs, g) at (in_passes long few right)
 
-      pub all-kept : q ≡ Found.Nothing
+      pub all_kept : q ≡ Found.Nothing
           → Checked.Accepted (block_count f) (instr_count f) ≡ checked (parse f)
-      all-kept g =
-          counts (sym e ∙ blocks) ∙ (rw (← blocks, e, ← instrs, g) at (in-passes long few right))
+      all_kept g =
+          counts (sym e ∙ blocks) ∙ (rw (← blocks, e, ← instrs, g) at (in_passes long few right))

@@ -12,9 +12,9 @@ use Rattle.base_lists.proofs.Places.{map_at}
 use Rattle.file_records.specs.Trailer.{block_count, block_start}
 use Rattle.file_records.specs.BlockRecord.{key_at, count_at, addr_at, thumb_at, length_at, block_right}
 use Rattle.file_records.proofs.Sections.{sections}
-use Rattle.file_records.proofs.Rules.{no-count, end-past}
+use Rattle.file_records.proofs.Rules.{no_count, end_past}
 use Rattle.file_blocks.specs.Parse.{block_key, block_at, blocks_of, Accepted}
-use Rattle.file_blocks.proofs.Accepted.{trailer-right, few-blocks, block-right}
+use Rattle.file_blocks.proofs.Accepted.{trailer_right_lem, few_blocks, block_right_lem}
 use Rattle.file_blocks.proofs.IsBlock.{nth_block}
 use Rattle.file_blocks.proofs.Nowhere.{nowhere}
 use Rattle.file_blocks.proofs.Whole.{length_blocks}
@@ -41,30 +41,30 @@ key_past f i h = get_or-eq_default (block_keys f) 0 (omega (arith, length_keys f
 
 -- a key fits 32 bits: a block has an instruction, and it ends inside the address space
 module _ (f : List ℕ) (at : ℕ) (right : block_right f at ≡ true) where
-  some-instr : 1 ≤ count_at f at
-  some-instr =
-      let never : count_at f at < 1 → ⊥ = λ h. true≢false (sym right ∙ sym (no-count f at h)) in
+  some_instr : 1 ≤ count_at f at
+  some_instr =
+      let never : count_at f at < 1 → ⊥ = λ h. true≢false (sym right ∙ sym (no_count f at h)) in
       omega arith
 
   ends : addr_at f at + length_at f at ≤ 2 ^ 32
   ends =
       let never : 2 ^ 32 < addr_at f at + length_at f at → ⊥ =
-      λ h. true≢false (sym right ∙ sym (end-past f at h)) in
+      λ h. true≢false (sym right ∙ sym (end_past f at h)) in
       omega arith
 
   small_at : (thumb : Bool) → addr_at f at + count_at f at * size_of thumb ≤ 2 ^ 32
       → addr_at f at + cond thumb 1 0 < 2 ^ 32
-  small_at true h = omega (arith, some-instr)
-  small_at false h = omega (arith, some-instr)
+  small_at true h = omega (arith, some_instr)
+  small_at false h = omega (arith, some_instr)
 
-  pub small-key : key_at f at < 2 ^ 32
-  small-key = small_at (thumb_at f at) ends
+  pub small_key : key_at f at < 2 ^ 32
+  small_key = small_at (thumb_at f at) ends
 
 -- so do all keys of such a file
 pub small_keys : (f : List ℕ) → RightBlocks f → (i : ℕ) → get_or (block_keys f) i 0 < 2 ^ 32
 small_keys f right i =
     elim (dec_lt i (block_count f)) [
-      | yes h ↦ rw (key_at_lem f i h) (small-key f (block_start f i) (right.blocks i h))
+      | yes h ↦ rw (key_at_lem f i h) (small_key f (block_start f i) (right.blocks i h))
       | no g ↦ rw (key_past f i (omega arith)) (omega arith)
     ]
 
@@ -72,9 +72,9 @@ small_keys f right i =
 pub right_blocks : (f : List ℕ) → Accepted f → RightBlocks f
 right_blocks f ok =
     record {
-      trailer = trailer-right f (blocks_of f) ok;
-      few = few-blocks f (blocks_of f) ok;
-      blocks = block-right f (blocks_of f) ok;
+      trailer = trailer_right_lem f (blocks_of f) ok;
+      few = few_blocks f (blocks_of f) ok;
+      blocks = block_right_lem f (blocks_of f) ok;
     }
 
 -- records lie inside the file

@@ -12,7 +12,7 @@ use Rattle.base_text.specs.Wrote.{Wrote}
 use Rattle.base_text.proofs.Laws.{whole}
 use Rattle.base_text.proofs.Lengths.{length_most}
 use Rattle.file_blocks.specs.Parse.{Block, Parsed, parse}
-use Rattle.file_blocks.proofs.Accepted.{length-of, sections-of}
+use Rattle.file_blocks.proofs.Accepted.{length_of_lem, sections_of}
 use Rattle.plan_groups.specs.Limit.{part_limit}
 use Rattle.call_frame.specs.Answer.{refusal, value}
 use Rattle.call_frame.specs.Frame.{Outcome, cleared, call_on_blocks, call_frame}
@@ -63,13 +63,13 @@ line_shown {out₁} {out₂} {r} {d} w h =
 module _ (f : List ℕ) (short : length f ≤ longest) where
   few : (bs : List Block) → parse f ≡ Parsed.accepted bs → 16 * length bs ≤ 65504
   few bs is =
-      omega (arith, length-of f bs is, (sections-of f bs is).touch, (sections-of f bs is).instrs)
+      omega (arith, length_of_lem f bs is, (sections_of f bs is).touch, (sections_of f bs is).instrs)
 
-  call-is : (work out : List ℕ) → 16384 ≤ length work → room ≤ length out → (p : Parsed)
+  call_is : (work out : List ℕ) → 16384 ≤ length work → room ≤ length out → (p : Parsed)
       → parse f ≡ p → listing_call part_limit p work out ≡ listed p work out
   unfolding call_frame call_on_blocks
-  call-is work out numbers bytes (Parsed.refused n i) is = refl
-  call-is work out numbers bytes (Parsed.accepted bs) is =
+  call_is work out numbers bytes (Parsed.refused n i) is = refl
+  call_is work out numbers bytes (Parsed.accepted bs) is =
       rw (
         le-ltb (length work) (4 * length bs) (omega (arith, few bs is)),
         le-ltb (length out) (length (print (listing part_limit bs)))
@@ -80,75 +80,75 @@ module _ (f : List ℕ) (short : length f ≤ longest) where
       → listing_call part_limit p lent_work lent_text ≡ listed p lent_work lent_text
   unfolding lent_work lent_text
   lent_is p is =
-      call-is lent_work lent_text (omega (arith, length-replicate {A = ℕ} 16384 0))
+      call_is lent_work lent_text (omega (arith, length-replicate {A = ℕ} 16384 0))
       (omega (arith, length-replicate {A = ℕ} room 0)) p is
 
   -- what is printed, by the file: the listing whole, or the line of the file's refusal
-  output-is : (p : Parsed) → parse f ≡ p → output f ≡ printed p
+  output_is : (p : Parsed) → parse f ≡ p → output f ≡ printed p
   unfolding output shown
-  output-is (Parsed.refused n i) is = rw (le-ltb longest (length f) short, is)
+  output_is (Parsed.refused n i) is = rw (le-ltb longest (length f) short, is)
       (ap shown (lent_is (Parsed.refused n i) is))
-  output-is (Parsed.accepted bs) is = rw (le-ltb longest (length f) short, is)
+  output_is (Parsed.accepted bs) is = rw (le-ltb longest (length f) short, is)
       (ap shown (lent_is (Parsed.accepted bs) is)
       ∙ take_at (print (listing part_limit bs)) _ _ refl)
 
-  pub listing-printed : (bs : List Block) → parse f ≡ Parsed.accepted bs
+  pub listing_printed : (bs : List Block) → parse f ≡ Parsed.accepted bs
       → output f ≡ print (listing part_limit bs)
-  listing-printed bs is = output-is (Parsed.accepted bs) is
+  listing_printed bs is = output_is (Parsed.accepted bs) is
 
-  pub refusal-printed : (n i : ℕ) → parse f ≡ Parsed.refused n i
+  pub refusal_printed : (n i : ℕ) → parse f ≡ Parsed.refused n i
       → output f ≡ print (refusal_line n i)
-  refusal-printed n i is = output-is (Parsed.refused n i) is
+  refusal_printed n i is = output_is (Parsed.refused n i) is
 
   -- what the code has in the front of its buffer, by what the call left
   module _ (work out : List ℕ) (numbers : 16384 ≤ length work) (bytes : room ≤ length out) where
-    by-listing : (p : Parsed) → parse f ≡ p → (n : ℕ) (work' out' : List ℕ)
+    by_listing : (p : Parsed) → parse f ≡ p → (n : ℕ) (work' out' : List ℕ)
         → record { answer = value n; work = work'; results = out' ∷ [] }
         ≡ listing_call part_limit p work out
         → (n ≤ length out') × (take n out' ≡ printed p)
-    by-listing (Parsed.refused m j) is n work' out' e =
+    by_listing (Parsed.refused m j) is n work' out' e =
         let same : value n ≡ refusal m j =
         ap (λ (l : Outcome ℕ). l.answer)
-        (e ∙ call-is work out numbers bytes (Parsed.refused m j) is) in
+        (e ∙ call_is work out numbers bytes (Parsed.refused m j) is) in
         absurd (let z : ◌≡◌ {A = ℕ} 0 1 = cc in omega arith)
-    by-listing (Parsed.accepted bs) is n work' out' e =
-        let left = e ∙ call-is work out numbers bytes (Parsed.accepted bs) is in
+    by_listing (Parsed.accepted bs) is n work' out' e =
+        let left = e ∙ call_is work out numbers bytes (Parsed.accepted bs) is in
         let same : value n ≡ value (length (print (listing part_limit bs))) =
         ap (λ (l : Outcome ℕ). l.answer) left in
         let size : n ≡ length (print (listing part_limit bs)) = cc in
         front (print (listing part_limit bs)) (drop (length (print (listing part_limit bs))) out) n
         out' size (ap (λ (l : Outcome ℕ). the_text l.results) left)
 
-    line-fits : (n i : ℕ) → length (print (refusal_line n i)) ≤ 53
-    line-fits n i = length_most (refusal_line n i)
+    line_fits : (n i : ℕ) → length (print (refusal_line n i)) ≤ 53
+    line_fits n i = length_most (refusal_line n i)
 
-    by-line : (p : Parsed) → parse f ≡ p → (n i : ℕ) (work' out₁ out₂ : List ℕ) (r : ℕ)
+    by_line : (p : Parsed) → parse f ≡ p → (n i : ℕ) (work' out₁ out₂ : List ℕ) (r : ℕ)
         → record { answer = refusal n i; work = work'; results = out₁ ∷ [] }
         ≡ listing_call part_limit p work out
         → Wrote out₁ 0 (refusal_line n i) out₂ r
         → (r ≤ length out₂) × (take r out₂ ≡ printed p)
-    by-line (Parsed.refused m j) is n i work' out₁ out₂ r e w =
-        let left = e ∙ call-is work out numbers bytes (Parsed.refused m j) is in
+    by_line (Parsed.refused m j) is n i work' out₁ out₂ r e w =
+        let left = e ∙ call_is work out numbers bytes (Parsed.refused m j) is in
         let same : refusal n i ≡ refusal m j = ap (λ (l : Outcome ℕ). l.answer) left in
         let number : n ≡ m = cc in
         let place : i ≡ j = cc in
         let long : length out₁ ≡ length out =
         ap (λ (l : Outcome ℕ). length (the_text l.results)) left in
-        let there = line_shown w (omega (arith, line-fits n i, long)) in
+        let there = line_shown w (omega (arith, line_fits n i, long)) in
         (there.0, there.1 ∙ ap₂ (λ (a b : ℕ). print (refusal_line a b)) number place)
-    by-line (Parsed.accepted bs) is n i work' out₁ out₂ r e w =
+    by_line (Parsed.accepted bs) is n i work' out₁ out₂ r e w =
         let same : refusal n i ≡ value (length (print (listing part_limit bs))) =
         ap (λ (l : Outcome ℕ). l.answer)
-        (e ∙ call-is work out numbers bytes (Parsed.accepted bs) is) in
+        (e ∙ call_is work out numbers bytes (Parsed.accepted bs) is) in
         absurd (let z : ◌≡◌ {A = ℕ} 0 1 = cc in omega arith)
 
-    pub listing-shown : (n : ℕ) (work' out' : List ℕ)
+    pub listing_shown : (n : ℕ) (work' out' : List ℕ)
         → record { answer = value n; work = work'; results = out' ∷ [] }
         ≡ listing_call part_limit (parse f) work out
         → (n ≤ length out') × (take n out' ≡ output f)
-    listing-shown n work' out' e =
-        let there = by-listing (parse f) refl n work' out' e in
-        (there.0, there.1 ∙ sym (output-is (parse f) refl))
+    listing_shown n work' out' e =
+        let there = by_listing (parse f) refl n work' out' e in
+        (there.0, there.1 ∙ sym (output_is (parse f) refl))
 
     pub refusal_shown : (n i : ℕ) (work' out₁ out₂ : List ℕ) (r : ℕ)
         → record { answer = refusal n i; work = work'; results = out₁ ∷ [] }
@@ -156,8 +156,8 @@ module _ (f : List ℕ) (short : length f ≤ longest) where
         → Wrote out₁ 0 (refusal_line n i) out₂ r
         → (r ≤ length out₂) × (take r out₂ ≡ output f)
     refusal_shown n i work' out₁ out₂ r e w =
-        let there = by-line (parse f) refl n i work' out₁ out₂ r e w in
-        (there.0, there.1 ∙ sym (output-is (parse f) refl))
+        let there = by_line (parse f) refl n i work' out₁ out₂ r e w in
+        (there.0, there.1 ∙ sym (output_is (parse f) refl))
 
 -- what is printed for a file that is too long
 pub long_shown : (f : List ℕ) {out out₂ : List ℕ} {r : ℕ} → room ≤ length out → longest < length f

@@ -39,7 +39,7 @@ unfoldable pub lent_text : List ℕ
 lent_text = replicate room 0
 
 -- what is printed for a file, of which no more than one byte past the longest need be known. For
--- every other file the buffers suffice (`listing-printed`, `refusal-printed` in proofs/Room.antt)
+-- every other file the buffers suffice (`listing_printed`, `refusal_printed` in proofs/Room.antt)
 unfoldable pub output : List ℕ → List ℕ
 output f =
     cond (ltb longest (length f)) (print (text "too long\n"))

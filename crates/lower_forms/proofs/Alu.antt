@@ -27,12 +27,12 @@ use Rattle.armv4t_manual.specs.DataProcessing.{add_with_carry, sub_with_borrow, 
 use Rattle.armv4t_manual.specs.DataProcessing as D
 use Rattle.lower_forms.specs.Agree.{Agrees}
 use Rattle.lower_forms.specs.Means.{Makes}
-use Rattle.lower_forms.proofs.Gives.{Reads, to, r-udec, r-par, r-not, r_and, r-or, r-xor}
-use Rattle.lower_forms.proofs.Gives.{r-add, r-var}
-use Rattle.lower_forms.proofs.Flags.{nz-ok, c-ok, adds-ok}
+use Rattle.lower_forms.proofs.Gives.{Reads, to, r_udec, r_par, r_not, r_and, r_or, r_xor}
+use Rattle.lower_forms.proofs.Gives.{r_add, r_var}
+use Rattle.lower_forms.proofs.Flags.{nz_ok, c_ok, adds_ok}
 use Rattle.lower_forms.proofs.Operands.{Regs, CarryIs, carry_reads, one_lt}
 use Rattle.lower_forms.proofs.Steps.{step, stop, opened, given, within, do_declare, do_adds}
-use Rattle.lower_forms.proofs.Steps.{do-nz, do-c, do-reg, with-scopes, with-reg, with-flags}
+use Rattle.lower_forms.proofs.Steps.{do_nz, do_c, do_reg, with_scopes, with_reg, with_flags}
 
 flag_back : (b : Bool) → not (eqb (one_if b) 0) ≡ b
 flag_back true = refl
@@ -45,8 +45,8 @@ last : {z : State} {m : Machine} {x : ℕ} (b : Bool) (rd : ℕ) → rd < 15 →
 unfolding exec
 last true rd h l a q = step (rw q) (stop a)
 last {x = x} false rd h l a q =
-    step (do-reg (r-var (u32, x-r) refl (ap (cell_value u32) q) l) rd (omega (arith, h)))
-    (stop (with-reg a rd x h))
+    step (do_reg (r_var (u32, x-r) refl (ap (cell_value u32) q) l) rd (omega (arith, h)))
+    (stop (with_reg a rd x h))
 
 -- an expression without locals: it gives x in each state that agrees with m
 abbrev pub Always : Expr → Machine → ℕ → Type 0
@@ -65,35 +65,35 @@ module _ {z : State} {m : Machine} (s : Sound m) (a : Agrees z m) (rd : ℕ) (h 
         cond w (set_flags (bit x 31) (eqb x 0) new m.v m) m in cond b m1 (M.set_reg rd x m1))
     unfolding tail
     logical-ok false e co x new p k =
-        let q = p (within (opened x-r empty) z.scopes z) (with-scopes a _) in
+        let q = p (within (opened x-r empty) z.scopes z) (with_scopes a _) in
         step (do_declare x-r empty z.scopes z refl q)
-        (last b rd h q.small (with-scopes a _) refl)
+        (last b rd h q.small (with_scopes a _) refl)
     logical-ok true e none x new p k =
-        let q = p (within (opened x-r empty) z.scopes z) (with-scopes a _) in
+        let q = p (within (opened x-r empty) z.scopes z) (with_scopes a _) in
         let z1 : State = within (given x-r x empty) z.scopes z in
-        let a1 : Agrees z1 m = with-scopes a _ in
+        let a1 : Agrees z1 m = with_scopes a _ in
         step (do_declare x-r empty z.scopes z refl q)
-        (step (do-nz (r-var (u32, x-r) refl refl q.small)
-        (nz-ok m.other_bits s.other_bits m.n m.z m.c m.v x z1 a.flags))
+        (step (do_nz (r_var (u32, x-r) refl refl q.small)
+        (nz_ok m.other_bits s.other_bits m.n m.z m.c m.v x z1 a.flags))
         (rw (k z a.regs)
-        (last b rd h q.small (with-flags a1 (bit x 31) (eqb x 0) m.c m.v) refl)))
+        (last b rd h q.small (with_flags a1 (bit x 31) (eqb x 0) m.c m.v) refl)))
     logical-ok true e (some f) x new p k =
-        let q = p (within (opened x-r empty) z.scopes z) (with-scopes a _) in
+        let q = p (within (opened x-r empty) z.scopes z) (with_scopes a _) in
         let z1 : State = within (given x-r x empty) z.scopes z in
-        let a1 : Agrees z1 m = with-scopes a _ in
-        let a2 = with-flags a1 (bit x 31) (eqb x 0) m.c m.v in
+        let a1 : Agrees z1 m = with_scopes a _ in
+        let a2 = with_flags a1 (bit x 31) (eqb x 0) m.c m.v in
         let z2 : State = set_c 16 (pack (bit x 31) (eqb x 0) m.c m.v m.other_bits) z1 in
         step (do_declare x-r empty z.scopes z refl q)
-        (step (do-nz (r-var (u32, x-r) refl refl q.small)
-        (nz-ok m.other_bits s.other_bits m.n m.z m.c m.v x z1 a.flags))
+        (step (do_nz (r_var (u32, x-r) refl refl q.small)
+        (nz_ok m.other_bits s.other_bits m.n m.z m.c m.v x z1 a.flags))
         (step
-        (do-c (k z2 a2.regs)
+        (do_c (k z2 a2.regs)
         (subst (λ c. called (proc f-c) (one_if new ∷ []) z2
         ≡ some (set_c 16 (pack (bit x 31) (eqb x 0) c m.v m.other_bits) z2, on))
         (flag_back new)
-        (c-ok m.other_bits s.other_bits (bit x 31) (eqb x 0) m.c m.v (one_if new) z2
+        (c_ok m.other_bits s.other_bits (bit x 31) (eqb x 0) m.c m.v (one_if new) z2
         refl)))
-        (last b rd h q.small (with-flags a2 (bit x 31) (eqb x 0) new m.v) refl)))
+        (last b rd h q.small (with_flags a2 (bit x 31) (eqb x 0) new m.v) refl)))
 
     -- uint32_t r = op_adds(c, d, e, f); and the last
     sum-ok : (w : Bool) (d e f : Expr) (x y i : ℕ) → Always d m x → Always e m y → Always f m i
@@ -106,21 +106,21 @@ module _ {z : State} {m : Machine} (s : Sound m) (a : Agrees z m) (rd : ℕ) (h 
     unfolding tail
     sum-ok false d e f x y i p q t l =
         let u : State = within (opened x-r empty) z.scopes z in
-        let au : Agrees u m = with-scopes a _ in
+        let au : Agrees u m = with_scopes a _ in
         step (do_declare x-r empty z.scopes z refl
-        (to (mod-add-mod (x + y) 4294967296 i) (r-add (r-add (p u au) (q u au)) (t u au))))
-        (last b rd h (mod-lt (x + y + i) (lit< tt)) (with-scopes a _) refl)
+        (to (mod-add-mod (x + y) 4294967296 i) (r_add (r_add (p u au) (q u au)) (t u au))))
+        (last b rd h (mod-lt (x + y + i) (lit< tt)) (with_scopes a _) refl)
     sum-ok true d e f x y i p q t l =
         let u : State = within (opened x-r empty) z.scopes z in
-        let au : Agrees u m = with-scopes a _ in
+        let au : Agrees u m = with_scopes a _ in
         let r : ℕ = (x + y + i) % 4294967296 in
         step
         (do_adds x-r empty z.scopes z _ refl (p u au) (q u au) (t u au)
-        (adds-ok m.other_bits s.other_bits m.n m.z m.c m.v x y i u (p u au).small
+        (adds_ok m.other_bits s.other_bits m.n m.z m.c m.v x y i u (p u au).small
         (q u au).small l a.flags))
         (last b rd h (mod-lt (x + y + i) (lit< tt))
-        (with-scopes
-        (with-flags a (bit r 31) (eqb r 0) (CarryFrom (x + y + i)) (OverflowFromAdd x y r)) _)
+        (with_scopes
+        (with_flags a (bit r 31) (eqb r 0) (CarryFrom (x + y + i)) (OverflowFromAdd x y r)) _)
         refl)
 
 -- the complement of a word has the other sign
@@ -146,11 +146,11 @@ over_sub false true s = refl
 over_sub false false s = refl
 
 module _ (x y i : ℕ) (hx : x < 4294967296) (hy : y < 4294967296) (hi : i < 2) where
-  sub-value : (x + (4294967295 - y) + (1 - i)) % 4294967296 ≡ minus x y i
-  sub-value = omega arith
+  sub_value : (x + (4294967295 - y) + (1 - i)) % 4294967296 ≡ minus x y i
+  sub_value = omega arith
 
-  sub-carry : CarryFrom (x + (4294967295 - y) + (1 - i)) ≡ not (BorrowFrom x y i)
-  sub-carry =
+  sub_carry : CarryFrom (x + (4294967295 - y) + (1 - i)) ≡ not (BorrowFrom x y i)
+  sub_carry =
       bool_ext (leb 4294967296 (x + (4294967295 - y) + (1 - i))) (not (ltb x (y + i)))
       (λ p. not_T (ltb x (y + i)) λ q. one (leb→le 4294967296 (x + (4294967295 - y) + (1 - i)) p)
       (ltb→lt x (y + i) q))
@@ -163,12 +163,12 @@ module _ (x y i : ℕ) (hx : x < 4294967296) (hy : y < 4294967296) (hi : i < 2) 
       two p = omega arith
 
   -- x - y - i is x + ~y + (1 - i)
-  sub-plus : add_with_carry x (NOT y) (1 - i) ≡ sub_with_borrow x y i
-  sub-plus =
+  sub_plus : add_with_carry x (NOT y) (1 - i) ≡ sub_with_borrow x y i
+  sub_plus =
       λ j. (
-        sub-value j,
-        sub-carry j,
-        (ap (λ s. OverflowFromAdd x (NOT y) s) sub-value
+        sub_value j,
+        sub_carry j,
+        (ap (λ s. OverflowFromAdd x (NOT y) s) sub_value
             ∙ ap (λ b. beq (bit x 31) b && not (beq (bit x 31) (bit (minus x y i) 31)))
             (not_bit y hy) ∙ over_sub (bit x 31) (bit y 31) (bit (minus x y i) 31)) j,
       )
@@ -179,7 +179,7 @@ turned false = refl
 
 module _ {z : State} {m : Machine} (s : Sound m) (a : Agrees z m) (rd : ℕ) (h : rd < 15) where
   -- x - y - i, with the carry's expression for 1 - i
-  less-ok : (b w : Bool) (d e f : Expr) (x y i : ℕ) → Always d m x → Always e m y
+  less_ok : (b w : Bool) (d e f : Expr) (x y i : ℕ) → Always d m x → Always e m y
       → Always f m (1 - i) → i < 2
       → Makes (cond w (adds x-r d (un compl e) f) (let32 x-r (bin add (bin add d (un compl e)) f))
       ∷ cond b (discard (u32, x-r)) (set_reg rd (v32 x-r)) ∷ [])
@@ -188,57 +188,57 @@ module _ {z : State} {m : Machine} (s : Sound m) (a : Agrees z m) (rd : ℕ) (h 
       let m1 = cond w (set_flags (bit q.0 31) (eqb q.0 0) q.1 q.2 m) m in
       cond b m1 (M.set_reg rd q.0 m1))
   unfolding tail
-  less-ok b w d e f x y i p q t l =
+  less_ok b w d e f x y i p q t l =
       subst (λ (q : ℕ × Bool × Bool). Makes
       (cond w (adds x-r d (un compl e) f) (let32 x-r (bin add (bin add d (un compl e)) f))
       ∷ cond b (discard (u32, x-r)) (set_reg rd (v32 x-r)) ∷ []) (enter z)
       (let m1 = cond w (set_flags (bit q.0 31) (eqb q.0 0) q.1 q.2 m) m in
       cond b m1 (M.set_reg rd q.0 m1)))
-      (sub-plus x y i (p z a).small (q z a).small l)
-      (sum-ok s a rd h b w d (un compl e) f x (NOT y) (1 - i) p (λ u g. r-not (q u g)) t
+      (sub_plus x y i (p z a).small (q z a).small l)
+      (sum-ok s a rd h b w d (un compl e) f x (NOT y) (1 - i) p (λ u g. r_not (q u g)) t
       (omega arith))
 
   cin : Always carry_in m (one_if m.c)
   cin u g = carry_reads u m.n m.z m.c m.v m.other_bits s.other_bits g.flags
 
-  cin-turned : Always carry_in m (1 - one_if (not m.c))
-  cin-turned u g = to (sym (turned m.c)) (cin u g)
+  cin_turned : Always carry_in m (1 - one_if (not m.c))
+  cin_turned u g = to (sym (turned m.c)) (cin u g)
 
   const : (k : ℕ) → k < 4294967296 → Always (lit udec k) m k
-  const k l u g = r-udec l
+  const k l u g = r_udec l
 
   -- every operation, on operands without locals
-  pub alu-ok : (o : AluOp) (w : Bool) (d e : Expr) (co : Option Expr) (x y : ℕ) (new : Bool)
+  pub alu_ok : (o : AluOp) (w : Bool) (d e : Expr) (co : Option Expr) (x y : ℕ) (new : Bool)
       → Always d m x → Always e m y
       → ((u : State) → Regs u m → CarryIs co u m.c new)
       → Makes (alu o w rd d e co) (enter z) (settle o w rd (D.alu o x y new m.c m.v) m)
   unfolding tail
-  alu-ok And w d e co x y new p q k =
-      logical-ok s a rd h false w _ co (AND x y) new (λ u g. r-par (r_and (p u g) (q u g))) k
-  alu-ok Eor w d e co x y new p q k =
-      logical-ok s a rd h false w _ co (EOR x y) new (λ u g. r-par (r-xor (p u g) (q u g))) k
-  alu-ok Sub w d e co x y new p q k = less-ok false w d e _ x y 0 p q (const 1 (lit< tt)) (lit< tt)
-  alu-ok Rsb w d e co x y new p q k = less-ok false w e d _ y x 0 q p (const 1 (lit< tt)) (lit< tt)
-  alu-ok Add w d e co x y new p q k =
+  alu_ok And w d e co x y new p q k =
+      logical-ok s a rd h false w _ co (AND x y) new (λ u g. r_par (r_and (p u g) (q u g))) k
+  alu_ok Eor w d e co x y new p q k =
+      logical-ok s a rd h false w _ co (EOR x y) new (λ u g. r_par (r_xor (p u g) (q u g))) k
+  alu_ok Sub w d e co x y new p q k = less_ok false w d e _ x y 0 p q (const 1 (lit< tt)) (lit< tt)
+  alu_ok Rsb w d e co x y new p q k = less_ok false w e d _ y x 0 q p (const 1 (lit< tt)) (lit< tt)
+  alu_ok Add w d e co x y new p q k =
       sum-ok s a rd h false w d e _ x y 0 p q (const 0 (lit< tt)) (lit< tt)
-  alu-ok Adc w d e co x y new p q k =
+  alu_ok Adc w d e co x y new p q k =
       sum-ok s a rd h false w d e _ x y (one_if m.c) p q cin (one_lt m.c)
-  alu-ok Sbc w d e co x y new p q k =
-      less-ok false w d e _ x y (one_if (not m.c)) p q cin-turned (one_lt (not m.c))
-  alu-ok Rsc w d e co x y new p q k =
-      less-ok false w e d _ y x (one_if (not m.c)) q p cin-turned (one_lt (not m.c))
-  alu-ok Tst w d e co x y new p q k =
-      logical-ok s a rd h true w _ co (AND x y) new (λ u g. r-par (r_and (p u g) (q u g))) k
-  alu-ok Teq w d e co x y new p q k =
-      logical-ok s a rd h true w _ co (EOR x y) new (λ u g. r-par (r-xor (p u g) (q u g))) k
-  alu-ok Cmp w d e co x y new p q k = less-ok true w d e _ x y 0 p q (const 1 (lit< tt)) (lit< tt)
-  alu-ok Cmn w d e co x y new p q k =
+  alu_ok Sbc w d e co x y new p q k =
+      less_ok false w d e _ x y (one_if (not m.c)) p q cin_turned (one_lt (not m.c))
+  alu_ok Rsc w d e co x y new p q k =
+      less_ok false w e d _ y x (one_if (not m.c)) q p cin_turned (one_lt (not m.c))
+  alu_ok Tst w d e co x y new p q k =
+      logical-ok s a rd h true w _ co (AND x y) new (λ u g. r_par (r_and (p u g) (q u g))) k
+  alu_ok Teq w d e co x y new p q k =
+      logical-ok s a rd h true w _ co (EOR x y) new (λ u g. r_par (r_xor (p u g) (q u g))) k
+  alu_ok Cmp w d e co x y new p q k = less_ok true w d e _ x y 0 p q (const 1 (lit< tt)) (lit< tt)
+  alu_ok Cmn w d e co x y new p q k =
       sum-ok s a rd h true w d e _ x y 0 p q (const 0 (lit< tt)) (lit< tt)
-  alu-ok Orr w d e co x y new p q k =
-      logical-ok s a rd h false w _ co (OR x y) new (λ u g. r-par (r-or (p u g) (q u g))) k
-  alu-ok Mov w d e co x y new p q k = logical-ok s a rd h false w _ co y new q k
-  alu-ok Bic w d e co x y new p q k =
+  alu_ok Orr w d e co x y new p q k =
+      logical-ok s a rd h false w _ co (OR x y) new (λ u g. r_par (r_or (p u g) (q u g))) k
+  alu_ok Mov w d e co x y new p q k = logical-ok s a rd h false w _ co y new q k
+  alu_ok Bic w d e co x y new p q k =
       logical-ok s a rd h false w _ co (AND x (NOT y)) new
-      (λ u g. r-par (r_and (p u g) (r-not (q u g)))) k
-  alu-ok Mvn w d e co x y new p q k =
-      logical-ok s a rd h false w _ co (NOT y) new (λ u g. r-par (r-not (q u g))) k
+      (λ u g. r_par (r_and (p u g) (r_not (q u g)))) k
+  alu_ok Mvn w d e co x y new p q k =
+      logical-ok s a rd h false w _ co (NOT y) new (λ u g. r_par (r_not (q u g))) k

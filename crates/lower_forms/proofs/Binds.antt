@@ -49,7 +49,7 @@ use Rattle.lower_forms.specs.InlineBody.{loads_or_stores, block_mem_body, op_bod
 use Rattle.armv4t.specs.RegisterList.{is_listed}
 use Rattle.lower_forms.specs.Block.{flush_ticks, set_word, emit_shell, emit_pair, emit_pop}
 use Rattle.lower_forms.specs.Block.{emit_branch, emit_lines, emit_straight, body_of, pc_line}
-use Rattle.lower_forms.proofs.Every.{every-form}
+use Rattle.lower_forms.proofs.Every.{every_form}
 use Rattle.base_lists.proofs.Each.{Each}
 
 -- statements of one line
@@ -530,7 +530,7 @@ closing_lines_bind cycles a =
 pub forms_bind : (multiplier : ℕ) (b : Block)
     → Each (λ r. form_binds r ≡ true) (body_of multiplier b).forms
 forms_bind =
-    every-form (λ r. form_binds r ≡ true) shell_fits straight_fits branch_fits
+    every_form (λ r. form_binds r ≡ true) shell_fits straight_fits branch_fits
     (λ cycles i rm. both _ _ (ticks_bound cycles).lines (reg_operand i rm).whole)
     (λ thumb cycles rn rlist. pop_fits thumb cycles rn (listed rlist 15))
     pair_fits

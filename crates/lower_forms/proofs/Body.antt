@@ -34,13 +34,13 @@ use Rattle.armv4t_manual.specs.Transfer.{offset_value, base, load, store}
 use Rattle.armv4t_manual.specs.Execute.{onward}
 use Rattle.lower_forms.specs.Agree.{Agrees}
 use Rattle.lower_forms.specs.Means.{Makes, statements, Leads, OpMeans}
-use Rattle.lower_forms.proofs.Gives.{Reads, r-word, r-uhex, r-par}
-use Rattle.lower_forms.proofs.Operands.{same_of, under, pc_lt, operand-reads, shifted-reads}
-use Rattle.lower_forms.proofs.Operands.{value-carries, shifted-carries}
-use Rattle.lower_forms.proofs.Alu.{Always, alu-ok}
-use Rattle.lower_forms.proofs.Multiply.{multiply-ok}
-use Rattle.lower_forms.proofs.Long.{multiply-long-ok}
-use Rattle.lower_forms.proofs.Transfer.{place, store_access, load-access}
+use Rattle.lower_forms.proofs.Gives.{Reads, r_word, r_uhex, r_par}
+use Rattle.lower_forms.proofs.Operands.{same_of, under, pc_lt, operand_reads, shifted_reads}
+use Rattle.lower_forms.proofs.Operands.{value_carries, shifted_carries}
+use Rattle.lower_forms.proofs.Alu.{Always, alu_ok}
+use Rattle.lower_forms.proofs.Multiply.{multiply_ok}
+use Rattle.lower_forms.proofs.Long.{multiply_long_ok}
+use Rattle.lower_forms.proofs.Transfer.{place, store_access, load_access}
 
 -- what is some is that
 from_some : {A : Type 0} → A → Option A → A
@@ -88,30 +88,30 @@ module _ (i : Instr) {z : State} {m : Machine} (s : Sound m) (a : Agrees z m) (o
       subst (λ (ls : Lines). Makes (statements ls) (enter z)
       (data_processing op w rd rn (Operand2.Imm value rot) (pc_value i) m)) (some_same q)
       (each_on_line_makes _
-      (alu-ok s a rd hd op w _ _ _ (R m (pc_value i) rn) value
+      (alu_ok s a rd hd op w _ _ _ (R m (pc_value i) rn) value
       (shifter m (pc_value i) (Operand2.Imm value rot)).1
-      (λ u g. operand-reads u m s i g.regs rn hn) (λ u g. r-word h)
-      (λ u g. value-carries u m s i g value rot)))
+      (λ u g. operand_reads u m s i g.regs rn hn) (λ u g. r_word h)
+      (λ u g. value_carries u m s i g value rot)))
   alu_lines (Operand2.Reg rm (Shift.Imm kind n)) h ls q =
       subst (λ (ls : Lines). Makes (statements ls) (enter z)
       (data_processing op w rd rn (Operand2.Reg rm (Shift.Imm kind n)) (pc_value i) m))
       (some_same q)
       (each_on_line_makes _
-      (alu-ok s a rd hd op w _ _ _ (R m (pc_value i) rn)
+      (alu_ok s a rd hd op w _ _ _ (R m (pc_value i) rn)
       (shift kind (R m (pc_value i) rm) n m.c).0
       (shift kind (R m (pc_value i) rm) n m.c).1
-      (λ u g. operand-reads u m s i g.regs rn hn)
-      (λ u g. shifted-reads u m s i g.regs g.flags rm kind n h.0 h.1)
-      (λ u g. shifted-carries u m s i g rm kind n h.0 h.1)))
+      (λ u g. operand_reads u m s i g.regs rn hn)
+      (λ u g. shifted_reads u m s i g.regs g.flags rm kind n h.0 h.1)
+      (λ u g. shifted_carries u m s i g rm kind n h.0 h.1)))
   alu_lines (Operand2.Reg rm (Shift.Reg kind rs)) h ls q = absurd (not_none q)
 
   -- Alu, whose rd is not R15 where it is lowered
-  alu-outcome : (op2 : Operand2) → OperandInRange op2 → (ls : Lines)
+  alu_outcome : (op2 : Operand2) → OperandInRange op2 → (ls : Lines)
       → alu_body op w rd (reg_expr i rn) (op2_exprs i op2) ≡ some ls
       → (next : Machine × ℕ)
       → some (onward i (data_processing op w rd rn op2 (pc_value i) m)) ≡ some next
       → Leads i ls z next
-  alu-outcome op2 h ls q next o =
+  alu_outcome op2 h ls q next o =
       subst (λ (n : Machine × ℕ). Leads i ls z n) (some_same o) ((alu_lines op2 h ls q), refl)
 
 -- what R15 reads as is PC itself, where the text is no named difference
@@ -140,7 +140,7 @@ alu_means i op w rd rn op2 r ls q z m s a bad d next o =
         → cond b none (some (onward i (data_processing op w rd rn op2 (pc_value i) m))) ≡ some next
         → Leads i ls z next
     go true e q o = absurd (not_none q)
-    go false e q o = alu-outcome i s a op w rd rn (under rd r.0 e) r.1 op2 r.2 ls q next o
+    go false e q o = alu_outcome i s a op w rd rn (under rd r.0 e) r.1 op2 r.2 ls q next o
 
 -- Mul
 pub mul_means : (i : Instr) (acc w : Bool) (rd rn rs rm : ℕ) → InRange (Mul acc w rd rn rs rm)
@@ -172,7 +172,7 @@ mul_means i acc w rd rn rs rm r ls q z m s a bad d next o = go (eqb rd 15) refl 
           (subst (λ (ls : Lines). Makes (statements ls) (enter z) (multiply acc w rd rn rs rm m))
               (some_same q)
               (each_on_line_makes _
-              (multiply-ok s a rd rn rs rm (under rd r.0 e) hs hm acc w hn))),
+              (multiply_ok s a rd rn rs rm (under rd r.0 e) hs hm acc w hn))),
           refl,
         )
 
@@ -191,7 +191,7 @@ mul_long_means i sig acc w hi lo rs rm r ls q z m s a bad d next o =
     subst (λ (n : Machine × ℕ). Leads i ls z n) (some_same o) (
       (subst (λ (ls : Lines). Makes (statements ls) (enter z)
           (multiply_long sig acc w hi lo rs rm m)) (some_same q)
-          (each_on_line_makes _ (multiply-long-ok s a hi lo rs rm hh hl hs hm sig acc w))),
+          (each_on_line_makes _ (multiply_long_ok s a hi lo rs rm hh hl hs hm sig acc w))),
       refl,
     )
 
@@ -204,37 +204,37 @@ aligned_lt x h = omega arith
 
 -- the base of a Mem, PC word-aligned in Thumb
 module _ (i : Instr) {m : Machine} (s : Sound m) where
-  base-always : (rn : ℕ) → rn ≤ 15
+  base_always : (rn : ℕ) → rn ≤ 15
       → Always (base_expr i.thumb i rn) m (base i.thumb m (pc_value i) rn)
-  base-always rn h u g = go (i.thumb && eqb rn 15)
+  base_always rn h u g = go (i.thumb && eqb rn 15)
     where
       go : (b : Bool)
           → Reads (cond b (par (lit word (pc_value i / 4 * 4))) (reg_expr i rn)) u
           (cond b (pc_value i / 4 * 4) (R m (pc_value i) rn))
-      go true = r-par (r-word (aligned_lt (pc_value i) (pc_lt i)))
-      go false = operand-reads u m s i g.regs rn h
+      go true = r_par (r_word (aligned_lt (pc_value i) (pc_lt i)))
+      go false = operand_reads u m s i g.regs rn h
 
   -- its offset
-  shifted-always : (rm : ℕ) (k : ShiftKind) (n : ℕ) → rm ≤ 15 → n < 32 → (e : Expr)
+  shifted_always : (rm : ℕ) (k : ShiftKind) (n : ℕ) → rm ≤ 15 → n < 32 → (e : Expr)
       → shifted_offset (reg_expr i rm) k n ≡ some e
       → Always e m (shift k (R m (pc_value i) rm) n m.c).0
-  shifted-always rm Lsl n h l e q u g =
-      same_expr (some_same q) (shifted-reads u m s i g.regs g.flags rm Lsl n h l)
-  shifted-always rm Lsr n h l e q u g =
-      same_expr (some_same q) (shifted-reads u m s i g.regs g.flags rm Lsr n h l)
-  shifted-always rm Asr n h l e q u g =
-      same_expr (some_same q) (shifted-reads u m s i g.regs g.flags rm Asr n h l)
-  shifted-always rm Ror zero h l e q u g = absurd (not_none q)
-  shifted-always rm Ror (suc n) h l e q u g =
-      same_expr (some_same q) (shifted-reads u m s i g.regs g.flags rm Ror (suc n) h l)
+  shifted_always rm Lsl n h l e q u g =
+      same_expr (some_same q) (shifted_reads u m s i g.regs g.flags rm Lsl n h l)
+  shifted_always rm Lsr n h l e q u g =
+      same_expr (some_same q) (shifted_reads u m s i g.regs g.flags rm Lsr n h l)
+  shifted_always rm Asr n h l e q u g =
+      same_expr (some_same q) (shifted_reads u m s i g.regs g.flags rm Asr n h l)
+  shifted_always rm Ror zero h l e q u g = absurd (not_none q)
+  shifted_always rm Ror (suc n) h l e q u g =
+      same_expr (some_same q) (shifted_reads u m s i g.regs g.flags rm Ror (suc n) h l)
 
-  offset-always : (offset : MemOffset) → OffsetInRange offset → (e : Expr)
+  offset_always : (offset : MemOffset) → OffsetInRange offset → (e : Expr)
       → offset_expr i offset ≡ some e → Always e m (offset_value m (pc_value i) offset)
-  offset-always (MemOffset.Imm value) h e q u g =
-      same_expr (some_same q) (r-uhex (le_trans h (lit≤ tt)))
-  offset-always (MemOffset.Reg rm (Shift.Imm k n)) h e q u g =
-      shifted-always rm k n h.0 h.1 e q u g
-  offset-always (MemOffset.Reg rm (Shift.Reg k rs)) h e q u g = absurd (not_none q)
+  offset_always (MemOffset.Imm value) h e q u g =
+      same_expr (some_same q) (r_uhex (le_trans h (lit≤ tt)))
+  offset_always (MemOffset.Reg rm (Shift.Imm k n)) h e q u g =
+      shifted_always rm k n h.0 h.1 e q u g
+  offset_always (MemOffset.Reg rm (Shift.Reg k rs)) h e q u g = absurd (not_none q)
 
 -- where a Mem is lowered, its offset is too
 mem_offset : (b : Expr) (up pre : Bool) (rest : List Plain) (off : Option Expr) (ls : Lines)
@@ -250,7 +250,7 @@ mem_offset b up pre rest (some e) ls q = (e, refl, some_same q)
 module _ (i : Instr) (ld : Bool) (width : MemWidth) (sig : Bool) (rd rn : ℕ) (offset : MemOffset)
     (pre up writeback : Bool)
     (r : InRange (Mem ld width sig rd rn offset pre up writeback)) where
-  mem-makes : {z : State} {m : Machine} → Sound m → Agrees z m → rd < 15
+  mem_makes : {z : State} {m : Machine} → Sound m → Agrees z m → rd < 15
       → (ls : Lines)
       → mem_body (base_expr i.thumb i rn) up pre
       (access ld width sig rd rn (not pre || writeback)) (offset_expr i offset) ≡ some ls
@@ -259,14 +259,14 @@ module _ (i : Instr) (ld : Bool) (width : MemWidth) (sig : Bool) (rd rn : ℕ) (
       let off : ℕ = offset_value m (pc_value i) offset in
       cond ld (load width sig rd rn x off pre up writeback m)
       (store width rd rn x off pre up writeback m))
-  mem-makes {z} {m} s a hd ls q =
+  mem_makes {z} {m} s a hd ls q =
       let t =
       mem_offset (base_expr i.thumb i rn) up pre
       (access ld width sig rd rn (not pre || writeback)) (offset_expr i offset) ls q in
       subst (λ (ls : Lines). Makes (statements ls) (enter z)
       (cond ld (load width sig rd rn x off pre up writeback m)
       (store width rd rn x off pre up writeback m))) t.2
-      (each_on_line_makes _ (go ld t.0 (offset-always i s offset r.2 t.0 t.1)))
+      (each_on_line_makes _ (go ld t.0 (offset_always i s offset r.2 t.0 t.1)))
     where
       x : ℕ
       x = base i.thumb m (pc_value i) rn
@@ -284,16 +284,16 @@ module _ (i : Instr) (ld : Bool) (width : MemWidth) (sig : Bool) (rd rn : ℕ) (
           (cond l (load width sig rd rn x off pre up writeback m)
           (store width rd rn x off pre up writeback m))
       go true e o =
-          place s a (base_expr i.thumb i rn) x (base-always i s rn r.1) pre up e off o
-          (load-access s a (base_expr i.thumb i rn) x (base-always i s rn r.1) pre up e off o
+          place s a (base_expr i.thumb i rn) x (base_always i s rn r.1) pre up e off o
+          (load_access s a (base_expr i.thumb i rn) x (base_always i s rn r.1) pre up e off o
           width sig wb rd rn hd r.1)
       go false e o =
-          place s a (base_expr i.thumb i rn) x (base-always i s rn r.1) pre up e off o
-          (store_access s a (base_expr i.thumb i rn) x (base-always i s rn r.1) pre up e off o
+          place s a (base_expr i.thumb i rn) x (base_always i s rn r.1) pre up e off o
+          (store_access s a (base_expr i.thumb i rn) x (base_always i s rn r.1) pre up e off o
           width sig wb rd rn hd r.1)
 
-  pub mem-means : OpMeans i (Mem ld width sig rd rn offset pre up writeback)
-  mem-means ls q z m s a bad d next o = go (eqb rd 15) refl q o
+  pub mem_means : OpMeans i (Mem ld width sig rd rn offset pre up writeback)
+  mem_means ls q z m s a bad d next o = go (eqb rd 15) refl q o
     where
       n : Machine
       n =
@@ -310,4 +310,4 @@ module _ (i : Instr) (ld : Bool) (width : MemWidth) (sig : Bool) (rd rn : ℕ) (
       go true e q o = absurd (not_none q)
       go false e q o =
           subst (λ (n : Machine × ℕ). Leads i ls z n) (some_same o)
-          ((mem-makes s a (under rd r.0 e) ls q), refl)
+          ((mem_makes s a (under rd r.0 e) ls q), refl)

@@ -28,7 +28,7 @@ use Rattle.lower_forms.proofs.Operands.{under}
 use Rattle.lower_forms.proofs.Body.{some_same, not_none, or_l, or_r}
 use Rattle.lower_forms.proofs.Listed.{listed_same, listed_length, listed_15, Named}
 use Rattle.lower_forms.proofs.Listed.{listed_named, member, named_member}
-use Rattle.lower_forms.proofs.Multiple.{load-multiple-ok, store-multiple-ok}
+use Rattle.lower_forms.proofs.Multiple.{load_multiple_ok, store_multiple_ok}
 use Rattle.base_lists.proofs.Each.{Each, each_map}
 
 four : (k : ℕ) → k ≤ 16 → k * 4 < 4294967296
@@ -37,14 +37,14 @@ four k h = omega arith
 module _ (i : Instr) {z : State} {m : Machine} (s : Sound m) (a : Agrees z m) (rn : ℕ)
     (hn : rn < 15) (rlist : ℕ) (pre up wb : Bool) where
   -- LDM without R15
-  load-lines : bit rlist 15 ≡ false
+  load_lines : bit rlist 15 ≡ false
       → Makes (statements (block_mem_body i true rn (is_listed rlist rn) pre up wb (listed rlist 16)))
       (enter z) (load_multiple up pre wb rn rlist m)
-  load-lines q =
+  load_lines q =
       subst (λ (is : List ℕ). Makes
       (statements (block_mem_body i true rn (is_listed rlist rn) pre up wb (listed rlist 16)))
       (enter z) (made is)) (listed_15 rlist q)
-      (load-multiple-ok s a i rn hn (listed rlist 16) (four _ (listed_length rlist 16)) below up pre
+      (load_multiple_ok s a i rn hn (listed rlist 16) (four _ (listed_length rlist 16)) below up pre
       wb (is_listed rlist rn) named)
     where
       made : List ℕ → Machine
@@ -63,11 +63,11 @@ module _ (i : Instr) {z : State} {m : Machine} (s : Sound m) (a : Agrees z m) (r
       named e = named_member rlist 16 rn (omega (arith, hn)) e
 
   -- STM
-  store-lines : Makes
+  store_lines : Makes
       (statements (block_mem_body i false rn (is_listed rlist rn) pre up wb (listed rlist 16)))
       (enter z) (store_multiple up pre wb rn rlist (pc_value i) m)
-  store-lines =
-      store-multiple-ok s a i rn hn (listed rlist 16) (four _ (listed_length rlist 16)) up pre wb
+  store_lines =
+      store_multiple_ok s a i rn hn (listed rlist 16) (four _ (listed_length rlist 16)) up pre wb
       (is_listed rlist rn)
       (each_map (Named rlist 16) _ at_most (listed rlist 16) (listed_named rlist 16))
     where
@@ -95,8 +95,8 @@ block_mem_means i ld rn rlist pre up s_bit wb r ls q z m s a bad d next o =
         subst (λ (b : Bool). Leads i (body true) z
         (cond b (load_multiple_pc i up pre wb rn rlist m)
         (onward i (load_multiple up pre wb rn rlist m)))) (sym pc)
-        (load-lines i s a rn hn rlist pre up wb pc, refl)
-    means false hn pc = (store-lines i s a rn hn rlist pre up wb, refl)
+        (load_lines i s a rn hn rlist pre up wb pc, refl)
+    means false hn pc = (store_lines i s a rn hn rlist pre up wb, refl)
 
     split : (b : Bool) → (s_bit || eqb rlist 0 || eqb rn 15 || (ld && is_listed rlist 15)) ≡ b
         → cond b none

@@ -13,7 +13,7 @@ use Rattle.armv4t.specs.declared.Cond.TheVariants.{Eq, Ne, Cs, Cc, Mi, Pl, Vs, V
 use Rattle.armv4t.specs.declared.Cond.TheVariants.{Gt, Le, Al, Nv}
 use Rattle.c_tree.specs.Expr.{x-s, x-cn, x-cz, x-cc, x-cv}
 use Rattle.c_meaning.specs.State.{State, Scope, empty, enter}
-use Rattle.c_meaning.specs.Eval.{eval, evalAs}
+use Rattle.c_meaning.specs.Eval.{eval, eval_as}
 use Rattle.c_meaning.specs.Exec.{exec, others}
 use Rattle.c_meaning.specs.Perform.{execs, perform}
 use Rattle.c_meaning.specs.Helpers.{rotated}
@@ -26,22 +26,22 @@ use Rattle.lower_forms.proofs.Operands.{pack_c, one_lt}
 use Rattle.lower_forms.proofs.Steps.{given, within}
 
 module _ (n z c v : Bool) (low : ℕ) (h : low < 2 ^ 28) where
-  pub pack-n : pack n z c v low / 2 ^ 31 ≡ one_if n
-  pack-n = go (one_if n) (one_if z) (one_if c) (one_if v) (one_lt z) (one_lt c) (one_lt v)
+  pub pack_n : pack n z c v low / 2 ^ 31 ≡ one_if n
+  pack_n = go (one_if n) (one_if z) (one_if c) (one_if v) (one_lt z) (one_lt c) (one_lt v)
     where
       go : (n z c v : ℕ) → z < 2 → c < 2 → v < 2
           → ((n * 8 + z * 4 + c * 2 + v) * 268435456 + low) / 2147483648 ≡ n
       go n z c v hz hc hv = omega arith
 
-  pub pack-z : pack n z c v low / 2 ^ 30 % 2 ≡ one_if z
-  pack-z = go (one_if n) (one_if z) (one_if c) (one_if v) (one_lt z) (one_lt c) (one_lt v)
+  pub pack_z : pack n z c v low / 2 ^ 30 % 2 ≡ one_if z
+  pack_z = go (one_if n) (one_if z) (one_if c) (one_if v) (one_lt z) (one_lt c) (one_lt v)
     where
       go : (n z c v : ℕ) → z < 2 → c < 2 → v < 2
           → ((n * 8 + z * 4 + c * 2 + v) * 268435456 + low) / 1073741824 % 2 ≡ z
       go n z c v hz hc hv = omega arith
 
-  pub pack-v : pack n z c v low / 2 ^ 28 % 2 ≡ one_if v
-  pack-v = go (one_if n) (one_if z) (one_if c) (one_if v) (one_lt v)
+  pub pack_v : pack n z c v low / 2 ^ 28 % 2 ≡ one_if v
+  pack_v = go (one_if n) (one_if z) (one_if c) (one_if v) (one_lt v)
     where
       go : (n z c v : ℕ) → v < 2
           → ((n * 8 + z * 4 + c * 2 + v) * 268435456 + low) / 268435456 % 2 ≡ v
@@ -108,16 +108,16 @@ test_ok Nv n z c v x nv fs s m = absurd (subst T nv tt)
 
 module _ {z : State} {m : Machine} (s : Sound m) (a : Agrees z m) where
   -- the state after the declarations, by the values of the locals
-  abbrev flagState : ℕ → ℕ → ℕ → ℕ → ℕ → State
-  flagState x n zf c v =
+  abbrev flag_state : ℕ → ℕ → ℕ → ℕ → ℕ → State
+  flag_state x n zf c v =
       within (given x-cv v (given x-cc c (given x-cz zf (given x-cn n (given x-s x empty)))))
       z.scopes z
 
   -- (s_ >> k) & 1u
-  flag-bit : (k : ℕ) (b : Bool)
+  flag_bit_lem : (k : ℕ) (b : Bool)
       → pack m.n m.z m.c m.v m.other_bits / 2 ^ k % 2 ≡ one_if b
       → AND (z.c 16 / 2 ^ k) 1 ≡ one_if b
-  flag-bit k b e = and_mask (z.c 16 / 2 ^ k) 1 ∙ ap (λ (x : ℕ). x / 2 ^ k % 2) a.flags ∙ e
+  flag_bit_lem k b e = and_mask (z.c 16 / 2 ^ k) 1 ∙ ap (λ (x : ℕ). x / 2 ^ k % 2) a.flags ∙ e
 
   -- uint32_t s_ = c[16]; uint32_t cn = s_ >> 31, cz = (s_ >> 30) & 1u, cc = (s_ >> 29) & 1u, cv =
   -- (s_ >> 28) & 1u;
@@ -125,12 +125,12 @@ module _ {z : State} {m : Machine} (s : Sound m) (a : Agrees z m) where
       ≡ some (within
       (flag_scope m.n m.z m.c m.v (pack m.n m.z m.c m.v m.other_bits))
       z.scopes z)
-  unfolding perform execs exec others evalAs eval
+  unfolding perform execs exec others eval_as eval
   declared =
       λ j. some
-      (flagState (a.flags j)
+      (flag_state (a.flags j)
       ((ap (λ (x : ℕ). x / 2 ^ 31) a.flags
-      ∙ pack-n m.n m.z m.c m.v m.other_bits s.other_bits) j)
-      (flag-bit 30 m.z (pack-z m.n m.z m.c m.v m.other_bits s.other_bits) j)
-      (flag-bit 29 m.c (pack_c m.n m.z m.c m.v m.other_bits s.other_bits) j)
-      (flag-bit 28 m.v (pack-v m.n m.z m.c m.v m.other_bits s.other_bits) j))
+      ∙ pack_n m.n m.z m.c m.v m.other_bits s.other_bits) j)
+      (flag_bit_lem 30 m.z (pack_z m.n m.z m.c m.v m.other_bits s.other_bits) j)
+      (flag_bit_lem 29 m.c (pack_c m.n m.z m.c m.v m.other_bits s.other_bits) j)
+      (flag_bit_lem 28 m.v (pack_v m.n m.z m.c m.v m.other_bits s.other_bits) j))

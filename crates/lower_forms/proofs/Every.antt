@@ -44,43 +44,43 @@ module _ (P : Form → Type 0)
     (bxs : (cycles : ℕ) (i : Instr) (rm : ℕ) → P (native (bx (flush_ticks cycles) (reg_expr i rm))))
     (pops : (thumb : Bool) (cycles rn rlist : ℕ)
     → P (native (emit_pop thumb cycles rn (listed rlist 15)))) where
-  straight-one : (thumb touchesBus : Bool) (cycles : ℕ) (x : TimedInstr)
+  straight_one : (thumb touchesBus : Bool) (cycles : ℕ) (x : TimedInstr)
       → One P (emit_straight thumb touchesBus cycles x)
-  straight-one thumb touchesBus cycles x = record { form = straights thumb touchesBus cycles x }
+  straight_one thumb touchesBus cycles x = record { form = straights thumb touchesBus cycles x }
 
-  op-one : (thumb : Bool) (region cycles : ℕ) (x : TimedInstr) (o : Op)
+  op_one : (thumb : Bool) (region cycles : ℕ) (x : TimedInstr) (o : Op)
       → One P (emit_op thumb region cycles x o)
-  op-one thumb region cycles x (Alu op s rd rn op2) = straight-one thumb false cycles x
-  op-one thumb region cycles x (Mul acc s rd rn rs rm) = straight-one thumb false cycles x
-  op-one thumb region cycles x (MulLong signed acc s hi lo rs rm) =
-      straight-one thumb false cycles x
-  op-one thumb region cycles x (Swap byte rd rm rn) = straight-one thumb false cycles x
-  op-one thumb region cycles x (Bx rm) =
+  op_one thumb region cycles x (Alu op s rd rn op2) = straight_one thumb false cycles x
+  op_one thumb region cycles x (Mul acc s rd rn rs rm) = straight_one thumb false cycles x
+  op_one thumb region cycles x (MulLong signed acc s hi lo rs rm) =
+      straight_one thumb false cycles x
+  op_one thumb region cycles x (Swap byte rd rm rn) = straight_one thumb false cycles x
+  op_one thumb region cycles x (Bx rm) =
       either (One P) (native_exit region x.instr)
       (record { form = bxs (cycles + x.cost) x.instr rm })
-      (straight-one thumb false cycles x)
-  op-one thumb region cycles x (Branch link target) =
+      (straight_one thumb false cycles x)
+  op_one thumb region cycles x (Branch link target) =
       record { form = branches thumb (cycles + x.cost) x.instr link target }
-  op-one thumb region cycles x (ThumbBlHigh lr) =
+  op_one thumb region cycles x (ThumbBlHigh lr) =
       record { form = shells thumb true cycles x.instr }
-  op-one thumb region cycles x (ThumbBlLow off) = straight-one thumb false cycles x
-  op-one thumb region cycles x (Mem load width signed rd rn offset pre up writeback) =
-      straight-one thumb true cycles x
-  op-one thumb region cycles x (BlockMem load rn rlist pre up s_bit writeback) =
+  op_one thumb region cycles x (ThumbBlLow off) = straight_one thumb false cycles x
+  op_one thumb region cycles x (Mem load width signed rd rn offset pre up writeback) =
+      straight_one thumb true cycles x
+  op_one thumb region cycles x (BlockMem load rn rlist pre up s_bit writeback) =
       either (One P) (is_pop region x.instr load rn rlist pre up s_bit writeback)
       (record { form = pops thumb (cycles + x.cost) rn rlist })
-      (straight-one thumb true cycles x)
-  op-one thumb region cycles x (Mrs spsr rd) = straight-one thumb false cycles x
-  op-one thumb region cycles x (MsrReg spsr fields rm) = straight-one thumb false cycles x
-  op-one thumb region cycles x (MsrImm spsr fields value) = straight-one thumb false cycles x
-  op-one thumb region cycles x (Swi imm) = straight-one thumb false cycles x
-  op-one thumb region cycles x (Undefined raw) = straight-one thumb false cycles x
+      (straight_one thumb true cycles x)
+  op_one thumb region cycles x (Mrs spsr rd) = straight_one thumb false cycles x
+  op_one thumb region cycles x (MsrReg spsr fields rm) = straight_one thumb false cycles x
+  op_one thumb region cycles x (MsrImm spsr fields value) = straight_one thumb false cycles x
+  op_one thumb region cycles x (Swi imm) = straight_one thumb false cycles x
+  op_one thumb region cycles x (Undefined raw) = straight_one thumb false cycles x
 
   -- an instruction that is not fused
-  pub every-instr : (thumb : Bool) (region cycles : ℕ) (x : TimedInstr)
+  pub every_instr : (thumb : Bool) (region cycles : ℕ) (x : TimedInstr)
       → P (emit_instr thumb region cycles x).0
   unfolding emit_instr
-  every-instr thumb region cycles x = (op-one thumb region cycles x x.instr.op).form
+  every_instr thumb region cycles x = (op_one thumb region cycles x x.instr.op).form
 
   module _ (pairs : (cycles target ret : ℕ) → P (native (emit_pair cycles target ret))) where
     instrs_all : (thumb : Bool) (region cycles : ℕ) (xs : List TimedInstr)
@@ -88,12 +88,12 @@ module _ (P : Form → Type 0)
     unfolding emit_instrs
     instrs_all thumb region cycles [] = record { forms = tt }
     instrs_all thumb region cycles (x ∷ []) =
-        record { forms = (every-instr thumb region cycles x, tt) }
+        record { forms = (every_instr thumb region cycles x, tt) }
     instrs_all thumb region cycles (x ∷ y ∷ rest) =
         fused_or_lem (All P) (fuse x.instr y.instr)
         (record {
           forms = (
-            every-instr thumb region cycles x,
+            every_instr thumb region cycles x,
             (instrs_all thumb region
                 (emit_instr thumb region cycles x).1 (y ∷ rest)).forms,
           );
@@ -103,6 +103,6 @@ module _ (P : Form → Type 0)
         })
 
     -- all forms of a block
-    pub every-form : (multiplier : ℕ) (b : Block) → Each P (body_of multiplier b).forms
+    pub every_form : (multiplier : ℕ) (b : Block) → Each P (body_of multiplier b).forms
     unfolding body_of
-    every-form multiplier b = (instrs_all b.thumb (region b.addr) 0 b.instrs).forms
+    every_form multiplier b = (instrs_all b.thumb (region b.addr) 0 b.instrs).forms

@@ -12,7 +12,7 @@ use Rattle.base_words.proofs.Bits.{and_top, or_top, and_zero_r, and_shr, xor_shr
 use Rattle.base_words.proofs.Bits.{top_bit, not_top, bool_ext, both_l, both_r}
 use Rattle.c_tree.specs.Stmt.{f-nz, f-c, f-nz64, op-adds, proc}
 use Rattle.c_meaning.specs.State.{State, set_c}
-use Rattle.c_meaning.specs.Eval.{eval, evalAs}
+use Rattle.c_meaning.specs.Eval.{eval, eval_as}
 use Rattle.c_meaning.specs.Exec.{on, back, exec, others, step, runs}
 use Rattle.c_meaning.specs.Helpers.{called}
 use Rattle.armv4t_manual.specs.Machine.{pack}
@@ -63,11 +63,11 @@ c_nib n z c v x =
     c v x x
 
 module _ (low : ℕ) (h : low < 2 ^ 28) where
-  pub nz-word : (n z c v y : Bool) (x : ℕ)
+  pub nz_word : (n z c v y : Bool) (x : ℕ)
       → OR (OR (AND (pack n z c v low) 0x3FFFFFFF) (AND x 0x80000000)) (one_if y * 4 * 2 ^ 28)
       ≡ pack (bit x 31) y c v low
   unfolding nib
-  nz-word n z c v y x =
+  nz_word n z c v y x =
       ap₂ (λ (p q : ℕ). OR (OR p q) (one_if y * 4 * 2 ^ 28)) (and_top (nib n z c v) 3 low h)
       (sign_top x)
       ∙ ap (λ (p : ℕ). OR p (one_if y * 4 * 2 ^ 28))
@@ -75,48 +75,48 @@ module _ (low : ℕ) (h : low < 2 ^ 28) where
       ∙ or_top (OR (AND (nib n z c v) 3) (one_if (bit x 31) * 8)) (one_if y * 4) low h
       ∙ ap (λ (p : ℕ). p * 2 ^ 28 + low) (nz_nib n z c v (bit x 31) y)
 
-  pub c-word : (n z c v x : Bool)
+  pub c_word : (n z c v x : Bool)
       → OR (AND (pack n z c v low) 0xDFFFFFFF) (one_if x * 2 * 2 ^ 28) ≡ pack n z x v low
   unfolding nib
-  c-word n z c v x =
+  c_word n z c v x =
       ap (λ (p : ℕ). OR p (one_if x * 2 * 2 ^ 28)) (and_top (nib n z c v) 13 low h)
       ∙ or_top (AND (nib n z c v) 13) (one_if x * 2) low h
       ∙ ap (λ (p : ℕ). p * 2 ^ 28 + low) (c_nib n z c v x)
 
   -- f_nz(c, x)
-  pub nz-ok : (n z c v : Bool) (x : ℕ) (s : State) → s.c 16 ≡ pack n z c v low
+  pub nz_ok : (n z c v : Bool) (x : ℕ) (s : State) → s.c 16 ≡ pack n z c v low
       → called (proc f-nz) (x ∷ []) s ≡ some (set_c 16 (pack (bit x 31) (eqb x 0) c v low) s, on)
-  unfolding called runs step exec evalAs eval
-  nz-ok n z c v x s e = go (eqb x 0) refl
+  unfolding called runs step exec eval_as eval
+  nz_ok n z c v x s e = go (eqb x 0) refl
     where
       go : (y : Bool) → eqb x 0 ≡ y
           → called (proc f-nz) (x ∷ []) s ≡ some (set_c 16 (pack (bit x 31) (eqb x 0) c v low) s, on)
-      go true q = rw (q, e, ← nz-word n z c v true x)
-      go false q = rw (q, e, ← nz-word n z c v false x)
+      go true q = rw (q, e, ← nz_word n z c v true x)
+      go false q = rw (q, e, ← nz_word n z c v false x)
 
   -- f_nz64(c, x)
-  pub nz64-ok : (n z c v : Bool) (x : ℕ) (s : State) → s.c 16 ≡ pack n z c v low
+  pub nz64_ok : (n z c v : Bool) (x : ℕ) (s : State) → s.c 16 ≡ pack n z c v low
       → called (proc f-nz64) (x ∷ []) s
       ≡ some (set_c 16 (pack (bit (x / 2 ^ 32 % 2 ^ 32) 31) (eqb x 0) c v low) s, on)
-  unfolding called runs step exec evalAs eval
-  nz64-ok n z c v x s e = go (eqb x 0) refl
+  unfolding called runs step exec eval_as eval
+  nz64_ok n z c v x s e = go (eqb x 0) refl
     where
       go : (y : Bool) → eqb x 0 ≡ y
           → called (proc f-nz64) (x ∷ []) s
           ≡ some (set_c 16 (pack (bit (x / 2 ^ 32 % 2 ^ 32) 31) (eqb x 0) c v low) s, on)
-      go true q = rw (q, e, ← nz-word n z c v true (x / 2 ^ 32 % 2 ^ 32))
-      go false q = rw (q, e, ← nz-word n z c v false (x / 2 ^ 32 % 2 ^ 32))
+      go true q = rw (q, e, ← nz_word n z c v true (x / 2 ^ 32 % 2 ^ 32))
+      go false q = rw (q, e, ← nz_word n z c v false (x / 2 ^ 32 % 2 ^ 32))
 
   -- f_c(c, x)
-  pub c-ok : (n z c v : Bool) (x : ℕ) (s : State) → s.c 16 ≡ pack n z c v low
+  pub c_ok : (n z c v : Bool) (x : ℕ) (s : State) → s.c 16 ≡ pack n z c v low
       → called (proc f-c) (x ∷ []) s ≡ some (set_c 16 (pack n z (not (eqb x 0)) v low) s, on)
-  unfolding called runs step exec evalAs eval
-  c-ok n z c v x s e = go (eqb x 0) refl
+  unfolding called runs step exec eval_as eval
+  c_ok n z c v x s e = go (eqb x 0) refl
     where
       go : (y : Bool) → eqb x 0 ≡ y
           → called (proc f-c) (x ∷ []) s ≡ some (set_c 16 (pack n z (not (eqb x 0)) v low) s, on)
-      go true q = rw (q, e, ← c-word n z c v false)
-      go false q = rw (q, e, ← c-word n z c v true)
+      go true q = rw (q, e, ← c_word n z c v false)
+      go false q = rw (q, e, ← c_word n z c v true)
 
 -- op_adds
 adds_nib : (n z c v : Bool)
@@ -127,13 +127,13 @@ adds_nib n z c v =
     (λ n z c v x y. nib n z c v) tt n z c v v v
 
 module _ (low : ℕ) (h : low < 2 ^ 28) where
-  pub adds-word : (n z c v : Bool) (x : ℕ) (zf cf vf : Bool)
+  pub adds_word : (n z c v : Bool) (x : ℕ) (zf cf vf : Bool)
       → OR (OR
       (OR (OR (AND (pack n z c v low) 0x0FFFFFFF) (AND x 0x80000000)) (one_if zf * 4 * 2 ^ 28))
       (one_if cf * 2 * 2 ^ 28)) (one_if vf * 2 ^ 28)
       ≡ pack (bit x 31) zf cf vf low
   unfolding nib
-  adds-word n z c v x zf cf vf =
+  adds_word n z c v x zf cf vf =
       ap₂ (λ (p q : ℕ). OR (OR (OR (OR p q) (one_if zf * 4 * 2 ^ 28)) (one_if cf * 2 * 2 ^ 28))
       (one_if vf * 2 ^ 28))
       (and_top (nib n z c v) 0 low h ∙ ap (λ (p : ℕ). p * 2 ^ 28 + low) (and_zero_r (nib n z c v)))
@@ -212,7 +212,7 @@ v_flag false = refl
 
 module _ (low : ℕ) (h : low < 2 ^ 28) where
   -- what op_adds puts into c[16], w the sum of 64 bits
-  adds-status : (n z c v : Bool) (x y i : ℕ) → x < 4294967296 → y < 4294967296 → i < 2 → (w r : ℕ)
+  adds_status : (n z c v : Bool) (x y i : ℕ) → x < 4294967296 → y < 4294967296 → i < 2 → (w r : ℕ)
       → w ≡ x + y + i → r ≡ w % 4294967296
       → OR (OR
       (OR (OR (AND (pack n z c v low) 0x0FFFFFFF) (AND r 0x80000000))
@@ -220,14 +220,14 @@ module _ (low : ℕ) (h : low < 2 ^ 28) where
       (cond (eqb (w / 4294967296) 0) 0 536870912))
       (cond (eqb (AND (AND (4294967295 - EOR x y) (EOR x r) / 2147483648) 1) 0) 0 268435456)
       ≡ pack (bit r 31) (eqb r 0) (CarryFrom w) (OverflowFromAdd x y r) low
-  adds-status n z c v x y i hx hy hi w r ew er =
+  adds_status n z c v x y i hx hy hi w r ew er =
       rw (z_flag, c_flag, v_flag, carry_test, over_test x y r hx hy (small w r er))
-      (adds-word low h n z c v r (eqb r 0) (CarryFrom w) (OverflowFromAdd x y r))
+      (adds_word low h n z c v r (eqb r 0) (CarryFrom w) (OverflowFromAdd x y r))
     where
       small : (w r : ℕ) → r ≡ w % 4294967296 → r < 4294967296
       small w r e = omega arith
 
-  pub adds-ok : (n z c v : Bool) (x y i : ℕ) (s : State) → x < 4294967296 → y < 4294967296 → i < 2
+  pub adds_ok : (n z c v : Bool) (x y i : ℕ) (s : State) → x < 4294967296 → y < 4294967296 → i < 2
       → s.c 16 ≡ pack n z c v low
       → called op-adds (x ∷ y ∷ i ∷ []) s
       ≡ some (
@@ -237,8 +237,8 @@ module _ (low : ℕ) (h : low < 2 ^ 28) where
         back
             ((x + y + i) % 4294967296),
       )
-  unfolding called runs step exec others evalAs eval
-  adds-ok n z c v x y i s hx hy hi e =
+  unfolding called runs step exec others eval_as eval
+  adds_ok n z c v x y i s hx hy hi e =
       simp (wide_sum x y i hx hy hi, e, pick_flag)
       (ap (λ (k : ℕ). some (set_c 16 k s, back ((x + y + i) % 4294967296)))
-      (adds-status n z c v x y i hx hy hi (x + y + i) ((x + y + i) % 4294967296) refl refl))
+      (adds_status n z c v x y i hx hy hi (x + y + i) ((x + y + i) % 4294967296) refl refl))

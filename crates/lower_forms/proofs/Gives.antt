@@ -14,7 +14,7 @@ use Rattle.base_words.proofs.Bits.{turn}
 use Rattle.c_tree.specs.Expr.{u32, word, udec, uhex, int, Var, reg, var, compl, add, sub, mul, shl}
 use Rattle.c_tree.specs.Expr.{shr, band, bxor, bor, Expr, lit, get, par, un, bin, ror}
 use Rattle.c_meaning.specs.State.{State, value}
-use Rattle.c_meaning.specs.Eval.{ty, eval, evalAs}
+use Rattle.c_meaning.specs.Eval.{ty, eval, eval_as}
 use Rattle.c_meaning.specs.Exec.{exec, step, runs}
 use Rattle.c_meaning.specs.Helpers.{called, rotated}
 use Rattle.lower_forms.specs.Operands.{bit_of, shift_signed}
@@ -73,34 +73,34 @@ asr_small x k h l = go (bit x 31)
     go false = rw add-zero (lt_of_le_of_lt (div-le_self x (2 ^ k)) h)
 
 module _ {z : State} where
-  pub r-reg : (i : ℕ) {x : ℕ} → i ≤ 16 → z.c i ≡ x → x < 4294967296 → Reads (get (reg i)) z x
+  pub r_reg : (i : ℕ) {x : ℕ} → i ≤ 16 → z.c i ≡ x → x < 4294967296 → Reads (get (reg i)) z x
   unfolding eval
-  r-reg i l q h = record { typed = refl; gives = rw (le_true l) (ap some q); small = h }
+  r_reg i l q h = record { typed = refl; gives = rw (le_true l) (ap some q); small = h }
 
-  pub r-udec : {k : ℕ} → k < 4294967296 → Reads (lit udec k) z k
+  pub r_udec : {k : ℕ} → k < 4294967296 → Reads (lit udec k) z k
   unfolding eval
-  r-udec h = record { typed = refl; gives = rw (lt_true h); small = h }
+  r_udec h = record { typed = refl; gives = rw (lt_true h); small = h }
 
-  pub r-uhex : {k : ℕ} → k < 4294967296 → Reads (lit uhex k) z k
+  pub r_uhex : {k : ℕ} → k < 4294967296 → Reads (lit uhex k) z k
   unfolding eval
-  r-uhex h = record { typed = refl; gives = rw (lt_true h); small = h }
+  r_uhex h = record { typed = refl; gives = rw (lt_true h); small = h }
 
-  pub r-word : {k : ℕ} → k < 4294967296 → Reads (lit word k) z k
+  pub r_word : {k : ℕ} → k < 4294967296 → Reads (lit word k) z k
   unfolding eval
-  r-word h = record { typed = refl; gives = rw (lt_true h); small = h }
+  r_word h = record { typed = refl; gives = rw (lt_true h); small = h }
 
-  pub r-var : (v : Var) {x : ℕ} → v.0 ≡ u32 → value (var v) z ≡ some x → x < 4294967296
+  pub r_var : (v : Var) {x : ℕ} → v.0 ≡ u32 → value (var v) z ≡ some x → x < 4294967296
       → Reads (get (var v)) z x
   unfolding eval
-  r-var v t q h = record { typed = t; gives = q; small = h }
+  r_var v t q h = record { typed = t; gives = q; small = h }
 
-  pub r-par : {e : Expr} {x : ℕ} → Reads e z x → Reads (par e) z x
+  pub r_par : {e : Expr} {x : ℕ} → Reads e z x → Reads (par e) z x
   unfolding eval
-  r-par p = record { typed = p.typed; gives = p.gives; small = p.small }
+  r_par p = record { typed = p.typed; gives = p.gives; small = p.small }
 
-  pub r-not : {e : Expr} {x : ℕ} → Reads e z x → Reads (un compl e) z (4294967295 - x)
+  pub r_not : {e : Expr} {x : ℕ} → Reads e z x → Reads (un compl e) z (4294967295 - x)
   unfolding eval
-  r-not {x = x} p =
+  r_not {x = x} p =
       record { typed = rw p.typed; gives = rw (p.gives, p.typed); small = omega arith }
 
   module _ {d e : Expr} {x y : ℕ} (p : Reads d z x) (q : Reads e z y) where
@@ -113,63 +113,63 @@ module _ {z : State} where
           small = and_lt 32 x y p.small q.small;
         }
 
-    pub r-or : Reads (bin bor d e) z (OR x y)
+    pub r_or : Reads (bin bor d e) z (OR x y)
     unfolding eval
-    r-or =
+    r_or =
         record {
           typed = rw (p.typed, q.typed);
           gives = rw (p.gives, q.gives, p.typed, q.typed);
           small = or_lt 32 x y p.small q.small;
         }
 
-    pub r-xor : Reads (bin bxor d e) z (EOR x y)
+    pub r_xor : Reads (bin bxor d e) z (EOR x y)
     unfolding eval
-    r-xor =
+    r_xor =
         record {
           typed = rw (p.typed, q.typed);
           gives = rw (p.gives, q.gives, p.typed, q.typed);
           small = xor_lt 32 x y p.small q.small;
         }
 
-    pub r-add : Reads (bin add d e) z ((x + y) % 4294967296)
+    pub r_add : Reads (bin add d e) z ((x + y) % 4294967296)
     unfolding eval
-    r-add =
+    r_add =
         record {
           typed = rw (p.typed, q.typed);
           gives = rw (p.gives, q.gives, p.typed, q.typed);
           small = mod-lt (x + y) (lit< tt);
         }
 
-    pub r-sub : Reads (bin sub d e) z ((x + (4294967296 - y)) % 4294967296)
+    pub r_sub : Reads (bin sub d e) z ((x + (4294967296 - y)) % 4294967296)
     unfolding eval
-    r-sub =
+    r_sub =
         record {
           typed = rw (p.typed, q.typed);
           gives = rw (p.gives, q.gives, p.typed, q.typed);
           small = mod-lt (x + (4294967296 - y)) (lit< tt);
         }
 
-    pub r-mul : Reads (bin mul d e) z (x * y % 4294967296)
+    pub r_mul : Reads (bin mul d e) z (x * y % 4294967296)
     unfolding eval
-    r-mul =
+    r_mul =
         record {
           typed = rw (p.typed, q.typed);
           gives = rw (p.gives, q.gives, p.typed, q.typed);
           small = mod-lt (x * y) (lit< tt);
         }
 
-    pub r-shl : y < 32 → Reads (bin shl d e) z (x * 2 ^ y % 4294967296)
+    pub r_shl : y < 32 → Reads (bin shl d e) z (x * 2 ^ y % 4294967296)
     unfolding eval
-    r-shl h =
+    r_shl h =
         record {
           typed = rw p.typed;
           gives = rw (p.gives, q.gives, p.typed, q.typed, lt_true h);
           small = mod-lt (x * 2 ^ y) (lit< tt);
         }
 
-    pub r-shr : y < 32 → Reads (bin shr d e) z (x / 2 ^ y)
+    pub r_shr : y < 32 → Reads (bin shr d e) z (x / 2 ^ y)
     unfolding eval
-    r-shr h =
+    r_shr h =
         record {
           typed = rw p.typed;
           gives = rw (p.gives, q.gives, p.typed, q.typed, lt_true h);
@@ -178,18 +178,18 @@ module _ {z : State} where
 
   module _ {e : Expr} {x : ℕ} (p : Reads e z x) (k : ℕ) (h : k < 32) where
     -- a count written without u is an int: it decides nothing of the type
-    pub r-shr-int : Reads (bin shr e (lit int k)) z (x / 2 ^ k)
+    pub r_shr_int : Reads (bin shr e (lit int k)) z (x / 2 ^ k)
     unfolding eval
-    r-shr-int =
+    r_shr_int =
         record {
           typed = rw p.typed;
           gives = rw (p.gives, int_lit h, p.typed, lt_true h);
           small = lt_of_le_of_lt (div-le_self x (2 ^ k)) p.small;
         }
 
-    pub r-shl-int : Reads (bin shl e (lit int k)) z (x * 2 ^ k % 4294967296)
+    pub r_shl_int : Reads (bin shl e (lit int k)) z (x * 2 ^ k % 4294967296)
     unfolding eval
-    r-shl-int =
+    r_shl_int =
         record {
           typed = rw p.typed;
           gives = rw (p.gives, int_lit h, p.typed, lt_true h);
@@ -197,15 +197,15 @@ module _ {z : State} where
         }
 
     -- ((e >> ku) & 1u)
-    pub r-bit : Reads (bit_of e k) z (one_if (bit x k))
-    r-bit =
+    pub r_bit : Reads (bit_of e k) z (one_if (bit x k))
+    r_bit =
         to (and_mask (x / 2 ^ k) 1 ∙ sym (bit_num x k))
-        (r-par (r_and (r-par (r-shr p (r-udec (le_trans h (lit≤ tt))) h)) (r-udec (lit< tt))))
+        (r_par (r_and (r_par (r_shr p (r_udec (le_trans h (lit≤ tt))) h)) (r_udec (lit< tt))))
 
     -- ((uint32_t)((int32_t)e >> k))
-    pub r-asr : Reads (shift_signed e k) z (arithmetic_shift_right x k)
+    pub r_asr : Reads (shift_signed e k) z (arithmetic_shift_right x k)
     unfolding eval
-    r-asr =
+    r_asr =
         record {
           typed = refl;
           gives =
@@ -225,7 +225,7 @@ rotate_small x k h l =
     (mod-lt (x * 2 ^ (32 - k)) (lit< tt)))
 
 pub ror_ok : (x k : ℕ) → x < 4294967296 → k < 32 → rotated x k ≡ some (rotate_right x k)
-unfolding rotated called runs step exec evalAs eval AND
+unfolding rotated called runs step exec eval_as eval AND
 ror_ok x zero hx h = ap some (sym (rotate_none x))
 ror_ok x (suc j) hx h =
     rw (and_mask (suc j) 5, mod-eq_of_lt h, eqb-suc-zero j, lt_true h, rest j h, lt_true (less j h))

@@ -48,7 +48,7 @@ use Rattle.lower_forms.specs.InlineBody.{block_mem_body, op_body, inline_body}
 use Rattle.armv4t.specs.RegisterList.{is_listed}
 use Rattle.lower_forms.specs.Block.{flush_ticks, set_word, emit_shell, emit_pair, emit_pop}
 use Rattle.lower_forms.specs.Block.{emit_branch, emit_lines, emit_straight, body_of, pc_line}
-use Rattle.lower_forms.proofs.Every.{every-form}
+use Rattle.lower_forms.proofs.Every.{every_form}
 use Rattle.base_lists.proofs.Each.{Each}
 use Rattle.base_lists.proofs.Bools.{either}
 use Rattle.lower_forms.proofs.Listed.{listed_same}
@@ -468,6 +468,6 @@ closing_within cycles a =
 pub forms_within : (multiplier : ℕ) (b : Block)
     → Each (λ r. form_most r ≤ 2200) (body_of multiplier b).forms
 forms_within =
-    every-form (λ r. form_most r ≤ 2200) shell_fits straight_fits branch_fits bx_fits
+    every_form (λ r. form_most r ≤ 2200) shell_fits straight_fits branch_fits bx_fits
     (λ thumb cycles rn rlist. pop_fits thumb cycles rn (listed rlist 15) (listed_length rlist 15))
     pair_fits

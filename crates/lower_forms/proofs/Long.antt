@@ -14,7 +14,7 @@ use Rattle.c_tree.specs.Expr.{Ty, u32, u64, int, mul, shl, shr, bor, x-r, reg, v
 use Rattle.c_tree.specs.Expr.{par, bin, cast}
 use Rattle.c_tree.specs.Stmt.{plus, f-nz64, declare, set, run, proc}
 use Rattle.c_meaning.specs.State.{State, Scope, empty, bind, update, value, set_c, enter}
-use Rattle.c_meaning.specs.Eval.{ty, eval, evalAs}
+use Rattle.c_meaning.specs.Eval.{ty, eval, eval_as}
 use Rattle.c_meaning.specs.Exec.{on, exec, others}
 use Rattle.c_meaning.specs.Helpers.{called, rotated}
 use Rattle.lower_forms.specs.InlineBody.{list_if, set_reg, widened, r64, mul_long_body}
@@ -24,11 +24,11 @@ use Rattle.armv4t_manual.specs.Operators.{CarryFrom}
 use Rattle.armv4t_manual.specs.Multiply.{absolute, product, multiply_long}
 use Rattle.lower_forms.specs.Agree.{Agrees}
 use Rattle.lower_forms.specs.Means.{Makes}
-use Rattle.lower_forms.proofs.Flags.{nz64-ok}
+use Rattle.lower_forms.proofs.Flags.{nz64_ok}
 use Rattle.lower_forms.proofs.Gives.{Reads, neg_bit}
 use Rattle.lower_forms.proofs.Multiply.{reg_reads}
-use Rattle.lower_forms.proofs.Steps.{exec1, step, stop, within, do-reg, with-scopes}
-use Rattle.lower_forms.proofs.Steps.{with-reg, with-flags}
+use Rattle.lower_forms.proofs.Steps.{exec1, step, stop, within, do_reg, with_scopes}
+use Rattle.lower_forms.proofs.Steps.{with_reg, with_flags}
 
 -- e has the type y and gives the pattern x
 pub record Is (y : Ty) (e : Expr) (z : State) (x : ℕ) : Type 0 where
@@ -36,26 +36,26 @@ pub record Is (y : Ty) (e : Expr) (z : State) (x : ℕ) : Type 0 where
   pub gives : eval rotated e z ≡ some x
 
 module _ (x : ℕ) (h : x < 4294967296) where
-  private-neg : (b : Bool) → bit x 31 ≡ b
+  private_neg : (b : Bool) → bit x 31 ≡ b
       → leb 9223372036854775808 (cond b (x + 18446744069414584320) x) ≡ b
-  private-neg true q =
+  private_neg true q =
       is_true _ (le→leb 9223372036854775808 (x + 18446744069414584320) (omega arith))
-  private-neg false q = is_false _ λ t. clash (leb→le 9223372036854775808 x t)
+  private_neg false q = is_false _ λ t. clash (leb→le 9223372036854775808 x t)
     where
       clash : 9223372036854775808 ≤ x → ⊥
       clash l = omega arith
 
-  ext-neg : leb 9223372036854775808 (cond (bit x 31) (x + 18446744069414584320) x) ≡ bit x 31
-  ext-neg = private-neg (bit x 31) refl
+  ext_neg : leb 9223372036854775808 (cond (bit x 31) (x + 18446744069414584320) x) ≡ bit x 31
+  ext_neg = private_neg (bit x 31) refl
 
-  ext-size : (b : Bool)
+  ext_size : (b : Bool)
       → cond b (18446744073709551616 - cond b (x + 18446744069414584320) x)
       (cond b (x + 18446744069414584320) x) ≡ cond b (4294967296 - x) x
-  ext-size true = omega arith
-  ext-size false = refl
+  ext_size true = omega arith
+  ext_size false = refl
 
-  size-le : absolute x ≤ 2147483648
-  size-le = go (bit x 31) (neg_bit x h)
+  size_le : absolute x ≤ 2147483648
+  size_le = go (bit x 31) (neg_bit x h)
     where
       go : (b : Bool) → leb 2147483648 x ≡ b → cond b (4294967296 - x) x ≤ 2147483648
       go true q = top (leb→le 2147483648 x (subst T (sym q) tt))
@@ -73,7 +73,7 @@ either true m n = refl
 either false m n = refl
 
 sized : (x y : ℕ) → x < 4294967296 → y < 4294967296 → absolute x * absolute y ≤ 4611686018427387904
-sized x y hx hy = mul-le-mul (size-le x hx) (size-le y hy)
+sized x y hx hy = mul-le-mul (size_le x hx) (size_le y hy)
 
 plain_lt : (x y : ℕ) → x < 4294967296 → y < 4294967296 → x * y < 18446744073709551616
 plain_lt x y hx hy =
@@ -128,10 +128,10 @@ module _ {z : State} {d e : Expr} {x y : ℕ} (p : Reads d z x) (q : Reads e z y
           q.typed,
           neg_bit x p.small,
           neg_bit y q.small,
-          ext-neg x p.small,
-          ext-neg y q.small,
-          ext-size x p.small (bit x 31),
-          ext-size y q.small (bit y 31),
+          ext_neg x p.small,
+          ext_neg y q.small,
+          ext_size x p.small (bit x 31),
+          ext_size y q.small (bit y 31),
           fits (absolute x * absolute y) (sized x y p.small q.small),
           fits_below (absolute x * absolute y) (sized x y p.small q.small),
         )
@@ -164,7 +164,7 @@ given64 x = update 0 (some (u64, some x)) opened64
 -- uint64_t r = e;
 do_declare64 : (fs : List Scope) (z : State) {e : Expr} {x : ℕ} → Is u64 e (within opened64 fs z) x
     → exec1 (declare (u64, x-r) e []) (within empty fs z) ≡ some (within (given64 x) fs z)
-unfolding exec others evalAs
+unfolding exec others eval_as
 do_declare64 fs z p = rw (p.gives, p.typed)
 
 -- r += e;
@@ -178,22 +178,22 @@ do_plus64 f fs z q p = rw (p.gives, q, p.typed)
 -- f_nz64(c, e);
 do_nz64 : {z : State} {e : Expr} {x : ℕ} → Is u64 e z x → {y : State}
     → called (proc f-nz64) (x ∷ []) z ≡ some (y, on) → exec1 (run f-nz64 e) z ≡ some y
-unfolding exec evalAs
+unfolding exec eval_as
 do_nz64 p q = rw (p.gives, p.typed, q)
 
 -- r, (uint32_t)r and (uint32_t)(r >> 32)
 module _ {z : State} {x : ℕ} (q : value (var (u64, x-r)) z ≡ some x) where
-  r-is : Is u64 r64 z x
+  r_is : Is u64 r64 z x
   unfolding eval
-  r-is = record { typed = refl; gives = q }
+  r_is = record { typed = refl; gives = q }
 
   low_reads : Reads (cast u32 r64) z (x % 4294967296)
   unfolding eval
   low_reads = record { typed = refl; gives = rw q; small = mod-lt x (lit< tt) }
 
-  high-reads : Reads (cast u32 (par (bin shr r64 (lit int 32)))) z (x / 4294967296 % 4294967296)
+  high_reads : Reads (cast u32 (par (bin shr r64 (lit int 32)))) z (x / 4294967296 % 4294967296)
   unfolding eval
-  high-reads = record { typed = refl; gives = rw q; small = mod-lt (x / 4294967296) (lit< tt) }
+  high_reads = record { typed = refl; gives = rw q; small = mod-lt (x / 4294967296) (lit< tt) }
 
 -- the halves of a sum of 64 bits
 module _ (p h l : ℕ) (hp : p < 18446744073709551616) (hh : h < 4294967296) (hl : l < 4294967296)
@@ -245,36 +245,36 @@ zero_halves r hr =
 module _ {z : State} {m : Machine} (s : Sound m) (a : Agrees z m) (rh rl rs rm : ℕ) (hh : rh < 15)
     (hl : rl < 15) (hs : rs < 15) (hm : rm < 15) where
   -- the stores and the flags, from r
-  long-end : (w : Bool) (u : State) (r h l : ℕ) → Agrees u m → value (var (u64, x-r)) u ≡ some r
+  long_end : (w : Bool) (u : State) (r h l : ℕ) → Agrees u m → value (var (u64, x-r)) u ≡ some r
       → r < 18446744073709551616 → r / 4294967296 % 4294967296 ≡ h → r % 4294967296 ≡ l
       → Makes (set_reg rl (cast u32 r64) ∷ set_reg rh (cast u32 (par (bin shr r64 (lit int 32))))
       ∷ list_if w (run f-nz64 r64)) u
       (M.set_reg rh h
       (M.set_reg rl l (cond w (set_flags (bit h 31) (eqb h 0 && eqb l 0) m.c m.v m) m)))
-  long-end false u r h l b q k eh el =
+  long_end false u r h l b q k eh el =
       rw (← eh, ← el)
-      (step (do-reg (low_reads q) rl (omega (arith, hl)))
-      (step (do-reg (high-reads q) rh (omega (arith, hh)))
-      (stop (with-reg (with-reg b rl (r % 4294967296) hl) rh (r / 4294967296 % 4294967296)
+      (step (do_reg (low_reads q) rl (omega (arith, hl)))
+      (step (do_reg (high_reads q) rh (omega (arith, hh)))
+      (stop (with_reg (with_reg b rl (r % 4294967296) hl) rh (r / 4294967296 % 4294967296)
       hh))))
-  long-end true u r h l b q k eh el =
-      let b2 = with-reg (with-reg b rl (r % 4294967296) hl) rh (r / 4294967296 % 4294967296) hh in
+  long_end true u r h l b q k eh el =
+      let b2 = with_reg (with_reg b rl (r % 4294967296) hl) rh (r / 4294967296 % 4294967296) hh in
       rw (← eh, ← el, ← zero_halves r k)
-      (step (do-reg (low_reads q) rl (omega (arith, hl)))
-      (step (do-reg (high-reads q) rh (omega (arith, hh)))
-      (step (do_nz64 (r-is q)
-      (nz64-ok m.other_bits s.other_bits m.n m.z m.c m.v r
+      (step (do_reg (low_reads q) rl (omega (arith, hl)))
+      (step (do_reg (high_reads q) rh (omega (arith, hh)))
+      (step (do_nz64 (r_is q)
+      (nz64_ok m.other_bits s.other_bits m.n m.z m.c m.v r
       (set_c rh (r / 4294967296 % 4294967296) (set_c rl (r % 4294967296) u)) b2.flags))
-      (stop (with-flags b2 (bit (r / 4294967296 % 4294967296) 31) (eqb r 0) m.c m.v)))))
+      (stop (with_flags b2 (bit (r / 4294967296 % 4294967296) 31) (eqb r 0) m.c m.v)))))
 
-  pub multiply-long-ok : (sig acc w : Bool)
+  pub multiply_long_ok : (sig acc w : Bool)
       → Makes (mul_long_body sig acc w rh rl rs rm) (enter z) (multiply_long sig acc w rh rl rs rm m)
-  multiply-long-ok sig acc w =
+  multiply_long_ok sig acc w =
       step (do_declare64 z.scopes z (product_is (at opened64 rm hm) (at opened64 rs hs) sig))
       (go acc)
     where
       at : (f : Scope) (r : ℕ) → r < 15 → Reads (get (reg r)) (within f z.scopes z) (m.r r)
-      at f r h = reg_reads {z = within f z.scopes z} s (with-scopes a _) r h
+      at f r h = reg_reads {z = within f z.scopes z} s (with_scopes a _) r h
 
       p : ℕ
       p = product sig (m.r rm) (m.r rs)
@@ -298,14 +298,14 @@ module _ {z : State} {m : Machine} (s : Sound m) (a : Agrees z m) (rh rl rs rm :
       go false =
           let e : (p + 0) % 18446744073709551616 ≡ p =
           ap (λ (k : ℕ). k % 18446744073709551616) (add-zero p) ∙ mod-eq_of_lt lt in
-          long-end w (within (given64 p) z.scopes z) p _ _ (with-scopes a _) refl lt
+          long_end w (within (given64 p) z.scopes z) p _ _ (with_scopes a _) refl lt
           (rw e at (sum-high p 0 0 lt (lit< tt) (lit< tt)))
           (rw e at (sum_low p 0 0 lt (lit< tt) (lit< tt)))
       go true =
           let r : ℕ = (p + (m.r rh * 4294967296 + m.r rl)) % 18446744073709551616 in
           step (do_plus64 (given64 p) z.scopes z refl
           (pair_is (at (given64 p) rh hh) (at (given64 p) rl hl)))
-          (long-end w (within (update 0 (some (u64, some r)) (given64 p)) z.scopes z) r _ _
-          (with-scopes a _) refl (mod-lt (p + (m.r rh * 4294967296 + m.r rl)) (lit< tt))
+          (long_end w (within (update 0 (some (u64, some r)) (given64 p)) z.scopes z) r _ _
+          (with_scopes a _) refl (mod-lt (p + (m.r rh * 4294967296 + m.r rl)) (lit< tt))
           (sum-high p (m.r rh) (m.r rl) lt (s.words rh hh) (s.words rl hl))
           (sum_low p (m.r rh) (m.r rl) lt (s.words rh hh) (s.words rl hl)))

@@ -12,11 +12,11 @@ use Rattle.c_tree.specs.Expr.{par, un, bin, cast, pick, read}
 use Rattle.c_meaning.specs.State.{State, load, byte}
 use Rattle.c_meaning.specs.Eval.{eval}
 use Rattle.armv4t_manual.specs.Operators.{SignExtend8, SignExtend16}
-use Rattle.lower_forms.proofs.Gives.{Reads, to, r-udec, r-par, r-not, r_and, r-mul}
+use Rattle.lower_forms.proofs.Gives.{Reads, to, r_udec, r_par, r_not, r_and, r_mul}
 
 module _ (f : ℕ → ℕ) (b : (a : ℕ) → f a < 256) where
-  pub load-small : (a : ℕ) → load w32 f a < 4294967296
-  load-small a =
+  pub load_small : (a : ℕ) → load w32 f a < 4294967296
+  load_small a =
       go (f a) (byte f a 1) (byte f a 2) (byte f a 3) (b a) (b ((a + 1) % 4294967296))
       (b ((a + 2) % 4294967296)) (b ((a + 3) % 4294967296))
     where
@@ -28,7 +28,7 @@ pub r_read : {z : State} {e : Expr} {x : ℕ} → Reads e z x → ((a : ℕ) →
     → Reads (read w32 e) z (load w32 z.mem x)
 unfolding eval
 r_read {z} {x = x} p b =
-    record { typed = refl; gives = rw (p.gives, p.typed); small = load-small z.mem b x }
+    record { typed = refl; gives = rw (p.gives, p.typed); small = load_small z.mem b x }
 
 pub half_small : (f : ℕ → ℕ) → ((a : ℕ) → f a < 256) → (a : ℕ) → load w16 f a < 65536
 half_small f b a = go (f a) (byte f a 1) (b a) (b ((a + 1) % 4294967296))
@@ -37,18 +37,18 @@ half_small f b a = go (f a) (byte f a 1) (b a) (b ((a + 1) % 4294967296))
     go p q hp hq = omega arith
 
 module _ {z : State} {e : Expr} {x : ℕ} (p : Reads e z x) (b : (a : ℕ) → z.mem a < 256) where
-  pub r-read16 : Reads (read w16 e) z (load w16 z.mem x)
+  pub r_read16 : Reads (read w16 e) z (load w16 z.mem x)
   unfolding eval
-  r-read16 =
+  r_read16 =
       record {
         typed = refl;
         gives = rw (p.gives, p.typed);
         small = le_trans (half_small z.mem b x) (lit≤ tt);
       }
 
-  pub r-read8 : Reads (read w8 e) z (z.mem x)
+  pub r_read8 : Reads (read w8 e) z (z.mem x)
   unfolding eval
-  r-read8 =
+  r_read8 =
       record { typed = refl; gives = rw (p.gives, p.typed); small = le_trans (b x) (lit≤ tt) }
 
 -- a number below 2 * d is at least d exactly if its top bit is set, where that is so by its numbers
@@ -72,18 +72,18 @@ cond_lt false p q hp hq = hq
 
 module _ {z : State} {e : Expr} {x : ℕ} (p : Reads e z x) where
   -- (uint32_t)(int32_t)(int8_t)e
-  pub r-signed8 : x < 256 → Reads (cast u32 (cast s32 (cast s8 e))) z (SignExtend8 x)
+  pub r_signed8 : x < 256 → Reads (cast u32 (cast s32 (cast s8 e))) z (SignExtend8 x)
   unfolding eval
-  r-signed8 h =
+  r_signed8 h =
       record {
         typed = refl;
         gives = rw (p.gives, p.typed, mod-eq_of_lt h, neg8 x h);
         small = cond_lt (bit x 7) (x + 4294967040) x (omega arith) p.small;
       }
 
-  pub r-signed16 : x < 65536 → Reads (cast u32 (cast s32 (cast s16 e))) z (SignExtend16 x)
+  pub r_signed16 : x < 65536 → Reads (cast u32 (cast s32 (cast s16 e))) z (SignExtend16 x)
   unfolding eval
-  r-signed16 h =
+  r_signed16 h =
       record {
         typed = refl;
         gives = rw (p.gives, p.typed, mod-eq_of_lt h, neg16 x h);
@@ -113,7 +113,7 @@ r_cleared : {z : State} {e : Expr} {x : ℕ} (m j k : ℕ) → m < 4294967296
     → Reads e z x → Reads (bin band e (un compl (lit udec m))) z (x / 2 ^ k * 2 ^ k)
 r_cleared {x = x} m j k l e h p =
     to (ap (AND x) e ∙ and_high x j k ∙ ap (λ (n : ℕ). n * 2 ^ k) (mod-eq_of_lt h))
-    (r_and p (r-not (r-udec l)))
+    (r_and p (r_not (r_udec l)))
 
 -- e & ~1u
 pub r_even : {z : State} {e : Expr} {x : ℕ} → Reads e z x
@@ -126,7 +126,7 @@ r_even {x = x} p = r_cleared 1 31 1 (lit< tt) refl (half x p.small) p
 -- e & 1u
 pub r_one : {z : State} {e : Expr} {x : ℕ} → Reads e z x
     → Reads (par (bin band e (lit udec 1))) z (x % 2)
-r_one {x = x} p = to (and_mask x 1) (r-par (r_and p (r-udec (lit< tt))))
+r_one {x = x} p = to (and_mask x 1) (r_par (r_and p (r_udec (lit< tt))))
 
 -- e & ~3u
 pub r_aligned : {z : State} {e : Expr} {x : ℕ} → Reads e z x
@@ -141,7 +141,7 @@ pub r_rotation : {z : State} {e : Expr} {x : ℕ} → Reads e z x
     → Reads (bin mul (par (bin band e (lit udec 3))) (lit udec 8)) z (8 * (x % 4))
 r_rotation {x = x} p =
     to (ap (λ (k : ℕ). k * 8 % 4294967296) (and_mask x 2) ∙ go x)
-    (r-mul (r-par (r_and p (r-udec (lit< tt)))) (r-udec (lit< tt)))
+    (r_mul (r_par (r_and p (r_udec (lit< tt)))) (r_udec (lit< tt)))
   where
     go : (x : ℕ) → x % 4 * 8 % 4294967296 ≡ 8 * (x % 4)
     go x = omega arith

@@ -8,7 +8,7 @@ use Rattle.armv4t.specs.declared.Instr.{Instr}
 use Rattle.armv4t.specs.InRange.{InRange}
 use Rattle.lower_forms.specs.Means.{OpMeans}
 use Rattle.lower_forms.proofs.Body.{not_none, alu_means, mul_means, mul_long_means}
-use Rattle.lower_forms.proofs.Body.{mem-means}
+use Rattle.lower_forms.proofs.Body.{mem_means}
 use Rattle.lower_forms.proofs.BodyMultiple.{block_mem_means}
 
 -- each operation; what is not lowered to lines is none of these
@@ -22,7 +22,7 @@ op_means i (Branch link target) r = λ ls q z m s a bad d next o. absurd (not_no
 op_means i (ThumbBlHigh lr) r = λ ls q z m s a bad d next o. absurd (not_none q)
 op_means i (ThumbBlLow off) r = λ ls q z m s a bad d next o. absurd (not_none q)
 op_means i (Mem ld width signed rd rn offset pre up writeback) r =
-    mem-means i ld width signed rd rn offset pre up writeback r
+    mem_means i ld width signed rd rn offset pre up writeback r
 op_means i (BlockMem ld rn rlist pre up s_bit writeback) r =
     block_mem_means i ld rn rlist pre up s_bit writeback r
 op_means i (Mrs spsr rd) r = λ ls q z m s a bad d next o. absurd (not_none q)

@@ -20,8 +20,8 @@ use Rattle.lower_forms.specs.Operands.{reg_expr, carry_in, shift_exprs}
 use Rattle.armv4t_manual.specs.Machine.{Machine, pack, R, Sound}
 use Rattle.armv4t_manual.specs.Operators.{arithmetic_shift_right}
 use Rattle.armv4t_manual.specs.Shifter.{shift}
-use Rattle.lower_forms.proofs.Gives.{Reads, to, r-reg, r-udec, r-word, r-par, r_and, r-or}
-use Rattle.lower_forms.proofs.Gives.{r-shl, r-shr, r-shr-int, r-shl-int, r-bit, r-asr, r_ror}
+use Rattle.lower_forms.proofs.Gives.{Reads, to, r_reg, r_udec, r_word, r_par, r_and, r_or}
+use Rattle.lower_forms.proofs.Gives.{r_shl, r_shr, r_shr_int, r_shl_int, r_bit, r_asr, r_ror}
 
 pub same_of : (i k : ℕ) → eqb i k ≡ true → i ≡ k
 same_of i k q = eqb→eq i k (subst T (sym q) tt)
@@ -66,23 +66,23 @@ pc_lt i = mod-lt (i.addr + pc_ahead i.thumb) (lit< tt)
 
 module _ (z : State) (m : Machine) (s : Sound m) (i : Instr) (g : Regs z m) where
   -- c[r], and PC where r is 15
-  pub operand-reads : (r : ℕ) → r ≤ 15 → Reads (reg_expr i r) z (R m (pc_value i) r)
-  operand-reads r h = go (eqb r 15) refl
+  pub operand_reads : (r : ℕ) → r ≤ 15 → Reads (reg_expr i r) z (R m (pc_value i) r)
+  operand_reads r h = go (eqb r 15) refl
     where
       up : (r : ℕ) → r ≤ 15 → r ≤ 16
       up r h = omega arith
 
       go : (b : Bool) → eqb r 15 ≡ b → Reads (reg_expr i r) z (R m (pc_value i) r)
-      go true q = rw q (r-word (pc_lt i))
-      go false q = let l = under r h q in rw q (r-reg r (up r h) (g r l) (s.words r l))
+      go true q = rw q (r_word (pc_lt i))
+      go false q = let l = under r h q in rw q (r_reg r (up r h) (g r l) (s.words r l))
 
 -- ((c[16] >> 29) & 1u)
 pub carry_reads : (z : State) (n zf c v : Bool) (low : ℕ) → low < 2 ^ 28
     → z.c 16 ≡ pack n zf c v low → Reads carry_in z (one_if c)
 carry_reads z n zf c v low h f =
     to (and_mask (pack n zf c v low / 2 ^ 29) 1 ∙ pack_c n zf c v low h)
-    (r-par (r_and (r-par (r-shr-int (r-reg 16 (lit≤ tt) f (pack_lt n zf c v low h)) 29 (lit< tt)))
-    (r-udec (lit< tt))))
+    (r_par (r_and (r_par (r_shr_int (r_reg 16 (lit≤ tt) f (pack_lt n zf c v low h)) 29 (lit< tt)))
+    (r_udec (lit< tt))))
 
 count_lt : {i : ℕ} → i < 32 → i < 4294967296
 count_lt h = le_trans h (lit≤ tt)
@@ -107,19 +107,19 @@ module _ (z : State) (n zf c v : Bool) (low : ℕ) (h : low < 2 ^ 28)
       half : (x : ℕ) → x < 4294967296 → x / 2 < 2147483648
       half x h = omega arith
 
-  pub shift-reads : (k : ShiftKind) (i : ℕ) → i < 32
+  pub shift_reads : (k : ShiftKind) (i : ℕ) → i < 32
       → Reads (shift_exprs e k i).0 z (shift k x i c).0
-  shift-reads Lsl zero l = p
-  shift-reads Lsl (suc i) l = r-par (r-shl p (r-udec (count_lt l)) l)
-  shift-reads Lsr zero l = r-udec (lit< tt)
-  shift-reads Lsr (suc i) l = r-par (r-shr p (r-udec (count_lt l)) l)
-  shift-reads Asr zero l = to (asr_all x p.small) (r-asr p 31 (lit< tt))
-  shift-reads Asr (suc i) l = r-asr p (suc i) l
-  shift-reads Ror zero l =
-      to rrx (r-par
-      (r-or (r-par (r-shl-int (carry_reads z n zf c v low h f) 31 (lit< tt)))
-      (r-par (r-shr p (r-udec (lit< tt)) (lit< tt)))))
-  shift-reads Ror (suc i) l = r_ror p (r-udec (count_lt l)) l
+  shift_reads Lsl zero l = p
+  shift_reads Lsl (suc i) l = r_par (r_shl p (r_udec (count_lt l)) l)
+  shift_reads Lsr zero l = r_udec (lit< tt)
+  shift_reads Lsr (suc i) l = r_par (r_shr p (r_udec (count_lt l)) l)
+  shift_reads Asr zero l = to (asr_all x p.small) (r_asr p 31 (lit< tt))
+  shift_reads Asr (suc i) l = r_asr p (suc i) l
+  shift_reads Ror zero l =
+      to rrx (r_par
+      (r_or (r_par (r_shl_int (carry_reads z n zf c v low h f) 31 (lit< tt)))
+      (r_par (r_shr p (r_udec (lit< tt)) (lit< tt)))))
+  shift_reads Ror (suc i) l = r_ror p (r_udec (count_lt l)) l
 
 -- a carry that is not written stays
 abbrev pub CarryIs : Option Expr → State → Bool → Bool → Type 0
@@ -130,41 +130,41 @@ pub shift_carries : (z : State) {e : Expr} {x : ℕ} → Reads e z x
     → (c : Bool) (k : ShiftKind) (i : ℕ) → i < 32
     → CarryIs (shift_exprs e k i).1 z c (shift k x i c).1
 shift_carries z p c Lsl zero l = refl
-shift_carries z p c Lsl (suc i) l = r-bit p (32 - suc i) (omega arith)
+shift_carries z p c Lsl (suc i) l = r_bit p (32 - suc i) (omega arith)
 shift_carries z {x = x} p c Lsr zero l =
-    to (top_bit x p.small) (r-par (r-shr p (r-udec (lit< tt)) (lit< tt)))
-shift_carries z p c Lsr (suc i) l = r-bit p i (omega arith)
+    to (top_bit x p.small) (r_par (r_shr p (r_udec (lit< tt)) (lit< tt)))
+shift_carries z p c Lsr (suc i) l = r_bit p i (omega arith)
 shift_carries z {x = x} p c Asr zero l =
-    to (top_bit x p.small) (r-par (r-shr p (r-udec (lit< tt)) (lit< tt)))
-shift_carries z p c Asr (suc i) l = r-bit p i (omega arith)
+    to (top_bit x p.small) (r_par (r_shr p (r_udec (lit< tt)) (lit< tt)))
+shift_carries z p c Asr (suc i) l = r_bit p i (omega arith)
 shift_carries z {x = x} p c Ror zero l =
     to (and_mask x 1 ∙ sym (bit_num x 0 ∙ ap (λ (k : ℕ). k % 2) (div-one x)))
-    (r-par (r_and p (r-udec (lit< tt))))
-shift_carries z p c Ror (suc i) l = r-bit p i (omega arith)
+    (r_par (r_and p (r_udec (lit< tt))))
+shift_carries z p c Ror (suc i) l = r_bit p i (omega arith)
 
 module _ (z : State) (m : Machine) (s : Sound m) (i : Instr) (g : Regs z m) where
   -- a register shifted by an amount
-  pub shifted-reads : z.c 16 ≡ pack m.n m.z m.c m.v m.other_bits
+  pub shifted_reads : z.c 16 ≡ pack m.n m.z m.c m.v m.other_bits
       → (rm : ℕ) (k : ShiftKind) (n : ℕ) → rm ≤ 15 → n < 32
       → Reads (shift_exprs (reg_expr i rm) k n).0 z (shift k (R m (pc_value i) rm) n m.c).0
-  shifted-reads f rm k n h l =
-      shift-reads z m.n m.z m.c m.v m.other_bits s.other_bits f
-      (operand-reads z m s i g rm h) k n l
+  shifted_reads f rm k n h l =
+      shift_reads z m.n m.z m.c m.v m.other_bits s.other_bits f
+      (operand_reads z m s i g rm h) k n l
 
   -- the carry out of a value, and out of a register shifted
-  pub value-carries : (x rot : ℕ)
+  pub value_carries : (x rot : ℕ)
       → CarryIs (cond (eqb rot 0) none (some (lit udec (x / 2 ^ 31 % 2)))) z m.c
       (cond (eqb rot 0) m.c (bit x 31))
-  value-carries x rot = go (eqb rot 0)
+  value_carries x rot = go (eqb rot 0)
     where
       go : (b : Bool)
           → CarryIs (cond b none (some (lit udec (x / 2 ^ 31 % 2)))) z m.c
           (cond b m.c (bit x 31))
       go true = refl
       go false =
-          to (sym (bit_num x 31)) (r-udec (le_trans (mod-lt (x / 2 ^ 31) (lit< tt)) (lit≤ tt)))
+          to (sym (bit_num x 31)) (r_udec (le_trans (mod-lt (x / 2 ^ 31) (lit< tt)) (lit≤ tt)))
 
-  pub shifted-carries : (rm : ℕ) (k : ShiftKind) (n : ℕ) → rm ≤ 15 → n < 32
+  pub shifted_carries : (rm : ℕ) (k : ShiftKind) (n : ℕ) → rm ≤ 15 → n < 32
       → CarryIs (shift_exprs (reg_expr i rm) k n).1 z m.c
       (shift k (R m (pc_value i) rm) n m.c).1
-  shifted-carries rm k n h l = shift_carries z (operand-reads z m s i g rm h) m.c k n l
+  shifted_carries rm k n h l = shift_carries z (operand_reads z m s i g rm h) m.c k n l

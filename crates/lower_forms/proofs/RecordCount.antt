@@ -14,7 +14,7 @@ use Rattle.lower_forms.specs.Forms.{Lines, records_in, Form, native, shell}
 use Rattle.lower_forms.specs.InlineBody.{inline_body}
 use Rattle.lower_forms.specs.Block.{emit_lines, emit_instr, emit_instrs, body_of}
 use Rattle.file_blocks.specs.Address.{region}
-use Rattle.lower_forms.proofs.Every.{fused_or_lem, every-instr}
+use Rattle.lower_forms.proofs.Every.{fused_or_lem, every_instr}
 use Rattle.base_lists.proofs.Bools.{either}
 
 -- how many records a form stands for
@@ -37,7 +37,7 @@ lines_count thumb touchesBus cycles x (some body) =
 pub instr_count_lem : (thumb : Bool) (region cycles : ℕ) (x : TimedInstr)
     → record_count (emit_instr thumb region cycles x).0 ≡ 1
 instr_count_lem =
-    every-instr (λ r. record_count r ≡ 1) (λ thumb high cycles i. refl)
+    every_instr (λ r. record_count r ≡ 1) (λ thumb high cycles i. refl)
     (λ thumb touchesBus cycles x. lines_count thumb touchesBus cycles x
     (inline_body thumb x.instr))
     (λ thumb cycles i link target. either (λ r. records_in r ≡ 1) (is_al i.cond) refl refl)

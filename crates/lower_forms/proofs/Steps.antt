@@ -10,7 +10,7 @@ use Rattle.base_words.proofs.Bits.{is_true, is_false}
 use Rattle.c_tree.specs.Expr.{u32, Name, reg, var, Expr}
 use Rattle.c_tree.specs.Stmt.{is, plus, f-nz, f-c, Plain, declare, adds, set, run, op-adds, proc}
 use Rattle.c_meaning.specs.State.{State, Scope, update, index, set_c, set_scopes}
-use Rattle.c_meaning.specs.Eval.{evalAs}
+use Rattle.c_meaning.specs.Eval.{eval_as}
 use Rattle.c_meaning.specs.Exec.{on, back, exec, others}
 use Rattle.c_meaning.specs.Perform.{execs, perform}
 use Rattle.c_meaning.specs.Helpers.{called, rotated}
@@ -50,7 +50,7 @@ self k = is_true (eqb k k) (eqb_refl k)
 pub do_declare : (x : Name) (f : Scope) (fs : List Scope) (z : State) {e : Expr} {k : ℕ}
     → f (index x) ≡ none → Reads e (within (opened x f) fs z) k
     → exec1 (declare (u32, x) e []) (within f fs z) ≡ some (within (given x k f) fs z)
-unfolding exec others evalAs
+unfolding exec others eval_as
 do_declare x f fs z q p = rw (q, p.gives, p.typed, self (index x))
 
 -- uint32_t x = op_adds(c, d, e, g);
@@ -61,7 +61,7 @@ pub do_adds : (x : Name) (f : Scope) (fs : List Scope) (z : State) (v : ℕ) {d 
     → called op-adds (k ∷ l ∷ i ∷ []) (within (opened x f) fs z)
     ≡ some (set_c 16 v (within (opened x f) fs z), back r)
     → exec1 (adds x d e g) (within f fs z) ≡ some (within (given x r f) fs (set_c 16 v z))
-unfolding exec evalAs
+unfolding exec eval_as
 do_adds x f fs z v q p s t h =
     rw (q, p.gives, p.typed, s.gives, s.typed, t.gives, t.typed, h, self (index x))
 
@@ -74,20 +74,20 @@ unfolding exec
 do_plus x f fs z q p = rw (p.gives, p.typed, q)
 
 module _ {z : State} {e : Expr} {x : ℕ} (p : Reads e z x) where
-  pub do-nz : {y : State} → called (proc f-nz) (x ∷ []) z ≡ some (y, on)
+  pub do_nz : {y : State} → called (proc f-nz) (x ∷ []) z ≡ some (y, on)
       → exec1 (run f-nz e) z ≡ some y
-  unfolding exec evalAs
-  do-nz q = rw (p.gives, p.typed, q)
+  unfolding exec eval_as
+  do_nz q = rw (p.gives, p.typed, q)
 
-  pub do-c : {y : State} → called (proc f-c) (x ∷ []) z ≡ some (y, on)
+  pub do_c : {y : State} → called (proc f-c) (x ∷ []) z ≡ some (y, on)
       → exec1 (run f-c e) z ≡ some y
-  unfolding exec evalAs
-  do-c q = rw (p.gives, p.typed, q)
+  unfolding exec eval_as
+  do_c q = rw (p.gives, p.typed, q)
 
   -- c[k] = e;
-  pub do-reg : (k : ℕ) → k ≤ 16 → exec1 (set (reg k) is e) z ≡ some (set_c k x z)
+  pub do_reg : (k : ℕ) → k ≤ 16 → exec1 (set (reg k) is e) z ≡ some (set_c k x z)
   unfolding exec
-  do-reg k h = rw (p.gives, p.typed, le_true h)
+  do_reg k h = rw (p.gives, p.typed, le_true h)
 
 pub ne : (i k : ℕ) → i < k → eqb i k ≡ false
 ne i k h = is_false (eqb i k) λ t. clash i k h (eqb→eq i k t)
@@ -103,11 +103,11 @@ gt i k h = is_false (eqb i k) λ t. clash i k h (eqb→eq i k t)
 
 module _ {z : State} {m : Machine} (a : Agrees z m) where
   -- locals do not matter
-  pub with-scopes : (fs : List Scope) → Agrees (set_scopes fs z) m
-  with-scopes fs = record { regs = a.regs; flags = a.flags; memory = a.memory }
+  pub with_scopes : (fs : List Scope) → Agrees (set_scopes fs z) m
+  with_scopes fs = record { regs = a.regs; flags = a.flags; memory = a.memory }
 
-  pub with-reg : (k x : ℕ) → k < 15 → Agrees (set_c k x z) (set_reg k x m)
-  with-reg k x h =
+  pub with_reg : (k x : ℕ) → k < 15 → Agrees (set_c k x z) (set_reg k x m)
+  with_reg k x h =
       record {
         regs = λ i l. ap (cond (eqb i k) x) (a.regs i l);
         flags = rw (gt 16 k (omega arith)) a.flags;
@@ -124,11 +124,11 @@ module _ {z : State} {m : Machine} (a : Agrees z m) where
       }
 
   -- the last value put into a register stands
-  pub with-over : (k x j y : ℕ) → k < 15 → j ≡ k → Agrees (set_c k x z) (set_reg k x (set_reg j y m))
-  with-over k x j y h e =
+  pub with_over : (k x j y : ℕ) → k < 15 → j ≡ k → Agrees (set_c k x z) (set_reg k x (set_reg j y m))
+  with_over k x j y h e =
       rw e (record {
         regs = λ i l. go (eqb i k) (a.regs i l);
-        flags = (with-reg k x h).flags;
+        flags = (with_reg k x h).flags;
         memory = a.memory;
       })
     where
@@ -136,9 +136,9 @@ module _ {z : State} {m : Machine} (a : Agrees z m) where
       go true r = refl
       go false r = r
 
-  pub with-flags : (n zf c v : Bool)
+  pub with_flags : (n zf c v : Bool)
       → Agrees (set_c 16 (pack n zf c v m.other_bits) z) (set_flags n zf c v m)
-  with-flags n zf c v =
+  with_flags n zf c v =
       record {
         regs = λ i l. rw (ne i 16 (omega arith)) (a.regs i l);
         flags = refl;

@@ -15,7 +15,7 @@ use Rattle.armv4t.specs.declared.Op.TheVariants.{Alu, MulLong, Mem, BlockMem}
 use Rattle.armv4t.specs.declared.Instr.{Instr}
 use Rattle.c_tree.specs.Expr.{w32}
 use Rattle.c_meaning.specs.State.{bind, update, State, empty, enter, load}
-use Rattle.c_meaning.specs.Eval.{eval, evalAs}
+use Rattle.c_meaning.specs.Eval.{eval, eval_as}
 use Rattle.c_meaning.specs.Exec.{exec, others, asks, step, runs}
 use Rattle.c_meaning.specs.Perform.{execs, perform}
 use Rattle.c_meaning.specs.Helpers.{rotated, called}
@@ -114,7 +114,7 @@ Each (x ∷ more) =
     (text_has x.0 x.1 ≡ some x.2) × (manual_has x.0 x.1 ≡ some x.2) × Each more
 
 small_instructions : Each cases
-unfolding perform execs exec others evalAs eval rotated called step runs asks AND OR listed M.listed
+unfolding perform execs exec others eval_as eval rotated called step runs asks AND OR listed M.listed
 small_instructions = (
   refl,
   refl,

@@ -18,18 +18,18 @@ use Rattle.lower_reasons.specs.Reasons.{ListFields, fields_of, pops_pc, is_indir
 use Rattle.lower_reasons.specs.Said.{drops_rest_by}
 
 module _ (region : ℕ) (c : Cond) where
-  pub leaves-not : (op : Op) → is_al c ≡ false → false ≡ drops_rest_by region c op
+  pub leaves_not : (op : Op) → is_al c ≡ false → false ≡ drops_rest_by region c op
   unfolding drops_rest_by
-  leaves-not op h = rw (h, and-false (is_indirect_exit (fields_of op)))
+  leaves_not op h = rw (h, and-false (is_indirect_exit (fields_of op)))
 
-  pub leaves-branch : (link : Bool) (target : ℕ) → is_al c ≡ true
+  pub leaves_branch : (link : Bool) (target : ℕ) → is_al c ≡ true
       → true ≡ drops_rest_by region c (Branch link target)
   unfolding drops_rest_by
-  leaves-branch link target h = rw h
+  leaves_branch link target h = rw h
 
-  pub leaves-bx : (rm : ℕ) → is_al c ≡ true → not (eqb region 0) ≡ drops_rest_by region c (Bx rm)
+  pub leaves_bx : (rm : ℕ) → is_al c ≡ true → not (eqb region 0) ≡ drops_rest_by region c (Bx rm)
   unfolding drops_rest_by
-  leaves-bx rm h = rw (h, or-false (not (eqb region 0)))
+  leaves_bx rm h = rw (h, or-false (not (eqb region 0)))
 
   module _ (load : Bool) (rn rlist : ℕ) (pre up s writeback : Bool) (h : is_al c ≡ true) where
     abbrev t : ListFields
@@ -44,20 +44,20 @@ module _ (region : ℕ) (c : Cond) where
           writeback = writeback;
         }
 
-    pub leaves-bios : region ≡ 0
+    pub leaves_bios : region ≡ 0
         → false ≡ drops_rest_by region c (BlockMem load rn rlist pre up s writeback)
     unfolding drops_rest_by
-    leaves-bios e = rw (h, eq-eqb region 0 e, and-false (pops_pc t))
+    leaves_bios e = rw (h, eq-eqb region 0 e, and-false (pops_pc t))
 
-    pub leaves-pop : (region ≡ 0 → ⊥)
+    pub leaves_pop : (region ≡ 0 → ⊥)
         → pops_pc t ≡ drops_rest_by region c (BlockMem load rn rlist pre up s writeback)
     unfolding drops_rest_by
-    leaves-pop e = rw (h, ne_eqb region 0 e, and-true (pops_pc t), or-false (pops_pc t))
+    leaves_pop e = rw (h, ne_eqb region 0 e, and-true (pops_pc t), or-false (pops_pc t))
 
-  pub leaves-other : (op : Op) → OneOf (others 15 (4 ∷ 5 ∷ 9 ∷ [])) (tag_of the_type op)
+  pub leaves_other : (op : Op) → OneOf (others 15 (4 ∷ 5 ∷ 9 ∷ [])) (tag_of the_type op)
       → false ≡ drops_rest_by region c op
   unfolding drops_rest_by
-  leaves-other op o =
+  leaves_other op o =
       sym (and-false (is_al c))
       ∙ sym (arm enum (λ (x : Op). drops_rest_by region c x ≡ (is_al c && false))
       (others 15 (4 ∷ 5 ∷ 9 ∷ [])) op o (search depth 16))

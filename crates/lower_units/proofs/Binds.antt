@@ -125,32 +125,32 @@ AllBind rs = Each (λ (r : Form). form_binds r ≡ true) rs
 
 -- a block whose forms bind
 module _ (ks : List ℕ) (b : Body) where
-  closing-binds : code_binds false (closing ks b) ≡ true
+  closing_binds : code_binds false (closing ks b) ≡ true
   unfolding code_binds closing
-  closing-binds =
+  closing_binds =
       lines_bind_lem common 4 (closing_lines b) _ (closing_lines_bind b.pending (body_end b))
       (transfer_binds ks b.addr common 4 _ end refl)
 
-  code-from-binds : (i : ℕ) (rs : List Form) → AllBind rs
+  code_from_binds : (i : ℕ) (rs : List Form) → AllBind rs
       → code_binds false (code_from ks b i rs) ≡ true
   unfolding code_binds simple_binds test_binds binds level code_from
-  code-from-binds i [] h = closing-binds
-  code-from-binds i (Form.native r ∷ rs) h =
-      native_binds_lem ks b.addr _ r _ h.0 (code-from-binds (i + records_in r) rs h.1)
-  code-from-binds i (shell true t k ∷ []) h = lines_bind_lem common 4 t _ h.0 closing-binds
-  code-from-binds i (shell false t k ∷ []) h = lines_bind_lem common 4 t _ h.0 refl
-  code-from-binds i (shell u t k ∷ r ∷ rs) h =
-      lines_bind_lem common 4 t _ h.0 (code-from-binds (i + 1) (r ∷ rs) h.1)
+  code_from_binds i [] h = closing_binds
+  code_from_binds i (Form.native r ∷ rs) h =
+      native_binds_lem ks b.addr _ r _ h.0 (code_from_binds (i + records_in r) rs h.1)
+  code_from_binds i (shell true t k ∷ []) h = lines_bind_lem common 4 t _ h.0 closing_binds
+  code_from_binds i (shell false t k ∷ []) h = lines_bind_lem common 4 t _ h.0 refl
+  code_from_binds i (shell u t k ∷ r ∷ rs) h =
+      lines_bind_lem common 4 t _ h.0 (code_from_binds (i + 1) (r ∷ rs) h.1)
 
-  guard-binds : (h : Option ℕ) → AllBind b.forms → code_binds false (under_guard ks b h) ≡ true
+  guard_binds : (h : Option ℕ) → AllBind b.forms → code_binds false (under_guard ks b h) ≡ true
   unfolding code_binds simple_binds plain_binds test_binds binds under_guard
-  guard-binds none h = refl
-  guard-binds (some x) h = code-from-binds 0 b.forms h
+  guard_binds none h = refl
+  guard_binds (some x) h = code_from_binds 0 b.forms h
 
-  pub block-binds : AllBind b.forms → code_binds false (block_code ks b) ≡ true
+  pub block_binds : AllBind b.forms → code_binds false (block_code ks b) ≡ true
   unfolding block_code
-  block-binds h =
-      pick (outside_rom_bios b.addr) _ _ (guard-binds b.hash h) (code-from-binds 0 b.forms h)
+  block_binds h =
+      pick (outside_rom_bios b.addr) _ _ (guard_binds b.hash h) (code_from_binds 0 b.forms h)
 
 -- blocks that bind
 abbrev pub Binding : Body → Type 0
@@ -165,7 +165,7 @@ unfolding code_binds simple_binds labelled
 labelled_binds ks [] h = refl
 labelled_binds ks (b ∷ bs) h =
     binds_append false (block_code ks b) _
-    ∙ both (code_binds false (block_code ks b)) _ (block-binds ks b h.0)
+    ∙ both (code_binds false (block_code ks b)) _ (block_binds ks b h.0)
     (labelled_binds ks bs h.1)
 
 forwarders_bind : (k n : ℕ) (bs : List Body) (t : Top) → Memᴰ t (forwarders k n bs)
@@ -179,7 +179,7 @@ forwarders_bind k n (b ∷ bs) t (Memᴰ.tail m) = forwarders_bind k (suc n) bs 
 pub group_binds : (bs : List Body) → AllBinding bs → (t : Top) → Memᴰ t (emit_group bs)
     → top_binds t ≡ true
 unfolding code_binds simple_binds plain_binds emit_group emit_block with_locals group_code
-group_binds (b ∷ []) h t (Memᴰ.head e) = rw e (block-binds [] b h.0)
+group_binds (b ∷ []) h t (Memᴰ.head e) = rw e (block_binds [] b h.0)
 group_binds (b ∷ []) h t (Memᴰ.tail (Memᴰ.head e)) = rw e
 group_binds (b ∷ c ∷ bs) h t (Memᴰ.head e) =
     rw e (labelled_binds (map body_key (b ∷ c ∷ bs)) (b ∷ c ∷ bs) h)

@@ -31,8 +31,8 @@ use Rattle.lower_forms.specs.Agree.{Agrees}
 use Rattle.lower_units.specs.Text.{Continues, Leaves, Acts, continues, leaves}
 use Rattle.lower_units.specs.Records.{is_taken, is_named_difference}
 use Rattle.lower_forms.proofs.Body.{some_same}
-use Rattle.lower_units.proofs.Exits.{jump-leaves, branch_leaves, branch-continues}
-use Rattle.lower_units.proofs.Outcome.{Outcome, done, skipped, outcome, al_passes, not-nv}
+use Rattle.lower_units.proofs.Exits.{jump_leaves, branch_leaves, branch_continues}
+use Rattle.lower_units.proofs.Outcome.{Outcome, done, skipped, outcome, al_passes, not_nv}
 
 key_lt : (t : Bool) (target : ℕ) → target < 4294967296 → target % 2 ≡ 0
     → key_of target t < 4294967296
@@ -95,7 +95,7 @@ module _ (i : Instr) (link : Bool) (target : ℕ) (r : InRange (Branch link targ
       (same_branch i.addr m target r.1 i.thumb link f) (go (is_al i.cond))
     where
       go : (b : Bool) → Leaves (native_text ks a o (form b)) z (cond link (set_reg 14 ret m) m, k)
-      go true = jump-leaves ks a o n link ret target k hr r.0 hk at g
+      go true = jump_leaves ks a o n link ret target k hr r.0 hk at g
       go false = branch_leaves ks a o n link ret target k hr r.0 hk at s g i.cond nv p
 
   missed : passed i.cond m ≡ false
@@ -105,7 +105,7 @@ module _ (i : Instr) (link : Bool) (target : ℕ) (r : InRange (Branch link targ
     where
       go : (b : Bool) → is_al i.cond ≡ b → Continues (native_text ks a o (form b)) z m
       go true e = absurd (true≢false (sym (al_passes i.cond e m) ∙ p))
-      go false e = branch-continues ks a o n link ret target k hr r.0 hk at s g i.cond nv p
+      go false e = branch_continues ks a o n link ret target k hr r.0 hk at s g i.cond nv p
 
 -- a branch: where its condition passes the text leaves as the manual's branch does, and where it
 -- fails the text continues with the machine as it was
@@ -120,7 +120,7 @@ branch_means i link target q r n ks a o {z} {m} s g d next e = let w = outcome i
     go (subst (λ (op : Op). no_instruction_of i.thumb i.cond op ≡ false) q w.0) w.1
   where
     nv : is_nv i.cond ≡ false
-    nv = not-nv i m d
+    nv = not_nv i m d
 
     Result : Machine × ℕ → Type 0
     Result next =

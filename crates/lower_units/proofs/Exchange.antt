@@ -16,7 +16,7 @@ use Rattle.c_tree.specs.Stmt.{is, and, or, Plain, declare, set, other, Owner, ga
 use Rattle.c_tree.specs.Stmt.{◌⨾◌, when, braces}
 use Rattle.c_tree.specs.Preamble.{v32}
 use Rattle.c_meaning.specs.State.{bind, State, empty, set_c, enter, leave}
-use Rattle.c_meaning.specs.Eval.{eval, evalAs}
+use Rattle.c_meaning.specs.Eval.{eval, eval_as}
 use Rattle.c_meaning.specs.Exec.{back, Outcome, next, asks, exec, step, runs}
 use Rattle.c_meaning.specs.Perform.{execs, perform}
 use Rattle.c_meaning.specs.Helpers.{rotated, run}
@@ -29,14 +29,14 @@ use Rattle.armv4t_manual.specs.Machine.{Machine, pack, R, set_t, Sound}
 use Rattle.armv4t_manual.specs.Execute.{branch_exchange}
 use Rattle.lower_forms.specs.Agree.{Agrees}
 use Rattle.lower_units.specs.Text.{Leaves}
-use Rattle.lower_forms.proofs.Gives.{Reads, to, r-udec, r-uhex, r-par, r_and, r-or, r-not, r-var}
+use Rattle.lower_forms.proofs.Gives.{Reads, to, r_udec, r_uhex, r_par, r_and, r_or, r_not, r_var}
 use Rattle.lower_forms.proofs.Memory.{r_even, r_aligned}
-use Rattle.lower_forms.proofs.Operands.{operand-reads, one_lt}
+use Rattle.lower_forms.proofs.Operands.{operand_reads, one_lt}
 use Rattle.lower_units.proofs.Lines.{run_plain, run_line}
 use Rattle.lower_units.proofs.Wrapped.{after_ticks}
 use Rattle.lower_units.proofs.Exits.{with_pc, closed_out}
-use Rattle.lower_forms.proofs.Steps.{ne, exec1, opened, given, within, do_declare, do-reg}
-use Rattle.lower_forms.proofs.Steps.{with-scopes}
+use Rattle.lower_forms.proofs.Steps.{ne, exec1, opened, given, within, do_declare, do_reg}
+use Rattle.lower_forms.proofs.Steps.{with_scopes}
 use Rattle.lower_forms.proofs.Flags.{nib}
 use Rattle.lower_units.proofs.Aligned.{plus_zero, twos, zeros}
 
@@ -98,33 +98,33 @@ nib_lt n z c v =
     go n z c v hn hz hc hv = omega arith
 
 module _ (n z c v : Bool) (low : ℕ) (h : low < 2 ^ 28) where
-  t-set : OR (pack n z c v low) 32 ≡ pack n z c v (low / 64 * 64 + one_if true * 32 + low % 32)
+  t_set : OR (pack n z c v low) 32 ≡ pack n z c v (low / 64 * 64 + one_if true * 32 + low % 32)
   unfolding nib
-  t-set = or_block 28 (nib n z c v) 0 low 32 h (lit< tt)
+  t_set = or_block 28 (nib n z c v) 0 low 32 h (lit< tt)
       ∙ ap₂ (λ (p q : ℕ). p * 2 ^ 28 + q) (or_zero_r (nib n z c v)) (t_set_low low)
 
-  t-clear : AND (pack n z c v low) 4294967263
+  t_clear : AND (pack n z c v low) 4294967263
       ≡ pack n z c v (low / 64 * 64 + one_if false * 32 + low % 32)
   unfolding nib
-  t-clear =
+  t_clear =
       and_block 28 (nib n z c v) 15 low (2 ^ 28 - 33) h (lit< tt)
       ∙ ap₂ (λ (p q : ℕ). p * 2 ^ 28 + q) (and_mask (nib n z c v) 4 ∙ mod-eq_of_lt (nib_lt n z c v))
       (t_clear_low low h)
 
 -- c[16] |= e; and c[16] &= e;
 module _ {z : State} {e : Expr} {y : ℕ} (p : Reads e z y) where
-  do-or : exec1 (set (reg 16) or e) z ≡ some (set_c 16 (OR (z.c 16) y) z)
+  do_or : exec1 (set (reg 16) or e) z ≡ some (set_c 16 (OR (z.c 16) y) z)
   unfolding exec
-  do-or = rw (p.gives, p.typed)
+  do_or = rw (p.gives, p.typed)
 
-  do-and : exec1 (set (reg 16) and e) z ≡ some (set_c 16 (AND (z.c 16) y) z)
+  do_and : exec1 (set (reg 16) and e) z ≡ some (set_c 16 (AND (z.c 16) y) z)
   unfolding exec
-  do-and = rw (p.gives, p.typed)
+  do_and = rw (p.gives, p.typed)
 
   -- return e; at the end of braces
-  pub leave-back : (o : Owner) → run (L.leave o e) z ≡ some (z, back y)
-  unfolding run runs step evalAs
-  leave-back o = rw (p.gives, p.typed)
+  pub leave_back : (o : Owner) → run (L.leave o e) z ≡ some (z, back y)
+  unfolding run runs step eval_as
+  leave_back o = rw (p.gives, p.typed)
 
 -- if (e) { b } c
 when_yes : (o : Owner) (e : Expr) (b c : Code) (u : State) → eval rotated e u ≡ some 1
@@ -151,7 +151,7 @@ with_t a t k e =
 -- (e & ~1u) | 1u
 r_odd : {z : State} {e : Expr} {x : ℕ} → Reads e z x
     → Reads (bin bor (par (bin band e (un compl (lit udec 1)))) (lit udec 1)) z (x / 2 * 2 + 1)
-r_odd {x = x} p = to (or_shifted (x / 2) 1 1 (lit< tt)) (r-or (r-par (r_even p)) (r-udec (lit< tt)))
+r_odd {x = x} p = to (or_shifted (x / 2) 1 1 (lit< tt)) (r_or (r_par (r_even p)) (r_udec (lit< tt)))
 
 module _ (i : Instr) (rm : ℕ) (hm : rm ≤ 15) (ks : List ℕ) (a : ℕ) (o : Owner) (n : ℕ) {z : State}
     {m : Machine} (s : Sound m) (g : Agrees z m) where
@@ -163,64 +163,64 @@ module _ (i : Instr) (rm : ℕ) (hm : rm ≤ 15) (ks : List ℕ) (a : ℕ) (o : 
   held = within (given x-t target empty) z.scopes z
 
   small : target < 4294967296
-  small = (operand-reads z m s i g.regs rm hm).small
+  small = (operand_reads z m s i g.regs rm hm).small
 
   test : (b : Bool) → bit target 0 ≡ b
       → eval rotated (bin band (v32 x-t) (lit udec 1)) held ≡ some (one_if b)
   test b q =
       (to (and_mask target 1 ∙ sym (bit_num target 0 ∙ ap (λ (j : ℕ). j % 2) (div-one target))
-      ∙ ap one_if q) (r_and (r-var {z = held} (u32, x-t) refl refl small) (r-udec (lit< tt)))).gives
+      ∙ ap one_if q) (r_and (r_var {z = held} (u32, x-t) refl refl small) (r_udec (lit< tt)))).gives
 
   -- to Thumb
-  odd-state : State
-  odd-state = set_c 15 (target / 2 * 2) (set_c 16 (OR (z.c 16) 32) (enter held))
+  odd_state : State
+  odd_state = set_c 15 (target / 2 * 2) (set_c 16 (OR (z.c 16) 32) (enter held))
 
-  odd-ends : run (to_thumb o) (enter held) ≡ some (odd-state, back (target / 2 * 2 + 1))
-  unfolding odd-state run runs step
-  odd-ends =
+  odd_ends : run (to_thumb o) (enter held) ≡ some (odd_state, back (target / 2 * 2 + 1))
+  unfolding odd_state run runs step
+  odd_ends =
       run_line o (set (reg 16) or (lit uhex 0x20) ∷ set (reg 15) is (masked 1) ∷ [])
       (L.leave o (bin bor (par (masked 1)) (lit udec 1))) (enter held)
       ∙ ap (λ (q : Option State). bind q (run (L.leave o (bin bor (par (masked 1)) (lit udec 1)))))
       (two (set (reg 16) or (lit uhex 0x20)) (set (reg 15) is (masked 1)) (enter held)
       (set_c 16 (OR (z.c 16) 32) (enter held))
-      (do-or {z = enter held} {e = lit uhex 0x20} {y = 32} (r-uhex (lit< tt)))
-      (do-reg (r_even
-      (r-var {z = set_c 16 (OR (z.c 16) 32) (enter held)} (u32, x-t) refl refl small)) 15
+      (do_or {z = enter held} {e = lit uhex 0x20} {y = 32} (r_uhex (lit< tt)))
+      (do_reg (r_even
+      (r_var {z = set_c 16 (OR (z.c 16) 32) (enter held)} (u32, x-t) refl refl small)) 15
       (lit≤ tt)))
-      ∙ leave-back (r_odd (r-var {z = odd-state} (u32, x-t) refl refl small)) o
+      ∙ leave_back (r_odd (r_var {z = odd_state} (u32, x-t) refl refl small)) o
 
   -- to ARM
-  even-state : State
-  even-state = set_c 15 (target / 4 * 4) (set_c 16 (AND (z.c 16) 4294967263) held)
+  even_state : State
+  even_state = set_c 15 (target / 4 * 4) (set_c 16 (AND (z.c 16) 4294967263) held)
 
-  even-ends : run (to_arm o) held ≡ some (even-state, back (target / 4 * 4))
-  unfolding even-state run runs step
-  even-ends =
+  even_ends : run (to_arm o) held ≡ some (even_state, back (target / 4 * 4))
+  unfolding even_state run runs step
+  even_ends =
       run_line o (set (reg 16) and (un compl (lit uhex 0x20)) ∷ set (reg 15) is (masked 3) ∷ [])
       (L.leave o (masked 3)) held
       ∙ ap (λ (q : Option State). bind q (run (L.leave o (masked 3))))
       (two (set (reg 16) and (un compl (lit uhex 0x20))) (set (reg 15) is (masked 3)) held
       (set_c 16 (AND (z.c 16) 4294967263) held)
-      (do-and {z = held} {e = un compl (lit uhex 0x20)} {y = 4294967263}
-      (r-not (r-uhex {k = 32} (lit< tt))))
-      (do-reg (r_aligned
-      (r-var {z = set_c 16 (AND (z.c 16) 4294967263) held} (u32, x-t) refl refl small)) 15
+      (do_and {z = held} {e = un compl (lit uhex 0x20)} {y = 4294967263}
+      (r_not (r_uhex {k = 32} (lit< tt))))
+      (do_reg (r_aligned
+      (r_var {z = set_c 16 (AND (z.c 16) 4294967263) held} (u32, x-t) refl refl small)) 15
       (lit≤ tt)))
-      ∙ leave-back (r_aligned (r-var {z = even-state} (u32, x-t) refl refl small)) o
+      ∙ leave_back (r_aligned (r_var {z = even_state} (u32, x-t) refl refl small)) o
 
   -- if (t & 1u) { to Thumb } to ARM
-  thumb-ends : bit target 0 ≡ true
+  thumb_ends : bit target 0 ≡ true
       → run (when o false (other (bin band (v32 x-t) (lit udec 1))) (to_thumb o) (to_arm o)) held
-      ≡ some (leave odd-state, back (target / 2 * 2 + 1))
-  thumb-ends q =
+      ≡ some (leave odd_state, back (target / 2 * 2 + 1))
+  thumb_ends q =
       when_yes o (bin band (v32 x-t) (lit udec 1)) (to_thumb o) (to_arm o) held (test true q)
-      ∙ ap (λ (q : Outcome). bind q (λ r. next r.1 (leave r.0) (run (to_arm o)))) odd-ends
+      ∙ ap (λ (q : Outcome). bind q (λ r. next r.1 (leave r.0) (run (to_arm o)))) odd_ends
 
-  arm-ends : bit target 0 ≡ false
+  arm_ends : bit target 0 ≡ false
       → run (when o false (other (bin band (v32 x-t) (lit udec 1))) (to_thumb o) (to_arm o)) held
-      ≡ some (even-state, back (target / 4 * 4))
-  arm-ends q = when_no o (bin band (v32 x-t) (lit udec 1)) (to_thumb o) (to_arm o) held (test false q)
-      ∙ even-ends
+      ≡ some (even_state, back (target / 4 * 4))
+  arm_ends q = when_no o (bin band (v32 x-t) (lit udec 1)) (to_thumb o) (to_arm o) held (test false q)
+      ∙ even_ends
 
   -- the text, where the if ends in y and returns k
   around : {y : State} {k : ℕ}
@@ -238,7 +238,7 @@ module _ (i : Instr) (rm : ℕ) (hm : rm ≤ 15) (ks : List ℕ) (a : ℕ) (o : 
       (run_plain o (declare (u32, x-t) (reg_expr i rm) []) rest (enter z)
       ∙ ap (λ (q : Option State). bind q (run rest))
       (do_declare x-t empty z.scopes z refl
-      (operand-reads (within (opened x-t empty) z.scopes z) m s i g.regs rm hm))
+      (operand_reads (within (opened x-t empty) z.scopes z) m s i g.regs rm hm))
       ∙ e)
     where
       rest : Code
@@ -246,43 +246,43 @@ module _ (i : Instr) (rm : ℕ) (hm : rm ≤ 15) (ks : List ℕ) (a : ℕ) (o : 
           gap true 6 ⨾ when o false (other (bin band (v32 x-t) (lit udec 1))) (to_thumb o) (to_arm o)
 
   -- the text leaves as the manual does
-  pub bx-leaves : Leaves (native_text ks a o (bx (flush_ticks n) (reg_expr i rm))) z
+  pub bx_leaves : Leaves (native_text ks a o (bx (flush_ticks n) (reg_expr i rm))) z
       (branch_exchange target m)
-  unfolding odd-state even-state
-  bx-leaves = go (bit target 0) refl
+  unfolding odd_state even_state
+  bx_leaves = go (bit target 0) refl
     where
       go : (b : Bool) → bit target 0 ≡ b
           → Leaves (native_text ks a o (bx (flush_ticks n) (reg_expr i rm))) z
           (branch_exchange target m)
       go true q =
           record {
-            end = leave (leave odd-state);
+            end = leave (leave odd_state);
             exit = back (target / 2 * 2 + 1);
-            ends = around (thumb-ends q);
+            ends = around (thumb_ends q);
             leads = rw q;
             pc = rw q (twos target);
             same =
                 rw q
-                (with-scopes
+                (with_scopes
                 (with_pc
-                (with_t (with-scopes g (enter held).scopes) true (OR (z.c 16) 32)
+                (with_t (with_scopes g (enter held).scopes) true (OR (z.c 16) 32)
                 (ap (λ (j : ℕ). OR j 32) g.flags
-                ∙ t-set m.n m.z m.c m.v m.other_bits s.other_bits))
+                ∙ t_set m.n m.z m.c m.v m.other_bits s.other_bits))
                 (target / 2 * 2)) z.scopes);
           }
       go false q =
           record {
-            end = leave even-state;
+            end = leave even_state;
             exit = back (target / 4 * 4);
-            ends = around (arm-ends q);
+            ends = around (arm_ends q);
             leads = rw q (ap some (plus_zero (target / 4 * 4)));
             pc = rw q (zeros target);
             same =
                 rw q
-                (with-scopes
+                (with_scopes
                 (with_pc
-                (with_t (with-scopes g held.scopes) false (AND (z.c 16) 4294967263)
+                (with_t (with_scopes g held.scopes) false (AND (z.c 16) 4294967263)
                 (ap (λ (j : ℕ). AND j 4294967263) g.flags
-                ∙ t-clear m.n m.z m.c m.v m.other_bits s.other_bits))
+                ∙ t_clear m.n m.z m.c m.v m.other_bits s.other_bits))
                 (target / 4 * 4)) z.scopes);
           }

@@ -10,7 +10,7 @@ use Rattle.armv4t.specs.Bit0.{clear_bit0}
 use Rattle.c_tree.specs.Expr.{Expr}
 use Rattle.c_tree.specs.Stmt.{Plain, other, Owner, gap, Code, end, ◌⨾◌, when, braces}
 use Rattle.c_meaning.specs.State.{bind, State, set_c, answered, enter, leave}
-use Rattle.c_meaning.specs.Eval.{eval, evalAs}
+use Rattle.c_meaning.specs.Eval.{eval, eval_as}
 use Rattle.c_meaning.specs.Exec.{Goes, on, to, back, Outcome, next, asks, exec, step, runs}
 use Rattle.c_meaning.specs.Perform.{execs, perform}
 use Rattle.c_meaning.specs.Helpers.{rotated, run}
@@ -31,7 +31,7 @@ use Rattle.lower_units.proofs.Lines.{run_line, run_lines}
 use Rattle.lower_forms.proofs.Body.{not_none, all_of}
 use Rattle.lower_forms.proofs.Conditions.{declared}
 use Rattle.lower_units.proofs.Wrapped.{after_ticks, when_false, flagged, test, framed}
-use Rattle.lower_forms.proofs.Steps.{ne, with-scopes, with-reg}
+use Rattle.lower_forms.proofs.Steps.{ne, with_scopes, with_reg}
 
 -- a transfer to a key leads there, and touches neither registers nor memory
 pub record Transfers (ks : List ℕ) (a : ℕ) (o : Owner) (n k : ℕ) (z : State) : Type 0 where
@@ -45,7 +45,7 @@ pub record Transfers (ks : List ℕ) (a : ℕ) (o : Owner) (n k : ℕ) (z : Stat
 -- the transfer by the answers of the group and of the gate
 pub transfers : (ks : List ℕ) (a : ℕ) (o : Owner) (n k : ℕ) (z : State) → k < 4294967296
     → Transfers ks a o n k z
-unfolding transfer goto_code run runs step asks evalAs eval
+unfolding transfer goto_code run runs step asks eval_as eval
 transfers ks a o n k z h =
     go (among k ks) refl (leb (clear_bit0 k) a) refl (eqb (z.answers 0) 0) refl
   where
@@ -106,7 +106,7 @@ with_pc a x =
 
 branched_agrees : {z : State} {m : Machine} → Agrees z m → (link : Bool) (ret target : ℕ)
     → Agrees (branched link ret target z) (cond link (set_reg 14 ret m) m)
-branched_agrees a true ret target = with_pc (with-reg a 14 ret (lit< tt)) target
+branched_agrees a true ret target = with_pc (with_reg a 14 ret (lit< tt)) target
 branched_agrees a false ret target = with_pc a target
 
 -- ticks before lines
@@ -130,13 +130,13 @@ module _ (ks : List ℕ) (a : ℕ) (o : Owner) (n : ℕ) (link : Bool) (ret targ
     (hr : ret < 4294967296) (ht : target < 4294967296) (hk : k < 4294967296)
     (addr : target ≡ clear_bit0 k) {z : State} {m : Machine} (g : Agrees z m) where
   -- ..; transfer
-  pub jump-leaves : Leaves
+  pub jump_leaves : Leaves
       (native_text ks a o
       (jump (flush_ticks n ++ each_on_line (list_if link (set_word 14 ret) ++ (set_word 15 target ∷ [])))
       k)) z
       (cond link (set_reg 14 ret m) m, k)
   unfolding native_text
-  jump-leaves =
+  jump_leaves =
       let y : State = branched link ret target z in
       let t = transfers ks a o 4 k y hk in
       record {
@@ -216,9 +216,9 @@ module _ (ks : List ℕ) (a : ℕ) (o : Owner) (n : ℕ) (link : Bool) (ret targ
         leads = t.leads;
         pc = ap (λ (f : ℕ → ℕ). f 15) t.regs ∙ addr;
         same =
-            with-scopes
+            with_scopes
             (moved_on {y = t.end}
-            (branched_agrees (with-scopes g (enter u).scopes) link ret target) t.regs
+            (branched_agrees (with_scopes g (enter u).scopes) link ret target) t.regs
             t.memory) _;
       }
     where
@@ -231,19 +231,19 @@ module _ (ks : List ℕ) (a : ℕ) (o : Owner) (n : ℕ) (link : Bool) (ret targ
           (nl ⨾ transfer ks a o 8 k (sp 6 ⨾ end))
 
   -- and where it fails
-  pub branch-continues : passed c m ≡ false
+  pub branch_continues : passed c m ≡ false
       → Continues
       (native_text ks a o
       (branch_if (flush_ticks n) (cond_expr c)
       (list_if link (set_word 14 ret) ++ (set_word 15 target ∷ [])) k)) z m
   unfolding native_text
-  branch-continues fail =
+  branch_continues fail =
       record {
         end = leave (flagged s g c nv);
         goes = λ d. after_ticks o 4 n (conditional o (cond_expr c) b d) z
             ∙ framed s g c nv o b
             (when_false o (cond_expr c) b (flagged s g c nv) (test s g c nv false fail)) d;
-        same = with-scopes g _;
+        same = with_scopes g _;
       }
     where
       b : Code

@@ -12,11 +12,11 @@ use lib.Dec.{leb, eqb}
 use lib.ListN.{length, get_or, length_map}
 use Rattle.armv4t.specs.Bit0.{clear_bit0}
 use Rattle.file_blocks.specs.Parse.{Block, Parsed, parse, instr_total}
-use Rattle.file_blocks.proofs.Accepted.{length-of, few-blocks, few-instrs, instrs-of}
+use Rattle.file_blocks.proofs.Accepted.{length_of_lem, few_blocks, few_instrs, instrs_of_lem}
 use Rattle.base_lists.specs.Lists.{range, among, count}
 use Rattle.plan_groups.specs.Plan.{groups}
 use Rattle.plan_groups.proofs.Cutting.{instructions, instructions_append, instructions_within}
-use Rattle.plan_groups.proofs.GroupLaws.{groups-once, groups-only, group-inside}
+use Rattle.plan_groups.proofs.GroupLaws.{groups_once, groups_only, group_inside}
 use Rattle.base_lists.proofs.Places.{member_at, map_at}
 use Rattle.base_lists.proofs.Counts.{counted}
 use Rattle.base_lists.proofs.Range.{length_range, range_own}
@@ -164,9 +164,9 @@ pub record Short (b : Body) : Type 0 where
   pub count : record_counts b.forms ≤ b.count
 
 module _ (ks : List ℕ) (b : Body) (short : Short b) where
-  closing-most : code_most (closing ks b) ≤ 180
+  closing_most : code_most (closing ks b) ≤ 180
   unfolding closing
-  closing-most =
+  closing_most =
       omega (
         arith,
         closing_within b.pending (body_end b),
@@ -175,53 +175,53 @@ module _ (ks : List ℕ) (b : Body) (short : Short b) where
         transfer_most ks b.addr common 4 (key_plus (body_end b) b.thumb) end (omega arith),
       )
 
-  code-from-most : (i : ℕ) (rs : List Form) → Each (λ (r : Form). form_most r ≤ 2200) rs
+  code_from_most : (i : ℕ) (rs : List Form) → Each (λ (r : Form). form_most r ≤ 2200) rs
       → code_most (code_from ks b i rs) ≤ 180 + record_counts rs * 2600
   unfolding code_from
-  code-from-most i [] h = omega (arith, closing-most)
-  code-from-most i (Form.native r ∷ rs) h =
+  code_from_most i [] h = omega (arith, closing_most)
+  code_from_most i (Form.native r ∷ rs) h =
       omega (
         arith,
         h.0,
         records_some r,
         native_most_lem ks b.addr (Owner.native_of (body_key b)) r
             (code_from ks b (i + records_in r) rs),
-        code-from-most (i + records_in r) rs h.1,
+        code_from_most (i + records_in r) rs h.1,
       )
-  code-from-most i (shell true t k ∷ []) h =
+  code_from_most i (shell true t k ∷ []) h =
       omega (
         arith,
         h.0,
-        closing-most,
+        closing_most,
         lines_most_lem common 4 t
             (sp 4 ⨾ ret_interp (body_key b) i ⨾ nl ⨾ closing ks b) (omega arith),
       )
-  code-from-most i (shell false t k ∷ []) h =
+  code_from_most i (shell false t k ∷ []) h =
       omega (
         arith,
         h.0,
         lines_most_lem common 4 t (sp 4 ⨾ ret_interp (body_key b) i ⨾ nl ⨾ end)
             (omega arith),
       )
-  code-from-most i (shell u t k ∷ r ∷ rs) h =
+  code_from_most i (shell u t k ∷ r ∷ rs) h =
       omega (
         arith,
         h.0,
         lines_most_lem common 4 t (shell_code b i k (code_from ks b (i + 1) (r ∷ rs))) (omega arith),
-        code-from-most (i + 1) (r ∷ rs) h.1,
+        code_from_most (i + 1) (r ∷ rs) h.1,
       )
 
-  guard-most : (h : Option ℕ) → code_most (under_guard ks b h) ≤ 400 + b.count * 2600
+  guard_most : (h : Option ℕ) → code_most (under_guard ks b h) ≤ 400 + b.count * 2600
   unfolding under_guard
-  guard-most none = omega arith
-  guard-most (some x) = omega (arith, short.count, code-from-most 0 b.forms short.forms)
+  guard_most none = omega arith
+  guard_most (some x) = omega (arith, short.count, code_from_most 0 b.forms short.forms)
 
-  code-most : code_most (block_code ks b) ≤ 400 + b.count * 2600
+  code_most_lem : code_most (block_code ks b) ≤ 400 + b.count * 2600
   unfolding block_code
-  code-most =
+  code_most_lem =
       either (λ (c : Code). code_most c ≤ 400 + b.count * 2600) (outside_rom_bios b.addr)
-      (guard-most b.hash)
-      (omega (arith, short.count, code-from-most 0 b.forms short.forms))
+      (guard_most b.hash)
+      (omega (arith, short.count, code_from_most 0 b.forms short.forms))
 
 -- what the instructions of a block become is so
 pub body_short : (multiplier : ℕ) (b : Block) → Short (body_of multiplier b)
@@ -244,7 +244,7 @@ labelled_most ks (b ∷ bs) h =
       arith,
       key_most (body_key b),
       most_append (block_code ks b) (nl ⨾ labelled ks bs),
-      code-most ks b h.0,
+      code_most_lem ks b h.0,
       labelled_most ks bs h.1,
     )
 
@@ -261,7 +261,7 @@ forwarders_most k n (b ∷ bs) = omega (arith, key_most (body_key b), forwarders
 tree_most : (bs : List Body) → Each Short bs → most (unit_text (emit_group bs)) ≤ members_most bs
 unfolding emit_group emit_block group_code with_locals
 tree_most [] h = omega arith
-tree_most (b ∷ []) h = omega (arith, key_most (body_key b), code-most [] b h.0)
+tree_most (b ∷ []) h = omega (arith, key_most (body_key b), code_most_lem [] b h.0)
 tree_most (b ∷ c ∷ bs) h =
     let all : List Body = b ∷ c ∷ bs in
     omega (
@@ -482,8 +482,8 @@ module _ (limit : ℕ) (bs : List Block) where
   once : (i : ℕ) → count i (flatten (groups limit bs)) ≤ count i (range (length bs) 0)
   once i =
       elim (dec_lt i (length bs)) [
-        | yes h ↦ omega (arith, groups-once limit bs i h, counted (listed h))
-        | no out ↦ omega (arith, groups-only limit bs i (omega arith))
+        | yes h ↦ omega (arith, groups_once limit bs i h, counted (listed h))
+        | no out ↦ omega (arith, groups_only limit bs i (omega arith))
       ]
     where
       listed : i < length bs → Memᴰ i (range (length bs) 0)
@@ -492,26 +492,26 @@ module _ (limit : ℕ) (bs : List Block) where
           (member_at (range (length bs) 0) i 0 (omega (arith, length_range (length bs) 0)))
 
   -- so the members of all groups take no more than the blocks of the file
-  all-members : (multiplier : ℕ)
+  all_members : (multiplier : ℕ)
       → groups_most (map (bodies_of (map (body_of multiplier) bs)) (groups limit bs))
       ≤ length bs * 700 + instr_total bs * 2600
-  all-members multiplier =
+  all_members multiplier =
       let bodies : List Body = map (body_of multiplier) bs in
       omega (
         arith,
         groups_cost bodies (groups limit bs)
             (λ g m i h. omega
-            (arith, length_map bs (body_of multiplier), group-inside limit bs g m i h)),
+            (arith, length_map bs (body_of multiplier), group_inside limit bs g m i h)),
         instructions_within (costs bodies) (flatten (groups limit bs)) (range (length bs) 0) once,
         file_cost multiplier bs,
       )
 
   -- the text of a unit: at most all blocks, PREAMBLE and the table, whatever the blocks
-  pub units-most : (multiplier max : ℕ) (u : TranslationUnit)
+  pub units_most : (multiplier max : ℕ) (u : TranslationUnit)
       → Memᴰ u (emit_c_chunked max (map (body_of multiplier) bs) (groups limit bs))
       → length (text_of u.tree) ≤ 4200 + length bs * 800 + instr_total bs * 2600
   unfolding emit_c_chunked
-  units-most multiplier max u m =
+  units_most multiplier max u m =
       let bodies : List Body = map (body_of multiplier) bs in
       omega (
         arith,
@@ -520,7 +520,7 @@ module _ (limit : ℕ) (bs : List Block) where
             (omega (arith, head_most)) u m,
         end_most bodies,
         length_map bs (body_of multiplier),
-        all-members multiplier,
+        all_members multiplier,
       )
 
 -- the text of every unit of an accepted file: at most 2,778,730,600 bytes by its limits
@@ -531,9 +531,9 @@ pub units_short : (f : List ℕ) (bs : List Block) → parse f ≡ Parsed.accept
 units_short f bs accepted multiplier limit max u m =
     omega (
       arith,
-      units-most limit bs multiplier max u m,
-      length-of f bs accepted,
-      few-blocks f bs accepted,
-      instrs-of f bs accepted,
-      few-instrs f bs accepted,
+      units_most limit bs multiplier max u m,
+      length_of_lem f bs accepted,
+      few_blocks f bs accepted,
+      instrs_of_lem f bs accepted,
+      few_instrs f bs accepted,
     )

@@ -8,7 +8,7 @@ use Rattle.c_meaning.specs.State.{bind, State}
 use Rattle.c_meaning.specs.Exec.{Goes, Outcome, next, on, exec, step, runs}
 use Rattle.c_meaning.specs.Perform.{execs, perform}
 use Rattle.c_meaning.specs.Helpers.{called, rotated, run}
-use Rattle.c_meaning.proofs.Append.{bind-bind, bind-same, execs-append}
+use Rattle.c_meaning.proofs.Append.{bind_bind, bind_same, execs_append}
 use Rattle.lower_forms.specs.Forms.{Lines}
 use Rattle.lower_units.specs.Block.{nl, line, lines}
 use Rattle.lower_forms.specs.Means.{statements}
@@ -40,9 +40,9 @@ run_line o (p ∷ []) c z =
     (sym (bind_some (exec rotated called p z)))
 run_line o (p ∷ q ∷ ps) c z =
     led (exec rotated called p z) (λ u. run (line o (q ∷ ps) c) u)
-    ∙ bind-same (exec rotated called p z) (run (line o (q ∷ ps) c))
+    ∙ bind_same (exec rotated called p z) (run (line o (q ∷ ps) c))
     (λ u. bind (perform (q ∷ ps) u) (run c)) (run_line o (q ∷ ps) c)
-    ∙ sym (bind-bind (exec rotated called p z) (perform (q ∷ ps)) (run c))
+    ∙ sym (bind_bind (exec rotated called p z) (perform (q ∷ ps)) (run c))
 
 -- lines
 pub run_lines : (o : Owner) (n : ℕ) (ls : Lines) (c : Code) (z : State)
@@ -51,8 +51,8 @@ unfolding run runs step perform execs
 run_lines o n [] c z = refl
 run_lines o n (l ∷ ls) c z =
     run_line o l (nl ⨾ lines o n ls c) z
-    ∙ bind-same (perform l z) (run (nl ⨾ lines o n ls c))
+    ∙ bind_same (perform l z) (run (nl ⨾ lines o n ls c))
     (λ u. bind (perform (statements ls) u) (run c)) (run_lines o n ls c)
-    ∙ sym (bind-bind (perform l z) (perform (statements ls)) (run c))
+    ∙ sym (bind_bind (perform l z) (perform (statements ls)) (run c))
     ∙ ap (λ (q : Option State). bind q (run c))
-    (sym (execs-append rotated called l (statements ls) z))
+    (sym (execs_append rotated called l (statements ls) z))

@@ -68,29 +68,29 @@ hashed_written b =
 
 module _ (written : Bool) where
   -- nothing after the guard shows a hash
-  code-hashed : (ks : List ℕ) (b : Body) (i : ℕ) (rs : List Form)
+  code_hashed : (ks : List ℕ) (b : Body) (i : ℕ) (rs : List Form)
       → code_from ks (hashed_if written b) i rs ≡ code_from ks b i rs
   unfolding code_from closing
-  code-hashed ks b i [] = refl
-  code-hashed ks b i (Form.native r ∷ rs) =
+  code_hashed ks b i [] = refl
+  code_hashed ks b i (Form.native r ∷ rs) =
       ap (λ (c : Code). record_mark (body_key b) i (records_in r)
       ⨾ native_text ks b.addr (Owner.native_of (body_key b)) r c)
-      (code-hashed ks b (i + records_in r) rs)
-  code-hashed ks b i (shell h t k ∷ []) = refl
-  code-hashed ks b i (shell h t k ∷ r ∷ rs) =
-      ap (λ (c : Code). lines common 4 t (shell_code b i k c)) (code-hashed ks b (i + 1) (r ∷ rs))
+      (code_hashed ks b (i + records_in r) rs)
+  code_hashed ks b i (shell h t k ∷ []) = refl
+  code_hashed ks b i (shell h t k ∷ r ∷ rs) =
+      ap (λ (c : Code). lines common 4 t (shell_code b i k c)) (code_hashed ks b (i + 1) (r ∷ rs))
 
-  code-size : (ks : List ℕ) (b : Body)
+  code_size : (ks : List ℕ) (b : Body)
       → size (code_text (code_from ks (hashed_if written b) 0 b.forms))
       ≡ size (code_text (code_from ks b 0 b.forms))
-  code-size ks b = ap (λ (c : Code). size (code_text c)) (code-hashed ks b 0 b.forms)
+  code_size ks b = ap (λ (c : Code). size (code_text c)) (code_hashed ks b 0 b.forms)
 
-  guard-size : (ks : List ℕ) (b : Body) (h : Option ℕ)
+  guard_size : (ks : List ℕ) (b : Body) (h : Option ℕ)
       → size (code_text (under_guard ks (hashed_if written b) (hash_if written h)))
       ≡ size (code_text (under_guard ks b h))
   unfolding under_guard
-  guard-size ks b none = refl
-  guard-size ks b (some h) = omega (arith, code-size ks b)
+  guard_size ks b none = refl
+  guard_size ks b (some h) = omega (arith, code_size ks b)
 
   block_size : (ks : List ℕ) (b : Body)
       → size (code_text (block_code ks (hashed_if written b))) ≡ size (code_text (block_code ks b))
@@ -102,57 +102,57 @@ module _ (written : Bool) where
           (cond g (under_guard ks (hashed_if written b) (hash_if written b.hash))
           (code_from ks (hashed_if written b) 0 b.forms)))
           ≡ size (code_text (cond g (under_guard ks b b.hash) (code_from ks b 0 b.forms)))
-      go true = guard-size ks b b.hash
-      go false = code-size ks b
+      go true = guard_size ks b b.hash
+      go false = code_size ks b
 
   pub hashed_keys : (bs : List Body) → map body_key (map (hashed_if written) bs) ≡ map body_key bs
   hashed_keys [] = refl
   hashed_keys (b ∷ bs) = ap (λ (ks : List ℕ). body_key b ∷ ks) (hashed_keys bs)
 
-  labelled-size : (ks : List ℕ) (bs : List Body)
+  labelled_size : (ks : List ℕ) (bs : List Body)
       → size (code_text (labelled ks (map (hashed_if written) bs))) ≡ size (code_text (labelled ks bs))
   unfolding labelled
-  labelled-size ks [] = refl
-  labelled-size ks (b ∷ bs) =
+  labelled_size ks [] = refl
+  labelled_size ks (b ∷ bs) =
       omega (
         arith,
         size_append (block_code ks (hashed_if written b))
             (nl ⨾ labelled ks (map (hashed_if written) bs)),
         size_append (block_code ks b) (nl ⨾ labelled ks bs),
         block_size ks b,
-        labelled-size ks bs,
+        labelled_size ks bs,
       )
 
   -- the functions that enter a group stay: they show keys alone
-  pub forwarders-hashed : (k n : ℕ) (bs : List Body)
+  pub forwarders_hashed : (k n : ℕ) (bs : List Body)
       → forwarders k n (map (hashed_if written) bs) ≡ forwarders k n bs
   unfolding forwarders
-  forwarders-hashed k n [] = refl
-  forwarders-hashed k n (b ∷ bs) =
+  forwarders_hashed k n [] = refl
+  forwarders_hashed k n (b ∷ bs) =
       ap (λ (ts : List Top). function (block (body_key b)) (sp 1 ⨾ call k n ⨾ sp 1 ⨾ end) ∷ ts)
-      (forwarders-hashed k (suc n) bs)
+      (forwarders_hashed k (suc n) bs)
 
-  group-size : (bs : List Body)
+  group_size : (bs : List Body)
       → size (unit_text (emit_group (map (hashed_if written) bs))) ≡ size (unit_text (emit_group bs))
   unfolding emit_group emit_block group_code with_locals
-  group-size [] = refl
-  group-size (b ∷ []) = omega (arith, block_size [] b)
-  group-size (b ∷ c ∷ bs) =
+  group_size [] = refl
+  group_size (b ∷ []) = omega (arith, block_size [] b)
+  group_size (b ∷ c ∷ bs) =
       let all : List Body = b ∷ c ∷ bs in
       omega (
         arith,
         ap (λ (ks : List ℕ). size (cases_text 2 ks)) (hashed_keys bs),
         ap (λ (ks : List ℕ). size (code_text (labelled ks (map (hashed_if written) all))))
             (hashed_keys all),
-        labelled-size (map body_key all) all,
-        ap (λ (ts : List Top). size (unit_text ts)) (forwarders-hashed (body_key b) 0 all),
+        labelled_size (map body_key all) all,
+        ap (λ (ts : List Top). size (unit_text ts)) (forwarders_hashed (body_key b) 0 all),
       )
 
   -- a group's text is as long
   pub hashed_length : (bs : List Body)
       → length (text_of (emit_group (map (hashed_if written) bs))) ≡ length (text_of (emit_group bs))
   unfolding text_of
-  hashed_length bs = length_size (unit_text (emit_group (map (hashed_if written) bs))) ∙ group-size bs
+  hashed_length bs = length_size (unit_text (emit_group (map (hashed_if written) bs))) ∙ group_size bs
       ∙ sym (length_size (unit_text (emit_group bs)))
 
 -- so what is measured instead of a group has its length

@@ -71,10 +71,10 @@ always i m next a e op q = go (outcome i m next e).1
 
 -- no named difference: the condition is not NV, and where it passes the operation does not differ
 module _ (i : Instr) (m : Machine) (d : is_named_difference i m ≡ false) where
-  pub not-nv : is_nv i.cond ≡ false
-  not-nv = or_l (is_nv i.cond) (passed i.cond m && differs_in i i.op) d
+  pub not_nv : is_nv i.cond ≡ false
+  not_nv = or_l (is_nv i.cond) (passed i.cond m && differs_in i i.op) d
 
-  pub not-different : passed i.cond m ≡ true → differs_in i i.op ≡ false
-  not-different p =
+  pub not_different : passed i.cond m ≡ true → differs_in i i.op ≡ false
+  not_different p =
       subst (λ (b : Bool). (b && differs_in i i.op) ≡ false) p
       (or_r (is_nv i.cond) (passed i.cond m && differs_in i i.op) d)

@@ -31,7 +31,7 @@ use Rattle.lower_forms.specs.Agree.{Agrees}
 use Rattle.lower_units.specs.Text.{Leaves}
 use Rattle.lower_units.specs.Records.{PairMeans}
 use Rattle.lower_forms.proofs.Body.{some_same}
-use Rattle.lower_units.proofs.Exits.{jump-leaves}
+use Rattle.lower_units.proofs.Exits.{jump_leaves}
 use Rattle.lower_units.proofs.Outcome.{outcome, always}
 use Rattle.lower_units.proofs.Aligned.{twos, two_lt}
 
@@ -44,13 +44,13 @@ from_pair Nothing = (0, 0)
 from_pair (Pair target ret) = (target, ret)
 
 module _ {t r target ret : ℕ} (e : Pair t r ≡ Pair target ret) where
-  target-of : t ≡ target
+  target_of_lem : t ≡ target
   unfolding from_pair
-  target-of = ap (λ (f : Fused). (from_pair f).0) e
+  target_of_lem = ap (λ (f : Fused). (from_pair f).0) e
 
-  ret-of : r ≡ ret
+  ret_of : r ≡ ret
   unfolding from_pair
-  ret-of = ap (λ (f : Fused). (from_pair f).1) e
+  ret_of = ap (λ (f : Fused). (from_pair f).1) e
 
 -- what fuses with a first half
 record Low (lr : ℕ) (op : Op) (addr target ret : ℕ) : Type 0 where
@@ -69,7 +69,7 @@ low_half lr (Bx _) addr target ret e = absurd (not_pair e)
 low_half lr (Branch _ _) addr target ret e = absurd (not_pair e)
 low_half lr (ThumbBlHigh _) addr target ret e = absurd (not_pair e)
 low_half lr (ThumbBlLow off) addr target ret e =
-    record { off = off; is = refl; target_is = target-of e; ret_is = ret-of e }
+    record { off = off; is = refl; target_is = target_of_lem e; ret_is = ret_of e }
 low_half lr (Mem _ _ _ _ _ _ _ _ _) addr target ret e = absurd (not_pair e)
 low_half lr (BlockMem _ _ _ _ _ _ _) addr target ret e = absurd (not_pair e)
 low_half lr (Mrs _ _) addr target ret e = absurd (not_pair e)
@@ -150,13 +150,13 @@ module _ (lr off addr cycles : ℕ) (ks : List ℕ) (a : ℕ) (o : Owner) {z : S
     set_bit0 target,
   )
 
-  pair-leaves : Leaves (native_text ks a o (emit_pair cycles target ret)) z
+  pair_leaves : Leaves (native_text ks a o (emit_pair cycles target ret)) z
       (set_reg 14 ret (set_reg 14 lr m), set_bit0 target)
   unfolding native_text target ret
-  pair-leaves =
+  pair_leaves =
       let ht : target < 4294967296 = mod-lt (lr + off * 2) (lit< tt) in
       subst (Leaves (native_text ks a o (emit_pair cycles target ret)) z) same
-      (jump-leaves ks a o cycles true ret (clear_bit0 target) (set_bit0 target)
+      (jump_leaves ks a o cycles true ret (clear_bit0 target) (set_bit0 target)
       (up ((addr + 2) % 4294967296) (mod-lt (addr + 2) (lit< tt))) (two_lt target ht)
       (up target ht)
       (twos target) g)
@@ -183,7 +183,7 @@ halves_mean i j {z} {m} g half next d e lr off p q cycles ks a o =
       set_bit0
           ((lr + off * 2) % 4294967296),
     )) (sym low.0)
-    (pair-leaves lr off j.addr cycles ks a o g))
+    (pair_leaves lr off j.addr cycles ks a o g))
   where
     text : Machine × ℕ → Type 0
     text =

@@ -33,17 +33,17 @@ use Rattle.armv4t_manual.specs.Execute.{key, load_multiple_pc}
 use Rattle.lower_forms.specs.Agree.{Agrees}
 use Rattle.lower_forms.specs.Means.{statements}
 use Rattle.lower_units.specs.Text.{Leaves}
-use Rattle.lower_forms.proofs.Gives.{Reads, to, r-reg, r-udec, r-add, r-var, r-or}
-use Rattle.lower_forms.proofs.Memory.{r_read, r_even, r_aligned, load-small}
+use Rattle.lower_forms.proofs.Gives.{Reads, to, r_reg, r_udec, r_add, r_var, r_or}
+use Rattle.lower_forms.proofs.Memory.{r_read, r_even, r_aligned, load_small}
 use Rattle.lower_forms.proofs.Multiply.{reg_reads}
 use Rattle.lower_forms.proofs.Listed.{listed_same, Named, listed_named, listed_length}
 use Rattle.lower_forms.proofs.Multiple.{in_scope}
 use Rattle.lower_units.proofs.Lines.{run_plain, run_lines}
 use Rattle.lower_units.proofs.Wrapped.{after_ticks}
 use Rattle.lower_units.proofs.Exits.{with_pc, closed_out}
-use Rattle.lower_units.proofs.Exchange.{leave-back}
-use Rattle.lower_forms.proofs.Steps.{exec1, opened, given, within, do_declare, do_plus, do-reg}
-use Rattle.lower_forms.proofs.Steps.{with-scopes, with-reg}
+use Rattle.lower_units.proofs.Exchange.{leave_back}
+use Rattle.lower_forms.proofs.Steps.{exec1, opened, given, within, do_declare, do_plus, do_reg}
+use Rattle.lower_forms.proofs.Steps.{with_scopes, with_reg}
 use Rattle.base_lists.proofs.Each.{Each, each_map}
 use Rattle.lower_units.proofs.Aligned.{plus_zero, twos, two_lt, zeros}
 use Rattle.lower_forms.proofs.Body.{aligned_lt}
@@ -77,14 +77,14 @@ loads_reach [] f fs u m k tail h b a q l next =
 loads_reach (i ∷ is) f fs u m k tail h b a q l next =
     let x : ℕ = Memory4 m.mem k in
     go_on
-    (do-reg
+    (do_reg
     (to (ap (λ (f : ℕ → ℕ). load w32 f (k / 4 * 4)) a.memory)
-    (r_read (r_aligned (r-var (u32, x-addr) refl (in_scope x-addr f fs u q) l))
+    (r_read (r_aligned (r_var (u32, x-addr) refl (in_scope x-addr f fs u q) l))
     (λ j. subst (λ (f : ℕ → ℕ). f j < 256) (sym a.memory) (b j)))) i (omega (arith, h.0)))
-    (go_on (do_plus x-addr f fs (set_c i x u) q (r-udec (lit< tt)))
+    (go_on (do_plus x-addr f fs (set_c i x u) q (r_udec (lit< tt)))
     (loads_reach is (S.update (index x-addr) (some (u32, some ((k + 4) % 4294967296))) f) fs
     (set_c i x u) (M.set_reg i x m) ((k + 4) % 4294967296) tail h.1 b
-    (with-reg a i x h.0) refl (mod-lt (k + 4) (lit< tt)) next))
+    (with_reg a i x h.0) refl (mod-lt (k + 4) (lit< tt)) next))
 
 -- a loaded register is a word
 loaded_lt : (rn : ℕ) (is : List ℕ) (k : ℕ) (f r : ℕ → ℕ) → ((a : ℕ) → f a < 256) → r rn < 4294967296
@@ -94,7 +94,7 @@ loaded_lt rn (i ∷ is) k f r b h =
     loaded_lt rn is ((k + 4) % 4294967296) f (update i (Memory4 f k) r) b (go (eqb rn i))
   where
     go : (c : Bool) → cond c (Memory4 f k) (r rn) < 4294967296
-    go true = load-small f b (k / 4 * 4)
+    go true = load_small f b (k / 4 * 4)
     go false = h
 
 module _ {z : State} {m : Machine} (s : Sound m) (a : Agrees z m) (rn : ℕ) (hn : rn < 15)
@@ -120,35 +120,35 @@ module _ {z : State} {m : Machine} (s : Sound m) (a : Agrees z m) (rn : ℕ) (hn
   PopReady y = Agrees y popped × (value (var (u32, x-addr)) y ≡ some (address_after is (m.r rn)))
       × (address_after is (m.r rn) < 4294967296)
 
-  lines-reach : Reaches
+  lines_reach : Reaches
       (statements
       (loads is
       ++ each_on_line (set_reg rn (bin add (get (reg rn)) (lit udec ((length is + 1) * 4))) ∷ [])))
       (within (given x-addr (m.r rn) empty) z.scopes z) PopReady
   unfolding PopReady
-  lines-reach =
+  lines_reach =
       loads_reach is (given x-addr (m.r rn) empty) z.scopes z m (m.r rn)
       (each_on_line (set_reg rn (bin add (get (reg rn)) (lit udec ((length is + 1) * 4))) ∷ [])) hi
       s.bytes a refl (s.words rn hn)
       λ h y b q l.
       go_on
-      (do-reg
-      (r-add (r-reg {z = within h z.scopes y} rn (omega (arith, hn)) (b.regs rn hn)
+      (do_reg
+      (r_add (r_reg {z = within h z.scopes y} rn (omega (arith, hn)) (b.regs rn hn)
       (loaded_lt rn is (m.r rn) m.mem m.r s.bytes (s.words rn hn)))
-      (r-udec (few (length is) hl))) rn (omega (arith, hn)))
+      (r_udec (few (length is) hl))) rn (omega (arith, hn)))
       (arrive (
-        with-reg (with-scopes b (h ∷ z.scopes)) rn moved hn,
+        with_reg (with_scopes b (h ∷ z.scopes)) rn moved hn,
         in_scope x-addr h z.scopes y
             q,
         l,
       ))
 
   -- what is read for PC
-  word-reads : (y : State) → PopReady y → Reads (read w32 (aligned 3)) y loaded
+  word_reads : (y : State) → PopReady y → Reads (read w32 (aligned 3)) y loaded
   unfolding PopReady
-  word-reads y r =
+  word_reads y r =
       to (ap (λ (f : ℕ → ℕ). load w32 f (address_after is (m.r rn) / 4 * 4)) r.0.memory)
-      (r_read (r_aligned (r-var (u32, x-addr) refl r.1 r.2))
+      (r_read (r_aligned (r_var (u32, x-addr) refl r.1 r.2))
       (λ j. subst (λ (f : ℕ → ℕ). f j < 256) (sym r.0.memory) (s.bytes j)))
 
   module _ (ks : List ℕ) (at : ℕ) (o : Owner) (n : ℕ) where
@@ -161,7 +161,7 @@ module _ {z : State} {m : Machine} (s : Sound m) (a : Agrees z m) (rn : ℕ) (hn
         → Leaves (native_text ks at o (emit_pop thumb n rn is)) z (popped, k)
     unfolding PopReady native_text run runs step
     pop_text thumb v k p e h =
-        let r = lines-reach in
+        let r = lines_reach in
         let y : State = set_c 15 v r.end in
         record {
           end = leave y;
@@ -174,7 +174,7 @@ module _ {z : State} {m : Machine} (s : Sound m) (a : Agrees z m) (rn : ℕ) (hn
               (run_plain o (let32 x-addr (get (reg rn))) rest (enter z)
               ∙ ap (λ (q : Option State). bind q (run rest))
               (do_declare x-addr empty z.scopes z refl
-              (reg_reads {z = within (opened x-addr empty) z.scopes z} s (with-scopes a _) rn
+              (reg_reads {z = within (opened x-addr empty) z.scopes z} s (with_scopes a _) rn
               hn))
               ∙ run_lines o 6 ls out (within (given x-addr (m.r rn) empty) z.scopes z)
               ∙ ap (λ (q : Option State). bind q (run out)) r.ends
@@ -184,11 +184,11 @@ module _ {z : State} {m : Machine} (s : Sound m) (a : Agrees z m) (rn : ℕ) (hn
               (L.leave o (bin bor (get (reg 15)) (lit udec (cond thumb 1 0)))) r.end
               ∙ ap (λ (q : Option State). bind q
               (run (L.leave o (bin bor (get (reg 15)) (lit udec (cond thumb 1 0))))))
-              (do-reg (p r.end r.holds) 15 (lit≤ tt))
-              ∙ leave-back (e y refl) o);
+              (do_reg (p r.end r.holds) 15 (lit≤ tt))
+              ∙ leave_back (e y refl) o);
           leads = refl;
           pc = h;
-          same = with-scopes (with_pc r.holds.0 v) _;
+          same = with_scopes (with_pc r.holds.0 v) _;
         }
       where
         ls : Lines
@@ -241,7 +241,7 @@ pop_leaves i rn rlist hn h15 n ks a o {z} {m} s g =
     )
 
     lt : x < 4294967296
-    lt = load-small m.mem s.bytes (address_after is (m.r rn) / 4 * 4)
+    lt = load_small m.mem s.bytes (address_after is (m.r rn) / 4 * 4)
 
     hi : Each (λ j. j < 15) is
     hi = each_map (Named rlist 15) (λ j. j < 15) (λ j h. h.0) is (listed_named rlist 15)
@@ -251,11 +251,11 @@ pop_leaves i rn rlist hn h15 n ks a o {z} {m} s g =
         (popped s g rn hn is (listed_length rlist 15) hi, key t (cond t (x / 2 * 2) (x / 4 * 4)))
     go true =
         pop_text s g rn hn is (listed_length rlist 15) hi ks a o n true (x / 2 * 2) (x / 2 * 2 + 1)
-        (λ y r. r_even (word-reads s g rn hn is (listed_length rlist 15) hi y r))
+        (λ y r. r_even (word_reads s g rn hn is (listed_length rlist 15) hi y r))
         (λ y e. to (or_shifted (x / 2) 1 1 (lit< tt))
-        (r-or (r-reg 15 (lit≤ tt) e (two_lt x lt)) (r-udec (lit< tt)))) (twos x)
+        (r_or (r_reg 15 (lit≤ tt) e (two_lt x lt)) (r_udec (lit< tt)))) (twos x)
     go false =
         pop_text s g rn hn is (listed_length rlist 15) hi ks a o n false (x / 4 * 4) (x / 4 * 4 + 0)
-        (λ y r. r_aligned (word-reads s g rn hn is (listed_length rlist 15) hi y r))
+        (λ y r. r_aligned (word_reads s g rn hn is (listed_length rlist 15) hi y r))
         (λ y e. to (or_zero_r (x / 4 * 4) ∙ plus_zero (x / 4 * 4))
-        (r-or (r-reg 15 (lit≤ tt) e (aligned_lt x lt)) (r-udec (lit< tt)))) (zeros x)
+        (r_or (r_reg 15 (lit≤ tt) e (aligned_lt x lt)) (r_udec (lit< tt)))) (zeros x)

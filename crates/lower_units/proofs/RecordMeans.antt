@@ -34,9 +34,9 @@ use Rattle.lower_forms.proofs.OpMeans.{op_means}
 use Rattle.lower_units.specs.Text.{Leaves, Acts, continues, leaves}
 use Rattle.lower_units.specs.Records.{is_transfer, is_taken, is_named_difference, RecordMeans}
 use Rattle.lower_units.proofs.Outcome.{al_passes, always}
-use Rattle.lower_units.proofs.Straight.{native_same, not_shell, lowered, straight-means}
+use Rattle.lower_units.proofs.Straight.{native_same, not_shell, lowered, straight_means}
 use Rattle.lower_units.proofs.Branches.{branch_means}
-use Rattle.lower_units.proofs.Exchange.{bx-leaves}
+use Rattle.lower_units.proofs.Exchange.{bx_leaves}
 use Rattle.lower_units.proofs.Pop.{pop_leaves}
 
 -- what is not none was not refused by the test before it
@@ -120,50 +120,50 @@ module _ (region : ℕ) (x : TimedInstr) (cycles : ℕ) (r : Native) where
   i = x.instr
 
   -- an indirect exit that is native by a test, and else a straight-line instruction
-  exit-or-straight : (P : Native → Type 0) (b : Bool) (n : Native) (touchesBus : Bool)
+  exit_or_straight : (P : Native → Type 0) (b : Bool) (n : Native) (touchesBus : Bool)
       → (b ≡ true → P n) → ((emit_straight i.thumb touchesBus cycles x).0 ≡ native r → P r)
       → (cond b (native n, 0) (emit_straight i.thumb touchesBus cycles x)).0 ≡ native r → P r
-  exit-or-straight P true n touchesBus f h e = subst P (native_same e) (f refl)
-  exit-or-straight P false n touchesBus f h e = h e
+  exit_or_straight P true n touchesBus f h e = subst P (native_same e) (f refl)
+  exit_or_straight P false n touchesBus f h e = h e
 
   -- where a record is native its operation is written out
-  straight-written : (touchesBus : Bool) → (emit_straight i.thumb touchesBus cycles x).0 ≡ native r
+  straight_written : (touchesBus : Bool) → (emit_straight i.thumb touchesBus cycles x).0 ≡ native r
       → (op : Op) → i.op ≡ op → WrittenOut op
   unfolding inline_body
-  straight-written touchesBus e op q = let w = lowered i.thumb touchesBus cycles x r e in
+  straight_written touchesBus e op q = let w = lowered i.thumb touchesBus cycles x r e in
       subst WrittenOut q (body_written i i.op w.0 w.1)
 
   -- a straight-line instruction is no transfer
-  straight-onward : (touchesBus : Bool) → (emit_straight i.thumb touchesBus cycles x).0 ≡ native r
+  straight_onward : (touchesBus : Bool) → (emit_straight i.thumb touchesBus cycles x).0 ≡ native r
       → is_transfer i.op ≡ false
   unfolding inline_body
-  straight-onward touchesBus e =
+  straight_onward touchesBus e =
       let w = lowered i.thumb touchesBus cycles x r e in body_onward i i.op w.0 w.1
 
-  op-written : (op : Op) → i.op ≡ op → (emit_op i.thumb region cycles x op).0 ≡ native r
+  op_written : (op : Op) → i.op ≡ op → (emit_op i.thumb region cycles x op).0 ≡ native r
       → WrittenOut op
-  op-written (Alu op s rd rn op2) q e = straight-written false e (Alu op s rd rn op2) q
-  op-written (Mul acc s rd rn rs rm) q e = straight-written false e (Mul acc s rd rn rs rm) q
-  op-written (MulLong signed acc s hi lo rs rm) q e =
-      straight-written false e (MulLong signed acc s hi lo rs rm) q
-  op-written (Swap b rd rm rn) q e = straight-written false e (Swap b rd rm rn) q
-  op-written (Bx rm) q e = tt
-  op-written (Branch link target) q e = tt
-  op-written (ThumbBlHigh lr) q e = tt
-  op-written (ThumbBlLow off) q e = tt
-  op-written (Mem ld width signed rd rn offset pre up writeback) q e =
-      straight-written true e (Mem ld width signed rd rn offset pre up writeback) q
-  op-written (BlockMem ld rn rlist pre up s_bit writeback) q e =
-      exit-or-straight (λ r. s_bit ≡ false) (is_pop region i ld rn rlist pre up s_bit writeback) _
+  op_written (Alu op s rd rn op2) q e = straight_written false e (Alu op s rd rn op2) q
+  op_written (Mul acc s rd rn rs rm) q e = straight_written false e (Mul acc s rd rn rs rm) q
+  op_written (MulLong signed acc s hi lo rs rm) q e =
+      straight_written false e (MulLong signed acc s hi lo rs rm) q
+  op_written (Swap b rd rm rn) q e = straight_written false e (Swap b rd rm rn) q
+  op_written (Bx rm) q e = tt
+  op_written (Branch link target) q e = tt
+  op_written (ThumbBlHigh lr) q e = tt
+  op_written (ThumbBlLow off) q e = tt
+  op_written (Mem ld width signed rd rn offset pre up writeback) q e =
+      straight_written true e (Mem ld width signed rd rn offset pre up writeback) q
+  op_written (BlockMem ld rn rlist pre up s_bit writeback) q e =
+      exit_or_straight (λ r. s_bit ≡ false) (is_pop region i ld rn rlist pre up s_bit writeback) _
       true
       (λ t. (pop_tests ld pre up s_bit writeback (bit rlist 15) (eqb rn 15) (native_exit region i) t
       ).3)
-      (λ e. straight-written true e (BlockMem ld rn rlist pre up s_bit writeback) q) e
-  op-written (Mrs spsr rd) q e = straight-written false e (Mrs spsr rd) q
-  op-written (MsrReg spsr fields rm) q e = straight-written false e (MsrReg spsr fields rm) q
-  op-written (MsrImm spsr fields value) q e = straight-written false e (MsrImm spsr fields value) q
-  op-written (Swi imm) q e = straight-written false e (Swi imm) q
-  op-written (Undefined raw) q e = straight-written false e (Undefined raw) q
+      (λ e. straight_written true e (BlockMem ld rn rlist pre up s_bit writeback) q) e
+  op_written (Mrs spsr rd) q e = straight_written false e (Mrs spsr rd) q
+  op_written (MsrReg spsr fields rm) q e = straight_written false e (MsrReg spsr fields rm) q
+  op_written (MsrImm spsr fields value) q e = straight_written false e (MsrImm spsr fields value) q
+  op_written (Swi imm) q e = straight_written false e (Swi imm) q
+  op_written (Undefined raw) q e = straight_written false e (Undefined raw) q
 
   module _ (ks : List ℕ) (at : ℕ) (range : InRange i.op) (o : Owner) {z : State} {m : Machine}
       (s : Sound m) (g : Agrees z m)
@@ -174,29 +174,29 @@ module _ (region : ℕ) (x : TimedInstr) (cycles : ℕ) (r : Native) where
     in_range : (op : Op) → i.op ≡ op → InRange op
     in_range op q = subst InRange q range
 
-    straight-acts : (touchesBus : Bool) → (emit_straight i.thumb touchesBus cycles x).0 ≡ native r
+    straight_acts : (touchesBus : Bool) → (emit_straight i.thumb touchesBus cycles x).0 ≡ native r
         → Result r
     unfolding Result
-    straight-acts touchesBus e = let w =
-        straight-means x (op_means i i.op range) ks at o s g d next ex touchesBus cycles r e in
+    straight_acts touchesBus e = let w =
+        straight_means x (op_means i i.op range) ks at o s g d next ex touchesBus cycles r e in
         continues
-        (not_both (passed i.cond m) (is_transfer i.op) (straight-onward touchesBus e)) w.1
+        (not_both (passed i.cond m) (is_transfer i.op) (straight_onward touchesBus e)) w.1
         w.0
 
-    bx-acts : (rm : ℕ) → i.op ≡ Bx rm → is_al i.cond ≡ true
+    bx_acts : (rm : ℕ) → i.op ≡ Bx rm → is_al i.cond ≡ true
         → Result (bx (flush_ticks (cycles + x.cost)) (reg_expr i rm))
     unfolding Result
-    bx-acts rm q al =
+    bx_acts rm q al =
         leaves (rw (al_passes i.cond al m, q))
         (subst (Leaves _ z) (some_same (always i m next al ex (Bx rm) q))
-        (bx-leaves i rm (in_range (Bx rm) q) ks at o (cycles + x.cost) s g))
+        (bx_leaves i rm (in_range (Bx rm) q) ks at o (cycles + x.cost) s g))
 
-    pop-acts : (ld : Bool) (rn rlist : ℕ) (pre up s_bit writeback : Bool)
+    pop_acts : (ld : Bool) (rn rlist : ℕ) (pre up s_bit writeback : Bool)
         → i.op ≡ BlockMem ld rn rlist pre up s_bit writeback
         → is_pop region i ld rn rlist pre up s_bit writeback ≡ true
         → Result (emit_pop i.thumb (cycles + x.cost) rn (listed rlist 15))
     unfolding Result
-    pop-acts ld rn rlist pre up s_bit writeback q t =
+    pop_acts ld rn rlist pre up s_bit writeback q t =
         let op : Op = BlockMem ld rn rlist pre up s_bit writeback in
         let w =
         pop_tests ld pre up s_bit writeback (bit rlist 15) (eqb rn 15) (native_exit region i)
@@ -210,31 +210,31 @@ module _ (region : ℕ) (x : TimedInstr) (cycles : ℕ) (r : Native) where
         (pop_leaves i rn rlist (under rn (in_range op q).0 w.6) w.5 (cycles + x.cost) ks at
         o s g))
 
-    op-acts : (op : Op) → i.op ≡ op → (emit_op i.thumb region cycles x op).0 ≡ native r → Result r
+    op_acts : (op : Op) → i.op ≡ op → (emit_op i.thumb region cycles x op).0 ≡ native r → Result r
     unfolding Result
-    op-acts (Alu op s rd rn op2) q e = straight-acts false e
-    op-acts (Mul acc s rd rn rs rm) q e = straight-acts false e
-    op-acts (MulLong signed acc s hi lo rs rm) q e = straight-acts false e
-    op-acts (Swap b rd rm rn) q e = straight-acts false e
-    op-acts (Bx rm) q e =
-        exit-or-straight Result (native_exit region i) _ false
-        (λ t. bx-acts rm q (both (is_al i.cond) (not (eqb region 0)) t).0) (straight-acts false)
+    op_acts (Alu op s rd rn op2) q e = straight_acts false e
+    op_acts (Mul acc s rd rn rs rm) q e = straight_acts false e
+    op_acts (MulLong signed acc s hi lo rs rm) q e = straight_acts false e
+    op_acts (Swap b rd rm rn) q e = straight_acts false e
+    op_acts (Bx rm) q e =
+        exit_or_straight Result (native_exit region i) _ false
+        (λ t. bx_acts rm q (both (is_al i.cond) (not (eqb region 0)) t).0) (straight_acts false)
         e
-    op-acts (Branch link target) q e =
+    op_acts (Branch link target) q e =
         subst Result (native_same e)
         (branch_means i link target q (in_range (Branch link target) q) (cycles + x.cost) ks at o s
         g d next ex)
-    op-acts (ThumbBlHigh lr) q e = absurd (not_shell e)
-    op-acts (ThumbBlLow off) q e = straight-acts false e
-    op-acts (Mem ld width signed rd rn offset pre up writeback) q e = straight-acts true e
-    op-acts (BlockMem ld rn rlist pre up s_bit writeback) q e =
-        exit-or-straight Result (is_pop region i ld rn rlist pre up s_bit writeback) _ true
-        (pop-acts ld rn rlist pre up s_bit writeback q) (straight-acts true) e
-    op-acts (Mrs spsr rd) q e = straight-acts false e
-    op-acts (MsrReg spsr fields rm) q e = straight-acts false e
-    op-acts (MsrImm spsr fields value) q e = straight-acts false e
-    op-acts (Swi imm) q e = straight-acts false e
-    op-acts (Undefined raw) q e = straight-acts false e
+    op_acts (ThumbBlHigh lr) q e = absurd (not_shell e)
+    op_acts (ThumbBlLow off) q e = straight_acts false e
+    op_acts (Mem ld width signed rd rn offset pre up writeback) q e = straight_acts true e
+    op_acts (BlockMem ld rn rlist pre up s_bit writeback) q e =
+        exit_or_straight Result (is_pop region i ld rn rlist pre up s_bit writeback) _ true
+        (pop_acts ld rn rlist pre up s_bit writeback q) (straight_acts true) e
+    op_acts (Mrs spsr rd) q e = straight_acts false e
+    op_acts (MsrReg spsr fields rm) q e = straight_acts false e
+    op_acts (MsrImm spsr fields value) q e = straight_acts false e
+    op_acts (Swi imm) q e = straight_acts false e
+    op_acts (Undefined raw) q e = straight_acts false e
 
 pub record_means : (ks : List ℕ) (at region : ℕ) (x : TimedInstr) → InRange x.instr.op
     → RecordMeans ks at region x
@@ -243,8 +243,8 @@ record_means ks at region x range =
     record {
       said =
           λ cycles r e n u m. execute_said x.instr m
-          (op-written region x cycles r x.instr.op refl e) n u;
+          (op_written region x cycles r x.instr.op refl e) n u;
       acts =
-          λ cycles r e o z m s g d next ex. op-acts region x cycles r ks at range o s g d next ex
+          λ cycles r e o z m s g d next ex. op_acts region x cycles r ks at range o s g d next ex
           x.instr.op refl e;
     }

@@ -21,8 +21,8 @@ use Rattle.lower_forms.specs.Agree.{Agrees}
 use Rattle.lower_forms.specs.Means.{OpMeans}
 use Rattle.lower_units.specs.Text.{Continues}
 use Rattle.lower_units.specs.Records.{is_named_difference}
-use Rattle.lower_units.proofs.Outcome.{Outcome, done, skipped, outcome, al_passes, not-nv}
-use Rattle.lower_units.proofs.Outcome.{not-different}
+use Rattle.lower_units.proofs.Outcome.{Outcome, done, skipped, outcome, al_passes, not_nv}
+use Rattle.lower_units.proofs.Outcome.{not_different}
 use Rattle.lower_units.proofs.Wrapped.{straight_text, straight_if_text}
 
 -- a shell is not native, and a native form is that one
@@ -69,19 +69,19 @@ module _ (x : TimedInstr) (p : OpMeans x.instr x.instr.op) (ks : List ℕ) (a : 
 
   module _ (ls : Lines) (l : inline_body i.thumb i ≡ some ls) (n : ℕ) where
     -- under Al
-    always-means : passed i.cond m ≡ true → Result (straight (flush_ticks n) ls)
+    always_means : passed i.cond m ≡ true → Result (straight (flush_ticks n) ls)
     unfolding Result inline_body
-    always-means pass = go (outcome i m next e).1
+    always_means pass = go (outcome i m next e).1
       where
         go : Outcome i m next → Result (straight (flush_ticks n) ls)
-        go (done t u q) = let r = p ls l z m s g u (not-different i m d t) next q in
+        go (done t u q) = let r = p ls l z m s g u (not_different i m d t) next q in
             (straight_text ks a o n ls r.0, r.1)
         go (skipped t q) = absurd (true≢false (sym pass ∙ t))
 
     -- under another condition
-    under-means : Result (straight_if (flush_ticks n) (cond_expr i.cond) ls)
+    under_means : Result (straight_if (flush_ticks n) (cond_expr i.cond) ls)
     unfolding Result inline_body
-    under-means = go (outcome i m next e).1
+    under_means = go (outcome i m next e).1
       where
         text : Machine → Type 0
         text = Continues (native_text ks a o (straight_if (flush_ticks n) (cond_expr i.cond) ls)) z
@@ -89,14 +89,14 @@ module _ (x : TimedInstr) (p : OpMeans x.instr x.instr.op) (ks : List ℕ) (a : 
         go : Outcome i m next → text next.0 × (next.1 ≡ key_after i)
         go (done t u q) = (
           subst (λ (b : Bool). text (cond b next.0 m)) t
-              (straight_if_text s g i.cond (not-nv i m d) ks a o n ls
-              (λ t v h. (p ls l v m s h u (not-different i m d t) next q).0)),
-          (p ls l z m s g u (not-different i m d t) next q).1,
+              (straight_if_text s g i.cond (not_nv i m d) ks a o n ls
+              (λ t v h. (p ls l v m s h u (not_different i m d t) next q).0)),
+          (p ls l z m s g u (not_different i m d t) next q).1,
         )
         go (skipped t q) =
             subst (λ (n : Machine × ℕ). text n.0 × (n.1 ≡ key_after i)) q (
               subst (λ (b : Bool). text (cond b m m)) t
-                  (straight_if_text s g i.cond (not-nv i m d) ks a o n ls
+                  (straight_if_text s g i.cond (not_nv i m d) ks a o n ls
                   (λ y u h. absurd (true≢false (sym y ∙ t)))),
               refl,
             )
@@ -104,20 +104,20 @@ module _ (x : TimedInstr) (p : OpMeans x.instr x.instr.op) (ks : List ℕ) (a : 
     by_cond : (b : Bool) → is_al i.cond ≡ b
         → Result
         (cond b (straight (flush_ticks n) ls) (straight_if (flush_ticks n) (cond_expr i.cond) ls))
-    by_cond true c = always-means (al_passes i.cond c m)
-    by_cond false c = under-means
+    by_cond true c = always_means (al_passes i.cond c m)
+    by_cond false c = under_means
 
-  by-bus : (ls : Lines) → inline_body i.thumb i ≡ some ls → (cycles : ℕ) (b : Bool)
+  by_bus : (ls : Lines) → inline_body i.thumb i ≡ some ls → (cycles : ℕ) (b : Bool)
       → Result
       (cond (is_al i.cond) (straight (cond b (flush_ticks cycles) []) ls)
       (straight_if (cond b (flush_ticks cycles) []) (cond_expr i.cond) ls))
-  by-bus ls l cycles true = by_cond ls l cycles (is_al i.cond) refl
-  by-bus ls l cycles false = by_cond ls l 0 (is_al i.cond) refl
+  by_bus ls l cycles true = by_cond ls l cycles (is_al i.cond) refl
+  by_bus ls l cycles false = by_cond ls l 0 (is_al i.cond) refl
 
   -- a straight-line instruction that is native, where its operation means what it should
-  pub straight-means : (touchesBus : Bool) (cycles : ℕ) (r : Native)
+  pub straight_means : (touchesBus : Bool) (cycles : ℕ) (r : Native)
       → (emit_straight i.thumb touchesBus cycles x).0 ≡ native r
       → Continues (native_text ks a o r) z next.0 × (next.1 ≡ key_after i)
   unfolding Result
-  straight-means touchesBus cycles r q = let w = lowered i.thumb touchesBus cycles x r q in
-      subst Result (native_same w.2) (by-bus w.0 w.1 cycles touchesBus)
+  straight_means touchesBus cycles r q = let w = lowered i.thumb touchesBus cycles x r q in
+      subst Result (native_same w.2) (by_bus w.0 w.1 cycles touchesBus)

@@ -105,18 +105,18 @@ module _ (x y : TimedInstr) (h l : ℕ) where
   abbrev ret : ℕ
   ret = set_bit0 ((y.instr.addr + 2) % 2 ^ 32)
 
-  halves-fuse : x.instr ≡ decoded x.instr.addr (format_19_high h)
+  halves_fuse : x.instr ≡ decoded x.instr.addr (format_19_high h)
       → y.instr ≡ decoded y.instr.addr (format_19_low l)
       → fuse x.instr y.instr ≡ Pair target ret
   unfolding fuse
-  halves-fuse dx dy =
+  halves_fuse dx dy =
       subst (λ (i : Instr). fuse i y.instr ≡ Pair target ret) (sym dx)
       (subst (λ (j : Instr). fuse (decoded x.instr.addr (format_19_high h)) j ≡ Pair target ret)
       (sym dy) refl)
 
 pub thumb_pair_means : (ks : List ℕ) (at : ℕ) (x y : TimedInstr) → ThumbPairMeans ks at x y
 thumb_pair_means ks at x y h l fh fl dx dy ex ey =
-    (target x y h l, ret x y h l, halves-fuse x y h l dx dy, leaving)
+    (target x y h l, ret x y h l, halves_fuse x y h l dx dy, leaving)
   where
     leaving : (cycles : ℕ) (o : Owner) (z : State) (m : Machine) → Sound m → Agrees z m
         → (half next : Machine × ℕ)
@@ -138,5 +138,5 @@ thumb_pair_means ks at x y h l fh fl dx dy ex ey =
           a.1,
           b.1,
           pair_means ks at x y (target x y h l) (ret x y h l)
-              (halves-fuse x y h l dx dy) cycles o z m s g a.0 b.0 d e,
+              (halves_fuse x y h l dx dy) cycles o z m s g a.0 b.0 d e,
         )

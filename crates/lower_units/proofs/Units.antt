@@ -11,7 +11,7 @@ use borrow.Author.Tests.{leb-true}
 use lib.Dec.{leb}
 use lib.ListN.{length, get_or, length-append}
 use Rattle.file_blocks.specs.Parse.{Block}
-use Rattle.plan_groups.proofs.PlanLength.{groups-length}
+use Rattle.plan_groups.proofs.PlanLength.{groups_length}
 use Rattle.plan_groups.specs.Plan.{groups}
 use Rattle.c_tree.specs.Stmt.{Top}
 use Rattle.lower_forms.specs.Forms.{Body}
@@ -57,10 +57,10 @@ one_more max closed n u us h e =
     each v (Memᴰ.tail m) = e.go_on v m
 
 module _ (max : ℕ) (closed : List Top) where
-  cut-ends : (gs : List (List Body)) (ts : List Top) (n : ℕ)
+  cut_ends : (gs : List (List Body)) (ts : List Top) (n : ℕ)
       → Ends max closed (n + blocks_in gs) (cut max closed ts n gs)
   unfolding cut
-  cut-ends [] ts n =
+  cut_ends [] ts n =
       record {
         handed = [];
         final = _;
@@ -71,13 +71,13 @@ module _ (max : ℕ) (closed : List Top) where
         front = ts;
         table = refl;
       }
-  cut-ends (g ∷ gs) ts n =
+  cut_ends (g ∷ gs) ts n =
       let same : n + length g + blocks_in gs ≡ n + (length g + blocks_in gs) = omega arith in
       subst (λ (m : ℕ). Ends max closed m (cut max closed ts n (g ∷ gs))) same
       (go (leb max (length (text_of (ts ++ emit_group g)))) (leb-true _ _)
       (cut max closed unit_head (n + length g) gs)
       (cut max closed (ts ++ emit_group g) (n + length g) gs)
-      (cut-ends gs unit_head (n + length g)) (cut-ends gs (ts ++ emit_group g) (n + length g)))
+      (cut_ends gs unit_head (n + length g)) (cut_ends gs (ts ++ emit_group g) (n + length g)))
     where
       go : (x : Bool) → (x ≡ true → max ≤ length (text_of (ts ++ emit_group g)))
           → (us vs : List TranslationUnit)
@@ -96,17 +96,17 @@ module _ (max : ℕ) (closed : List Top) where
   grown : (ts more r : List Top) → ts ≡ unit_head ++ r → ts ++ more ≡ unit_head ++ (r ++ more)
   grown ts more r e = ap (λ (l : List Top). l ++ more) e ∙ append_assoc unit_head r more
 
-  cut-opens : (gs : List (List Body)) (ts : List Top) (n : ℕ) (r : List Top) → ts ≡ unit_head ++ r
+  cut_opens : (gs : List (List Body)) (ts : List Top) (n : ℕ) (r : List Top) → ts ≡ unit_head ++ r
       → (u : TranslationUnit) → Memᴰ u (cut max closed ts n gs) → Opens u
   unfolding cut
-  cut-opens [] ts n r e u (Memᴰ.head p) =
+  cut_opens [] ts n r e u (Memᴰ.head p) =
       subst Opens (sym p) (r ++ closed, grown ts closed r e)
-  cut-opens [] ts n r e u (Memᴰ.tail m) = absurd (Memᴰ.not-nil m)
-  cut-opens (g ∷ gs) ts n r e u m =
+  cut_opens [] ts n r e u (Memᴰ.tail m) = absurd (Memᴰ.not-nil m)
+  cut_opens (g ∷ gs) ts n r e u m =
       go (leb max (length (text_of (ts ++ emit_group g)))) (cut max closed unit_head (n + length g) gs)
       (cut max closed (ts ++ emit_group g) (n + length g) gs)
-      (cut-opens gs unit_head (n + length g) [] refl u)
-      (cut-opens gs (ts ++ emit_group g) (n + length g) (r ++ emit_group g)
+      (cut_opens gs unit_head (n + length g) [] refl u)
+      (cut_opens gs (ts ++ emit_group g) (n + length g) (r ++ emit_group g)
       (grown ts (emit_group g) r e) u) m
     where
       first : (us : List TranslationUnit) → (Memᴰ u us → Opens u)
@@ -143,14 +143,14 @@ unfolding emit_c_chunked
 units_end max bs gs =
     let same : 0 + blocks_in (map (bodies_of bs) gs) ≡ blocks_in gs = omega (arith, blocks_of_lem bs gs) in
     subst (λ (n : ℕ). Ends max (last_unit_end bs) n (emit_c_chunked max bs gs)) same
-    (cut-ends max (last_unit_end bs) (map (bodies_of bs) gs) unit_head 0)
+    (cut_ends max (last_unit_end bs) (map (bodies_of bs) gs) unit_head 0)
 
 -- every unit opens with PREAMBLE and a newline
 pub unit_opens : (max : ℕ) (bs : List Body) (gs : List (List ℕ)) (u : TranslationUnit)
     → Memᴰ u (emit_c_chunked max bs gs) → (r : List Top) × (u.tree ≡ unit_head ++ r)
 unfolding emit_c_chunked
 unit_opens max bs gs u m =
-    cut-opens max (last_unit_end bs) (map (bodies_of bs) gs) unit_head 0 [] refl u m
+    cut_opens max (last_unit_end bs) (map (bodies_of bs) gs) unit_head 0 [] refl u m
 
 blocks_flat : (gs : List (List ℕ)) → blocks_in gs ≡ length (flatten gs)
 unfolding flatten
@@ -164,5 +164,5 @@ unfolding units_by
 file_ends body_of limit max bs =
     subst (λ (n : ℕ). Ends max (last_unit_end (map body_of bs)) n
     (emit_c_chunked max (map body_of bs) (groups limit bs)))
-    (blocks_flat (groups limit bs) ∙ groups-length bs limit)
+    (blocks_flat (groups limit bs) ∙ groups_length bs limit)
     (units_end max (map body_of bs) (groups limit bs))

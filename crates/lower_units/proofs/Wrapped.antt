@@ -26,7 +26,7 @@ use Rattle.lower_forms.specs.Means.{Makes, statements}
 use Rattle.lower_units.specs.Text.{Continues}
 use Rattle.lower_units.proofs.Lines.{run_line, run_lines}
 use Rattle.lower_forms.proofs.Conditions.{flag_scope, test_ok, declared}
-use Rattle.lower_forms.proofs.Steps.{within, with-scopes}
+use Rattle.lower_forms.proofs.Steps.{within, with_scopes}
 
 -- ticks touch nothing
 ticks : (k : ℕ) (z : State) → perform (statements (flush_ticks k)) z ≡ some z
@@ -65,7 +65,7 @@ straight_text ks a o k ls {z} p =
           after_ticks o 4 k (sp 4 ⨾ braces (nl ⨾ lines o 8 ls (sp 4 ⨾ end)) (nl ⨾ c)) z
           ∙ closed (nl ⨾ lines o 8 ls (sp 4 ⨾ end)) (nl ⨾ c) z
           (inside o 8 4 ls (enter z) p.ends);
-      same = with-scopes p.same _;
+      same = with_scopes p.same _;
     }
 
 -- if (e) { lines }, where e holds, and where it does not
@@ -123,17 +123,17 @@ module _ {z : State} {m : Machine} (s : Sound m) (g : Agrees z m) (k : Cond) (nv
             → Continues (native_text ks a o (straight_if (flush_ticks n) (cond_expr k) ls)) z
             (cond t m1 m)
         go true q =
-            let r = p q flagged (with-scopes g _) in
+            let r = p q flagged (with_scopes g _) in
             record {
               end = leave (leave r.end);
               goes = λ c. after_ticks o 4 n (conditional o (cond_expr k) b c) z
                   ∙ framed o b (when_true o (cond_expr k) ls flagged (test true q) r.ends) c;
-              same = with-scopes r.same _;
+              same = with_scopes r.same _;
             }
         go false q =
             record {
               end = leave flagged;
               goes = λ c. after_ticks o 4 n (conditional o (cond_expr k) b c) z
                   ∙ framed o b (when_false o (cond_expr k) b flagged (test false q)) c;
-              same = with-scopes g _;
+              same = with_scopes g _;
             }

@@ -12,7 +12,7 @@ use Rattle.armv4t.specs.declared.Op.TheVariants.{Alu}
 use Rattle.file_instrs.specs.declared.decode.TimedInstr.{TimedInstr}
 use Rattle.c_tree.specs.Stmt.{common, end}
 use Rattle.c_meaning.specs.State.{bind, State, empty}
-use Rattle.c_meaning.specs.Eval.{eval, evalAs}
+use Rattle.c_meaning.specs.Eval.{eval, eval_as}
 use Rattle.c_meaning.specs.Exec.{Outcome, exec, others, asks, step, runs}
 use Rattle.c_meaning.specs.Perform.{execs}
 use Rattle.c_meaning.specs.Helpers.{rotated, called, run}
@@ -68,7 +68,7 @@ unfolding execute
 manual_1 = refl
 
 text_1 : text_has add_of_pc ≡ some 0x08000006
-unfolding emit_instr inline_body native_text run runs step asks execs exec others evalAs eval
+unfolding emit_instr inline_body native_text run runs step asks execs exec others eval_as eval
     rotated called AND OR EOR
 text_1 = refl
 
@@ -85,7 +85,7 @@ unfolding execute
 manual_2 = refl
 
 text_2 : text_has mov_under_nv ≡ some 1
-unfolding emit_instr inline_body native_text run runs step asks execs exec others evalAs eval
+unfolding emit_instr inline_body native_text run runs step asks execs exec others eval_as eval
     rotated called AND OR EOR
 text_2 = refl
 

@@ -9,7 +9,7 @@ use Rattle.file_instrs.specs.declared.decode.TimedInstr.{TimedInstr}
 use Rattle.c_tree.specs.Expr.{w32}
 use Rattle.c_tree.specs.Stmt.{common, end}
 use Rattle.c_meaning.specs.State.{bind, update, State, empty, load}
-use Rattle.c_meaning.specs.Eval.{eval, evalAs}
+use Rattle.c_meaning.specs.Eval.{eval, eval_as}
 use Rattle.c_meaning.specs.Exec.{Outcome, exec, others, asks, step, runs}
 use Rattle.c_meaning.specs.Perform.{execs}
 use Rattle.c_meaning.specs.Helpers.{rotated, called, run}
@@ -83,13 +83,13 @@ Both thumb rm x = (text_has thumb rm ≡ some x) × (manual_has thumb rm ≡ som
 
 -- from Thumb to an ARM address: T is cleared
 to_arm_lem : Both true 1 (0x10, some 0x08000100)
-unfolding emit_instr inline_body native_text run runs step asks execs exec others evalAs eval rotated
+unfolding emit_instr inline_body native_text run runs step asks execs exec others eval_as eval rotated
     called execute AND OR
 to_arm_lem = (refl, refl)
 
 -- from ARM to a Thumb address: T is set
 to_thumb_lem : Both false 2 (0x30, some 0x08000103)
-unfolding emit_instr inline_body native_text run runs step asks execs exec others evalAs eval rotated
+unfolding emit_instr inline_body native_text run runs step asks execs exec others eval_as eval rotated
     called execute AND OR
 to_thumb_lem = (refl, refl)
 
@@ -116,12 +116,12 @@ Stores x words =
 
 -- without writeback the old base is stored
 old_base : Stores (stmia false) (7, 0x08000100, 0x08000100)
-unfolding emit_instr inline_body F.listed native_text run runs step asks execs exec others evalAs eval
+unfolding emit_instr inline_body F.listed native_text run runs step asks execs exec others eval_as eval
     rotated called execute M.listed AND OR
 old_base = (refl, refl, refl)
 
 -- with writeback the base as it is after, which the manual leaves open (`stored_for` in Multiple)
 new_base : Stores (stmia true) (7, 0x08000108, 0x08000108)
-unfolding emit_instr inline_body F.listed native_text run runs step asks execs exec others evalAs eval
+unfolding emit_instr inline_body F.listed native_text run runs step asks execs exec others eval_as eval
     rotated called execute M.listed AND OR
 new_base = (refl, refl, refl)

@@ -18,7 +18,7 @@ use Rattle.armv4t.specs.RegisterList.{is_listed}
 use Rattle.file_instrs.specs.declared.decode.TimedInstr.{TimedInstr}
 use Rattle.file_blocks.specs.Address.{key_of}
 use Rattle.file_blocks.specs.Parse.{Block, AcceptedAs}
-use Rattle.file_blocks.proofs.Ranges.{accepted-ranges}
+use Rattle.file_blocks.proofs.Ranges.{accepted_ranges}
 use Rattle.plan_exits.specs.Exits.{branch_exits, op_exits, last_exits, closing_exits}
 use Rattle.plan_exits.specs.Exits.{instr_exits, exits}
 
@@ -146,4 +146,4 @@ pub exits_words : (f : List ℕ) (bs : List Block) → AcceptedAs f bs → (b : 
     → (k : ℕ) → Memᴰ k (exits b) → k < 2 ^ 32
 unfolding exits
 exits_words f bs ok b m =
-    one_word (exits b) (instr_words b.thumb b.instrs (accepted-ranges f bs ok b m))
+    one_word (exits b) (instr_words b.thumb b.instrs (accepted_ranges f bs ok b m))

@@ -18,9 +18,9 @@ use Rattle.base_lists.specs.Lists.{range, count}
 use Rattle.file_keys.specs.Order.{sort_by_key}
 use Rattle.plan_groups.specs.Plan.{parents, with_root, members, parts, groups_from}
 use Rattle.plan_groups.specs.Plan.{groups}
-use Rattle.file_keys.proofs.Sorted.{sort-count, sort-member}
+use Rattle.file_keys.proofs.Sorted.{sort_count, sort_member}
 use Rattle.plan_groups.proofs.Cutting.{parts_all}
-use Rattle.plan_groups.proofs.Edges.{root-block}
+use Rattle.plan_groups.proofs.Edges.{root_block}
 use Rattle.base_lists.proofs.Counts.{count_append, count_here, count_other, none_counted}
 use Rattle.base_lists.proofs.Counts.{flatten_append}
 
@@ -42,10 +42,10 @@ module _ (p : List ℕ) (r : ℕ) where
     high : i < k + n
     rooted : root p i ≡ r
 
-  members-are : (n k i : ℕ) → Memᴰ i (with_root (root p) r n k) → Member n k i
+  members_are : (n k i : ℕ) → Memᴰ i (with_root (root p) r n k) → Member n k i
   unfolding with_root
-  members-are zero k i m = absurd (Memᴰ.not-nil m)
-  members-are (suc n) k i m = go (eqb (root p k) r) refl (members-are n (suc k) i) m
+  members_are zero k i m = absurd (Memᴰ.not-nil m)
+  members_are (suc n) k i m = go (eqb (root p k) r) refl (members_are n (suc k) i) m
     where
       later : Member n (suc k) i → Member (suc n) k i
       later a =
@@ -65,8 +65,8 @@ module _ (p : List ℕ) (r : ℕ) where
       go false h ih l = later (ih l)
 
   -- an earlier block is no member
-  members-before : (n k i : ℕ) → i < k → count i (with_root (root p) r n k) ≡ 0
-  members-before n k i h = none_counted (λ m. omega (arith, (members-are n k i m).low))
+  members_before : (n k i : ℕ) → i < k → count i (with_root (root p) r n k) ≡ 0
+  members_before n k i h = none_counted (λ m. omega (arith, (members_are n k i m).low))
 
   members_count : (n k i : ℕ) → k ≤ i → i < k + n
       → count i (with_root (root p) r n k) ≡ cond (eqb (root p i) r) 1 0
@@ -76,7 +76,7 @@ module _ (p : List ℕ) (r : ℕ) where
       elim (ℕ_discrete i k) [
         | yes e ↦ rw e
             (count_front (eqb (root p k) r) k (with_root (root p) r n (suc k))
-            (members-before n (suc k) k (le_refl _)))
+            (members_before n (suc k) k (le_refl _)))
         | no ne ↦ count_after (eqb (root p k) r) i k (with_root (root p) r n (suc k)) ne
             ∙ members_count n (suc k) i (omega arith) (omega arith)
       ]
@@ -90,82 +90,82 @@ abbrev pub counts_of : List Block → List ℕ
 counts_of bs = map (λ (b : Block). length b.instrs) bs
 
 module _ (bs : List Block) where
-  component-count : (r i : ℕ) → i < length bs
+  component_count : (r i : ℕ) → i < length bs
       → count i (component bs r) ≡ cond (eqb (root (parents bs) i) r) 1 0
-  component-count r i h =
-      sort-count (map block_key bs) i (members (parents bs) r (length bs))
+  component_count r i h =
+      sort_count (map block_key bs) i (members (parents bs) r (length bs))
       ∙ members_count (parents bs) r (length bs) 0 i zero-le (omega arith)
 
   -- a block of a component is a block of the list, with the component's root
-  pub component-member : (r i : ℕ) → Memᴰ i (component bs r)
+  pub component_member : (r i : ℕ) → Memᴰ i (component bs r)
       → (i < length bs) × (root (parents bs) i ≡ r)
-  component-member r i m =
+  component_member r i m =
       let is =
-      members-are (parents bs) r (length bs) 0 i
-      (sort-member (map block_key bs) (members (parents bs) r (length bs)) m) in
+      members_are (parents bs) r (length bs) 0 i
+      (sort_member (map block_key bs) (members (parents bs) r (length bs)) m) in
       (omega (arith, is.high), is.rooted)
 
   -- of some components, from component r on, the one with a block's root has the block
 
-  components-more : (n r i : ℕ) → i < length bs
+  components_more : (n r i : ℕ) → i < length bs
       → count i (flatten (map (component bs) (range (suc n) r)))
       ≡ cond (eqb (root (parents bs) i) r) 1 0 + count i
       (flatten (map (component bs) (range n (suc r))))
   unfolding flatten
-  components-more n r i h =
+  components_more n r i h =
       count_append i (component bs r) (flatten (map (component bs) (range n (suc r))))
       ∙ ap (λ (k : ℕ). k + count i (flatten (map (component bs) (range n (suc r)))))
-      (component-count r i h)
+      (component_count r i h)
 
-  components-past : (n r i : ℕ) → i < length bs → root (parents bs) i < r
+  components_past : (n r i : ℕ) → i < length bs → root (parents bs) i < r
       → count i (flatten (map (component bs) (range n r))) ≡ 0
   unfolding flatten count
-  components-past zero r i h l = refl
-  components-past (suc n) r i h l = components-more n r i h
+  components_past zero r i h l = refl
+  components_past (suc n) r i h l = components_more n r i h
       ∙ rw (ne_eqb (root (parents bs) i) r (omega arith))
-      (zero-add _ ∙ components-past n (suc r) i h (omega arith))
+      (zero-add _ ∙ components_past n (suc r) i h (omega arith))
 
-  components-reached : (n r i : ℕ) → i < length bs → r ≤ root (parents bs) i
+  components_reached : (n r i : ℕ) → i < length bs → r ≤ root (parents bs) i
       → root (parents bs) i < r + n
       → count i (flatten (map (component bs) (range n r))) ≡ 1
-  components-reached zero r i h l b = absurd (omega arith)
-  components-reached (suc n) r i h l b =
-      components-more n r i h
+  components_reached zero r i h l b = absurd (omega arith)
+  components_reached (suc n) r i h l b =
+      components_more n r i h
       ∙ elim (ℕ_discrete (root (parents bs) i) r) [
         | yes e ↦ rw (eq-eqb _ _ e)
-            (ap (λ (k : ℕ). 1 + k) (components-past n (suc r) i h (omega arith)))
+            (ap (λ (k : ℕ). 1 + k) (components_past n (suc r) i h (omega arith)))
         | no ne ↦ rw (ne_eqb _ _ ne)
-            (zero-add _ ∙ components-reached n (suc r) i h (omega arith) (omega arith))
+            (zero-add _ ∙ components_reached n (suc r) i h (omega arith) (omega arith))
       ]
 
   -- every block stands once in the components
-  pub components-once : (i : ℕ) → i < length bs
+  pub components_once : (i : ℕ) → i < length bs
       → count i (flatten (map (component bs) (range (length bs) 0))) ≡ 1
-  components-once i h =
-      components-reached (length bs) 0 i h zero-le (omega (arith, root-block bs i h))
+  components_once i h =
+      components_reached (length bs) 0 i h zero-le (omega (arith, root_block bs i h))
 
 module _ (limit : ℕ) (bs : List Block) where
-  flat-from : (n r : ℕ)
+  flat_from : (n r : ℕ)
       → flatten (groups_from limit bs (parents bs) n r) ≡ flatten (map (component bs) (range n r))
   unfolding groups_from flatten
-  flat-from zero r = refl
-  flat-from (suc n) r =
+  flat_from zero r = refl
+  flat_from (suc n) r =
       flatten_append (parts limit (counts_of bs) [] 0 (component bs r))
       (groups_from limit bs (parents bs) n (suc r))
       ∙ ap₂ (λ (a b : List ℕ). a ++ b) (parts_all limit (counts_of bs) [] 0 (component bs r))
-      (flat-from n (suc r))
+      (flat_from n (suc r))
 
   -- the groups, one after the other, are the components, one after the other
-  pub groups-flat : flatten (groups limit bs) ≡ flatten (map (component bs) (range (length bs) 0))
+  pub groups_flat : flatten (groups limit bs) ≡ flatten (map (component bs) (range (length bs) 0))
   unfolding groups
-  groups-flat = flat-from (length bs) 0
+  groups_flat = flat_from (length bs) 0
 
-  part-from : (n r : ℕ) (g : List ℕ) → Memᴰ g (groups_from limit bs (parents bs) n r)
+  part_from : (n r : ℕ) (g : List ℕ) → Memᴰ g (groups_from limit bs (parents bs) n r)
       → (s : ℕ) × (s < r + n) × Memᴰ g (parts limit (counts_of bs) [] 0 (component bs s))
   unfolding groups_from
-  part-from zero r g m = absurd (Memᴰ.not-nil m)
-  part-from (suc n) r g m =
-      go (part-from n (suc r) g)
+  part_from zero r g m = absurd (Memᴰ.not-nil m)
+  part_from (suc n) r g m =
+      go (part_from n (suc r) g)
       (Memᴰ.append_cases (parts limit (counts_of bs) [] 0 (component bs r)) m)
     where
       later : (s : ℕ) × (s < suc r + n)
@@ -185,8 +185,8 @@ module _ (limit : ℕ) (bs : List Block) where
       go ih (inr l) = later (ih l)
 
   -- a group is a part of a component
-  pub groups-part : (g : List ℕ) → Memᴰ g (groups limit bs)
+  pub groups_part : (g : List ℕ) → Memᴰ g (groups limit bs)
       → (r : ℕ) × (r < length bs) × Memᴰ g (parts limit (counts_of bs) [] 0 (component bs r))
   unfolding groups
-  groups-part g m =
-      let there = part-from (length bs) 0 g m in (there.0, omega (arith, there.1), there.2)
+  groups_part g m =
+      let there = part_from (length bs) 0 g m in (there.0, omega (arith, there.1), there.2)

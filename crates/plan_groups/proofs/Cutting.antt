@@ -97,53 +97,53 @@ module _ (limit : ℕ) (counts : List ℕ) where
       go true e e' = ap (λ (l : List ℕ). part ++ l) e
       go false e e' = e' ∙ append_assoc part (i ∷ []) is
 
-  filling-none : Filling [] 0
+  filling_none : Filling [] 0
   unfolding instructions
-  filling-none = record { sum = refl; small = λ h. absurd (omega arith) }
+  filling_none = record { sum = refl; small = λ h. absurd (omega arith) }
 
-  filling-one : (i : ℕ) → Filling (i ∷ []) (get_or counts i 0)
+  filling_one : (i : ℕ) → Filling (i ∷ []) (get_or counts i 0)
   unfolding instructions
-  filling-one i = record { sum = add-zero _; small = λ h. absurd (omega arith) }
+  filling_one i = record { sum = add-zero _; small = λ h. absurd (omega arith) }
 
   -- a block that does not push the part over the limit, or comes first
-  filling-more : (part : List ℕ) (total i : ℕ) → Filling part total
+  filling_more : (part : List ℕ) (total i : ℕ) → Filling part total
       → (ltb limit (total + get_or counts i 0) && not (is_empty part)) ≡ false
       → Filling (part ++ (i ∷ [])) (total + get_or counts i 0)
   unfolding instructions
-  filling-more [] total i f e = subst (Filling (i ∷ [])) (omega (arith, f.sum)) (filling-one i)
-  filling-more (x ∷ xs) total i f e =
+  filling_more [] total i f e = subst (Filling (i ∷ [])) (omega (arith, f.sum)) (filling_one i)
+  filling_more (x ∷ xs) total i f e =
       record {
         sum = omega (arith, instructions_append counts (x ∷ xs) (i ∷ []), f.sum);
         small = λ h. ltb-false _ _ (sym (and-true _) ∙ e);
       }
 
-  fits-part : (part : List ℕ) (total : ℕ) → Filling part total → 1 ≤ length part → Fits part
-  fits-part part total f h = record { some = h; small = λ l. rw f.sum (f.small l) }
+  fits_part : (part : List ℕ) (total : ℕ) → Filling part total → 1 ≤ length part → Fits part
+  fits_part part total f h = record { some = h; small = λ l. rw f.sum (f.small l) }
 
-  fits-close : (part : List ℕ) (total : ℕ) → Filling part total → (g : List ℕ)
+  fits_close : (part : List ℕ) (total : ℕ) → Filling part total → (g : List ℕ)
       → Memᴰ g (as_parts part) → Fits g
-  fits-close [] total f g m = absurd (Memᴰ.not-nil m)
-  fits-close (x ∷ xs) total f g m =
-      subst Fits (sym (Memᴰ.eq_of_singleton m)) (fits-part (x ∷ xs) total f (omega arith))
+  fits_close [] total f g m = absurd (Memᴰ.not-nil m)
+  fits_close (x ∷ xs) total f g m =
+      subst Fits (sym (Memᴰ.eq_of_singleton m)) (fits_part (x ∷ xs) total f (omega arith))
 
-  closes-some : (part : List ℕ) (over : Bool) → (over && not (is_empty part)) ≡ true
+  closes_some : (part : List ℕ) (over : Bool) → (over && not (is_empty part)) ≡ true
       → 1 ≤ length part
-  closes-some [] over e = absurd (true≢false (sym e ∙ and-false over))
-  closes-some (x ∷ xs) over e = omega arith
+  closes_some [] over e = absurd (true≢false (sym e ∙ and-false over))
+  closes_some (x ∷ xs) over e = omega arith
 
-  parts-fit : (part : List ℕ) (total : ℕ) (is : List ℕ) → Filling part total → (g : List ℕ)
+  parts_fit : (part : List ℕ) (total : ℕ) (is : List ℕ) → Filling part total → (g : List ℕ)
       → Memᴰ g (parts limit counts part total is) → Fits g
   unfolding parts
-  parts-fit part total [] f g m = fits-close part total f g m
-  parts-fit part total (i ∷ is) f g m =
+  parts_fit part total [] f g m = fits_close part total f g m
+  parts_fit part total (i ∷ is) f g m =
       go (ltb limit (total + get_or counts i 0) && not (is_empty part)) refl
-      (parts-fit (i ∷ []) (get_or counts i 0) is (filling-one i) g)
-      (λ f'. parts-fit (part ++ (i ∷ [])) (total + get_or counts i 0) is f' g) m
+      (parts_fit (i ∷ []) (get_or counts i 0) is (filling_one i) g)
+      (λ f'. parts_fit (part ++ (i ∷ [])) (total + get_or counts i 0) is f' g) m
     where
       closed : 1 ≤ length part
           → (Memᴰ g (parts limit counts (i ∷ []) (get_or counts i 0) is) → Fits g)
           → (g ≡ part) ⊎ Memᴰ g (parts limit counts (i ∷ []) (get_or counts i 0) is) → Fits g
-      closed h ih (inl e) = subst Fits (sym e) (fits-part part total f h)
+      closed h ih (inl e) = subst Fits (sym e) (fits_part part total f h)
       closed h ih (inr n) = ih n
 
       go : (b : Bool) → (ltb limit (total + get_or counts i 0) && not (is_empty part)) ≡ b
@@ -155,14 +155,14 @@ module _ (limit : ℕ) (counts : List ℕ) where
           (cond b (part ∷ parts limit counts (i ∷ []) (get_or counts i 0) is)
           (parts limit counts (part ++ (i ∷ [])) (total + get_or counts i 0) is)) → Fits g
       go true e ih ih' n =
-          closed (closes-some part (ltb limit (total + get_or counts i 0)) e) ih
+          closed (closes_some part (ltb limit (total + get_or counts i 0)) e) ih
           (Memᴰ.cases_cons n)
-      go false e ih ih' n = ih' (filling-more part total i f e) n
+      go false e ih ih' n = ih' (filling_more part total i f e) n
 
   -- a part of a list fits
-  pub part-fits : (is g : List ℕ) → Memᴰ g (parts limit counts [] 0 is) → Fits g
-  part-fits is g m = parts-fit [] 0 is filling-none g m
+  pub part_fits : (is g : List ℕ) → Memᴰ g (parts limit counts [] 0 is) → Fits g
+  part_fits is g m = parts_fit [] 0 is filling_none g m
 
   -- and stands in the list in one piece
-  pub part-piece : (is g : List ℕ) → Memᴰ g (parts limit counts [] 0 is) → Piece g is
-  part-piece is g m = subst (Piece g) (parts_all [] 0 is) (flatten_piece m)
+  pub part_piece : (is g : List ℕ) → Memᴰ g (parts limit counts [] 0 is) → Piece g is
+  part_piece is g m = subst (Piece g) (parts_all [] 0 is) (flatten_piece m)

@@ -19,9 +19,9 @@ use Rattle.base_forest.specs.Roots.{root, hang}
 use Rattle.base_lists.specs.Lists.{range}
 use Rattle.plan_search.specs.Target.{joinable, target}
 use Rattle.plan_groups.specs.Plan.{join_to, join_exits, join_blocks, parents}
-use Rattle.base_forest.proofs.Roots.{deeper, root-inside, forest-range, root-range}
+use Rattle.base_forest.proofs.Roots.{deeper, root_inside, forest_range, root_range}
 use Rattle.base_lists.proofs.Range.{length_range}
-use Rattle.base_forest.proofs.Roots.{forest-hang, root-hang}
+use Rattle.base_forest.proofs.Roots.{forest_hang, root_hang}
 use Rattle.base_forest.proofs.Ways.{moved}
 
 -- whether block k can be joined
@@ -68,14 +68,14 @@ module _ (bs : List Block) where
   apart_none =
       record {
         lengths = length_range (length bs) 0;
-        ways = forest-range (length bs);
-        pages = λ k h. ap (joins_at bs) (root-range (length bs) k h);
-        alone = λ k h e. root-range (length bs) k h;
+        ways = forest_range (length bs);
+        pages = λ k h. ap (joins_at bs) (root_range (length bs) k h);
+        alone = λ k h e. root_range (length bs) k h;
       }
 
   -- steps to spare do no harm
-  apart-deeper : {d : ℕ} {p : List ℕ} → Apart bs d p → (e : ℕ) → d ≤ e → Apart bs e p
-  apart-deeper a e h =
+  apart_deeper : {d : ℕ} {p : List ℕ} → Apart bs d p → (e : ℕ) → d ≤ e → Apart bs e p
+  apart_deeper a e h =
       record {
         lengths = a.lengths;
         ways = deeper a.ways e h;
@@ -94,27 +94,27 @@ module _ (bs : List Block) where
 
     root_is : (k : ℕ) → k < length bs → root (hang p i j) k ≡ moved (root p i) (root p j) (root p k)
     root_is k h =
-        root-hang full (inside (joins_inside bs i joins-i)) (inside (joins_inside bs j joins-j))
+        root_hang full (inside (joins_inside bs i joins-i)) (inside (joins_inside bs j joins-j))
         a.ways (omega (arith, a.lengths)) k (inside h)
 
-    joins-root : (k : ℕ) → joins_at bs k ≡ true → joins_at bs (root p k) ≡ true
-    joins-root k e = a.pages k (joins_inside bs k e) ∙ e
+    joins_root : (k : ℕ) → joins_at bs k ≡ true → joins_at bs (root p k) ≡ true
+    joins_root k e = a.pages k (joins_inside bs k e) ∙ e
 
     -- a block with the root of i is joinable
     with_root : (k : ℕ) → k < length bs → root p k ≡ root p i → joins_at bs k ≡ true
-    with_root k h e = sym (a.pages k h) ∙ ap (joins_at bs) e ∙ joins-root i joins-i
+    with_root k h e = sym (a.pages k h) ∙ ap (joins_at bs) e ∙ joins_root i joins-i
 
-    apart-hang : Apart bs (d + 1) (hang p i j)
-    apart-hang =
+    apart_hang : Apart bs (d + 1) (hang p i j)
+    apart_hang =
         record {
           lengths = length-set p (root p i) (root p j) ∙ a.lengths;
           ways =
-              forest-hang full (inside (joins_inside bs i joins-i))
+              forest_hang full (inside (joins_inside bs i joins-i))
               (inside (joins_inside bs j joins-j)) a.ways;
           pages = λ k h.
               elim (ℕ_discrete (root p k) (root p i)) [
                 | yes e ↦ rw (root_is k h, eq-eqb _ _ e)
-                    (joins-root j joins-j ∙ sym (with_root k h e))
+                    (joins_root j joins-j ∙ sym (with_root k h e))
                 | no ne ↦ rw (root_is k h, ne_eqb _ _ ne) (a.pages k h)
               ];
           alone = λ k h off.
@@ -125,71 +125,71 @@ module _ (bs : List Block) where
         }
 
   -- the edge to a key, if there is a block to join
-  apart-to : {d : ℕ} {p : List ℕ} → Apart bs d p → d + 1 ≤ 2 * length bs → (i : ℕ)
+  apart_to : {d : ℕ} {p : List ℕ} → Apart bs d p → d + 1 ≤ 2 * length bs → (i : ℕ)
       → joins_at bs i ≡ true → (key : ℕ) (found : Option ℕ)
       → target key bs 0 ≡ found → Apart bs (d + 1) (join_to i p found)
-  apart-to {d} a few i joins key none e = apart-deeper a (d + 1) (omega arith)
-  apart-to a few i joins key (some j) e =
+  apart_to {d} a few i joins key none e = apart_deeper a (d + 1) (omega arith)
+  apart_to a few i joins key (some j) e =
       let there = target_joins key bs 0 j e in
-      apart-hang a few i j joins (ap (joins_at bs) (there.1 ∙ zero-add _) ∙ there.2)
+      apart_hang a few i j joins (ap (joins_at bs) (there.1 ∙ zero-add _) ∙ there.2)
 
   -- the edges of a block
-  apart-exits : (i : ℕ) → joins_at bs i ≡ true → (keys : List ℕ) {d : ℕ} {p : List ℕ} → Apart bs d p
+  apart_exits : (i : ℕ) → joins_at bs i ≡ true → (keys : List ℕ) {d : ℕ} {p : List ℕ} → Apart bs d p
       → d + length keys ≤ 2 * length bs
       → Apart bs (d + length keys) (join_exits bs i p keys)
   unfolding join_exits
-  apart-exits i joins [] {d} a few = apart-deeper a (d + 0) (omega arith)
-  apart-exits i joins (key ∷ keys) {d} a few =
-      apart-deeper
-      (apart-exits i joins keys (apart-to a (omega arith) i joins key (target key bs 0) refl)
+  apart_exits i joins [] {d} a few = apart_deeper a (d + 0) (omega arith)
+  apart_exits i joins (key ∷ keys) {d} a few =
+      apart_deeper
+      (apart_exits i joins keys (apart_to a (omega arith) i joins key (target key bs 0) refl)
       (omega arith)) (d + suc (length keys)) (omega arith)
 
   -- a block has at most two edges
-  apart-block : (i : ℕ) (b : Block) {p : List ℕ} → joins_at bs i ≡ joinable b → i < length bs
+  apart_block : (i : ℕ) (b : Block) {p : List ℕ} → joins_at bs i ≡ joinable b → i < length bs
       → Apart bs (2 * i) p
       → Apart bs (2 * suc i) (cond (joinable b) (join_exits bs i p (exits b)) p)
-  apart-block i b {p} here h a = go (joinable b) here
+  apart_block i b {p} here h a = go (joinable b) here
     where
       go : (c : Bool) → joins_at bs i ≡ c
           → Apart bs (2 * suc i) (cond c (join_exits bs i p (exits b)) p)
       go true e =
-          apart-deeper (apart-exits i e (exits b) a (omega (arith, exits_few b))) (2 * suc i)
+          apart_deeper (apart_exits i e (exits b) a (omega (arith, exits_few b))) (2 * suc i)
           (omega (arith, exits_few b))
-      go false e = apart-deeper a (2 * suc i) (omega arith)
+      go false e = apart_deeper a (2 * suc i) (omega arith)
 
   -- the edges of the blocks from block i on
-  apart-blocks : (left : List Block) (i : ℕ) {p : List ℕ} → i + length left ≡ length bs
+  apart_blocks : (left : List Block) (i : ℕ) {p : List ℕ} → i + length left ≡ length bs
       → ((k : ℕ) → joins_at bs (i + k) ≡ joins_at left k) → Apart bs (2 * i) p
       → Apart bs (2 * length bs) (join_blocks bs p i left)
   unfolding join_blocks
-  apart-blocks [] i e same a = apart-deeper a (2 * length bs) (omega arith)
-  apart-blocks (b ∷ left) i e same a =
-      apart-blocks left (suc i) (omega arith)
+  apart_blocks [] i e same a = apart_deeper a (2 * length bs) (omega arith)
+  apart_blocks (b ∷ left) i e same a =
+      apart_blocks left (suc i) (omega arith)
       (λ k. ap (joins_at bs) (let next : suc i + k ≡ i + suc k = omega arith in next) ∙ same (suc k))
-      (apart-block i b (ap (joins_at bs) (sym (add-zero i)) ∙ same 0) (omega arith) a)
+      (apart_block i b (ap (joins_at bs) (sym (add-zero i)) ∙ same 0) (omega arith) a)
 
   -- the parents after all edges
-  pub parents-apart : Apart bs (2 * length bs) (parents bs)
+  pub parents_apart : Apart bs (2 * length bs) (parents bs)
   unfolding parents
-  parents-apart = apart-blocks bs 0 (zero-add _) (λ k. ap (joins_at bs) (zero-add k)) apart_none
+  parents_apart = apart_blocks bs 0 (zero-add _) (λ k. ap (joins_at bs) (zero-add k)) apart_none
 
   -- the root of a block is a block
-  pub root-block : (k : ℕ) → k < length bs → root (parents bs) k < length bs
-  root-block k h =
-      let long = parents-apart.lengths in
+  pub root_block : (k : ℕ) → k < length bs → root (parents bs) k < length bs
+  root_block k h =
+      let long = parents_apart.lengths in
       let there : k < length (parents bs) = omega arith in
       omega (
         arith,
-        root-inside
-            (deeper parents-apart.ways (2 * length (parents bs)) (omega arith)) there,
+        root_inside
+            (deeper parents_apart.ways (2 * length (parents bs)) (omega arith)) there,
       )
 
   -- a block that is not joinable is its own root
-  pub root-self : (i : ℕ) → i < length bs → joins_at bs i ≡ false → root (parents bs) i ≡ i
-  root-self = parents-apart.alone
+  pub root_self : (i : ℕ) → i < length bs → joins_at bs i ≡ false → root (parents bs) i ≡ i
+  root_self = parents_apart.alone
 
   -- and that of no other block
-  pub root-alone : (i k : ℕ) → k < length bs → joins_at bs i ≡ false → root (parents bs) k ≡ i
+  pub root_alone : (i k : ℕ) → k < length bs → joins_at bs i ≡ false → root (parents bs) k ≡ i
       → k ≡ i
-  root-alone i k h off e =
-      sym (parents-apart.alone k h (sym (parents-apart.pages k h) ∙ ap (joins_at bs) e ∙ off)) ∙ e
+  root_alone i k h off e =
+      sym (parents_apart.alone k h (sym (parents_apart.pages k h) ∙ ap (joins_at bs) e ∙ off)) ∙ e

@@ -15,12 +15,12 @@ use Rattle.base_lists.specs.Interleave.{interleave}
 use Rattle.base_lists.proofs.Range.{length_range}
 use Rattle.base_forest.specs.Forest.{Forest, SameRoots}
 use Rattle.base_forest.specs.Roots.{root}
-use Rattle.base_forest.proofs.Roots.{forest-range, same_self}
+use Rattle.base_forest.proofs.Roots.{forest_range, same_self}
 use Rattle.file_records.specs.Trailer.{block_count, block_start}
 use Rattle.file_records.specs.BlockRecord.{count_at, count_sum}
 use Rattle.file_blocks.specs.Parse.{Block, blocks_of, Accepted}
 use Rattle.file_blocks.specs.Read.{record_at}
-use Rattle.file_blocks.proofs.Accepted.{few-instrs, instrs-inside, length-of, record-reads}
+use Rattle.file_blocks.proofs.Accepted.{few_instrs, instrs_inside, length_of_lem, record_reads}
 use Rattle.file_blocks.proofs.IsBlock.{nth_block}
 use Rattle.file_blocks.proofs.Nowhere.{nowhere}
 use Rattle.file_keys.specs.Order.{block_keys, key_order}
@@ -34,8 +34,8 @@ use Rattle.plan_groups.specs.Links.{Outside}
 use Rattle.plan_groups.specs.Order.{order_from, numbers_from, HasCounts, Placed}
 use Rattle.plan_groups.proofs.Components.{counts_of}
 use Rattle.plan_groups.proofs.Numbering.{plan_is, order_all}
-use Rattle.plan_groups.proofs.Lending.{take_kept, quarter_length, back-length, back-quarter}
-use Rattle.plan_groups.proofs.Lending.{back-before, back-after}
+use Rattle.plan_groups.proofs.Lending.{take_kept, quarter_length, back_length, back_quarter}
+use Rattle.plan_groups.proofs.Lending.{back_before, back_after}
 use Rattle.plan_groups.proofs.Tails.{order_once}
 
 -- what the pass over the counts keeps
@@ -72,8 +72,8 @@ counting_more f n w sum m w' count room all a h counted c =
       small = omega (
         arith,
         c.sums,
-        instrs-inside f (blocks_of f) a m (omega arith),
-        few-instrs f (blocks_of f) a,
+        instrs_inside f (blocks_of f) a m (omega arith),
+        few_instrs f (blocks_of f) a,
       );
       same = length-set w' (3 * n + m) _ ∙ c.same;
       before = λ k l. get_or-set_other w' (3 * n + m) k _ 0 (omega arith) ∙ c.before k l;
@@ -112,54 +112,54 @@ pub record Edges (f : List ℕ) (n i : ℕ) (work work' : List ℕ) : Type 0 whe
 -- each block its own root, in the quarter that was lent
 module _ (f : List ℕ) (n : ℕ) (w p' : List ℕ) (room : 4 * n ≤ length w)
     (own : p' ≡ range (length (quarter1 n w)) 0) where
-  own-n : p' ≡ range n 0
-  own-n = own ∙ ap (λ (m : ℕ). range m 0) (quarter_length n w room)
+  own_n : p' ≡ range n 0
+  own_n = own ∙ ap (λ (m : ℕ). range m 0) (quarter_length n w room)
 
-  own-long : length p' ≡ n
-  own-long = ap length own-n ∙ length_range n 0
+  own_long : length p' ≡ n
+  own_long = ap length own_n ∙ length_range n 0
 
   pub own_room : 4 * n ≤ length (put_mid n (2 * n - n) w p')
-  own_room = omega (arith, back-length n w p' room own-long)
+  own_room = omega (arith, back_length n w p' room own_long)
 
-  pub own-length : length (put_mid n (2 * n - n) w p') ≡ length w
-  own-length = back-length n w p' room own-long
+  pub own_length : length (put_mid n (2 * n - n) w p') ≡ length w
+  own_length = back_length n w p' room own_long
 
-  pub own-firsts : HasFirsts f n w → HasFirsts f n (put_mid n (2 * n - n) w p')
-  own-firsts h k l = back-after n w p' room own-long (3 * n + k) (omega arith) ∙ h k l
+  pub own_firsts : HasFirsts f n w → HasFirsts f n (put_mid n (2 * n - n) w p')
+  own_firsts h k l = back_after n w p' room own_long (3 * n + k) (omega arith) ∙ h k l
 
-  pub own-order : HasOrder f n w → HasOrder f n (put_mid n (2 * n - n) w p')
-  own-order h =
-      take_kept n w (put_mid n (2 * n - n) w p') own-length (omega arith)
-      (back-before n w p' room own-long) ∙ h
+  pub own_order : HasOrder f n w → HasOrder f n (put_mid n (2 * n - n) w p')
+  own_order h =
+      take_kept n w (put_mid n (2 * n - n) w p') own_length (omega arith)
+      (back_before n w p' room own_long) ∙ h
 
   pub edges_none : Accepted f → n ≡ block_count f
       → Edges f n 0 (put_mid n (2 * n - n) w p') (put_mid n (2 * n - n) w p')
   unfolding parents
   edges_none a all =
       let quarter-is : quarter1 n (put_mid n (2 * n - n) w p') ≡ range n 0 =
-      back-quarter n w p' room own-long ∙ own-n in
+      back_quarter n w p' room own_long ∙ own_n in
       record {
         few = zero-le;
         same = refl;
         before = λ k h. refl;
         after = λ k h. refl;
-        forest = subst (Forest 0) (sym quarter-is) (forest-range n);
+        forest = subst (Forest 0) (sym quarter-is) (forest_range n);
         roots = (
           range n 0,
           subst (λ (p : List ℕ). SameRoots 0 p (range n 0)) (sym quarter-is)
-              (same_self (forest-range n)),
+              (same_self (forest_range n)),
           ap (λ (m : ℕ). join_blocks (blocks_of f) (range m 0) 0 (blocks_of f))
-              (length-of f (blocks_of f) a ∙ sym all),
+              (length_of_lem f (blocks_of f) a ∙ sym all),
         );
       }
 
   -- all edges, from the numbers before the quarter was lent
-  pub edges-from : (w' : List ℕ) → AllJoined f n (put_mid n (2 * n - n) w p') w' → AllJoined f n w w'
-  edges-from w' e =
+  pub edges_from : (w' : List ℕ) → AllJoined f n (put_mid n (2 * n - n) w p') w' → AllJoined f n w w'
+  edges_from w' e =
       record {
-        same = e.same ∙ own-length;
-        before = λ k h. e.before k h ∙ back-before n w p' room own-long k h;
-        after = λ k h. e.after k h ∙ back-after n w p' room own-long k h;
+        same = e.same ∙ own_length;
+        before = λ k h. e.before k h ∙ back_before n w p' room own_long k h;
+        after = λ k h. e.after k h ∙ back_after n w p' room own_long k h;
         forest = e.forest;
         roots = e.roots;
       }
@@ -183,7 +183,7 @@ next_block : (f : List ℕ) → Accepted f → (i : ℕ) → i < block_count f �
 unfolding join_blocks
 next_block f a i h q =
     ap (join_blocks (blocks_of f) q i)
-    (drop-cons (blocks_of f) i nowhere (omega (arith, length-of f (blocks_of f) a))
+    (drop-cons (blocks_of f) i nowhere (omega (arith, length_of_lem f (blocks_of f) a))
     ∙ ap (λ (b : Block). b ∷ drop (suc i) (blocks_of f)) (nth_block f i nowhere h))
     ∙ rw (add-one i)
 
@@ -229,7 +229,7 @@ edges_done f n i w w' room a all done e =
     last_block : (q : List ℕ) → join_blocks (blocks_of f) q i (drop i (blocks_of f)) ≡ q
     last_block q =
         ap (join_blocks (blocks_of f) q i)
-        (ap (λ (m : ℕ). drop m (blocks_of f)) (done ∙ all ∙ sym (length-of f (blocks_of f) a))
+        (ap (λ (m : ℕ). drop m (blocks_of f)) (done ∙ all ∙ sym (length_of_lem f (blocks_of f) a))
         ∙ drop-length (blocks_of f))
 
 -- the counts of the blocks of an accepted file
@@ -238,7 +238,7 @@ unfolding nowhere
 has_counts f a i h =
     get_or-map (λ (b : Block). length b.instrs) (blocks_of f) i nowhere
     ∙ ap (λ (b : Block). length b.instrs) (nth_block f i nowhere h)
-    ∙ sym (record-reads f (blocks_of f) a i h).count
+    ∙ sym (record_reads f (blocks_of f) a i h).count
     ∙ (unfold record_at in refl)
 
 -- quarter 0 has the key order: each block once
@@ -267,8 +267,8 @@ module _ (f : List ℕ) (n limit : ℕ) (w w₁ w₂ w₃ : List ℕ) (accepted 
       (λ k h. rooted.before k h ∙ joined.before k h) ∙ firsts_order f n w w₁ room firsts order
 
   -- what linking asks for
-  pub link-asks : (4 * n ≤ length w₃) × (AllOnce n (take n w₃) × RootsInside n w₃)
-  link-asks = (
+  pub link_asks : (4 * n ≤ length w₃) × (AllOnce n (take n w₃) × RootsInside n w₃)
+  link_asks = (
     omega (arith, room₁, joined.same, rooted.same),
     (has_once f n w₃ all order₃, rooted.small),
   )
@@ -277,37 +277,37 @@ module _ (f : List ℕ) (n limit : ℕ) (w w₁ w₂ w₃ : List ℕ) (accepted 
     abbrev roots : List ℕ
     roots = drop (2 * n) w₄
 
-    roots-here : HasRoots n (drop (2 * n) w₄) w₃
-    roots-here i h =
+    roots_here : HasRoots n (drop (2 * n) w₄) w₃
+    roots_here i h =
         sym (outside.middle (2 * n + i) (omega arith) (omega arith))
         ∙ sym (get_or-drop (2 * n) w₄ i 0)
 
     order_kept : take n w₄ ≡ take n w₃
-    order_kept = take_kept n w₃ w₄ outside.same (omega (arith, link-asks.0)) outside.before
+    order_kept = take_kept n w₃ w₄ outside.same (omega (arith, link_asks.0)) outside.before
 
     room₄ : 4 * n ≤ length w₄
-    room₄ = omega (arith, link-asks.0, outside.same)
+    room₄ = omega (arith, link_asks.0, outside.same)
 
     once₄ : AllOnce n (take n w₄)
     once₄ = has_once f n w₄ all (order_kept ∙ order₃)
 
     -- what placing asks for
-    pub place-asks : (((4 * n ≤ length w₄) × (n ≤ 65536) × (n ≡ block_count f)) × Accepted f)
+    pub place_asks : (((4 * n ≤ length w₄) × (n ≤ 65536) × (n ≡ block_count f)) × Accepted f)
         × (AllOnce n (take n w₄) × Linked (drop (2 * n) w₄) n (take n w₄) w₄)
-    place-asks = (
+    place_asks = (
       ((room₄, few, all), accepted),
       (
         once₄,
         subst (λ (is : List ℕ). Linked (drop (2 * n) w₄) n is w₄) (sym order_kept)
-            (links (drop (2 * n) w₄) roots-here),
+            (links (drop (2 * n) w₄) roots_here),
       ),
     )
 
-    root-at : (j : ℕ) → j < n → get_or roots j 0 ≡ root (quarter1 n w₂) j
-    root-at j h = sym (roots-here j h) ∙ rooted.here j h
+    root_at : (j : ℕ) → j < n → get_or roots j 0 ≡ root (quarter1 n w₂) j
+    root_at j h = sym (roots_here j h) ∙ rooted.here j h
 
-    root-small : (j : ℕ) → j < n → get_or roots j 0 < n
-    root-small j h = subst (λ (m : ℕ). m < n) (roots-here j h) (rooted.small j h)
+    root_small : (j : ℕ) → j < n → get_or roots j 0 < n
+    root_small j h = subst (λ (m : ℕ). m < n) (roots_here j h) (rooted.small j h)
 
     pub grouped : (w₅ : List ℕ) → Placed f n limit w₄ w₅ → Grouped f n limit w w₅
     grouped w₅ placed =
@@ -323,11 +323,11 @@ module _ (f : List ℕ) (n limit : ℕ) (w w₁ w₂ w₃ : List ℕ) (accepted 
       where
         long : length (order_from (drop (2 * n) w₄) (take n w₄) n 0) ≡ n
         long =
-            order_all (drop (2 * n) w₄) (take n w₄) n (λ j m. root-small j (once₄.inside j m))
+            order_all (drop (2 * n) w₄) (take n w₄) n (λ j m. root_small j (once₄.inside j m))
             ∙ once₄.long
 
         size : length (blocks_of f) ≡ n
-        size = length-of f (blocks_of f) accepted ∙ sym all
+        size = length_of_lem f (blocks_of f) accepted ∙ sym all
 
         is : plan limit (blocks_of f)
             ≡ interleave
@@ -337,7 +337,7 @@ module _ (f : List ℕ) (n limit : ℕ) (w w₁ w₂ w₃ : List ℕ) (accepted 
         is =
             plan_is limit (blocks_of f) (drop (2 * n) w₄)
             (λ j h. let small : j < n = omega (arith, size) in
-            root-at j small ∙ joined.roots j small)
+            root_at j small ∙ joined.roots j small)
 
 -- the blocks were put in order
 pub has_order : (f : List ℕ) (n : ℕ) (w w₁ : List ℕ) → n ≡ block_count f

@@ -22,9 +22,9 @@ use Rattle.plan_search.specs.Target.{target, joinable, on_page8}
 use Rattle.plan_groups.specs.Plan.{join_to, join_exits}
 use Rattle.plan_search.specs.Search.{target_of, TargetInside}
 use Rattle.plan_groups.specs.Groups.{quarter1, HasOrder, Joined, join_record}
-use Rattle.file_blocks.proofs.IsBlock.{missing, found-record}
-use Rattle.plan_groups.proofs.Lending.{take_kept, quarter_length, back-length, back-quarter}
-use Rattle.plan_groups.proofs.Lending.{back-before, back-after}
+use Rattle.file_blocks.proofs.IsBlock.{missing, found_record}
+use Rattle.plan_groups.proofs.Lending.{take_kept, quarter_length, back_length, back_quarter}
+use Rattle.plan_groups.proofs.Lending.{back_before, back_after}
 use Rattle.base_forest.proofs.Roots.{deeper, same_deeper}
 
 module _ (f w : List ℕ) (n i key : ℕ) (found : Target)
@@ -33,9 +33,9 @@ module _ (f w : List ℕ) (n i key : ℕ) (found : Target)
   joins q = join_to i q (target key (blocks_of f) 0)
 
   -- no block to join
-  pub join-nothing : found ≡ Target.Nothing
+  pub join_nothing : found ≡ Target.Nothing
       → Joined 1 n w w (λ q. join_to i q (target key (blocks_of f) 0))
-  join-nothing e =
+  join_nothing e =
       record {
         same = refl;
         before = λ k h. refl;
@@ -48,16 +48,16 @@ module _ (f w : List ℕ) (n i key : ℕ) (found : Target)
       }
 
   -- a block to join
-  pub join-at : (j : ℕ) (p' : List ℕ) → 4 * n ≤ length w → found ≡ Target.At j
+  pub join_at : (j : ℕ) (p' : List ℕ) → 4 * n ≤ length w → found ≡ Target.At j
       → Hung (quarter1 n w) i j p'
       → Joined 1 n w (put_mid n (2 * n - n) w p') (λ q. join_to i q (target key (blocks_of f) 0))
-  join-at j p' room e h =
+  join_at j p' room e h =
       let long : length p' ≡ n = h.lengths ∙ quarter_length n w room in
-      let part-is : quarter1 n (put_mid n (2 * n - n) w p') ≡ p' = back-quarter n w p' room long in
+      let part-is : quarter1 n (put_mid n (2 * n - n) w p') ≡ p' = back_quarter n w p' room long in
       record {
-        same = back-length n w p' room long;
-        before = back-before n w p' room long;
-        after = back-after n w p' room long;
+        same = back_length n w p' room long;
+        before = back_before n w p' room long;
+        after = back_after n w p' room long;
         depth = λ d g. subst (Forest (d + 1)) (sym part-is) (h.depth d g);
         roots = λ d q few g.
             subst (λ (l : List ℕ). SameRoots (d + 1) l (joins q)) (sym part-is)
@@ -118,10 +118,10 @@ joined_more {e₁} {n} {w} {w₁} e₂ h a =
 
 -- the edges of an exit list, by its case
 module _ (f : List ℕ) (i n : ℕ) (w : List ℕ) (x : Exits) where
-  pub exits-none : x ≡ Exits.None
+  pub exits_none : x ≡ Exits.None
       → Joined 2 n w w (λ q. join_exits (blocks_of f) i q (keys_of x))
   unfolding join_exits
-  exits-none e = rw e (joined_more 2 (omega arith) (joined_none n w))
+  exits_none e = rw e (joined_more 2 (omega arith) (joined_none n w))
 
   pub exits_one : (k : ℕ) (w₁ : List ℕ) → x ≡ Exits.One k
       → Joined 1 n w w₁ (λ q. join_to i q (target k (blocks_of f) 0))
@@ -129,27 +129,27 @@ module _ (f : List ℕ) (i n : ℕ) (w : List ℕ) (x : Exits) where
   unfolding join_exits
   exits_one k w₁ e a = rw e (joined_more 2 (omega arith) a)
 
-  pub exits-two : (k l : ℕ) (w₁ w₂ : List ℕ) → x ≡ Exits.Two k l
+  pub exits_two : (k l : ℕ) (w₁ w₂ : List ℕ) → x ≡ Exits.Two k l
       → Joined 1 n w w₁ (λ q. join_to i q (target k (blocks_of f) 0))
       → Joined 1 n w₁ w₂ (λ q. join_to i q (target l (blocks_of f) 0))
       → Joined 2 n w w₂ (λ q. join_exits (blocks_of f) i q (keys_of x))
   unfolding join_exits
-  exits-two k l w₁ w₂ e a b = rw e (joined_then a b)
+  exits_two k l w₁ w₂ e a b = rw e (joined_then a b)
 
 -- block i as a pass over the records has it
 module _ (f : List ℕ) (i n : ℕ) (w : List ℕ) (found : FoundBlock) (reads : found ≡ found_block f i)
     (inside : i < n) (all : n ≡ block_count f) where
   -- the reader finds nothing: not in an accepted file
-  pub block-missing : Accepted f → found ≡ FoundBlock.Nothing → Joined 2 n w w (join_record f i)
-  block-missing a e = absurd (omega (arith, missing f a i (sym reads ∙ e)))
+  pub block_missing : Accepted f → found ≡ FoundBlock.Nothing → Joined 2 n w w (join_record f i)
+  block_missing a e = absurd (omega (arith, missing f a i (sym reads ∙ e)))
 
   module _ (b : BlockRecord) (at : found ≡ FoundBlock.At b) where
     record_is : b ≡ record_at f (block_start f i)
-    record_is = found-record f i b (sym reads ∙ at)
+    record_is = found_record f i b (sym reads ∙ at)
 
-    page-is : joinable (block_at f (block_start f i) (count_sum f i)) ≡ on_page8 b.addr
+    page_is : joinable (block_at f (block_start f i) (count_sum f i)) ≡ on_page8 b.addr
     unfolding block_at record_at
-    page-is = ap (λ (r : BlockRecord). on_page8 r.addr) (sym record_is)
+    page_is = ap (λ (r : BlockRecord). on_page8 r.addr) (sym record_is)
 
     -- a block of another page makes no edge
     pub block_apart : on_page8 b.addr ≡ false → Joined 2 n w w (join_record f i)
@@ -160,16 +160,16 @@ module _ (f : List ℕ) (i n : ℕ) (w : List ℕ) (found : FoundBlock) (reads :
           after = λ k h. refl;
           depth = λ d g. deeper g (d + 2) (omega arith);
           roots =
-              λ d q few g. subst (SameRoots (d + 2) (quarter1 n w)) (sym (rw (page-is, off)))
+              λ d q few g. subst (SameRoots (d + 2) (quarter1 n w)) (sym (rw (page_is, off)))
               (same_deeper g (d + 2) (omega arith));
         }
 
     -- a block of page 8 makes those of its exits
-    pub block-joins : on_page8 b.addr ≡ true → (x : Exits) (w₁ : List ℕ)
+    pub block_joins : on_page8 b.addr ≡ true → (x : Exits) (w₁ : List ℕ)
         → keys_of x ≡ exits (block_at f (block_start f i) (count_sum f i))
         → Joined 2 n w w₁ (λ q. join_exits (blocks_of f) i q (keys_of x))
         → Joined 2 n w w₁ (join_record f i)
-    block-joins e x w₁ keys j =
+    block_joins e x w₁ keys j =
         record {
           same = j.same;
           before = j.before;
@@ -177,6 +177,6 @@ module _ (f : List ℕ) (i n : ℕ) (w : List ℕ) (found : FoundBlock) (reads :
           depth = j.depth;
           roots = λ d q few g.
               subst (SameRoots (d + 2) (quarter1 n w₁))
-              (ap (join_exits (blocks_of f) i q) keys ∙ sym (rw (page-is, e)))
+              (ap (join_exits (blocks_of f) i q) keys ∙ sym (rw (page_is, e)))
               (j.roots d q few g);
         }

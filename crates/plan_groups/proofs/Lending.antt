@@ -41,20 +41,20 @@ module _ (n : ℕ) (w ys : List ℕ) (room : 4 * n ≤ length w) (long : length 
   abbrev back : List ℕ
   back = put_mid n (2 * n - n) w ys
 
-  pub back-length : length back ≡ length w
-  back-length =
+  pub back_length : length back ≡ length w
+  back_length =
       same_len_mid n (2 * n - n) w ys
       (long ∙ sym (twice n) ∙ sym (mid_len n (2 * n) w (omega arith)))
 
   -- quarter 1 is what came back
-  pub back-quarter : quarter1 n back ≡ ys
-  back-quarter =
+  pub back_quarter : quarter1 n back ≡ ys
+  back_quarter =
       ap (take n)
       (drop_at (take n w) (ys ++ post_of n (2 * n - n) w) n (length-take-le n w (omega arith)))
       ∙ take_at ys (post_of n (2 * n - n) w) n long
 
-  pub back-after : (k : ℕ) → 2 * n ≤ k → get_or back k 0 ≡ get_or w k 0
-  back-after k h =
+  pub back_after : (k : ℕ) → 2 * n ≤ k → get_or back k 0 ≡ get_or w k 0
+  back_after k h =
       let split : 2 * n + (k - 2 * n) ≡ k = omega arith in
       ap (λ (m : ℕ). get_or back m 0) (sym split)
       ∙ sym (get_or-drop (2 * n) back (k - 2 * n) 0)
@@ -63,8 +63,8 @@ module _ (n : ℕ) (w ys : List ℕ) (room : 4 * n ≤ length w) (long : length 
       ∙ get_or-drop (2 * n) w (k - 2 * n) 0
       ∙ ap (λ (m : ℕ). get_or w m 0) split
 
-  pub back-before : (k : ℕ) → k < n → get_or back k 0 ≡ get_or w k 0
-  back-before k h =
+  pub back_before : (k : ℕ) → k < n → get_or back k 0 ≡ get_or w k 0
+  back_before k h =
       sym (get_or-take n back k 0 h)
       ∙ ap (λ (l : List ℕ). get_or l k 0) (take_put n (2 * n - n) w ys (omega arith))
       ∙ get_or-take n w k 0 h
@@ -86,19 +86,19 @@ rooted n i w p' r room h e =
     let at : get_or (set (put_mid n (2 * n - n) w p') (2 * n + i) r) (2 * n + i) 0
     ≡ r =
     get_or-set_same (put_mid n (2 * n - n) w p') (2 * n + i) r 0
-    (omega (arith, back-length n w p' room long)) in
+    (omega (arith, back_length n w p' room long)) in
     record {
-      same = length-set (put_mid n (2 * n - n) w p') (2 * n + i) r ∙ back-length n w p' room long;
+      same = length-set (put_mid n (2 * n - n) w p') (2 * n + i) r ∙ back_length n w p' room long;
       flatter =
           subst (Flatter (quarter1 n w))
           (sym (quarter_set n (put_mid n (2 * n - n) w p') (2 * n + i) r (omega arith)
-          ∙ back-quarter n w p' room long)) e.kept;
+          ∙ back_quarter n w p' room long)) e.kept;
       here = at ∙ e.is;
       small = subst (λ (m : ℕ). m < n) (sym at) (subst (λ (m : ℕ). r < m) long e.inside);
       before = λ k l. get_or-set_other (put_mid n (2 * n - n) w p') (2 * n + i) k r 0 (omega arith)
-          ∙ back-before n w p' room long k l;
+          ∙ back_before n w p' room long k l;
       other = λ k l ne. get_or-set_other (put_mid n (2 * n - n) w p') (2 * n + i) k r 0 ne
-          ∙ back-after n w p' room long k l;
+          ∙ back_after n w p' room long k l;
     }
 
 flatter_self : (p : List ℕ) → Flatter p p

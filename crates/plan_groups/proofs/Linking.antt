@@ -15,7 +15,7 @@ use Rattle.base_lists.proofs.Places.{member_at}
 use Rattle.plan_groups.specs.Links.{seek, behind, AllOnce, Filled, link_one, HasRoots, Linked}
 use Rattle.plan_groups.specs.Links.{AllLinked, Outside}
 use Rattle.plan_groups.proofs.Lending.{take_kept}
-use Rattle.plan_groups.proofs.Tails.{Tail, behind_here, behind_past, tail_all, tail-drop}
+use Rattle.plan_groups.proofs.Tails.{Tail, behind_here, behind_past, tail_all, tail_drop}
 
 pub filled_none : (n : ℕ) (w : List ℕ) → Filled n 0 w w
 filled_none n w =
@@ -75,8 +75,8 @@ module _ (n i : ℕ) (w₀ w : List ℕ) (room : 4 * n ≤ length w₀) (h : i <
   other : (k : ℕ) → (k ≡ n + i → ⊥) → (k ≡ 3 * n + r₀ → ⊥) → get_or (link_one n i w) k 0 ≡ get_or w k 0
   other k g g' = get_or-set_other w₁ (3 * n + r₀) k i 0 g' ∙ get_or-set_other w (n + i) k _ 0 g
 
-  pub outside-more : Outside n w₀ (link_one n i w)
-  outside-more =
+  pub outside_more : Outside n w₀ (link_one n i w)
+  outside_more =
       record {
         same = length-set w₁ (3 * n + r₀) i ∙ long₁;
         before = λ k b. other k (omega arith) (omega (arith, r_small)) ∙ o.before k b;
@@ -86,17 +86,17 @@ module _ (n i : ℕ) (w₀ w : List ℕ) (room : 4 * n ≤ length w₀) (h : i <
 
   module _ (roots : List ℕ) (has : HasRoots n roots w₀) (order is : List ℕ)
       (t : Tail n order (i ∷ is)) (e : Linked roots n is w) where
-    r-is : r₀ ≡ get_or roots i 0
-    r-is = o.middle (2 * n + i) (omega arith) (omega arith) ∙ has i h
+    r_is : r₀ ≡ get_or roots i 0
+    r_is = o.middle (2 * n + i) (omega arith) (omega arith) ∙ has i h
 
     -- a search that starts one block earlier
-    seek-here : seek roots r₀ n (i ∷ is) ≡ i
+    seek_here : seek roots r₀ n (i ∷ is) ≡ i
     unfolding seek
-    seek-here = rw (eq-eqb _ _ (sym r-is))
+    seek_here = rw (eq-eqb _ _ (sym r_is))
 
-    seek-past : (r : ℕ) → (r ≡ r₀ → ⊥) → seek roots r n (i ∷ is) ≡ seek roots r n is
+    seek_past : (r : ℕ) → (r ≡ r₀ → ⊥) → seek roots r n (i ∷ is) ≡ seek roots r n is
     unfolding seek
-    seek-past r g = rw (ne_eqb _ _ (λ e'. g (sym e' ∙ sym r-is)))
+    seek_past r g = rw (ne_eqb _ _ (λ e'. g (sym e' ∙ sym r_is)))
 
     next_here : get_or (link_one n i w) (n + i) 0
         ≡ seek roots (get_or roots i 0) n (behind i (i ∷ is))
@@ -104,36 +104,36 @@ module _ (n i : ℕ) (w₀ w : List ℕ) (room : 4 * n ≤ length w₀) (h : i <
         get_or-set_other w₁ (3 * n + r₀) (n + i) i 0 (omega (arith, r_small))
         ∙ get_or-set_same w (n + i) (get_or w (3 * n + r₀) 0) 0 (omega (arith, o.same))
         ∙ e.first r₀ r_small
-        ∙ ap (λ (r : ℕ). seek roots r n is) r-is
+        ∙ ap (λ (r : ℕ). seek roots r n is) r_is
         ∙ ap (seek roots (get_or roots i 0) n) (sym (behind_here i is))
 
-    next-later : (j : ℕ) → Memᴰ j is
+    next_later : (j : ℕ) → Memᴰ j is
         → get_or (link_one n i w) (n + j) 0 ≡ seek roots (get_or roots j 0) n (behind j (i ∷ is))
-    next-later j m =
+    next_later j m =
         let g = t.apart.0 j m in
         let inside = t.inside j (Memᴰ.tail m) in
         other (n + j) (λ e'. g (omega arith)) (omega (arith, r_small))
         ∙ e.next j m
         ∙ ap (seek roots (get_or roots j 0) n) (sym (behind_past j i is g))
 
-    pub linked-more : Linked roots n (i ∷ is) (link_one n i w)
-    linked-more =
+    pub linked_more : Linked roots n (i ∷ is) (link_one n i w)
+    linked_more =
         record {
           next = λ j m.
               ⊎_elim
               (λ (g : j ≡ i). subst
               (λ (k : ℕ). get_or (link_one n i w) (n + k) 0
               ≡ seek roots (get_or roots k 0) n (behind k (i ∷ is))) (sym g) next_here)
-              (λ (l : Memᴰ j is). next-later j l) (Memᴰ.cases_cons m);
+              (λ (l : Memᴰ j is). next_later j l) (Memᴰ.cases_cons m);
           first = λ r b.
               elim (ℕ_discrete r r₀) [
                 | yes g ↦ subst
                     (λ (k : ℕ). get_or (link_one n i w) (3 * n + k) 0 ≡ seek roots k n (i ∷ is))
                     (sym g)
                     (get_or-set_same w₁ (3 * n + r₀) i 0 (omega (arith, long₁, r_small))
-                    ∙ sym seek-here)
+                    ∙ sym seek_here)
                 | no g ↦ other (3 * n + r) (omega arith) (omega arith) ∙ e.first r b
-                    ∙ sym (seek-past r g)
+                    ∙ sym (seek_past r g)
               ];
         }
 
@@ -197,49 +197,49 @@ module _ (w₀ : List ℕ) (n p : ℕ) (w : List ℕ) (pos : 0 < p) (e : Linking
   below : p - 1 < n
   below = omega (arith, e.few)
 
-  i-is : i ≡ get_or (take n w₀) (p - 1) 0
-  i-is = e.outside.before (p - 1) below ∙ sym (get_or-take n w₀ (p - 1) 0 below)
+  i_is : i ≡ get_or (take n w₀) (p - 1) 0
+  i_is = e.outside.before (p - 1) below ∙ sym (get_or-take n w₀ (p - 1) 0 below)
 
-  pub i-small : i < n
-  i-small =
-      subst (λ (m : ℕ). m < n) (sym i-is)
+  pub i_small : i < n
+  i_small =
+      subst (λ (m : ℕ). m < n) (sym i_is)
       (e.once.inside _ (member_at (take n w₀) (p - 1) 0 (omega (arith, e.once.long, below))))
 
   -- it and what stands behind it
-  from-here : drop (p - 1) (take n w₀) ≡ i ∷ drop p (take n w₀)
-  from-here =
+  from_here : drop (p - 1) (take n w₀) ≡ i ∷ drop p (take n w₀)
+  from_here =
       let again : suc (p - 1) ≡ p = omega arith in
       drop-cons (take n w₀) (p - 1) 0 (omega (arith, e.once.long, below))
-      ∙ rw (sym i-is, again)
+      ∙ rw (sym i_is, again)
 
   tail_of : Tail n (take n w₀) (i ∷ drop p (take n w₀))
   tail_of =
-      subst (Tail n (take n w₀)) from-here
-      (tail-drop n (take n w₀) (p - 1) (take n w₀) (tail_all n (take n w₀) e.once))
+      subst (Tail n (take n w₀)) from_here
+      (tail_drop n (take n w₀) (p - 1) (take n w₀) (tail_all n (take n w₀) e.once))
 
-  pub linking-more : Linking w₀ n (p - 1) (link_one n (get_or w (p - 1) 0) w)
-  linking-more =
+  pub linking_more : Linking w₀ n (p - 1) (link_one n (get_or w (p - 1) 0) w)
+  linking_more =
       record {
         few = omega (arith, e.few);
         room = e.room;
         once = e.once;
         small = e.small;
-        outside = outside-more n i w₀ w e.room i-small (e.small i i-small) e.outside;
+        outside = outside_more n i w₀ w e.room i_small (e.small i i_small) e.outside;
         linked =
-            λ roots h. subst (λ (is : List ℕ). Linked roots n is (link_one n i w)) (sym from-here)
-            (linked-more n i w₀ w e.room i-small (e.small i i-small) e.outside roots h
+            λ roots h. subst (λ (is : List ℕ). Linked roots n is (link_one n i w)) (sym from_here)
+            (linked_more n i w₀ w e.room i_small (e.small i i_small) e.outside roots h
             (take n w₀) (drop p (take n w₀)) tail_of (e.linked roots h));
       }
 
   -- what link_one asks for
-  pub linking-asks : (4 * n ≤ length w) × (get_or w (p - 1) 0 < n)
+  pub linking_asks : (4 * n ≤ length w) × (get_or w (p - 1) 0 < n)
       × (get_or w (2 * n + get_or w (p - 1) 0) 0 < n)
-  linking-asks = (
+  linking_asks = (
     omega (arith, e.room, e.outside.same),
-    i-small,
+    i_small,
     subst (λ (m : ℕ). m < n)
-        (sym (e.outside.middle (2 * n + i) (omega arith) (omega (arith, i-small))))
-        (e.small i i-small),
+        (sym (e.outside.middle (2 * n + i) (omega arith) (omega (arith, i_small))))
+        (e.small i i_small),
   )
 
 -- the loop is done

@@ -17,7 +17,7 @@ use Rattle.base_forest.specs.Roots.{root}
 use Rattle.file_blocks.specs.Parse.{Block, block_key}
 use Rattle.file_keys.specs.Order.{sort_by_key, key_order}
 use Rattle.file_keys.specs.Digits.{keep}
-use Rattle.file_keys.proofs.Members.{members-order}
+use Rattle.file_keys.proofs.Members.{members_order}
 use Rattle.plan_groups.specs.Order.{with_root_in, order_from, numbers_of, next_group, numbers_from}
 use Rattle.plan_groups.specs.Plan.{with_root, closes, parents, parts, groups_from, groups}
 use Rattle.plan_groups.specs.Plan.{group_rows, rows_from, plan}
@@ -45,7 +45,7 @@ component_is bs roots same r =
     ap (sort_by_key (map block_key bs))
     (members_rooted (parents bs) roots r (length bs) 0 (λ j l b. same j (rw zero-add at b))
     ∙ ap (λ (n : ℕ). with_root_in roots r (range n 0)) (sym (length_map bs block_key)))
-    ∙ members-order (λ (i : ℕ). eqb (get_or roots i 0) r) (map block_key bs)
+    ∙ members_order (λ (i : ℕ). eqb (get_or roots i 0) r) (map block_key bs)
 
 group_rows_append : (g : ℕ) (xs ys : List ℕ)
     → group_rows g (xs ++ ys) ≡ group_rows g xs ++ group_rows g ys

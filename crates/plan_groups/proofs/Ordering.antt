@@ -19,7 +19,7 @@ use Rattle.plan_groups.specs.Plan.{closes}
 use Rattle.plan_groups.specs.Order.{with_root_in, members_from, order_from, numbers_of, next_group}
 use Rattle.plan_groups.specs.Order.{numbers_from, HasCounts, Placed}
 use Rattle.base_lists.proofs.Bools.{right_true}
-use Rattle.plan_groups.proofs.Tails.{Tail, tail_all, tail-next, tail-here, tail-behind}
+use Rattle.plan_groups.proofs.Tails.{Tail, tail_all, tail_next, tail_here, tail_behind}
 
 -- what is left of a component at the member that a search finds is what the search went over
 pub from_seek : (roots order : List ℕ) (r n : ℕ) (is : List ℕ) → Tail n order is
@@ -27,13 +27,13 @@ pub from_seek : (roots order : List ℕ) (r n : ℕ) (is : List ℕ) → Tail n 
 unfolding seek members_from keep
 from_seek roots order r n [] t = rw (le-ltb n n (le_refl n))
 from_seek roots order r n (i ∷ is) t =
-    go (eqb (get_or roots i 0) r) (from_seek roots order r n is (tail-next n order i is t))
+    go (eqb (get_or roots i 0) r) (from_seek roots order r n is (tail_next n order i is t))
   where
     go : (b : Bool)
         → members_from roots order r n (seek roots r n is) ≡ with_root_in roots r is
         → members_from roots order r n (cond b i (seek roots r n is))
         ≡ cond b (i ∷ with_root_in roots r is) (with_root_in roots r is)
-    go true h = rw (lt-ltb i n (t.inside i (Memᴰ.head refl)), tail-here n order i is t)
+    go true h = rw (lt-ltb i n (t.inside i (Memᴰ.head refl)), tail_here n order i is t)
     go false h = h
 
 -- a search that finds a member finds one of its component
@@ -58,7 +58,7 @@ from_member roots order r n h once l =
     ap (λ (b : Bool). cond b (h ∷ with_root_in roots r (behind h order)) []) (lt-ltb _ _ l)
     ∙ ap (λ (xs : List ℕ). h ∷ xs)
     (sym (from_seek roots order r n (behind h order)
-    (tail-behind n order h order (tail_all n order once))))
+    (tail_behind n order h order (tail_all n order once))))
 
 pub from_none : (roots order : List ℕ) (r n h : ℕ) → n ≤ h → members_from roots order r n h ≡ []
 unfolding members_from
@@ -105,16 +105,16 @@ module _ (n place i g : ℕ) (w : List ℕ) (room : 4 * n ≤ length w) (h : pla
   abbrev row : List ℕ
   row = set (set w place i) (2 * n + place) g
 
-  pub row-length : length row ≡ length w
-  row-length = length-set (set w place i) (2 * n + place) g ∙ length-set w place i
+  pub row_length : length row ≡ length w
+  row_length = length-set (set w place i) (2 * n + place) g ∙ length-set w place i
 
   -- a number that neither store reached
   pub row_other : (k : ℕ) → (k ≡ place → ⊥) → (k ≡ 2 * n + place → ⊥) → get_or row k 0 ≡ get_or w k 0
   row_other k a b =
       get_or-set_other (set w place i) (2 * n + place) k g 0 b ∙ get_or-set_other w place k i 0 a
 
-  pub row-order : take (place + 1) row ≡ take place w ++ (i ∷ [])
-  row-order =
+  pub row_order : take (place + 1) row ≡ take place w ++ (i ∷ [])
+  row_order =
       rw (add-one place)
       (take-set-le (suc place) (set w place i) (2 * n + place) g (omega arith)
       ∙ take-suc-set w place i (omega arith))
@@ -183,10 +183,10 @@ module _ (f w₀ : List ℕ) (n limit : ℕ) where
         (next_group limit counts group total isOpen
         (members_from (drop (2 * n) w₀) (take n w₀) (pred r) n h)) (n - r) r)
 
-  pub placing-none : n ≤ 65536 → 4 * n ≤ length w₀ → AllOnce n (take n w₀)
+  pub placing_none : n ≤ 65536 → 4 * n ≤ length w₀ → AllOnce n (take n w₀)
       → Linked (drop (2 * n) w₀) n (take n w₀) w₀ → Placing 0 0 0 false 0 n w₀
   unfolding numbers_of next_group
-  placing-none few room once linked =
+  placing_none few room once linked =
       record {
         few = few;
         room = room;
@@ -207,11 +207,11 @@ module _ (f w₀ : List ℕ) (n limit : ℕ) where
       }
 
   module _ (place g t : ℕ) (o : Bool) (r h : ℕ) (w : List ℕ) (p : Placing place g t o r h w) where
-    room-now : 4 * n ≤ length w
-    room-now = omega (arith, p.room, p.same)
+    room_now : 4 * n ≤ length w
+    room_now = omega (arith, p.room, p.same)
 
     -- the next member is placed
-    module _ (in_order : place < n) (in-component : h < n) (b : Bool) (count : ℕ)
+    module _ (in_order : place < n) (in_component : h < n) (b : Bool) (count : ℕ)
         (closing : closes limit t o count ≡ b) (fits : count < 2 ^ 32)
         (counted : (counts : List ℕ) → HasCounts f counts → get_or counts h 0 ≡ count) where
       abbrev g' : ℕ
@@ -226,36 +226,36 @@ module _ (f w₀ : List ℕ) (n limit : ℕ) where
       abbrev h' : ℕ
       h' = get_or w' (n + h) 0
 
-      closes-open : b ≡ true → o ≡ true
-      closes-open e = right_true (ltb limit (t + count)) o (closing ∙ e)
+      closes_open : b ≡ true → o ≡ true
+      closes_open e = right_true (ltb limit (t + count)) o (closing ∙ e)
 
-      g-small : g' ≤ place
-      g-small = go b refl
+      g_small : g' ≤ place
+      g_small = go b refl
         where
           go : (c : Bool) → b ≡ c → cond c (g + 1) g ≤ place
-          go true e = omega (arith, p.partly (closes-open e))
+          go true e = omega (arith, p.partly (closes_open e))
           go false e = p.groups
 
-      t-small : t' ≤ 2 ^ 32 * (place + 1)
-      t-small = go b
+      t_small : t' ≤ 2 ^ 32 * (place + 1)
+      t_small = go b
         where
           go : (c : Bool) → cond c count (t + count) ≤ 2 ^ 32 * (place + 1)
           go true = omega arith
           go false = omega (arith, p.small)
 
-      next-is : h' ≡ seek roots (pred r) n (behind h order)
-      next-is =
-          row_other n place h g' w room-now in_order (n + h) (omega arith) (omega arith)
-          ∙ p.nexts h in-component
-          ∙ p.linked.next h (p.once.all h in-component)
-          ∙ ap (λ (k : ℕ). seek roots k n (behind h order)) (p.member in-component)
+      next_is : h' ≡ seek roots (pred r) n (behind h order)
+      next_is =
+          row_other n place h g' w room_now in_order (n + h) (omega arith) (omega arith)
+          ∙ p.nexts h in_component
+          ∙ p.linked.next h (p.once.all h in_component)
+          ∙ ap (λ (k : ℕ). seek roots k n (behind h order)) (p.member in_component)
 
       from_is : members_from roots order (pred r) n h ≡ h ∷ members_from roots order (pred r) n h'
-      from_is = from_member roots order (pred r) n h p.once in-component
-          ∙ ap (λ (k : ℕ). h ∷ members_from roots order (pred r) n k) (sym next-is)
+      from_is = from_member roots order (pred r) n h p.once in_component
+          ∙ ap (λ (k : ℕ). h ∷ members_from roots order (pred r) n k) (sym next_is)
 
-      pub placing-member : Placing (place + 1) g' t' true r h' w'
-      placing-member =
+      pub placing_member : Placing (place + 1) g' t' true r h' w'
+      placing_member =
           record {
             few = p.few;
             room = p.room;
@@ -263,21 +263,21 @@ module _ (f w₀ : List ℕ) (n limit : ℕ) where
             linked = p.linked;
             placed = omega arith;
             begun = p.begun;
-            groups = omega (arith, g-small);
-            partly = λ e. omega (arith, g-small);
-            small = t-small;
-            same = row-length n place h g' w room-now in_order ∙ p.same;
-            after = λ k l. row_other n place h g' w room-now in_order k (omega arith) (omega arith)
+            groups = omega (arith, g_small);
+            partly = λ e. omega (arith, g_small);
+            small = t_small;
+            same = row_length n place h g' w room_now in_order ∙ p.same;
+            after = λ k l. row_other n place h g' w room_now in_order k (omega arith) (omega arith)
                 ∙ p.after k l;
             nexts =
-                λ k l. row_other n place h g' w room-now in_order (n + k) (omega arith)
+                λ k l. row_other n place h g' w room_now in_order (n + k) (omega arith)
                 (omega arith) ∙ p.nexts k l;
             firsts =
-                λ k l. row_other n place h g' w room-now in_order (3 * n + k) (omega arith)
+                λ k l. row_other n place h g' w room_now in_order (3 * n + k) (omega arith)
                 (omega arith) ∙ p.firsts k l;
-            member = λ l. ap (λ (k : ℕ). get_or roots k 0) next-is
+            member = λ l. ap (λ (k : ℕ). get_or roots k 0) next_is
                 ∙ seek_root roots (pred r) n (behind h order)
-                (subst (λ (k : ℕ). k < n) next-is l);
+                (subst (λ (k : ℕ). k < n) next_is l);
             rows =
                 p.rows
                 ∙ ap (λ (l : List ℕ). take place w ++ (l ++ order_from roots order (n - r) r))
@@ -286,7 +286,7 @@ module _ (f w₀ : List ℕ) (n limit : ℕ) where
                 (members_from roots order (pred r) n h' ++ order_from roots order (n - r) r))
                 ∙ ap (λ (l : List ℕ). l
                 ++ (members_from roots order (pred r) n h' ++ order_from roots order (n - r) r))
-                (sym (row-order n place h g' w room-now in_order));
+                (sym (row_order n place h g' w room_now in_order));
             numbers = λ counts has. numbers_more counts has;
           }
         where
@@ -308,7 +308,7 @@ module _ (f w₀ : List ℕ) (n limit : ℕ) where
                 next_step limit counts g t o h (members_from roots order (pred r) n h') b
                     closes-is,
                 c-is,
-                row_number n place h g' w room-now in_order,
+                row_number n place h g' w room_now in_order,
               )
               (sym (append_assoc (take place (drop (2 * n) w)) (g' ∷ []) _))
 
@@ -317,32 +317,32 @@ module _ (f w₀ : List ℕ) (n limit : ℕ) where
       abbrev h₁ : ℕ
       h₁ = get_or w (3 * n + r) 0
 
-      first-is : h₁ ≡ seek roots r n order
-      first-is = p.firsts r more ∙ p.linked.first r more
+      first_is : h₁ ≡ seek roots r n order
+      first_is = p.firsts r more ∙ p.linked.first r more
 
-      rooted-is : members_from roots order r n h₁ ≡ with_root_in roots r order
-      rooted-is =
-          ap (members_from roots order r n) first-is
+      rooted_is : members_from roots order r n h₁ ≡ with_root_in roots r order
+      rooted_is =
+          ap (members_from roots order r n) first_is
           ∙ from_seek roots order r n order (tail_all n order p.once)
 
       one_less : n - r ≡ suc (n - (r + 1))
       one_less = omega arith
 
       from_next : members_from roots order (pred (r + 1)) n h₁ ≡ with_root_in roots r order
-      from_next = ap (λ (k : ℕ). members_from roots order k n h₁) (pred_more r) ∙ rooted-is
+      from_next = ap (λ (k : ℕ). members_from roots order k n h₁) (pred_more r) ∙ rooted_is
 
-      order-next : members_from roots order (pred r) n h ++ order_from roots order (n - r) r
+      order_next : members_from roots order (pred r) n h ++ order_from roots order (n - r) r
           ≡ members_from roots order (pred (r + 1)) n h₁
           ++ order_from roots order (n - (r + 1)) (r + 1)
       unfolding order_from
-      order-next = rw (from_none roots order (pred r) n h no_more, from_next, one_less, add-one r)
+      order_next = rw (from_none roots order (pred r) n h no_more, from_next, one_less, add-one r)
 
-      next-closed : (counts : List ℕ)
+      next_closed : (counts : List ℕ)
           → next_group limit counts g t o (members_from roots order (pred r) n h) ≡ cond o (g + 1) g
       unfolding next_group
-      next-closed counts = rw (from_none roots order (pred r) n h no_more, add-one g)
+      next_closed counts = rw (from_none roots order (pred r) n h no_more, add-one g)
 
-      numbers-next : (counts : List ℕ)
+      numbers_next : (counts : List ℕ)
           → numbers_of limit counts g t o (members_from roots order (pred r) n h)
           ++ numbers_from limit counts roots order
           (next_group limit counts g t o (members_from roots order (pred r) n h)) (n - r) r
@@ -352,9 +352,9 @@ module _ (f w₀ : List ℕ) (n limit : ℕ) where
           (next_group limit counts (cond o (g + 1) g) 0 false
           (members_from roots order (pred (r + 1)) n h₁)) (n - (r + 1)) (r + 1)
       unfolding numbers_from numbers_of
-      numbers-next counts =
+      numbers_next counts =
           rw (
-            next-closed counts,
+            next_closed counts,
             from_none roots order (pred r) n h no_more,
             from_next,
             one_less,
@@ -362,8 +362,8 @@ module _ (f w₀ : List ℕ) (n limit : ℕ) where
                 r,
           )
 
-      pub placing-component : Placing place (cond o (g + 1) g) 0 false (r + 1) h₁ w
-      placing-component =
+      pub placing_component : Placing place (cond o (g + 1) g) 0 false (r + 1) h₁ w
+      placing_component =
           record {
             few = p.few;
             room = p.room;
@@ -378,12 +378,12 @@ module _ (f w₀ : List ℕ) (n limit : ℕ) where
             after = p.after;
             nexts = p.nexts;
             firsts = p.firsts;
-            member = λ l. ap (λ (k : ℕ). get_or roots k 0) first-is
-                ∙ seek_root roots r n order (subst (λ (k : ℕ). k < n) first-is l)
+            member = λ l. ap (λ (k : ℕ). get_or roots k 0) first_is
+                ∙ seek_root roots r n order (subst (λ (k : ℕ). k < n) first_is l)
                 ∙ sym (pred_more r);
-            rows = p.rows ∙ ap (λ (l : List ℕ). take place w ++ l) order-next;
+            rows = p.rows ∙ ap (λ (l : List ℕ). take place w ++ l) order_next;
             numbers = λ counts has. p.numbers counts has
-                ∙ ap (λ (l : List ℕ). take place (drop (2 * n) w) ++ l) (numbers-next counts);
+                ∙ ap (λ (l : List ℕ). take place (drop (2 * n) w) ++ l) (numbers_next counts);
           }
         where
           closed : (c : Bool) → o ≡ c → cond c (g + 1) g ≤ place
@@ -391,44 +391,44 @@ module _ (f w₀ : List ℕ) (n limit : ℕ) where
           closed false e = p.groups
 
     -- the same for what the code computes
-    module _ (in_order : place < n) (in-component : h < n) (count : ℕ) (fits : count < 2 ^ 32)
+    module _ (in_order : place < n) (in_component : h < n) (count : ℕ) (fits : count < 2 ^ 32)
         (counted : (counts : List ℕ) → HasCounts f counts → get_or counts h 0 ≡ count) (part : Part)
         (taken : part
         ≡ cond (closes limit t o count) (record { group = g + 1; total = count })
         (record { group = g; total = t + count })) (w' : List ℕ)
         (put : w' ≡ set (set w place h) (2 * n + place) part.group) where
-      group-is : (b : Bool)
+      group_is : (b : Bool)
           → (cond {A = Part} b (record { group = g + 1; total = count })
           (record { group = g; total = t + count })).group ≡ cond b (g + 1) g
-      group-is true = refl
-      group-is false = refl
+      group_is true = refl
+      group_is false = refl
 
-      total-is : (b : Bool)
+      total_is : (b : Bool)
           → (cond {A = Part} b (record { group = g + 1; total = count })
           (record { group = g; total = t + count })).total ≡ cond b count (t + count)
-      total-is true = refl
-      total-is false = refl
+      total_is true = refl
+      total_is false = refl
 
-      pub placing-next : Placing (place + 1) part.group part.total true r (get_or w' (n + h) 0)
+      pub placing_next : Placing (place + 1) part.group part.total true r (get_or w' (n + h) 0)
           w'
-      placing-next =
-          let group-here = ap (λ (x : Part). x.group) taken ∙ group-is (closes limit t o count) in
-          let total_here = ap (λ (x : Part). x.total) taken ∙ total-is (closes limit t o count) in
-          rw (put, group-here, total_here)
-          (placing-member in_order in-component (closes limit t o count) count refl fits
+      placing_next =
+          let group_here = ap (λ (x : Part). x.group) taken ∙ group_is (closes limit t o count) in
+          let total_here = ap (λ (x : Part). x.total) taken ∙ total_is (closes limit t o count) in
+          rw (put, group_here, total_here)
+          (placing_member in_order in_component (closes limit t o count) count refl fits
           counted)
 
     long_order : length (take place w) ≡ place
-    long_order = length-take-le place w (omega (arith, p.placed, room-now))
+    long_order = length-take-le place w (omega (arith, p.placed, room_now))
 
-    long-numbers : length (take place (drop (2 * n) w)) ≡ place
-    long-numbers =
+    long_numbers : length (take place (drop (2 * n) w)) ≡ place
+    long_numbers =
         length-take-le place (drop (2 * n) w)
-        (simp length-drop (omega (arith, p.placed, room-now)))
+        (simp length-drop (omega (arith, p.placed, room_now)))
 
     -- all blocks are placed
-    pub placing-all : n ≤ place → Placed f n limit w₀ w
-    placing-all full =
+    pub placing_all : n ≤ place → Placed f n limit w₀ w
+    placing_all full =
         let all : place ≡ n = omega (arith, p.placed) in
         record {
           same = p.same;
@@ -440,7 +440,7 @@ module _ (f w₀ : List ℕ) (n limit : ℕ) where
               subst
               (λ (k : ℕ). take k (drop (2 * n) w) ≡ numbers_from limit counts roots order 0 n 0) all
               (whole (take place (drop (2 * n) w)) _ _ (p.numbers counts has)
-              (length_all limit counts roots order 0 n 0 ∙ long ∙ sym all ∙ sym long-numbers));
+              (length_all limit counts roots order 0 n 0 ∙ long ∙ sym all ∙ sym long_numbers));
         }
 
     -- no component is left, so all blocks are placed
@@ -454,11 +454,11 @@ module _ (f w₀ : List ℕ) (n limit : ℕ) where
           (rw (from_none roots order (pred r) n h no_more, none_left)) in
           omega (arith, ap length (order_is ∙ append_nil (take place w)), long_order)
 
-      pub placing-done : Placed f n limit w₀ w
-      placing-done =
+      pub placing_done : Placed f n limit w₀ w
+      placing_done =
           record {
             same = p.same;
             after = p.after;
-            order = λ long. (placing-all (all_placed long)).order long;
-            numbers = λ long. (placing-all (all_placed long)).numbers long;
+            order = λ long. (placing_all (all_placed long)).order long;
+            numbers = λ long. (placing_all (all_placed long)).numbers long;
           }

@@ -11,11 +11,11 @@ use Rattle.base_lists.specs.Lists.{range}
 use Rattle.base_lists.proofs.Places.{map_at}
 use Rattle.base_lists.proofs.Range.{length_range, range_own}
 use Rattle.file_keys.specs.Order.{key_order}
-use Rattle.file_keys.proofs.Ordered.{is-order}
+use Rattle.file_keys.proofs.Ordered.{is_order}
 use Rattle.plan_groups.specs.Order.{order_from}
 use Rattle.plan_groups.specs.Plan.{parents, groups, group_rows, rows_from, plan}
-use Rattle.plan_groups.proofs.Components.{component, groups-flat}
-use Rattle.plan_groups.proofs.Edges.{root-block}
+use Rattle.plan_groups.proofs.Components.{component, groups_flat}
+use Rattle.plan_groups.proofs.Edges.{root_block}
 use Rattle.plan_groups.proofs.Numbering.{component_is, order_all}
 
 group_rows_length : (g : ℕ) (is : List ℕ) → length (group_rows g is) ≡ 2 * length is
@@ -40,33 +40,33 @@ module _ (bs : List Block) where
   roots : List ℕ
   roots = map (root (parents bs)) (range (length bs) 0)
 
-  roots-at : (j : ℕ) → j < length bs → get_or roots j 0 ≡ root (parents bs) j
+  roots_at : (j : ℕ) → j < length bs → get_or roots j 0 ≡ root (parents bs) j
   unfolding roots
-  roots-at j h =
+  roots_at j h =
       map_at (root (parents bs)) (range (length bs) 0) j 0 0
       (omega (arith, length_range (length bs) 0))
       ∙ ap (root (parents bs)) (range_own (length bs) j h)
 
-  components-are : (left r : ℕ)
+  components_are : (left r : ℕ)
       → flatten (map (component bs) (range left r))
       ≡ order_from roots (key_order (map block_key bs)) left r
   unfolding flatten order_from
-  components-are zero r = refl
-  components-are (suc left) r =
-      ap₂ (λ (a b : List ℕ). a ++ b) (component_is bs roots roots-at r)
-      (components-are left (suc r))
+  components_are zero r = refl
+  components_are (suc left) r =
+      ap₂ (λ (a b : List ℕ). a ++ b) (component_is bs roots roots_at r)
+      (components_are left (suc r))
 
   -- all groups together have each block once
-  pub groups-length : (limit : ℕ) → length (flatten (groups limit bs)) ≡ length bs
-  groups-length limit =
-      let order = is-order (map block_key bs) (key_order (map block_key bs)) refl in
+  pub groups_length : (limit : ℕ) → length (flatten (groups limit bs)) ≡ length bs
+  groups_length limit =
+      let order = is_order (map block_key bs) (key_order (map block_key bs)) refl in
       let inside : (j : ℕ) → Memᴰ j (key_order (map block_key bs)) → j < length bs =
       λ j m. omega (arith, order.member m, length_map bs block_key) in
-      ap length (groups-flat limit bs ∙ components-are (length bs) 0)
+      ap length (groups_flat limit bs ∙ components_are (length bs) 0)
       ∙ order_all roots (key_order (map block_key bs)) (length bs)
-      (λ j m. rw (roots-at j (inside j m)) (root-block bs j (inside j m)))
+      (λ j m. rw (roots_at j (inside j m)) (root_block bs j (inside j m)))
       ∙ order.long ∙ length_map bs block_key
 
-  pub plan-length : (limit : ℕ) → length (plan limit bs) ≡ 2 * length bs
+  pub plan_length : (limit : ℕ) → length (plan limit bs) ≡ 2 * length bs
   unfolding plan
-  plan-length limit = rows_length 0 (groups limit bs) ∙ ap (λ (n : ℕ). 2 * n) (groups-length limit)
+  plan_length limit = rows_length 0 (groups limit bs) ∙ ap (λ (n : ℕ). 2 * n) (groups_length limit)

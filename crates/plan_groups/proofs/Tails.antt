@@ -14,8 +14,8 @@ use Rattle.base_lists.specs.Lists.{range, count}
 use Rattle.base_lists.proofs.Counts.{count_here, count_other, none_counted}
 use Rattle.base_lists.proofs.Order.{InOrder, once_apart}
 use Rattle.file_keys.specs.Order.{key_order}
-use Rattle.file_keys.proofs.Ordered.{is-order, range_from}
-use Rattle.file_keys.proofs.Sorted.{sort-count}
+use Rattle.file_keys.proofs.Ordered.{is_order, range_from}
+use Rattle.file_keys.proofs.Sorted.{sort_count}
 use Rattle.plan_groups.specs.Links.{behind, AllOnce}
 
 pub behind_here : (i : ℕ) (is : List ℕ) → behind i (i ∷ is) ≡ is
@@ -37,8 +37,8 @@ module _ (n : ℕ) (order : List ℕ) where
   tail_all o =
       record { apart = once_apart order o.once; inside = o.inside; same = λ j m. refl }
 
-  pub tail-next : (i : ℕ) (is : List ℕ) → Tail n order (i ∷ is) → Tail n order is
-  tail-next i is t =
+  pub tail_next : (i : ℕ) (is : List ℕ) → Tail n order (i ∷ is) → Tail n order is
+  tail_next i is t =
       record {
         apart = t.apart.1;
         inside = λ j m. t.inside j (Memᴰ.tail m);
@@ -46,24 +46,24 @@ module _ (n : ℕ) (order : List ℕ) where
       }
 
   -- what stands behind its first block is the rest of it
-  pub tail-here : (i : ℕ) (is : List ℕ) → Tail n order (i ∷ is) → behind i order ≡ is
-  tail-here i is t = t.same i (Memᴰ.head refl) ∙ behind_here i is
+  pub tail_here : (i : ℕ) (is : List ℕ) → Tail n order (i ∷ is) → behind i order ≡ is
+  tail_here i is t = t.same i (Memᴰ.head refl) ∙ behind_here i is
 
-  pub tail-behind : (h : ℕ) (is : List ℕ) → Tail n order is → Tail n order (behind h is)
+  pub tail_behind : (h : ℕ) (is : List ℕ) → Tail n order is → Tail n order (behind h is)
   unfolding behind
-  tail-behind h [] t = t
-  tail-behind h (i ∷ is) t =
-      go (eqb i h) (tail-next i is t) (tail-behind h is (tail-next i is t))
+  tail_behind h [] t = t
+  tail_behind h (i ∷ is) t =
+      go (eqb i h) (tail_next i is t) (tail_behind h is (tail_next i is t))
     where
       go : (b : Bool) → Tail n order is → Tail n order (behind h is)
           → Tail n order (cond b is (behind h is))
       go true a c = a
       go false a c = c
 
-  pub tail-drop : (p : ℕ) (is : List ℕ) → Tail n order is → Tail n order (drop p is)
-  tail-drop zero is t = t
-  tail-drop (suc p) [] t = t
-  tail-drop (suc p) (i ∷ is) t = tail-drop p is (tail-next i is t)
+  pub tail_drop : (p : ℕ) (is : List ℕ) → Tail n order is → Tail n order (drop p is)
+  tail_drop zero is t = t
+  tail_drop (suc p) [] t = t
+  tail_drop (suc p) (i ∷ is) t = tail_drop p is (tail_next i is t)
 
 range_once : (n k i : ℕ) → count i (range n k) ≤ 1
 unfolding count
@@ -84,7 +84,7 @@ range_once (suc n) k i =
 pub order_once : (keys order : List ℕ) (n : ℕ) → n ≡ length keys → order ≡ key_order keys
     → AllOnce n order
 order_once keys order n size e =
-    let o = is-order keys order e in
+    let o = is_order keys order e in
     record {
       long = o.long ∙ sym size;
       inside = λ i m. omega (arith, o.member m);
@@ -92,7 +92,7 @@ order_once keys order n size e =
       once = λ i. omega (
         arith,
         ap (count i) e,
-        sort-count keys i (range (length keys) 0),
+        sort_count keys i (range (length keys) 0),
         range_once (length keys) 0 i,
       );
     }

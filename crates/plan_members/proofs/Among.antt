@@ -11,13 +11,13 @@ use borrow.Author.Tests.{eq-eqb, ne_eqb, eqb-true, eqb-false}
 use lib.Dec.{eqb}
 use lib.ListN.{length, get_or, length_map}
 use Rattle.base_lists.specs.Lists.{among}
-use Rattle.base_lists.proofs.Order.{order-at}
+use Rattle.base_lists.proofs.Order.{order_at}
 use Rattle.base_lists.proofs.Places.{map_at}
 use Rattle.file_blocks.specs.Parse.{blocks_of}
 use Rattle.file_keys.specs.Order.{block_keys}
 use Rattle.plan_groups.specs.Plan.{groups}
 use Rattle.file_keys.proofs.Sorted.{NoFall}
-use Rattle.plan_groups.proofs.GroupLaws.{group-sorted}
+use Rattle.plan_groups.proofs.GroupLaws.{group_sorted}
 use Rattle.plan_members.specs.Members.{members_of, group_keys}
 use Rattle.plan_members.specs.Lookup.{KeyBetween, SaysAt}
 use Rattle.plan_members.proofs.Places.{list_at, has_member}
@@ -79,39 +79,39 @@ keys_sorted limit f g a b l h =
       arith,
       map_at key is a 0 0 (omega arith),
       map_at key is b 0 0 inside,
-      order-at (NoFall (block_keys f)) is (group-sorted limit (blocks_of f) is listed) a b l inside,
+      order_at (NoFall (block_keys f)) is (group_sorted limit (blocks_of f) is listed) a b l inside,
     )
 
 module _ {ks : List ℕ} {key : ℕ} where
   -- at first nothing is known
-  pub between-all : (n : ℕ) → n ≡ length ks → KeyBetween ks key 0 n
-  between-all n e =
+  pub between_all : (n : ℕ) → n ≡ length ks → KeyBetween ks key 0 n
+  between_all n e =
       record { below = λ k h. absurd (omega arith); above = λ k h l. absurd (omega arith) }
 
   module _ (ordered : NeverFall ks) {low high : ℕ} (at : KeyBetween ks key low high) (mid : ℕ)
       (h : mid < length ks) where
     -- the search goes on behind a key below
-    pub between-after : get_or ks mid 0 < key → KeyBetween ks key (mid + 1) high
-    between-after l =
+    pub between_after : get_or ks mid 0 < key → KeyBetween ks key (mid + 1) high
+    between_after l =
         record {
           below = λ k b. omega (arith, no_fall ks ordered k mid (omega arith) h);
           above = at.above;
         }
 
     -- and before one that is not
-    pub between-before : key ≤ get_or ks mid 0 → KeyBetween ks key low mid
-    between-before l =
+    pub between_before : key ≤ get_or ks mid 0 → KeyBetween ks key low mid
+    between_before l =
         record {
           below = at.below;
           above = λ k b inside. omega (arith, no_fall ks ordered mid k b inside);
         }
 
   -- the key stands among some exactly where the search ends, if anywhere
-  pub among-found : NeverFall ks → (r : ℕ) → KeyBetween ks key r r → (b : Bool)
+  pub among_found : NeverFall ks → (r : ℕ) → KeyBetween ks key r r → (b : Bool)
       → SaysAt ks key r b → b ≡ among key ks
-  among-found ordered r at true says =
+  among_found ordered r at true says =
       sym (among_at ks key r (says.here refl).0 (says.here refl).1)
-  among-found ordered r at false says = sym (among_none ks key nowhere)
+  among_found ordered r at false says = sym (among_none ks key nowhere)
     where
       nowhere : (k : ℕ) → k < length ks → get_or ks k 0 ≡ key → ⊥
       nowhere k h e =
@@ -126,5 +126,5 @@ module _ {ks : List ℕ} {key : ℕ} where
           ]
 
   -- a place with the key
-  pub among-here : (k : ℕ) (b : Bool) → SaysAt ks key k b → b ≡ true → true ≡ among key ks
-  among-here k b says t = sym (among_at ks key k (says.here t).0 (says.here t).1)
+  pub among_here : (k : ℕ) (b : Bool) → SaysAt ks key k b → b ≡ true → true ≡ among key ks
+  among_here k b says t = sym (among_at ks key k (says.here t).0 (says.here t).1)

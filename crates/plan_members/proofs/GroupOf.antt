@@ -10,20 +10,20 @@ use borrow.Author.Tests.{eq-eqb, ne_eqb}
 use lib.ListN.{length, get_or}
 use Rattle.file_blocks.specs.Parse.{Block}
 use Rattle.plan_groups.specs.Plan.{group_rows, rows_from, groups, plan, group_of}
-use Rattle.plan_groups.proofs.GroupLaws.{groups-once}
+use Rattle.plan_groups.proofs.GroupLaws.{groups_once}
 use Rattle.base_lists.specs.Lists.{count}
 use Rattle.base_lists.proofs.Counts.{count_append, count_here, count_other, counted}
 
 module _ (i : ℕ) where
   -- the rows of a group that has the block
-  group-here : (g : ℕ) (is rest : List ℕ) → 1 ≤ count i is → group_of i (group_rows g is ++ rest) ≡ g
+  group_here : (g : ℕ) (is rest : List ℕ) → 1 ≤ count i is → group_of i (group_rows g is ++ rest) ≡ g
   unfolding group_of count
-  group-here g [] rest h = absurd (omega arith)
-  group-here g (j ∷ is) rest h =
+  group_here g [] rest h = absurd (omega arith)
+  group_here g (j ∷ is) rest h =
       elim (ℕ_discrete j i) [
         | yes e ↦ rw (eq-eqb j i e)
         | no d ↦ rw (ne_eqb j i d)
-            (group-here g is rest (omega (arith, count_other i j is (λ e. d (sym e)))))
+            (group_here g is rest (omega (arith, count_other i j is (λ e. d (sym e)))))
       ]
 
   -- the rows of a group that has it not
@@ -42,7 +42,7 @@ module _ (i : ℕ) where
       → 1 ≤ count i (get_or gs k []) → group_of i (rows_from g gs) ≡ g + k
   unfolding rows_from flatten count
   in_rows g [] k once h = absurd (omega arith)
-  in_rows g (is ∷ gs) zero once h = group-here g is (rows_from (suc g) gs) h ∙ sym (add-zero g)
+  in_rows g (is ∷ gs) zero once h = group_here g is (rows_from (suc g) gs) h ∙ sym (add-zero g)
   in_rows g (is ∷ gs) (suc k) once h =
       let both = count_append i is (flatten gs) in
       let later : 1 ≤ count i (flatten gs) = some_in gs k h in
@@ -59,5 +59,5 @@ pub group_listed : (limit : ℕ) (bs : List Block) (i g : ℕ) → i < length bs
     → Memᴰ i (get_or (groups limit bs) g []) → group_of i (plan limit bs) ≡ g
 unfolding plan
 group_listed limit bs i g h m =
-    in_rows i 0 (groups limit bs) g (omega (arith, groups-once limit bs i h)) (counted m)
+    in_rows i 0 (groups limit bs) g (omega (arith, groups_once limit bs i h)) (counted m)
     ∙ zero-add g

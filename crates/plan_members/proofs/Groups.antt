@@ -104,8 +104,8 @@ module _ (n p i : ℕ) (work₀ work : List ℕ) (h : p < n) (room : 4 * n ≤ l
   here = ap (group_of i) row ∙ rw (eq-eqb i i refl)
 
   -- a row of one of the blocks
-  pub groups-put : i < n → GroupsFrom n p work₀ (set work (n + i) (get_or work (2 * n + p) 0))
-  groups-put b =
+  pub groups_put : i < n → GroupsFrom n p work₀ (set work (n + i) (get_or work (2 * n + p) 0))
+  groups_put b =
       record {
         same = length-set work (n + i) _ ∙ from.same;
         before = λ k c. get_or-set_other work (n + i) k _ 0 (λ e. omega arith) ∙ from.before k c;
@@ -125,8 +125,8 @@ module _ (n p i : ℕ) (work₀ work : List ℕ) (h : p < n) (room : 4 * n ≤ l
           ]
 
   -- a row of none of them
-  pub groups-kept : n ≤ i → GroupsFrom n p work₀ work
-  groups-kept b =
+  pub groups_kept : n ≤ i → GroupsFrom n p work₀ work
+  groups_kept b =
       record {
         same = from.same;
         before = from.before;
@@ -137,12 +137,12 @@ module _ (n p i : ℕ) (work₀ work : List ℕ) (h : p < n) (room : 4 * n ≤ l
 -- the groups of all rows, where the rows are a plan
 module _ {f : List ℕ} {n limit : ℕ} {work work₁ work₂ : List ℕ}
     (grouped : Grouped f n limit work work₁) (put : GroupsFrom n 0 work₁ work₂) where
-  pub groups-planned : (i : ℕ) → i < n
+  pub groups_planned : (i : ℕ) → i < n
       → get_or work₂ (n + i) 0 ≡ group_of i (plan limit (blocks_of f))
-  groups-planned i h = put.groups i h ∙ ap (group_of i) grouped.rows
+  groups_planned i h = put.groups i h ∙ ap (group_of i) grouped.rows
 
-  pub groups-room : length work₂ ≡ length work
-  groups-room = put.same ∙ grouped.same
+  pub groups_room : length work₂ ≡ length work
+  groups_room = put.same ∙ grouped.same
 
-  pub groups-past : (k : ℕ) → 4 * n ≤ k → get_or work₂ k 0 ≡ get_or work k 0
-  groups-past k h = put.after k (omega arith) ∙ grouped.after k h
+  pub groups_past : (k : ℕ) → 4 * n ≤ k → get_or work₂ k 0 ≡ get_or work k 0
+  groups_past k h = put.after k (omega arith) ∙ grouped.after k h

@@ -8,13 +8,13 @@ use native.Mathlib.Nat.{le_of_suc-le-suc}
 use native.Mathlib.Omega.{arith}
 use lib.ListN.{length, get_or, take, drop, length-append, length-drop}
 use lib.Seq.{length-take-le, get_or-take, get_or-drop}
-use Rattle.file_blocks.proofs.Accepted.{length-of}
+use Rattle.file_blocks.proofs.Accepted.{length_of_lem}
 use Rattle.file_blocks.specs.Parse.{blocks_of}
 use Rattle.base_lists.specs.Interleave.{interleave}
 use Rattle.plan_groups.specs.Plan.{groups, group_rows, rows_from, plan}
-use Rattle.plan_groups.proofs.GroupLaws.{group-some, group-inside}
+use Rattle.plan_groups.proofs.GroupLaws.{group_some, group_inside}
 use Rattle.base_lists.proofs.Places.{member_at}
-use Rattle.plan_groups.proofs.PlanLength.{rows_length, plan-length}
+use Rattle.plan_groups.proofs.PlanLength.{rows_length, plan_length}
 use Rattle.plan_members.specs.Members.{members_of, start_of}
 use Rattle.plan_members.specs.Prepared.{HoldsPlan}
 
@@ -107,41 +107,41 @@ module _ {f : List ℕ} {n limit : ℕ} {work : List ℕ} (ready : HoldsPlan f n
   gs = groups limit (blocks_of f)
 
   -- as many blocks as the groups have members
-  pub blocks-all : length (blocks_of f) ≡ n
-  blocks-all = length-of f (blocks_of f) ready.accepted ∙ sym ready.all
+  pub blocks_all : length (blocks_of f) ≡ n
+  blocks_all = length_of_lem f (blocks_of f) ready.accepted ∙ sym ready.all
 
-  pub members-all : length (flatten (groups limit (blocks_of f))) ≡ n
+  pub members_all : length (flatten (groups limit (blocks_of f))) ≡ n
   unfolding plan
-  members-all =
+  members_all =
       omega (
         arith,
         rows_length 0 (groups limit (blocks_of f)),
-        plan-length (blocks_of f) limit,
-        blocks-all,
+        plan_length (blocks_of f) limit,
+        blocks_all,
       )
 
   -- the first row of every group, and that after the last one
-  pub start-inside : (g : ℕ) → start_of (groups limit (blocks_of f)) g ≤ n
-  start-inside g = omega (arith, start_within gs g, members-all)
+  pub start_inside : (g : ℕ) → start_of (groups limit (blocks_of f)) g ≤ n
+  start_inside g = omega (arith, start_within gs g, members_all)
 
   -- where a row is left there is a group left
-  pub group-left : (g : ℕ) → start_of (groups limit (blocks_of f)) g < n
+  pub group_left : (g : ℕ) → start_of (groups limit (blocks_of f)) g < n
       → g < length (groups limit (blocks_of f))
-  group-left g h =
+  group_left g h =
       elim (dec_lt g (length gs)) [
         | yes l ↦ l
-        | no d ↦ absurd (omega (arith, start_past gs g (omega arith), members-all))
+        | no d ↦ absurd (omega (arith, start_past gs g (omega arith), members_all))
       ]
 
   -- every group has a member
-  pub group-has : (g : ℕ) → g < length (groups limit (blocks_of f))
+  pub group_has : (g : ℕ) → g < length (groups limit (blocks_of f))
       → 1 ≤ length (members_of limit (blocks_of f) g)
-  group-has g h = group-some limit (blocks_of f) (get_or gs g []) (list_at gs g h)
+  group_has g h = group_some limit (blocks_of f) (get_or gs g []) (list_at gs g h)
 
   module _ (p g k : ℕ) (is : p ≡ start_of (groups limit (blocks_of f)) g + k)
       (inside : k < length (members_of limit (blocks_of f) g)) where
     pub row_inside : p < n
-    row_inside = omega (arith, start_next gs g, start-inside (suc g))
+    row_inside = omega (arith, start_next gs g, start_inside (suc g))
 
     row_is : ◌≡◌ {A = ℕ × ℕ} (get_or work (2 * n + p) 0, get_or work p 0)
         (g, get_or (members_of limit (blocks_of f) g) k 0)
@@ -160,39 +160,39 @@ module _ {f : List ℕ} {n limit : ℕ} {work : List ℕ} (ready : HoldsPlan f n
         ∙ ap (λ (m : ℕ). (m, get_or (get_or gs g []) k 0)) zero-first
 
     -- the row of a group's member
-    pub row-member : get_or work p 0 ≡ get_or (members_of limit (blocks_of f) g) k 0
-    row-member = ap (λ (r : ℕ × ℕ). r.1) row_is
+    pub row_member : get_or work p 0 ≡ get_or (members_of limit (blocks_of f) g) k 0
+    row_member = ap (λ (r : ℕ × ℕ). r.1) row_is
 
     pub row_number : get_or work (2 * n + p) 0 ≡ g
     row_number = ap (λ (r : ℕ × ℕ). r.0) row_is
 
     -- it is a block
-    pub row-block-inside : get_or work p 0 < n
-    row-block-inside =
+    pub row_block_inside : get_or work p 0 < n
+    row_block_inside =
         omega (
           arith,
-          row-member,
-          blocks-all,
-          group-inside limit (blocks_of f) (get_or gs g [])
+          row_member,
+          blocks_all,
+          group_inside limit (blocks_of f) (get_or gs g [])
               (list_at gs g (has_member gs g (omega arith))) (get_or (get_or gs g []) k 0)
               (member_at (get_or gs g []) k 0 inside),
         )
 
   -- rows from the first one of a group on, all of its number, and none further
-  pub end-next : (p g r : ℕ) → p ≡ start_of (groups limit (blocks_of f)) g → p < r → r ≤ n
+  pub end_next : (p g r : ℕ) → p ≡ start_of (groups limit (blocks_of f)) g → p < r → r ≤ n
       → ((q : ℕ) → p ≤ q → q < r → get_or work (2 * n + q) 0 ≡ get_or work (2 * n + p) 0)
       → (r < n → get_or work (2 * n + r) 0 ≡ get_or work (2 * n + p) 0 → ⊥)
       → r ≡ start_of (groups limit (blocks_of f)) (suc g)
-  end-next p g r is h within same other =
-      let some-here = group-has g (group-left g (omega arith)) in
+  end_next p g r is h within same other =
+      let some-here = group_has g (group_left g (omega arith)) in
       let number : get_or work (2 * n + p) 0 ≡ g = row_number p g 0 (omega arith) (omega arith) in
       let next = start_next gs g in
       let far : r < start_of gs (suc g) → ⊥ = λ l.
-      other (omega (arith, start-inside (suc g)))
+      other (omega (arith, start_inside (suc g)))
       (row_number r g (r - p) (omega arith) (omega arith) ∙ sym number) in
       let near : start_of gs (suc g) < r → ⊥ = λ l.
       let last : start_of gs (suc g) < n = omega arith in
-      let some-there = group-has (suc g) (group-left (suc g) last) in
+      let some-there = group_has (suc g) (group_left (suc g) last) in
       let there : get_or work (2 * n + start_of gs (suc g)) 0 ≡ suc g =
       row_number (start_of gs (suc g)) (suc g) 0 (omega arith) (omega arith) in
       omega (arith, there, number, same (start_of gs (suc g)) (omega arith) l) in

@@ -10,12 +10,12 @@ use Rattle.file_records.specs.BlockRecord.{count_sum, key_plus}
 use Rattle.file_blocks.specs.Parse.{Block, block_at, blocks_of, Accepted, block_key}
 use Rattle.file_blocks.specs.Read.{record_at, found_block, IsBlock}
 use Rattle.file_records.specs.Trailer.{block_count}
-use Rattle.file_blocks.proofs.Accepted.{length-of}
+use Rattle.file_blocks.proofs.Accepted.{length_of_lem}
 use Rattle.file_blocks.specs.Address.{key_of}
 use Rattle.plan_groups.specs.Plan.{groups}
-use Rattle.file_blocks.proofs.IsBlock.{missing, block_inside, block-record}
+use Rattle.file_blocks.proofs.IsBlock.{missing, block_inside, block_record}
 use Rattle.file_blocks.proofs.OwnKey.{key_plus_lem}
-use Rattle.file_blocks.proofs.Keys.{block-key}
+use Rattle.file_blocks.proofs.Keys.{block_key_lem}
 use Rattle.base_lists.proofs.Places.{map_at}
 use Rattle.file_keys.specs.Order.{block_keys}
 use Rattle.file_keys.proofs.Reading.{length_keys}
@@ -36,10 +36,10 @@ key_found f i b key found e ok =
     let other : Block = block_at f 0 0 in
     e
     ∙ key_plus_lem is
-    ∙ ap (λ (r : BlockRecord). key_plus r.addr r.thumb) (block-record is)
-    ∙ sym (block-key f (blocks_of f) ok i other inside)
+    ∙ ap (λ (r : BlockRecord). key_plus r.addr r.thumb) (block_record is)
+    ∙ sym (block_key_lem f (blocks_of f) ok i other inside)
     ∙ sym (map_at block_key (blocks_of f) i other 0
-    (omega (arith, inside, length-of f (blocks_of f) ok)))
+    (omega (arith, inside, length_of_lem f (blocks_of f) ok)))
 
 -- and that of none
 pub key_missing : (f : List ℕ) (i : ℕ) → found_block f i ≡ FoundBlock.Nothing → Accepted f
@@ -59,14 +59,14 @@ key_member limit f g k i key e is inside =
 module _ {f : List ℕ} {limit : ℕ} {work : List ℕ} {g : ℕ} {r : Rows}
     (is : IsGroup f limit work g r) where
   -- a row for each member
-  pub group-size : r.end ≡ r.first + length (members_of limit (blocks_of f) g)
-  group-size = omega (arith, is.first, is.next, start_next (groups limit (blocks_of f)) g)
+  pub group_size : r.end ≡ r.first + length (members_of limit (blocks_of f) g)
+  group_size = omega (arith, is.first, is.next, start_next (groups limit (blocks_of f)) g)
 
-  pub keys-size : length (group_keys limit f g) ≡ length (members_of limit (blocks_of f) g)
-  keys-size = length_map (members_of limit (blocks_of f) g) (λ (j : ℕ). get_or (block_keys f) j 0)
+  pub keys_size : length (group_keys limit f g) ≡ length (members_of limit (blocks_of f) g)
+  keys_size = length_map (members_of limit (blocks_of f) g) (λ (j : ℕ). get_or (block_keys f) j 0)
 
-  pub key-inside : (k : ℕ) → r.first + k < r.end → k < length (group_keys limit f g)
-  key-inside k h = omega (arith, keys-size, group-size)
+  pub key_inside : (k : ℕ) → r.first + k < r.end → k < length (group_keys limit f g)
+  key_inside k h = omega (arith, keys_size, group_size)
 
   -- the row of the first member, where there is one, and that of member k
   pub row_first : r.first < r.end → IsRow f r.blocks limit work g 0 r.first
@@ -74,7 +74,7 @@ module _ {f : List ℕ} {limit : ℕ} {work : List ℕ} {g : ℕ} {r : Rows}
       record {
         ready = is.ready;
         place = omega (arith, is.first);
-        inside = omega (arith, group-size, some);
+        inside = omega (arith, group_size, some);
       }
 
   pub row_of : (k : ℕ) → k < length (members_of limit (blocks_of f) g)

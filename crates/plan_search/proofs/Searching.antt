@@ -20,9 +20,9 @@ use Rattle.file_blocks.specs.declared.read.BlockRecord.{BlockRecord}
 use Rattle.file_blocks.specs.declared.read.FoundBlock.{FoundBlock}
 use Rattle.file_blocks.specs.Parse.{Block, block_key, block_at, blocks_of, Accepted}
 use Rattle.file_blocks.specs.Read.{record_at, found_block}
-use Rattle.file_blocks.proofs.Accepted.{length-of}
-use Rattle.file_blocks.proofs.IsBlock.{missing, nth_block, found_inside, found-record}
-use Rattle.file_blocks.proofs.Keys.{block-key, keys-differ}
+use Rattle.file_blocks.proofs.Accepted.{length_of_lem}
+use Rattle.file_blocks.proofs.IsBlock.{missing, nth_block, found_inside, found_record}
+use Rattle.file_blocks.proofs.Keys.{block_key_lem, keys_differ}
 use Rattle.file_blocks.proofs.Nowhere.{nowhere}
 use Rattle.file_keys.specs.Order.{block_keys}
 use Rattle.file_keys.specs.First.{block_with}
@@ -87,17 +87,17 @@ hit test (suc n) i m e = go (test i) refl (hit test n (suc i) m)
 -- what the reader found of block i tells whether it has a key
 module _ (f : List ℕ) (accepted : Accepted f) (i key : ℕ) (found : FoundBlock)
     (reads : found ≡ found_block f i) where
-  pub key-nowhere : found ≡ FoundBlock.Nothing → false ≡ has_key f i key
-  key-nowhere e = rw (le-ltb _ _ (missing f accepted i (sym reads ∙ e)))
+  pub key_nowhere : found ≡ FoundBlock.Nothing → false ≡ has_key f i key
+  key_nowhere e = rw (le-ltb _ _ (missing f accepted i (sym reads ∙ e)))
 
-  pub key-told : (b : BlockRecord) (k : ℕ) → found ≡ FoundBlock.At b
+  pub key_told : (b : BlockRecord) (k : ℕ) → found ≡ FoundBlock.At b
       → k ≡ key_plus b.addr b.thumb → eqb k key ≡ has_key f i key
   unfolding record_at
-  key-told b k at is =
+  key_told b k at is =
       let inside = found_inside f i b (sym reads ∙ at) in
       let same : k ≡ key_at f (block_start f i) =
       is ∙ ap (λ (r : BlockRecord). key_plus r.addr r.thumb)
-      (found-record f i b (sym reads ∙ at)) in
+      (found_record f i b (sym reads ∙ at)) in
       rw (same, lt-ltb _ _ inside)
 
 module _ (f : List ℕ) (accepted : Accepted f) (key : ℕ) where
@@ -109,11 +109,11 @@ module _ (f : List ℕ) (accepted : Accepted f) (key : ℕ) where
   only : (i j : ℕ) → i < block_count f → j < block_count f → key_at f (block_start f i) ≡ key
       → get_or (block_keys f) j 0 ≡ key → j ≡ i
   only i j h l e g =
-      keys-differ f (blocks_of f) accepted j i l h (sym (key_at_lem f j l) ∙ g ∙ sym e)
+      keys_differ f (blocks_of f) accepted j i l h (sym (key_at_lem f j l) ∙ g ∙ sym e)
 
   -- a block with the key is the one that the order has for it
-  pub with-key : (i : ℕ) → has_key f i key ≡ true → some i ≡ block_with key (block_keys f)
-  with-key i e =
+  pub with_key : (i : ℕ) → has_key f i key ≡ true → some i ≡ block_with key (block_keys f)
+  with_key i e =
       let inside : i < block_count f = ltb-true _ _ (left_true _ _ e) in
       let here : key_at f (block_start f i) ≡ key =
       eqb-true _ _ (right_true (ltb i (block_count f)) _ e) in
@@ -121,20 +121,20 @@ module _ (f : List ℕ) (accepted : Accepted f) (key : ℕ) where
       (eq-eqb _ _ (key_at_lem f i inside ∙ here))
       (λ j l. ne_eqb _ _ (λ g. absurd (omega (arith, only i j inside (omega arith) here g)))))
 
-  block-at-key : (j : ℕ) → j < length (blocks_of f) → block_key (get_or (blocks_of f) j nowhere) ≡ key
+  block_at_key : (j : ℕ) → j < length (blocks_of f) → block_key (get_or (blocks_of f) j nowhere) ≡ key
       → get_or (block_keys f) j 0 ≡ key
-  block-at-key j l e =
-      let inside : j < block_count f = omega (arith, length-of f (blocks_of f) accepted) in
-      key_at_lem f j inside ∙ sym (block-key f (blocks_of f) accepted j nowhere inside) ∙ e
+  block_at_key j l e =
+      let inside : j < block_count f = omega (arith, length_of_lem f (blocks_of f) accepted) in
+      key_at_lem f j inside ∙ sym (block_key_lem f (blocks_of f) accepted j nowhere inside) ∙ e
 
   -- no block has the key: an edge to it leads nowhere
-  pub target-missing : none ≡ block_with key (block_keys f) → none ≡ target key (blocks_of f) 0
-  target-missing e =
+  pub target_missing : none ≡ block_with key (block_keys f) → none ≡ target key (blocks_of f) 0
+  target_missing e =
       sym (target_none key (blocks_of f) 0 nowhere
       (λ j l g. absurd
       (none_first test (length (block_keys f)) 0 (sym e) j zero-le
-      (omega (arith, length_keys f, length-of f (blocks_of f) accepted))
-      (eq-eqb _ _ (block-at-key j l g)))))
+      (omega (arith, length_keys f, length_of_lem f (blocks_of f) accepted))
+      (eq-eqb _ _ (block_at_key j l g)))))
 
   -- block m has it: an edge to it leads there if that block can be joined
   module _ (m : ℕ) (found : some m ≡ block_with key (block_keys f)) where
@@ -144,39 +144,39 @@ module _ (f : List ℕ) (accepted : Accepted f) (key : ℕ) where
     pub target_inside : m < block_count f
     target_inside = omega (arith, there.inside, length_keys f)
 
-    key-there : key_at f (block_start f m) ≡ key
-    key-there = sym (key_at_lem f m target_inside) ∙ eqb-true _ _ there.passes
+    key_there : key_at f (block_start f m) ≡ key
+    key_there = sym (key_at_lem f m target_inside) ∙ eqb-true _ _ there.passes
 
     same : (j : ℕ) → j < length (blocks_of f) → block_key (get_or (blocks_of f) j nowhere) ≡ key
         → j ≡ m
     same j l e =
-        only m j target_inside (omega (arith, length-of f (blocks_of f) accepted)) key-there
-        (block-at-key j l e)
+        only m j target_inside (omega (arith, length_of_lem f (blocks_of f) accepted)) key_there
+        (block_at_key j l e)
 
     module _ (b : BlockRecord) (read : FoundBlock) (reads : read ≡ found_block f m)
         (at : read ≡ FoundBlock.At b) where
-      page-of : joinable (get_or (blocks_of f) m nowhere) ≡ on_page8 b.addr
+      page_of_lem : joinable (get_or (blocks_of f) m nowhere) ≡ on_page8 b.addr
       unfolding block_at record_at
-      page-of = ap joinable (nth_block f m nowhere target_inside)
-          ∙ ap (λ (r : BlockRecord). on_page8 r.addr) (sym (found-record f m b (sym reads ∙ at)))
+      page_of_lem = ap joinable (nth_block f m nowhere target_inside)
+          ∙ ap (λ (r : BlockRecord). on_page8 r.addr) (sym (found_record f m b (sym reads ∙ at)))
 
-      pub target-joined : on_page8 b.addr ≡ true → some m ≡ target key (blocks_of f) 0
-      target-joined on =
+      pub target_joined : on_page8 b.addr ≡ true → some m ≡ target key (blocks_of f) 0
+      target_joined on =
           sym (target_some key (blocks_of f) 0 m nowhere
-          (omega (arith, target_inside, length-of f (blocks_of f) accepted))
+          (omega (arith, target_inside, length_of_lem f (blocks_of f) accepted))
           (λ j l e. omega (
             arith,
-            same j (omega (arith, target_inside, length-of f (blocks_of f) accepted)) e,
+            same j (omega (arith, target_inside, length_of_lem f (blocks_of f) accepted)) e,
           ))
-          (block-key f (blocks_of f) accepted m nowhere target_inside ∙ key-there) (page-of ∙ on)
+          (block_key_lem f (blocks_of f) accepted m nowhere target_inside ∙ key_there) (page_of_lem ∙ on)
           ∙ ap some (zero-add m))
 
-      pub target-apart : on_page8 b.addr ≡ false → none ≡ target key (blocks_of f) 0
-      target-apart off =
+      pub target_apart : on_page8 b.addr ≡ false → none ≡ target key (blocks_of f) 0
+      target_apart off =
           sym (target_none key (blocks_of f) 0 nowhere
           (λ j l e. ap (λ (i : ℕ). joinable (get_or (blocks_of f) i nowhere)) (same j l e)
-          ∙ page-of ∙ off))
+          ∙ page_of_lem ∙ off))
 
     -- the reader finds it
-    pub never-missing : found_block f m ≡ FoundBlock.Nothing → ⊥
-    never-missing e = omega (arith, target_inside, missing f accepted m e)
+    pub never_missing : found_block f m ≡ FoundBlock.Nothing → ⊥
+    never_missing e = omega (arith, target_inside, missing f accepted m e)

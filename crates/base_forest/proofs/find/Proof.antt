@@ -9,7 +9,7 @@ use lib.ListN.{length, length-set}
 use mir.Facts.{Fits-32_64}
 use Rattle.base_forest.specs.Forest.{Forest, RootFound}
 use Rattle.base_forest.specs.Roots.{parent, root}
-use Rattle.base_forest.proofs.Ways.{Leads, start-inside, parent-inside, above, way, forest}
+use Rattle.base_forest.proofs.Ways.{Leads, start_inside, parent_inside, above, way, forest}
 use Rattle.base_forest.proofs.Ways.{ended, halved, halve, steps, nearer}
 use Rattle.base_forest.proofs.Roots.{root_of}
 use Rattle.base_forest.proofs.find.Statement.{statement}
@@ -31,7 +31,7 @@ module _ {p₀ : List ℕ} {i : ℕ} {p : List ℕ} {at : ℕ} (here : Reached p
       let onward = halve at (above (above here.left)) in
       record {
         lengths = length-set p at _ ∙ here.lengths;
-        inside = start-inside onward;
+        inside = start_inside onward;
         kept = λ w. halve at (here.kept w);
         left = onward;
       }
@@ -64,10 +64,10 @@ cast-up : tie.Need-overflow-cast-up invariant-loop decreases-loop
 cast-up c = Fits-32_64 (c.slice-known.given _)
 
 mul_next : tie.Need-overflow-mul-next invariant-loop decreases-loop
-mul_next c = omega (arith, parent-inside c.before.before.loop.invariant.left)
+mul_next c = omega (arith, parent_inside c.before.before.loop.invariant.left)
 
 slice-read-next : tie.Need-slice-read-next invariant-loop decreases-loop
-slice-read-next c = omega (arith, parent-inside c.before.before.before.loop.invariant.left)
+slice-read-next c = omega (arith, parent_inside c.before.before.before.loop.invariant.left)
 
 slice-write-p : tie.Need-slice-write-p invariant-loop decreases-loop
 slice-write-p c = c.before.before.before.loop.invariant.inside

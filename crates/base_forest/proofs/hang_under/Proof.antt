@@ -8,8 +8,8 @@ use native.Mathlib.Omega.{arith}
 use lib.ListN.{length, set, length-set}
 use Rattle.base_forest.specs.Forest.{Forest, Flatter, RootFound, Hung}
 use Rattle.base_forest.specs.Roots.{parent, root}
-use Rattle.base_forest.proofs.Roots.{root-own, forest-hang, flatter_full, flatter_trans}
-use Rattle.base_forest.proofs.Roots.{same_flatter, same-hang}
+use Rattle.base_forest.proofs.Roots.{root_own, forest_hang, flatter_full, flatter_trans}
+use Rattle.base_forest.proofs.Roots.{same_flatter, same_hang}
 use Rattle.base_forest.proofs.hang_under.Statement.{statement}
 use Rattle.base_forest.proofs.hang_under.Tie as tie
 
@@ -22,31 +22,31 @@ module _ {p p₁ p₂ : List ℕ} {i j source target : ℕ} (full : Forest (2 * 
   here : {k : ℕ} → k < length p → k < length p₂
   here h = rw both.lengths h
 
-  source-root : source ≡ root p₂ i
-  source-root = first.is ∙ sym (both.roots i inside-i)
+  source_root : source ≡ root p₂ i
+  source_root = first.is ∙ sym (both.roots i inside-i)
 
-  target-root : target ≡ root p₂ j
-  target-root = second.is ∙ sym (second.kept.roots j (rw first.kept.lengths inside-j))
+  target_root : target ≡ root p₂ j
+  target_root = second.is ∙ sym (second.kept.roots j (rw first.kept.lengths inside-j))
 
   -- neither search moves a root that the other found
-  own-roots : (parent p₂ source ≡ source) × (parent p₂ target ≡ target)
-  own-roots =
+  own_roots : (parent p₂ source ≡ source) × (parent p₂ target ≡ target)
+  own_roots =
       let full₂ = flatter_full both full in (
-        rw source-root (root-own full₂ (here inside-i)),
-        rw target-root
-            (root-own full₂ (here inside-j)),
+        rw source_root (root_own full₂ (here inside-i)),
+        rw target_root
+            (root_own full₂ (here inside-j)),
       )
 
   joins : Hung p i j (set p₂ source target)
   joins =
-      rw (source-root, target-root)
+      rw (source_root, target_root)
       (record {
         lengths = length-set p₂ _ _ ∙ both.lengths;
         depth =
-            λ d f. forest-hang (flatter_full both full) (here inside-i) (here inside-j)
+            λ d f. forest_hang (flatter_full both full) (here inside-i) (here inside-j)
             (both.depth d f);
         roots =
-            λ d q small same. same-hang (same_flatter both same) (rw both.lengths small)
+            λ d q small same. same_hang (same_flatter both same) (rw both.lengths small)
             (here inside-i) (here inside-j);
       })
 
@@ -68,7 +68,7 @@ set-parent-requires c κs =
     let first = at-find.find in
     let second = c.before.before.before.find2 in
     let known = c.before.slice-known3.given in
-    let owned = own-roots pre.0 pre.1.0 pre.1.1 first.ensures second.ensures in
+    let owned = own_roots pre.0 pre.1.0 pre.1.1 first.ensures second.ensures in
     let kept = both pre.0 pre.1.0 pre.1.1 first.ensures second.ensures in (
       (
         omega (arith, first.ensures.inside, kept.lengths),

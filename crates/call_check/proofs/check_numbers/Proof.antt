@@ -5,7 +5,7 @@ use mathlib.Core.Path.{ap, ap₂, ◌∙◌}
 use mathlib.Core.List.{[], ◌∷◌}
 use borrow.Author.Rules.{rules}
 use Rattle.call_frame.specs.Frame.{Outcome}
-use Rattle.call_frame.proofs.Opening.{is_open, instr-number, block_number, refused-call, open-call}
+use Rattle.call_frame.proofs.Opening.{is_open, instr_number, block_number, refused_call, open_call}
 use Rattle.call_check.specs.Calls.{Counts, asks_check, check_numbers}
 use Rattle.call_check.proofs.check_numbers.Statement.{statement}
 use Rattle.call_check.proofs.check_numbers.Tie as tie
@@ -16,13 +16,13 @@ returns c =
     let given = c.before.b.given.1 in
     let o = is_open _ _ _ _ _ told _ _ given in
     ap₂ (λ (b i : ℕ). 0 ∷ 0 ∷ b ∷ i ∷ []) (block_number _ _ _ _ _ o)
-    (instr-number _ _ _ _ _ told _ _ given)
-    ∙ ap (λ (l : Outcome Counts). check_numbers l.answer) (open-call asks_check [] [] _ _ o)
+    (instr_number _ _ _ _ _ told _ _ given)
+    ∙ ap (λ (l : Outcome Counts). check_numbers l.answer) (open_call asks_check [] [] _ _ o)
 
 returns-2 : tie.Need-returns-2
 returns-2 c =
     ap (λ (l : Outcome Counts). check_numbers l.answer)
-    (refused-call asks_check [] [] _ _ c.before.before.before.open-file.ensures _ _
+    (refused_call asks_check [] [] _ _ c.before.before.before.open-file.ensures _ _
     c.before.number.given.1)
 
 pub check-numbers-spec : {M : Type 1} → statement M

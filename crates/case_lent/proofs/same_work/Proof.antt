@@ -5,7 +5,7 @@ use mathlib.Core.Path.{◌≡◌, refl, ◌∙◌, sym}
 use borrow.Author.Rules.{rules}
 use lib.ListN.{length, drop}
 use Rattle.case_io.specs.Same.{same_numbers}
-use Rattle.case_io.proofs.Same.{place-differs, place_same, end_same}
+use Rattle.case_io.proofs.Same.{place_differs, place_same, end_same}
 use Rattle.case_lent.proofs.same_work.Statement.{statement}
 use Rattle.case_lent.proofs.same_work.Tie as tie
 
@@ -24,7 +24,7 @@ loop-holds c = (search rules, search rules, refl)
 returns : tie.Need-returns invariant-loop decreases-loop
 returns c =
     let at = c.before.before.before.before.before.before.before.loop in
-    place-differs _ _ at.i (search rules) (search rules) c.before.before.before.if1.true
+    place_differs _ _ at.i (search rules) (search rules) c.before.before.before.if1.true
     ∙ sym at.invariant.2
 
 loop-again : tie.Need-loop-preserved invariant-loop decreases-loop

@@ -1,19 +1,19 @@
 -- What the call that is made hands over, by which of the two it is.
 use borrow.Author.Rules.{rules}
-use Rattle.case_reasons.proofs.Handed.{hands-reasons, hands-reason}
+use Rattle.case_reasons.proofs.Handed.{hands_reasons, hands_reason}
 use Rattle.case_reasons.proofs.answer.Statement.{statement}
 use Rattle.case_reasons.proofs.answer.Tie as tie
 
 returns : tie.Need-returns
 returns c =
     let made = c.before.before in
-    hands-reasons _ _ _ made.before.before.before.before.before.if1.true
+    hands_reasons _ _ _ made.before.before.before.before.before.if1.true
     made.reasons-numbers.ensures.0
 
 returns-2 : tie.Need-returns-2
 returns-2 c =
     let made = c.before.before in
-    hands-reason _ _ _ made.before.before.before.before.if1.false
+    hands_reason _ _ _ made.before.before.before.before.if1.false
     made.reason-numbers.ensures.0
 
 pub answer-spec : {M : Type 1} → statement M

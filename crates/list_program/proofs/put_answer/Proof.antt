@@ -3,7 +3,7 @@
 use Prim.Native.Nat.{ℕ}
 use Rattle.call_frame.specs.Answer.{Answer}
 use Rattle.call_listing.specs.Calls.{listing_answer}
-use Rattle.list_program.proofs.Room.{listing-shown, refusal_shown}
+use Rattle.list_program.proofs.Room.{listing_shown, refusal_shown}
 use Rattle.list_program.proofs.put_answer.Statement.{statement}
 use Rattle.list_program.proofs.put_answer.Tie as tie
 use borrow.Author.Rules.{rules}
@@ -15,7 +15,7 @@ returns : tie.Need-returns
 unfolding listing_answer
 returns c = let pre =
     c.before.before.before.before.before.before.before.before.before.before.before.requires in
-    listing-shown _ pre.0 _ _ (omega arith) pre.1 _ _ _
+    listing_shown _ pre.0 _ _ (omega arith) pre.1 _ _ _
     (ap (λ (a : Answer ℕ). record {
       answer = a;
       work = c.before.before.before.before.before.before.listing-of.new.1.1.0;

@@ -3,27 +3,27 @@
 use mathlib.Core.Path.{sym, ap, ◌∙◌}
 use native.Mathlib.Omega.{arith}
 use borrow.Author.Rules.{rules}
-use Rattle.file_blocks.proofs.Accepted.{few-blocks}
+use Rattle.file_blocks.proofs.Accepted.{few_blocks}
 use Rattle.file_keys.specs.Answers.{number_of}
-use Rattle.file_keys.proofs.Ordered.{is-order}
+use Rattle.file_keys.proofs.Ordered.{is_order}
 use Rattle.file_keys.proofs.Reading.{length_keys, right_blocks}
 use Rattle.plan_search.proofs.Searching as searching
 use Rattle.plan_search.proofs.block_with.Statement.{statement}
 use Rattle.plan_search.proofs.block_with.Tie as tie
 
 add-next : tie.Need-overflow-add-next
-add-next c = omega (arith, few-blocks _ _ c.before.before.requires.0.0)
+add-next c = omega (arith, few_blocks _ _ c.before.before.requires.0.0)
 
 returns : tie.Need-returns
 returns c =
-    searching.with-key _ c.before.before.before.before.requires.0.0 _ _
+    searching.with_key _ c.before.before.before.before.requires.0.0 _ _
     (sym c.before.has_key_lem.ensures ∙ c.if1.true)
 
 find-key-requires : tie.Need-find-key-requires
 find-key-requires c κs =
     let start = c.before.before.before.before in
     let f = start.args.file.now in
-    let long = (is-order _ _ start.requires.0.1).long in (
+    let long = (is_order _ _ start.requires.0.1).long in (
       (right_blocks f start.requires.0.0, start.requires.0.1),
       omega (arith, long, length_keys f, start.requires.1),
     )

@@ -11,7 +11,7 @@ returns : tie.Need-returns
 returns c =
     let at-block-with = c.before.before in (
       tt,
-      searching.target-missing _ at-block-with.before.before.before.requires.0.0 _
+      searching.target_missing _ at-block-with.before.before.before.requires.0.0 _
           (sym (ap target_of c.enum_told.given.1) ∙ at-block-with.block_with.ensures),
     )
 
@@ -20,7 +20,7 @@ returns-2 c =
     let at-block-at = c.before.before in
     let at_j = at-block-at.before.before in
     let at-block-with = at_j.before.before in
-    absurd (searching.never-missing _ at-block-with.before.before.before.requires.0.0 _ _
+    absurd (searching.never_missing _ at-block-with.before.before.before.requires.0.0 _ _
     (sym (ap target_of at_j.j.given.1) ∙ at-block-with.block_with.ensures)
     (sym at-block-at.block_at.ensures ∙ c.enum-told2.given.1))
 
@@ -33,7 +33,7 @@ returns-3 c =
     let accepted = at-block-with.before.before.before.requires.0.0 in
     let found = sym (ap target_of at_j.j.given.1) ∙ at-block-with.block_with.ensures in (
       searching.target_inside _ accepted _ _ found,
-      searching.target-joined _ accepted _ _ found _ _ at-block-at.block_at.ensures
+      searching.target_joined _ accepted _ _ found _ _ at-block-at.block_at.ensures
           at_block.block.given.1 (sym c.before.on-page-8.ensures ∙ c.if1.true),
     )
 
@@ -44,7 +44,7 @@ returns-4 c =
     let at_j = at-block-at.before.before in
     let at-block-with = at_j.before.before in (
       tt,
-      searching.target-apart _ at-block-with.before.before.before.requires.0.0 _ _
+      searching.target_apart _ at-block-with.before.before.before.requires.0.0 _ _
           (sym (ap target_of at_j.j.given.1) ∙ at-block-with.block_with.ensures) _ _
           at-block-at.block_at.ensures at_block.block.given.1
           (sym c.before.on-page-8.ensures ∙ c.if1.false),

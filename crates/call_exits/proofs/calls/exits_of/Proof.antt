@@ -7,7 +7,7 @@ use mathlib.Core.Option.{Option}
 use borrow.Author.Rules.{rules}
 use Rattle.plan_exits.specs.Found.{found_keys}
 use Rattle.call_frame.specs.Frame.{Outcome, makes, settle, if_found}
-use Rattle.call_frame.proofs.Opening.{is_open, refused-call, open-call}
+use Rattle.call_frame.proofs.Opening.{is_open, refused_call, open_call}
 use Rattle.call_exits.specs.Calls.{exits_answer, asks_exits}
 use Rattle.call_exits.proofs.calls.exits_of.Statement.{statement}
 use Rattle.call_exits.proofs.calls.exits_of.Tie as tie
@@ -20,7 +20,7 @@ returns : tie.Need-returns
 unfolding exits_answer
 returns c =
     ap (λ (l : Outcome (List ℕ)). l.answer)
-    (refused-call (asks_exits _) [] [] _ _ c.before.before.before.open-file.ensures _ _
+    (refused_call (asks_exits _) [] [] _ _ c.before.before.before.open-file.ensures _ _
     c.before.number.given.1)
 
 returns-2 : tie.Need-returns-2
@@ -33,7 +33,7 @@ returns-2 c =
     (ap (found _)
     (sym (ap found_keys c.before.e.given.1)
     ∙ c.before.before.before.block-exits.ensures o.accepted)
-    ∙ open-call (asks_exits _) [] [] _ _ o)
+    ∙ open_call (asks_exits _) [] [] _ _ o)
 
 returns-3 : tie.Need-returns-3
 unfolding exits_answer
@@ -45,7 +45,7 @@ returns-3 c =
     (ap (found _)
     (sym (ap found_keys c.enum-told2.given.1)
     ∙ c.before.before.block-exits.ensures o.accepted)
-    ∙ open-call (asks_exits _) [] [] _ _ o)
+    ∙ open_call (asks_exits _) [] [] _ _ o)
 
 pub exits-of-spec : {M : Type 1} → statement M
 exits-of-spec =

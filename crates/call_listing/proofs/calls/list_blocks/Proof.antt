@@ -4,9 +4,9 @@ use Rattle.std.proofs.Common.{◌≤◌, length, refl, ◌∙◌, arith, rules}
 use Rattle.file_blocks.specs.Parse.{blocks_of}
 use Rattle.base_text.proofs.Laws.{whole}
 use Rattle.base_text.specs.Doc.{print}
-use Rattle.plan_members.proofs.Groups.{groups-planned, groups-room, groups-past}
-use Rattle.call_frame.proofs.Opening.{settled-call}
-use Rattle.call_frame.proofs.Settling.{cleared_same, refused-10, handed_over}
+use Rattle.plan_members.proofs.Groups.{groups_planned, groups_room, groups_past}
+use Rattle.call_frame.proofs.Opening.{settled_call}
+use Rattle.call_frame.proofs.Settling.{cleared_same, refused_10, handed_over}
 use Rattle.call_listing.specs.Calls.{listing_answer, asks_listing}
 use Rattle.call_listing.specs.Listing.{listing}
 use Rattle.call_listing.proofs.calls.list_blocks.Statement.{statement}
@@ -28,11 +28,11 @@ returns c =
     let grouped = group.group-blocks.ensures in
     let groups = put.put-groups.ensures in
     let long = measure.listing-length.ensures a.limit
-    (groups-planned grouped groups) in
-    settled-call (asks_listing a.limit) _ _ _ _ start.requires _
+    (groups_planned grouped groups) in
+    settled_call (asks_listing a.limit) _ _ _ _ start.requires _
     (c.before.before.clear.ensures
-    ∙ cleared_same _ _ _ (groups-room grouped groups) (groups-past grouped groups)) _
-    (refused-10 _ (print (listing a.limit (blocks_of a.file.now))) refl _ a.text.now
+    ∙ cleared_same _ _ _ (groups_room grouped groups) (groups_past grouped groups)) _
+    (refused_10 _ (print (listing a.limit (blocks_of a.file.now))) refl _ a.text.now
     (omega (arith, long)))
 
 returns-2 : tie.Need-returns-2
@@ -47,12 +47,12 @@ returns-2 c =
     let content = print (listing a.limit (blocks_of a.file.now)) in
     let grouped = group.group-blocks.ensures in
     let groups = put.put-groups.ensures in
-    let planned = groups-planned grouped groups in
+    let planned = groups_planned grouped groups in
     let long = measure.listing-length.ensures a.limit planned in
     let fits : length content ≤ length a.text.now = omega (arith, long) in
-    settled-call (asks_listing a.limit) _ _ _ _ start.requires _
+    settled_call (asks_listing a.limit) _ _ _ _ start.requires _
     (c.before.before.clear2.ensures
-    ∙ cleared_same _ _ _ (groups-room grouped groups) (groups-past grouped groups)) _
+    ∙ cleared_same _ _ _ (groups_room grouped groups) (groups_past grouped groups)) _
     (handed_over _ content refl _ a.text.now _ _ long fits
     (whole (write.put-listing.ensures a.limit planned) fits).0)
 

@@ -1,7 +1,7 @@
 -- By what opening tells of the file.
 -- Assumes nothing.
 use Rattle.std.proofs.Common.{[], ◌∷◌, rules}
-use Rattle.call_frame.proofs.Opening.{is_open, refused-call}
+use Rattle.call_frame.proofs.Opening.{is_open, refused_call}
 use Rattle.call_listing.specs.Calls.{listing_answer, asks_listing}
 use Rattle.call_listing.proofs.calls.listing_of.Statement.{statement}
 use Rattle.call_listing.proofs.calls.listing_of.Tie as tie
@@ -14,7 +14,7 @@ list-blocks-requires c κs =
 returns-2 : tie.Need-returns-2
 unfolding listing_answer
 returns-2 c =
-    refused-call (asks_listing _) _ (_ ∷ []) _ _ c.before.before.before.open-file.ensures _ _
+    refused_call (asks_listing _) _ (_ ∷ []) _ _ c.before.before.before.open-file.ensures _ _
     c.before.number.given.1
 
 pub listing-of-spec : {M : Type 1} → statement M

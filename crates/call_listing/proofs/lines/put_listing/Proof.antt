@@ -1,11 +1,11 @@
 -- `put_listing` writes the listing. The loop's invariant: the lines of the blocks before block i
 -- are written. Assumes nothing.
 use Rattle.std.proofs.Common.{◌≡◌, ℕ, ◌-◌, ◌<◌, ◌≤◌, List, [], length, get_or, take, sym, refl, ap, ◌∙◌, arith, take_all, rules}
-use Rattle.file_blocks.proofs.Accepted.{length-of}
+use Rattle.file_blocks.proofs.Accepted.{length_of_lem}
 use Rattle.file_records.specs.BlockRecord.{count_sum}
 use Rattle.file_blocks.specs.Parse.{Block, block_at, blocks_of}
 use Rattle.file_records.specs.Trailer.{block_count, block_start}
-use Rattle.file_blocks.proofs.IsBlock.{missing, sum-next, nth_block}
+use Rattle.file_blocks.proofs.IsBlock.{missing, sum_next, nth_block}
 use Rattle.file_blocks.specs.Read.{IsBlock}
 use Rattle.plan_groups.specs.Plan.{plan}
 use Rattle.base_text.proofs.Laws.{seq, wrote_as}
@@ -77,11 +77,11 @@ loop-again c =
     ≡ get_or (blocks_of f) i (block_at f 0 0) =
     ap (block_at f (block_start f i)) inv.1 ∙ sym (nth_block f i (block_at f 0 0) inside) in (
       omega arith,
-      c.wrapping-add-usize.ensures ∙ sum-next is,
+      c.wrapping-add-usize.ensures ∙ sum_next is,
       put.put-block.auto.1.0 ∙ inv.2,
       λ limit groups o₀ w. wrote_as (seq (inv.3 limit groups o₀ w) (put.put-block.ensures _ is))
           (lines_next header _ (blocks_of f) _ _ _ _
-          (omega (arith, inside, length-of _ _ o.accepted)) (groups _ (omega arith)) block),
+          (omega (arith, inside, length_of_lem _ _ o.accepted)) (groups _ (omega arith)) block),
     )
 
 same-length-2 : tie.Need-same-length-2 invariant-loop decreases-loop
@@ -95,7 +95,7 @@ returns-2 c =
     let o = start.requires in
     let f = start.args.file.now in
     let all : take loop.loop.i (blocks_of f) ≡ blocks_of f =
-    take_all loop.loop.i (blocks_of f) (omega (arith, length-of _ _ o.accepted, o.blocks)) in
+    take_all loop.loop.i (blocks_of f) (omega (arith, length_of_lem _ _ o.accepted, o.blocks)) in
     λ limit groups. wrote_as
     (loop.loop.invariant.3 limit groups _ (wrote_as loop.before.before.before.put.ensures refl))
     (ap (λ (bs : List Block). flat (header ▸ lines_from (plan limit (blocks_of f)) 0 bs) []) all)

@@ -3,7 +3,7 @@
 use borrow.Author.Rules.{rules}
 use native.Mathlib.Omega.{arith}
 use Rattle.base_text.proofs.Laws.{seq, wrote_as}
-use Rattle.call_pages.proofs.Blanks.{right-some, right-none}
+use Rattle.call_pages.proofs.Blanks.{right_some, right_none}
 use Rattle.call_pages.proofs.lines.put_right.Statement.{statement}
 use Rattle.call_pages.proofs.lines.put_right.Tie as tie
 
@@ -12,7 +12,7 @@ returns c =
     let digits = c.before.before.before.before.before.before in
     let a = digits.before.before.before.args in
     wrote_as c.before.before.put-dec2.ensures
-    (right-none a.width a.n _ digits.put-dec.ensures.next (omega arith))
+    (right_none a.width a.n _ digits.put-dec.ensures.next (omega arith))
 
 returns-2 : tie.Need-returns-2
 returns-2 c =
@@ -21,7 +21,7 @@ returns-2 c =
     let digits = blanks.before.before.before.before in
     let a = digits.before.before.before.args in
     wrote_as (seq blanks.put-spaces.ensures put.put-dec3.ensures)
-    (right-some a.width a.n _ digits.put-dec.ensures.next)
+    (right_some a.width a.n _ digits.put-dec.ensures.next)
 
 pub put-right-spec : {M : Type 1} → statement M
 put-right-spec =

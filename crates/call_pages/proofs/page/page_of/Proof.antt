@@ -2,7 +2,7 @@
 -- Assumes nothing.
 use mathlib.Core.List.{[], ◌∷◌}
 use borrow.Author.Rules.{rules}
-use Rattle.call_frame.proofs.Opening.{is_open, refused-call}
+use Rattle.call_frame.proofs.Opening.{is_open, refused_call}
 use Rattle.call_pages.specs.Calls.{page_answer, asks_page}
 use Rattle.call_pages.proofs.Claims.{page_claims}
 use Rattle.call_pages.proofs.page.page_of.Statement.{statement}
@@ -21,7 +21,7 @@ unfolding page_answer
 returns-2 c =
     let opened = c.before.before.before in
     let start = opened.before.before.before.before in (
-      refused-call (asks_page start.args.limit start.args.k) _ (_ ∷ []) _ _
+      refused_call (asks_page start.args.limit start.args.k) _ (_ ∷ []) _ _
           opened.open-file.ensures _ _ c.before.number.given.1,
       page_claims _ _,
     )

@@ -6,8 +6,8 @@ use lib.ListN.{length as size}
 use mathlib.Core.Path.{◌≡◌, refl, ◌∙◌}
 use native.Mathlib.Omega.{arith}
 use Rattle.plan_members.specs.Prepared.{HoldsPlan}
-use Rattle.call_pages.proofs.Fitted.{Putting, putting_none, putting-end, putting-over}
-use Rattle.call_pages.proofs.Fitted.{putting-more}
+use Rattle.call_pages.proofs.Fitted.{Putting, putting_none, putting-end, putting_over}
+use Rattle.call_pages.proofs.Fitted.{putting_more}
 use Rattle.call_pages.proofs.text.put_pages.Statement.{statement}
 use Rattle.call_pages.proofs.text.put_pages.Tie as tie
 
@@ -37,7 +37,7 @@ returns : tie.Need-returns invariant-loop decreases-loop
 returns c =
     let inv = c.before.before.before.loop.invariant in
     λ limit ready.
-    putting-over ready (inv.3 limit ready) (omega arith)
+    putting_over ready (inv.3 limit ready) (omega arith)
     (omega (arith, inv.0, c.before.page-length.ensures))
 
 -- the numbers of pages are small
@@ -82,7 +82,7 @@ loop-again c =
       omega (arith, inv.0, inv.1),
       omega (arith, inv.2),
       λ limit ready.
-          putting-more ready (inv.3 limit ready) (omega arith) _ sized.page-length.ensures
+          putting_more ready (inv.3 limit ready) (omega arith) _ sized.page-length.ensures
           (omega (arith, inv.0)) (put.ensures limit ready),
     )
 

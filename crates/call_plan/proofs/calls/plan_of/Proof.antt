@@ -2,7 +2,7 @@
 -- Assumes nothing.
 use mathlib.Core.List.{[], ◌∷◌}
 use borrow.Author.Rules.{rules}
-use Rattle.call_frame.proofs.Opening.{is_open, refused-call}
+use Rattle.call_frame.proofs.Opening.{is_open, refused_call}
 use Rattle.call_plan.specs.Calls.{plan_answer, asks_plan}
 use Rattle.call_plan.proofs.calls.plan_of.Statement.{statement}
 use Rattle.call_plan.proofs.calls.plan_of.Tie as tie
@@ -15,7 +15,7 @@ plan-blocks-requires c κs =
 returns-2 : tie.Need-returns-2
 unfolding plan_answer
 returns-2 c =
-    refused-call (asks_plan _) _ (_ ∷ []) _ _ c.before.before.before.open-file.ensures _ _
+    refused_call (asks_plan _) _ (_ ∷ []) _ _ c.before.before.before.open-file.ensures _ _
     c.before.number.given.1
 
 pub plan-of-spec : {M : Type 1} → statement M

@@ -7,11 +7,11 @@ use mathlib.Core.Path.{◌≡◌, refl, sym, ap, ◌∙◌}
 use native.Mathlib.Omega.{arith}
 use Rattle.file_records.specs.BlockRecord.{count_sum}
 use Rattle.file_records.specs.Trailer.{block_count}
-use Rattle.file_blocks.proofs.Accepted.{few-instrs}
-use Rattle.file_blocks.proofs.IsBlock.{missing, instrs-counted}
+use Rattle.file_blocks.proofs.Accepted.{few_instrs}
+use Rattle.file_blocks.proofs.IsBlock.{missing, instrs_counted}
 use Rattle.call_reasons.specs.Steps.{IsFoundPlace}
-use Rattle.call_reasons.proofs.Rest.{block_is, record-count, next-starts}
-use Rattle.call_reasons.proofs.Rest.{total-is}
+use Rattle.call_reasons.proofs.Rest.{block_is, record_count_lem, next_starts}
+use Rattle.call_reasons.proofs.Rest.{total_is}
 use Rattle.call_reasons.proofs.find.find_instr.Statement.{statement}
 use Rattle.call_reasons.proofs.find.find_instr.Tie as tie
 
@@ -47,7 +47,7 @@ add-next c =
     let is =
     block_is start.requires.0 read.block_at.ensures known.block.given.1
     loop.loop.invariant.1 in
-    omega (arith, instrs-counted is, few-instrs _ _ start.requires.0)
+    omega (arith, instrs_counted is, few_instrs _ _ start.requires.0)
 
 returns-2 : tie.Need-returns-2 invariant-loop decreases-loop
 unfolding IsFoundPlace
@@ -64,7 +64,7 @@ returns-2 c =
       inside = omega (arith, start.requires.1);
       starts = loop.loop.invariant.1;
       from = loop.loop.invariant.2;
-      before = omega (arith, record-count is);
+      before = omega (arith, record_count_lem is);
     }
 
 loop-again : tie.Need-loop-preserved invariant-loop decreases-loop
@@ -77,7 +77,7 @@ loop-again c =
     let is =
     block_is start.requires.0 read.block_at.ensures known.block.given.1
     loop.loop.invariant.1 in
-    (omega arith, next-starts is, omega arith)
+    (omega arith, next_starts is, omega arith)
 
 returns-3 : tie.Need-returns-3 invariant-loop decreases-loop
 unfolding IsFoundPlace
@@ -88,7 +88,7 @@ returns-3 c =
     omega (arith, loop.loop.invariant.0, start.requires.1) in
     omega (
       arith,
-      total-is start.args.file.now start.requires.0,
+      total_is start.args.file.now start.requires.0,
       loop.loop.invariant.1,
       loop.loop.invariant.2,
       ap (count_sum start.args.file.now) all,

@@ -9,13 +9,13 @@ use native.Mathlib.Omega.{arith}
 use Rattle.file_records.specs.BlockRecord.{count_at, count_sum}
 use Rattle.file_records.specs.Trailer.{block_start}
 use Rattle.file_blocks.specs.Parse.{blocks_of}
-use Rattle.file_blocks.proofs.Accepted.{few-instrs}
-use Rattle.file_blocks.proofs.IsBlock.{missing, instrs-counted}
+use Rattle.file_blocks.proofs.Accepted.{few_instrs}
+use Rattle.file_blocks.proofs.IsBlock.{missing, instrs_counted}
 use Rattle.lower_reasons.specs.Lines.{lines_of, lines_from}
 use Rattle.emit_reasons.specs.Steps.{Putting}
-use Rattle.emit_reasons.proofs.Putting.{putting-as}
-use Rattle.call_reasons.proofs.Rest.{rest_from, block_is, record-count}
-use Rattle.call_reasons.proofs.Rest.{next-starts, lines-record}
+use Rattle.emit_reasons.proofs.Putting.{putting_as}
+use Rattle.call_reasons.proofs.Rest.{rest_from, block_is, record_count_lem}
+use Rattle.call_reasons.proofs.Rest.{next_starts, lines_record}
 use Rattle.call_reasons.proofs.Written.{putting_start, lines_next, put_end}
 use Rattle.call_reasons.proofs.lines.put_lines.Statement.{statement}
 use Rattle.call_reasons.proofs.lines.put_lines.Tie as tie
@@ -67,7 +67,7 @@ add-end c =
     let ok = start.requires.0.accepted in
     let is =
     block_is ok read.block_at.ensures known.block.given.1 inv.3 in
-    omega (arith, instrs-counted is, few-instrs _ _ ok)
+    omega (arith, instrs_counted is, few_instrs _ _ ok)
 
 put-block-requires : tie.Need-put-block-requires invariant-loop decreases-loop
 put-block-requires c κs =
@@ -80,7 +80,7 @@ put-block-requires c κs =
     let ok = start.requires.0.accepted in
     let is =
     block_is ok read.block_at.ensures known.block.given.1 inv.3 in
-    ((_, is), omega (arith, inv.4 (omega arith), record-count is), omega (arith, inv.0, inv.1))
+    ((_, is), omega (arith, inv.4 (omega arith), record_count_lem is), omega (arith, inv.0, inv.1))
 
 same-length-2 : tie.Need-same-length-2 invariant-loop decreases-loop
 same-length-2 c =
@@ -103,8 +103,8 @@ returns-2 c =
     let is =
     block_is ok read.block_at.ensures known.block.given.1 inv.3 in
     (put.put-block.ensures.1 _ _ _
-    (putting-as
-    (lines-record is loop.loop.skip (omega (arith, inv.4 (omega arith), record-count is)))
+    (putting_as
+    (lines_record is loop.loop.skip (omega (arith, inv.4 (omega arith), record_count_lem is)))
     inv.5)).over c.if1.true _
 
 loop-again : tie.Need-loop-preserved invariant-loop decreases-loop
@@ -119,20 +119,20 @@ loop-again c =
     let ok = start.requires.0.accepted in
     let is =
     block_is ok read.block_at.ensures known.block.given.1 inv.3 in
-    let next = next-starts is in (
+    let next = next_starts is in (
       put.put-block.auto.0 ∙ inv.0,
       omega (arith, put.put-block.ensures.0, inv.0),
       omega arith,
       next,
       λ h. omega arith,
-      putting-as (lines_next is)
+      putting_as (lines_next is)
           ((put.put-block.ensures.1 _ _ _
-          (putting-as
-          (lines-record is loop.loop.skip (omega (
+          (putting_as
+          (lines_record is loop.loop.skip (omega (
             arith,
             inv.4
                 (omega arith),
-            record-count is,
+            record_count_lem is,
           )))
           inv.5)).on c.if1.false),
     )

@@ -7,11 +7,11 @@ use native.Mathlib.Omega.{arith}
 use lib.ListN.{get_or}
 use Prim.Native.Nat.{ℕ, ◌-◌}
 use Rattle.file_blocks.specs.Parse.{blocks_of}
-use Rattle.file_blocks.proofs.Accepted.{instrs-of, few-in-block}
-use Rattle.file_blocks.proofs.IsBlock.{missing, instrs-counted}
+use Rattle.file_blocks.proofs.Accepted.{instrs_of_lem, few_in_block}
+use Rattle.file_blocks.proofs.IsBlock.{missing, instrs_counted}
 use Rattle.lower_reasons.specs.Said.{said_in_all}
 use Rattle.call_reasons.specs.Steps.{StandsAt, IsFoundPlace, IsSaid}
-use Rattle.call_reasons.proofs.Rest.{block_is, record-count, said-in-all}
+use Rattle.call_reasons.proofs.Rest.{block_is, record_count_lem, said_in_all_lem}
 use Rattle.call_reasons.proofs.reason.find_said.Statement.{statement}
 use Rattle.call_reasons.proofs.reason.find_said.Tie as tie
 
@@ -66,7 +66,7 @@ cast-said-at c =
     omega (
       arith,
       stands.before,
-      few-in-block _ _ start.requires.accepted _ stands.inside,
+      few_in_block _ _ start.requires.accepted _ stands.inside,
     )
 
 said-at-requires : tie.Need-said-at-requires
@@ -82,7 +82,7 @@ said-at-requires c κs =
     let is =
     block_is start.requires.accepted read.block_at.ensures c.before.block.given.1
     stands.starts in
-    ((_, is), omega (arith, stands.from, stands.before, record-count is))
+    ((_, is), omega (arith, stands.from, stands.before, record_count_lem is))
 
 returns-3 : tie.Need-returns-3
 unfolding IsFoundPlace IsSaid
@@ -100,12 +100,12 @@ returns-3 c =
       omega (
         arith,
         stands.before,
-        record-count is,
-        instrs-counted is,
-        instrs-of f (blocks_of f) ok,
+        record_count_lem is,
+        instrs_counted is,
+        instrs_of_lem f (blocks_of f) ok,
       ),
       c.Said-at.ensures
-          ∙ said-in-all is _ (omega (arith, stands.from, stands.before, record-count is))
+          ∙ said_in_all_lem is _ (omega (arith, stands.from, stands.before, record_count_lem is))
           ∙ ap (λ (n : ℕ). get_or (said_in_all (blocks_of f)) n none) (omega (arith, stands.from)),
     )
 

@@ -3,7 +3,7 @@
 use mathlib.Core.List.{[], ◌∷◌}
 use borrow.Author.Rules.{rules}
 use Rattle.claim_reasons.proofs.Claims.{reason_claims}
-use Rattle.call_frame.proofs.Opening.{is_open, refused-call}
+use Rattle.call_frame.proofs.Opening.{is_open, refused_call}
 use Rattle.call_reasons.specs.Calls.{reason_answer, asks_reason}
 use Rattle.call_reasons.proofs.reason.reason_of.Statement.{statement}
 use Rattle.call_reasons.proofs.reason.reason_of.Tie as tie
@@ -21,7 +21,7 @@ unfolding reason_answer
 returns-2 c =
     let opened = c.before.before.before in
     let start = opened.before.before.before in (
-      refused-call (asks_reason start.args.k) [] (_ ∷ []) _ _ opened.open-file.ensures _ _
+      refused_call (asks_reason start.args.k) [] (_ ∷ []) _ _ opened.open-file.ensures _ _
           c.before.number.given.1,
       reason_claims _,
     )

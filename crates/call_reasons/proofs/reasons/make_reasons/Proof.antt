@@ -6,12 +6,12 @@ use mathlib.Core.List.{[], ◌∷◌}
 use mathlib.Core.Path.{sym, ◌∙◌, subst}
 use native.Mathlib.Omega.{arith}
 use Rattle.file_blocks.specs.Parse.{blocks_of}
-use Rattle.file_blocks.proofs.Accepted.{few-in-block}
-use Rattle.call_frame.proofs.Opening.{settled-call}
+use Rattle.file_blocks.proofs.Accepted.{few_in_block}
+use Rattle.call_frame.proofs.Opening.{settled_call}
 use Rattle.call_reasons.specs.Calls.{asks_reasons}
 use Rattle.call_reasons.specs.Steps.{StandsAt, IsFoundPlace}
-use Rattle.call_reasons.proofs.Answers.{cleared_none, reasons-9, reasons-made}
-use Rattle.call_reasons.proofs.Answers.{reasons-10, reasons-none}
+use Rattle.call_reasons.proofs.Answers.{cleared_none, reasons_9, reasons_made}
+use Rattle.call_reasons.proofs.Answers.{reasons_10, reasons_none}
 use Rattle.call_reasons.proofs.Rest.{in_file}
 use Rattle.call_reasons.proofs.Written.{put_from}
 use Rattle.call_reasons.proofs.reasons.make_reasons.Statement.{statement}
@@ -27,8 +27,8 @@ returns c =
     let found = c.before.before in
     let start = found.before.before.before in
     let a = start.args in
-    settled-call (asks_reasons a.k) [] (_ ∷ []) _ _ start.requires.0 [] (cleared_none a.n) _
-    (reasons-9 (blocks_of a.file.now) a.k _
+    settled_call (asks_reasons a.k) [] (_ ∷ []) _ _ start.requires.0 [] (cleared_none a.n) _
+    (reasons_9 (blocks_of a.file.now) a.k _
     (subst (IsFoundPlace a.file.now a.k) c.enum_told.given.1
     found.find-instr.ensures))
 
@@ -57,7 +57,7 @@ cast-put-lines c =
     omega (
       arith,
       stands.before,
-      few-in-block _ _ start.requires.0.accepted _ stands.inside,
+      few_in_block _ _ start.requires.0.accepted _ stands.inside,
     )
 
 put-lines-requires : tie.Need-put-lines-requires
@@ -95,8 +95,8 @@ returns-2 c =
     let made =
     put_from (blocks_of f) (first + (a.k - first)) a.k (omega (arith, stands.from))
     put.put-lines.ensures in
-    settled-call (asks_reasons a.k) [] (_ ∷ []) _ _ start.requires.0 [] (cleared_none a.n) _
-    (reasons-made (blocks_of f) a.k _ here made c.if1.true)
+    settled_call (asks_reasons a.k) [] (_ ∷ []) _ _ start.requires.0 [] (cleared_none a.n) _
+    (reasons_made (blocks_of f) a.k _ here made c.if1.true)
 
 returns-3 : tie.Need-returns-3
 unfolding IsFoundPlace
@@ -114,8 +114,8 @@ returns-3 c =
     let made =
     put_from (blocks_of f) (first + (a.k - first)) a.k (omega (arith, stands.from))
     put.put-lines.ensures in
-    settled-call (asks_reasons a.k) [] (_ ∷ []) _ _ start.requires.0 [] (cleared_none a.n) _
-    (reasons-10 (blocks_of f) a.k _ here made c.before.if1.false
+    settled_call (asks_reasons a.k) [] (_ ∷ []) _ _ start.requires.0 [] (cleared_none a.n) _
+    (reasons_10 (blocks_of f) a.k _ here made c.before.if1.false
     (λ e. c.if2.true (e ∙ sym start.requires.1)))
 
 returns-4 : tie.Need-returns-4
@@ -134,8 +134,8 @@ returns-4 c =
     let made =
     put_from (blocks_of f) (first + (a.k - first)) a.k (omega (arith, stands.from))
     put.put-lines.ensures in
-    settled-call (asks_reasons a.k) [] (_ ∷ []) _ _ start.requires.0 [] (cleared_none a.n) _
-    (reasons-none (blocks_of f) a.k _ here made c.before.if1.false
+    settled_call (asks_reasons a.k) [] (_ ∷ []) _ _ start.requires.0 [] (cleared_none a.n) _
+    (reasons_none (blocks_of f) a.k _ here made c.before.if1.false
     (c.if2.false ∙ start.requires.1))
 
 pub make-reasons-spec : {M : Type 1} → statement M

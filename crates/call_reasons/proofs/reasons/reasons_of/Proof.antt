@@ -3,7 +3,7 @@
 use mathlib.Core.List.{[], ◌∷◌}
 use borrow.Author.Rules.{rules}
 use Rattle.claim_reasons.proofs.Claims.{reason_claims}
-use Rattle.call_frame.proofs.Opening.{is_open, instr-number, refused-call}
+use Rattle.call_frame.proofs.Opening.{is_open, instr_number, refused_call}
 use Rattle.call_reasons.specs.Calls.{reasons_answer, asks_reasons}
 use Rattle.call_reasons.proofs.reasons.reasons_of.Statement.{statement}
 use Rattle.call_reasons.proofs.reasons.reasons_of.Tie as tie
@@ -13,7 +13,7 @@ make-reasons-requires c κs =
     let known = c.before.before in
     let opened = known.before.before.open-file.ensures in (
       is_open _ _ _ _ _ opened _ _ known.blocks2.given.1,
-      instr-number _ _ _ _ _ opened _ _ known.blocks2.given.1,
+      instr_number _ _ _ _ _ opened _ _ known.blocks2.given.1,
     )
 
 returns : tie.Need-returns
@@ -24,7 +24,7 @@ unfolding reasons_answer
 returns-2 c =
     let opened = c.before.before.before in
     let start = opened.before.before.before in (
-      refused-call (asks_reasons start.args.k) [] (_ ∷ []) _ _ opened.open-file.ensures _ _
+      refused_call (asks_reasons start.args.k) [] (_ ∷ []) _ _ opened.open-file.ensures _ _
           c.before.number.given.1,
       reason_claims _,
     )

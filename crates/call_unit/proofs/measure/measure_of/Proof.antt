@@ -2,7 +2,7 @@
 -- Assumes nothing.
 use mathlib.Core.List.{[]}
 use borrow.Author.Rules.{rules}
-use Rattle.call_frame.proofs.Opening.{is_open, refused-call}
+use Rattle.call_frame.proofs.Opening.{is_open, refused_call}
 use Rattle.call_unit.specs.Calls.{measure_answer, asks_of_unit, measures}
 use Rattle.call_unit.proofs.Claims.{measure_then_write}
 use Rattle.call_unit.proofs.measure.measure_of.Statement.{statement}
@@ -19,7 +19,7 @@ returns c = (c.before.before.measure-open.ensures, measure_then_write _ _ _)
 returns-2 : tie.Need-returns-2
 unfolding measure_answer
 returns-2 c = (
-  refused-call (asks_of_unit (measures _) _ _ _) _ [] _ _
+  refused_call (asks_of_unit (measures _) _ _ _) _ [] _ _
       c.before.before.before.open-file.ensures _ _ c.before.number.given.1,
   measure_then_write _ _ _,
 )

@@ -2,7 +2,7 @@
 -- Assumes nothing.
 use mathlib.Core.Path.{◌∙◌}
 use borrow.Author.Rules.{rules}
-use Rattle.call_frame.proofs.Opening.{settled-call}
+use Rattle.call_frame.proofs.Opening.{settled_call}
 use Rattle.call_frame.proofs.Settling.{cleared_same}
 use Rattle.call_unit.specs.Calls.{asks_of_unit, measures}
 use Rattle.call_unit.proofs.measure.measure_open.Statement.{statement}
@@ -15,7 +15,7 @@ returns c =
     let start = fill.before.before.before.before in
     let a = start.args in
     let prepared = fill.prepare.ensures in
-    settled-call (asks_of_unit (measures a.k) a.limit a.max a.k) _ _ _ _ start.requires _
+    settled_call (asks_of_unit (measures a.k) a.limit a.max a.k) _ _ _ _ start.requires _
     (c.before.before.clear.ensures ∙ cleared_same _ _ _ prepared.same prepared.after) _
     (made.answer-measure.ensures _)
 

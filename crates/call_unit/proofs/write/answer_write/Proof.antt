@@ -5,19 +5,19 @@ use borrow.Author.Rules.{rules}
 use lib.ListN.{length}
 use mathlib.Core.Path.{subst}
 use native.Mathlib.Omega.{arith}
-use Rattle.file_blocks.proofs.Accepted.{few-blocks}
+use Rattle.file_blocks.proofs.Accepted.{few_blocks}
 use Rattle.base_text.proofs.Laws.{whole}
-use Rattle.plan_members.proofs.Places.{start-inside}
+use Rattle.plan_members.proofs.Places.{start_inside}
 use Rattle.lower_units.specs.Units.{text_of}
 use Rattle.emit_units.specs.Units.{IsUnit, IsFoundUnit}
-use Rattle.call_unit.proofs.Answers.{write-none, write_refused, write-fits, write-made}
+use Rattle.call_unit.proofs.Answers.{write_none, write_refused, write_fits, write_made}
 use Rattle.call_unit.proofs.write.answer_write.Statement.{statement}
 use Rattle.call_unit.proofs.write.answer_write.Tie as tie
 
 find-unit-requires : tie.Need-find-unit-requires
 find-unit-requires c κs =
     let ready = c.before.before.before.requires in (
-      (ready.room, omega (arith, few-blocks _ _ ready.accepted, ready.all), ready.all),
+      (ready.room, omega (arith, few_blocks _ _ ready.accepted, ready.all), ready.all),
       ready.accepted,
     )
 
@@ -27,7 +27,7 @@ returns c =
     let found = c.before.before in
     let start = found.before.before.before.before in
     let a = start.args in
-    write-none a.file.now a.limit a.max a.given _
+    write_none a.file.now a.limit a.max a.given _
     (subst (IsFoundUnit a.file.now a.limit a.max a.given.unit)
     c.enum_told.given.1
     (found.find-unit.ensures a.limit start.requires))
@@ -58,8 +58,8 @@ write-unit-requires c κs =
     subst (IsFoundUnit a.file.now a.limit a.max a.given.unit) known.e.given.1
     (found.find-unit.ensures a.limit ready) in (
       (
-        (ready.room, omega (arith, few-blocks _ _ ready.accepted, ready.all), ready.all),
-        omega (arith, is.at.here, start-inside ready is.at.group),
+        (ready.room, omega (arith, few_blocks _ _ ready.accepted, ready.all), ready.all),
+        omega (arith, is.at.here, start_inside ready is.at.group),
       ),
       ready.accepted,
     )
@@ -80,9 +80,9 @@ returns-3 c =
     (found.find-unit.ensures a.limit ready) in
     let made = answered.enum-told2.given.1 in
     let fits : length (text_of is.unit.tree) ≤ length a.text.now =
-    write-fits a.file.now a.limit a.max a.given a.text.now is _
+    write_fits a.file.now a.limit a.max a.given a.text.now is _
     told.before.told_of.ensures _ told.answer-in.ensures made in
-    write-made a.file.now a.limit a.max a.given _ is _
+    write_made a.file.now a.limit a.max a.given _ is _
     told.before.told_of.ensures _ told.answer-in.ensures made _
     (whole (wrote.write-unit.ensures a.limit a.given.unit ready is) fits).0
 

@@ -3,7 +3,7 @@
 use mathlib.Core.List.{[], ◌∷◌}
 use borrow.Author.Rules.{rules}
 use Rattle.claim_units.proofs.Claims.{unit_claims}
-use Rattle.call_frame.proofs.Opening.{is_open, refused-call}
+use Rattle.call_frame.proofs.Opening.{is_open, refused_call}
 use Rattle.call_unit.specs.Calls.{write_answer, asks_of_unit, writes}
 use Rattle.call_unit.proofs.Claims.{measure_then_write}
 use Rattle.call_unit.proofs.write.write_of.Statement.{statement}
@@ -25,7 +25,7 @@ unfolding write_answer
 returns-2 c =
     let opened = c.before.before.before in
     let a = opened.before.before.before.before.args in (
-      refused-call (asks_of_unit (writes a.given) a.limit a.max a.given.unit) _ (_ ∷ [])
+      refused_call (asks_of_unit (writes a.given) a.limit a.max a.given.unit) _ (_ ∷ [])
           _ _ opened.open-file.ensures _ _ c.before.number.given.1,
       (measure_then_write _ _ _, unit_claims _ _ _ _),
     )

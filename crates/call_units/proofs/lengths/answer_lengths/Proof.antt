@@ -4,16 +4,16 @@ use Prim.Native.Nat.{◌≤◌}
 use borrow.Author.Rules.{rules}
 use mathlib.Core.Path.{subst}
 use native.Mathlib.Omega.{arith}
-use Rattle.file_blocks.proofs.Accepted.{few-blocks}
+use Rattle.file_blocks.proofs.Accepted.{few_blocks}
 use Rattle.emit_units.specs.Units.{StartsAt, StartWithin, IsFoundStart}
-use Rattle.call_units.proofs.Answers.{lengths-9, lengths-10, lengths-made}
+use Rattle.call_units.proofs.Answers.{lengths_9, lengths_10, lengths_made}
 use Rattle.call_units.proofs.lengths.answer_lengths.Statement.{statement}
 use Rattle.call_units.proofs.lengths.answer_lengths.Tie as tie
 
 find-start-requires : tie.Need-find-start-requires
 find-start-requires c κs =
     let ready = c.before.before.before.requires in (
-      (ready.room, omega (arith, few-blocks _ _ ready.accepted, ready.all), ready.all),
+      (ready.room, omega (arith, few_blocks _ _ ready.accepted, ready.all), ready.all),
       ready.accepted,
     )
 
@@ -22,7 +22,7 @@ unfolding IsFoundStart
 returns c =
     let start = c.before.before.before.before.before.before in
     let a = start.args in
-    lengths-9 a.asked a.file.now _
+    lengths_9 a.asked a.file.now _
     (subst (IsFoundStart a.file.now a.asked.limit a.asked.max a.asked.first)
     c.enum_told.given.1
     (c.before.before.find-start.ensures.1 a.asked.limit start.requires))
@@ -35,7 +35,7 @@ put-lengths-requires c κs =
     let start = found.before.before.before.before in
     let ready = start.requires in (
       (
-        (ready.room, omega (arith, few-blocks _ _ ready.accepted, ready.all), ready.all),
+        (ready.room, omega (arith, few_blocks _ _ ready.accepted, ready.all), ready.all),
         subst (StartWithin start.args.n) known.p.given.1 found.find-start.ensures.0,
       ),
       ready.accepted,
@@ -52,7 +52,7 @@ returns-2 c =
     let s : StartsAt a.file.now a.asked.limit a.asked.max a.asked.first _ =
     subst (IsFoundStart a.file.now a.asked.limit a.asked.max a.asked.first)
     known.p.given.1 (found.find-start.ensures.1 a.asked.limit start.requires) in
-    lengths-10 a.asked a.file.now _ s
+    lengths_10 a.asked a.file.now _ s
     (put.put-lengths.ensures a.asked.limit a.asked.first start.requires s) (omega arith)
 
 returns-3 : tie.Need-returns-3
@@ -66,7 +66,7 @@ returns-3 c =
     let s : StartsAt a.file.now a.asked.limit a.asked.max a.asked.first _ =
     subst (IsFoundStart a.file.now a.asked.limit a.asked.max a.asked.first)
     known.p.given.1 (found.find-start.ensures.1 a.asked.limit start.requires) in
-    lengths-made a.asked a.file.now _ s
+    lengths_made a.asked a.file.now _ s
     (put.put-lengths.ensures a.asked.limit a.asked.first start.requires s) (omega arith)
 
 pub answer-lengths-spec : {M : Type 1} → statement M

@@ -2,7 +2,7 @@
 -- Assumes nothing.
 use mathlib.Core.List.{[], ◌∷◌}
 use borrow.Author.Rules.{rules}
-use Rattle.call_frame.proofs.Opening.{is_open, refused-call}
+use Rattle.call_frame.proofs.Opening.{is_open, refused_call}
 use Rattle.call_units.specs.Calls.{lengths_answer, asks_lengths}
 use Rattle.call_units.proofs.lengths.lengths_of.Statement.{statement}
 use Rattle.call_units.proofs.lengths.lengths_of.Tie as tie
@@ -20,7 +20,7 @@ unfolding lengths_answer
 returns-2 c =
     let opened = c.before.before.before in
     let start = opened.before.before.before.before in
-    refused-call (asks_lengths start.args.asked) _ (_ ∷ []) _ _ opened.open-file.ensures _ _
+    refused_call (asks_lengths start.args.asked) _ (_ ∷ []) _ _ opened.open-file.ensures _ _
     c.before.number.given.1
 
 pub lengths-of-spec : {M : Type 1} → statement M

@@ -4,7 +4,7 @@ use Prim.Native.Nat.{◌≤◌}
 use borrow.Author.Rules.{rules}
 use mathlib.Core.Path.{subst}
 use native.Mathlib.Omega.{arith}
-use Rattle.file_blocks.proofs.Accepted.{few-blocks}
+use Rattle.file_blocks.proofs.Accepted.{few_blocks}
 use Rattle.emit_units.specs.Units.{StartsAt, StartWithin, IsFoundStart}
 use Rattle.call_units.proofs.Answers.{units_9, units-10, units-made}
 use Rattle.call_units.proofs.units.answer_units.Statement.{statement}
@@ -13,7 +13,7 @@ use Rattle.call_units.proofs.units.answer_units.Tie as tie
 find-start-requires : tie.Need-find-start-requires
 find-start-requires c κs =
     let ready = c.before.before.before.before.requires in (
-      (ready.room, omega (arith, few-blocks _ _ ready.accepted, ready.all), ready.all),
+      (ready.room, omega (arith, few_blocks _ _ ready.accepted, ready.all), ready.all),
       ready.accepted,
     )
 
@@ -35,7 +35,7 @@ put-units-requires c κs =
     let start = found.before.before.before.before.before in
     let ready = start.requires in (
       (
-        (ready.room, omega (arith, few-blocks _ _ ready.accepted, ready.all), ready.all),
+        (ready.room, omega (arith, few_blocks _ _ ready.accepted, ready.all), ready.all),
         subst (StartWithin start.args.n) known.p.given.1 found.find-start.ensures.0,
       ),
       ready.accepted,

@@ -2,7 +2,7 @@
 -- Assumes nothing.
 use mathlib.Core.Path.{◌∙◌}
 use borrow.Author.Rules.{rules}
-use Rattle.call_frame.proofs.Opening.{settled-call}
+use Rattle.call_frame.proofs.Opening.{settled_call}
 use Rattle.call_frame.proofs.Settling.{cleared_same}
 use Rattle.call_units.specs.Calls.{asks_units}
 use Rattle.call_units.proofs.units.emit_units.Statement.{statement}
@@ -14,7 +14,7 @@ returns c =
     let fill = made.before.before.before.before.before.before in
     let start = fill.before.before.before.before.before.before in
     let prepared = fill.prepare.ensures in
-    settled-call (asks_units start.args.asked) _ _ _ _ start.requires _
+    settled_call (asks_units start.args.asked) _ _ _ _ start.requires _
     (c.before.before.clear.ensures ∙ cleared_same _ _ _ prepared.same prepared.after) _
     (made.answer-units.ensures _)
 

@@ -3,7 +3,7 @@
 use mathlib.Core.List.{[], ◌∷◌}
 use borrow.Author.Rules.{rules}
 use Rattle.claim_units.proofs.Claims.{unit_claims}
-use Rattle.call_frame.proofs.Opening.{is_open, refused-call}
+use Rattle.call_frame.proofs.Opening.{is_open, refused_call}
 use Rattle.call_units.specs.Calls.{units_answer, asks_units}
 use Rattle.call_units.proofs.units.units_of.Statement.{statement}
 use Rattle.call_units.proofs.units.units_of.Tie as tie
@@ -22,7 +22,7 @@ unfolding units_answer
 returns-2 c =
     let opened = c.before.before.before in
     let start = opened.before.before.before.before.before in (
-      refused-call (asks_units start.args.asked) _ (_ ∷ _ ∷ []) _ _ opened.open-file.ensures
+      refused_call (asks_units start.args.asked) _ (_ ∷ _ ∷ []) _ _ opened.open-file.ensures
           _ _ c.before.number.given.1,
       unit_claims _ _ _ _,
     )

@@ -5,7 +5,7 @@ use mathlib.Core.Path.{◌≡◌, refl, ◌∙◌, sym}
 use borrow.Author.Rules.{rules}
 use lib.ListN.{length, drop}
 use Rattle.case_io.specs.Same.{same_numbers}
-use Rattle.case_io.proofs.Same.{lengths_differ, place-differs, place_same, end_same}
+use Rattle.case_io.proofs.Same.{lengths_differ, place_differs, place_same, end_same}
 use Rattle.case_io.proofs.compare.same.Statement.{statement}
 use Rattle.case_io.proofs.compare.same.Tie as tie
 
@@ -28,7 +28,7 @@ loop-holds c = (c.if1.false, search rules, refl)
 returns-2 : tie.Need-returns-2 invariant-loop decreases-loop
 returns-2 c =
     let at = c.before.before.before.before.loop in
-    place-differs _ _ at.i (search rules) (search rules) c.if2.true ∙ sym at.invariant.2
+    place_differs _ _ at.i (search rules) (search rules) c.if2.true ∙ sym at.invariant.2
 
 loop-again : tie.Need-loop-preserved invariant-loop decreases-loop
 loop-again c =

@@ -5,9 +5,9 @@ use mathlib.Core.Option.{some}
 use borrow.Author.Tests.{not_true, not-false}
 use Rattle.file_blocks.specs.Read.{IsBlock}
 use Rattle.file_blocks.proofs.IsBlock.{missing}
-use Rattle.emit_block.proofs.Bodies.{bodyHere, is_body, hash-there, hash-absent, guarded-by}
-use Rattle.emit_block.proofs.Bodies.{length-by, block_here, code-bare, code-deferred}
-use Rattle.emit_block.proofs.Bodies.{code-guarded}
+use Rattle.emit_block.proofs.Bodies.{body_here, is_body, hash_there, hash_absent, guarded_by}
+use Rattle.emit_block.proofs.Bodies.{length_by, block_here, code_bare, code_deferred}
+use Rattle.emit_block.proofs.Bodies.{code_guarded}
 use Rattle.emit_block.proofs.block.emit_block.Statement.{statement}
 use Rattle.emit_block.proofs.block.emit_block.Tie as tie
 
@@ -37,9 +37,9 @@ returns-2 c =
     block_here _ s found.block_at.ensures record'.block.given.1 first.first_of.ensures
     in
     let body = is_body is v.hashing in
-    let b = bodyHere is v.hashing in
-    code-bare ks b
-    (guarded-by body false
+    let b = body_here is v.hashing in
+    code_bare ks b
+    (guarded_by body false
     (sym (not_true _ bare.if1.true) ∙ bare.before.is-guarded.ensures))
     (put.emit-records.ensures ks b (record { stands = s; is = is; body = body }))
 
@@ -57,11 +57,11 @@ returns-3 c =
     block_here _ s found.block_at.ensures record'.block.given.1 first.first_of.ensures
     in
     let body = is_body is v.hashing in
-    let b = bodyHere is v.hashing in
-    code-deferred ks b
-    (guarded-by body true
+    let b = body_here is v.hashing in
+    code_deferred ks b
+    (guarded_by body true
     (sym (not-false _ guarded.if1.false) ∙ guarded.before.is-guarded.ensures))
-    (hash-absent is v.hashing (not_true _ absent.if2.true))
+    (hash_absent is v.hashing (not_true _ absent.if2.true))
     (put.emit-defer.ensures ks b body.addr)
 
 emit-records-requires-2 : tie.Need-emit-records-requires-2
@@ -89,12 +89,12 @@ returns-4 c =
     block_here _ s found.block_at.ensures record'.block.given.1 first.first_of.ensures
     in
     let body = is_body is v.hashing in
-    let b = bodyHere is v.hashing in
-    code-guarded ks b _ _
-    (guarded-by body true
+    let b = body_here is v.hashing in
+    code_guarded ks b _ _
+    (guarded_by body true
     (sym (not-false _ guarded.if1.false) ∙ guarded.before.is-guarded.ensures))
-    (length-by body _ long.length-of.ensures)
-    (hash-there is v.hashing (not-false _ there.if2.false)
+    (length_by body _ long.length-of.ensures)
+    (hash_there is v.hashing (not-false _ there.if2.false)
     ∙ ap some (sym hash.guard-hash.ensures))
     (guard.emit-guard.ensures b body.addr)
     (put.emit-records2.ensures ks b (record { stands = s; is = is; body = body }))

@@ -6,10 +6,10 @@ use Rattle.lower_forms.specs.Forms.{Form}
 use Rattle.lower_forms.specs.Block.{emit_pair}
 use Rattle.lower_units.specs.Block.{code_from}
 use Rattle.base_lists.specs.Lists.{among}
-use Rattle.file_blocks.proofs.ReadInstrs.{not-missing}
+use Rattle.file_blocks.proofs.ReadInstrs.{not_missing}
 use Rattle.emit_instr.specs.Onward.{Onward}
-use Rattle.file_blocks.proofs.ReadNext.{here-read}
-use Rattle.emit_block.proofs.Recording.{pair_sum, pair-recorded}
+use Rattle.file_blocks.proofs.ReadNext.{here_read}
+use Rattle.emit_block.proofs.Recording.{pair_sum, pair_recorded}
 use Rattle.emit_block.proofs.instrs.emit_record.Statement.{statement}
 use Rattle.emit_block.proofs.instrs.emit_record.Tie as tie
 
@@ -17,7 +17,7 @@ returns : tie.Need-returns
 returns c =
     let read = c.before.before in
     λ ks b here few. absurd
-    (not-missing here.is _ _ read.before.before.before.before.before.requires.1
+    (not_missing here.is _ _ read.before.before.before.before.before.requires.1
     read.instr-of.ensures c.enum_told.given.1)
 
 is-inside-requires : tie.Need-is-inside-requires
@@ -40,7 +40,7 @@ returns-2 c =
     λ ks b here few.
     put.emit-alone.ensures v.file.now ks b v.m.first here.body
     (branch.branch-inside.ensures ks here.stands)
-    (here-read here.is v.j at-start.requires.1 _ _ read.instr-of.ensures
+    (here_read here.is v.j at-start.requires.1 _ _ read.instr-of.ensures
     found.x.given.1)
     (sym (next.next_of.ensures _ here.is) ∙ told.enum-told2.given.1)
     (omega (arith, next.before.struct_known.given)) few
@@ -59,9 +59,9 @@ returns-3 c =
     let target = pair.target.given.0.0 in
     let ret = pair.target.given.0.1.0 in
     λ ks b here few.
-    pair-recorded v.file.now v.m.block v.m.first ks b v.j v.cycles _
+    pair_recorded v.file.now v.m.block v.m.first ks b v.j v.cycles _
     v.out.now v.at put.emit-fused.new.0 _
-    (here-read here.is v.j at-start.requires.1 _ _ read.instr-of.ensures
+    (here_read here.is v.j at-start.requires.1 _ _ read.instr-of.ensures
     found.x.given.1)
     _ _ _ (sym (next.next_of.ensures _ here.is) ∙ pair.target.given.1) refl refl
     (λ fs. subst

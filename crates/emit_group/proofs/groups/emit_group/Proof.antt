@@ -2,7 +2,7 @@
 -- Assumes nothing.
 use borrow.Author.Rules.{rules}
 use native.Mathlib.Omega.{arith}
-use Rattle.plan_members.proofs.RowKeys.{group-size}
+use Rattle.plan_members.proofs.RowKeys.{group_size}
 use Rattle.emit_group.proofs.groups.emit_group.Statement.{statement}
 use Rattle.emit_group.proofs.groups.emit_group.Tie as tie
 
@@ -20,7 +20,7 @@ returns-2 c =
     let some = put.before.before in
     let at-start = some.before.before.before.before.before in
     λ limit g is. put.put-several.ensures limit g is
-    (omega (arith, group-size is, some.if1.false, at-start.requires.1))
+    (omega (arith, group_size is, some.if1.false, at-start.requires.1))
 
 pub emit-group-spec : {M : Type 1} → statement M
 emit-group-spec =

@@ -3,8 +3,8 @@
 use borrow.Author.Rules.{rules}
 use mathlib.Core.Path.{refl}
 use native.Mathlib.Omega.{arith}
-use Rattle.plan_members.proofs.Places.{row-block-inside}
-use Rattle.plan_members.proofs.RowKeys.{group-size, row_of}
+use Rattle.plan_members.proofs.Places.{row_block_inside}
+use Rattle.plan_members.proofs.RowKeys.{group_size, row_of}
 use Rattle.emit_group.proofs.groups.member_at.Statement.{statement}
 use Rattle.emit_group.proofs.groups.member_at.Tie as tie
 
@@ -15,10 +15,10 @@ returns c =
       λ f row. row,
       (
         λ f limit g is.
-            let row = row_of is k (omega (arith, group-size is, at-start.requires.1)) in
+            let row = row_of is k (omega (arith, group_size is, at-start.requires.1)) in
             c.row_block.ensures.1 f _ limit g _ row.ready row.place row.inside,
         λ f limit g is.
-            let row = row_of is k (omega (arith, group-size is, at-start.requires.1)) in
+            let row = row_of is k (omega (arith, group_size is, at-start.requires.1)) in
             record {
               limit = limit;
               group = g;
@@ -26,7 +26,7 @@ returns c =
               inside =
                   omega (
                     arith,
-                    row-block-inside row.ready _ g _ row.place row.inside,
+                    row_block_inside row.ready _ g _ row.place row.inside,
                     c.row_block.ensures.0,
                   );
               keys = refl;

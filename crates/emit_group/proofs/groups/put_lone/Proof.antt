@@ -7,7 +7,7 @@ use mathlib.Core.List.{[]}
 use mathlib.Core.Path.{◌≡◌, ap}
 use native.Mathlib.Omega.{arith}
 use Rattle.emit_tables.proofs.Around.{hashed_member_keys}
-use Rattle.plan_members.proofs.RowKeys.{group-size, row_first}
+use Rattle.plan_members.proofs.RowKeys.{group_size, row_first}
 use Rattle.base_hash.specs.Fnv.{hash_multiplier}
 use Rattle.plan_members.specs.Members.{members_of, group_keys}
 use Rattle.file_blocks.specs.Parse.{blocks_of}
@@ -36,7 +36,7 @@ returns c = λ limit g is single.
     let a = at-start.args in
     let f = a.file.now in
     let ms = members_of limit (blocks_of f) g in
-    let one : length (members_of limit (blocks_of f) g) ≡ 1 = omega (arith, group-size is, single) in
+    let one : length (members_of limit (blocks_of f) g) ≡ 1 = omega (arith, group_size is, single) in
     let row = row_first is at-start.requires.1 in
     lone_wrote a.hashing f ms (group_keys limit f g) _ one
     (hashed_member_keys a.hashing hash_multiplier (blocks_of f) ms)

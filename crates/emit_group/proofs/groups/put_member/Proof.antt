@@ -5,7 +5,7 @@ use borrow.Author.Rules.{rules}
 use mathlib.Core.List.{[]}
 use mathlib.Core.Path.{ap, ◌∙◌}
 use native.Mathlib.Omega.{arith}
-use Rattle.plan_members.proofs.RowKeys.{group-size, row_of}
+use Rattle.plan_members.proofs.RowKeys.{group_size, row_of}
 use Rattle.c_tree.specs.Print.{code_text}
 use Rattle.c_tree.specs.Stmt.{label, end, ◌⨾◌}
 use Rattle.lower_units.specs.Block.{nl}
@@ -33,7 +33,7 @@ returns c = λ limit g is.
     let at-start = head.before.before.before.before.before.before.before in
     let a = at-start.args in
     let k = a.k in
-    let row = row_of is k (omega (arith, group-size is, at-start.requires.1)) in
+    let row = row_of is k (omega (arith, group_size is, at-start.requires.1)) in
     let f = a.file.now in
     let ks = group_keys limit f g in
     let key = head.before.row-key.ensures _ limit g k row ∙ member_key limit f g k row.inside

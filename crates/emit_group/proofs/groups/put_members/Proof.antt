@@ -6,7 +6,7 @@ use lib.ListN.{length, take}
 use mathlib.Core.List.{[]}
 use mathlib.Core.Path.{◌≡◌, refl, ◌∙◌}
 use native.Mathlib.Omega.{arith}
-use Rattle.plan_members.proofs.RowKeys.{group-size}
+use Rattle.plan_members.proofs.RowKeys.{group_size}
 use Rattle.plan_members.specs.GroupRows.{IsGroup}
 use Rattle.plan_members.specs.Members.{members_of, group_keys}
 use Rattle.file_blocks.specs.Parse.{blocks_of}
@@ -44,7 +44,7 @@ loop-again c =
       omega arith,
       put.put-member.auto.0 ∙ inv.1,
       λ limit g is.
-          let inside : k < length (members_of limit (blocks_of f) g) = omega (arith, group-size is) in
+          let inside : k < length (members_of limit (blocks_of f) g) = omega (arith, group_size is) in
           each_more (labelled_text a.hashing f (group_keys limit f g))
           (members_of limit (blocks_of f) g) 0 k inside (inv.2 limit g is)
           (put.put-member.ensures limit g is),
@@ -59,7 +59,7 @@ returns c = λ limit g is.
     let f = a.file.now in
     let ms = members_of limit (blocks_of f) g in
     wrote_as (each_all (labelled_text a.hashing f (group_keys limit f g)) ms c.before.loop.k
-    (omega (arith, group-size is)) (c.before.loop.invariant.2 limit g is))
+    (omega (arith, group_size is)) (c.before.loop.invariant.2 limit g is))
     (members_each a.hashing f (group_keys limit f g) ms [])
 
 pub put-members-spec : {M : Type 1} → statement M

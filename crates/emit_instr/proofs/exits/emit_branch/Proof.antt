@@ -9,8 +9,8 @@ use Rattle.lower_forms.specs.InlineBody.{each_on_line}
 use Rattle.lower_forms.specs.Block.{flush_ticks, branch_regs}
 use Rattle.armv4t.specs.Cond.{is_al}
 use Rattle.lower_units.specs.Block.{body_key, code_from}
-use Rattle.emit_instr.proofs.Texts.{jump-step, branch-step, branch_form}
-use Rattle.emit_instr.proofs.Steps.{same-form}
+use Rattle.emit_instr.proofs.Texts.{jump_step, branch_step, branch_form}
+use Rattle.emit_instr.proofs.Steps.{same_form}
 use Rattle.emit_instr.proofs.exits.emit_branch.Statement.{statement}
 use Rattle.emit_instr.proofs.exits.emit_branch.Tie as tie
 
@@ -22,13 +22,13 @@ returns c =
     let a = back.before.before.args in
     let regs = branch_regs a.link back.wrapping-add-u32.result a.target in
     λ thumb ks b j fs k h e.
-    same-form _ _
+    same_form _ _
     (ap (λ n. (Form.native n, 0))
     (branch_form thumb a.cycles a.i a.link a.target _ _
     back.wrapping-add-u32.ensures k))
     (record {
       onward =
-          jump-step ks b j (is_al a.i.cond) (flush_ticks a.cycles ++ each_on_line regs)
+          jump_step ks b j (is_al a.i.cond) (flush_ticks a.cycles ++ each_on_line regs)
           (flush_ticks a.cycles) (cond_expr a.i.cond) regs
           a.e.key a.e.src fs
           (sym c1.before.is-al.ensures ∙ c1.if1.true) e
@@ -46,13 +46,13 @@ returns-2 c =
     let a = back.before.before.args in
     let regs = branch_regs a.link back.wrapping-add-u32.result a.target in
     λ thumb ks b j fs k h e.
-    same-form _ _
+    same_form _ _
     (ap (λ n. (Form.native n, 0))
     (branch_form thumb a.cycles a.i a.link a.target _ _
     back.wrapping-add-u32.ensures k))
     (record {
       onward =
-          branch-step ks b j (is_al a.i.cond) (flush_ticks a.cycles ++ each_on_line regs)
+          branch_step ks b j (is_al a.i.cond) (flush_ticks a.cycles ++ each_on_line regs)
           (flush_ticks a.cycles) (cond_expr a.i.cond) regs
           a.e.key a.e.src fs
           (sym c1.before.is-al.ensures ∙ c1.if1.false) e

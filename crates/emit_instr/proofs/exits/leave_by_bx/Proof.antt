@@ -9,7 +9,7 @@ use Rattle.lower_forms.specs.Forms.{bx}
 use Rattle.lower_forms.specs.Operands.{reg_expr, reg_of}
 use Rattle.lower_forms.specs.Block.{flush_ticks}
 use Rattle.lower_units.specs.Block.{body_key, native_text, code_from}
-use Rattle.emit_instr.proofs.Texts.{exit-step}
+use Rattle.emit_instr.proofs.Texts.{exit_step}
 use Rattle.emit_instr.proofs.exits.leave_by_bx.Statement.{statement}
 use Rattle.emit_instr.proofs.exits.leave_by_bx.Tie as tie
 
@@ -21,7 +21,7 @@ returns c =
     λ ks b j fs.
     record {
       onward =
-          exit-step ks b j (bx (flush_ticks a.cycles) (reg_expr a.i a.rm)) b.addr fs refl
+          exit_step ks b j (bx (flush_ticks a.cycles) (reg_expr a.i a.rm)) b.addr fs refl
           (wrote_as (c2.emit-bx.ensures ks b.addr (Owner.native_of (body_key b))
           (code_from ks b (j + 1) fs))
           (ap (λ (n : ℕ). flat

@@ -7,7 +7,7 @@ use Rattle.lower_forms.specs.InlineBody.{listed}
 use Rattle.lower_forms.specs.Block.{emit_pop}
 use Rattle.lower_units.specs.Block.{body_key, code_from}
 use Rattle.emit_mem.proofs.PopText.{ticks_then_pop}
-use Rattle.emit_instr.proofs.Texts.{exit-step}
+use Rattle.emit_instr.proofs.Texts.{exit_step}
 use Rattle.emit_instr.proofs.exits.leave_by_pop.Statement.{statement}
 use Rattle.emit_instr.proofs.exits.leave_by_pop.Tie as tie
 
@@ -19,7 +19,7 @@ returns c =
     λ ks b j fs.
     record {
       onward =
-          exit-step ks b j (emit_pop a.thumb a.cycles a.rn (listed a.rlist 15)) b.addr
+          exit_step ks b j (emit_pop a.thumb a.cycles a.rn (listed a.rlist 15)) b.addr
           fs refl
           (wrote_as (seq c1.flush-ticks.ensures c2.put-pop.ensures)
           (sym (ticks_then_pop ks b.addr (Owner.native_of (body_key b)) a.thumb a.cycles

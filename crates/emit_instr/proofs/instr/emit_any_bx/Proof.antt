@@ -4,7 +4,7 @@ use Rattle.lower_forms.specs.Forms.{bx, Form}
 use Rattle.lower_forms.specs.Operands.{reg_expr}
 use Rattle.lower_forms.specs.Block.{flush_ticks, native_exit, emit_straight}
 use Rattle.emit_instr.proofs.Chosen.{chosen, refused}
-use Rattle.emit_instr.proofs.Steps.{same-form}
+use Rattle.emit_instr.proofs.Steps.{same_form}
 use Rattle.emit_instr.proofs.instr.emit_any_bx.Statement.{statement}
 use Rattle.emit_instr.proofs.instr.emit_any_bx.Tie as tie
 
@@ -14,7 +14,7 @@ returns c =
     let c1 = c2.before.before.before in
     let a = c1.before.before.before.before.args in
     λ ks b j fs h g.
-    same-form _ _
+    same_form _ _
     (ap (λ (n : ℕ). (Form.native (bx (flush_ticks n) (reg_expr a.x.instr a.rm)), 0))
     (c2.before.with-cost.ensures g)
     ∙ chosen (native_exit a.s.region a.x.instr) _
@@ -28,7 +28,7 @@ returns-2 c =
     let c1 = c2.before.before in
     let a = c1.before.before.before.before.args in
     λ ks b j fs h g.
-    same-form _ _
+    same_form _ _
     (refused (native_exit a.s.region a.x.instr) _
     (emit_straight a.s.thumb false a.cycles a.x)
     (sym c1.before.is-native-exit.ensures ∙ c1.if1.false))

@@ -4,7 +4,7 @@ use Rattle.lower_forms.specs.Forms.{Form}
 use Rattle.lower_forms.specs.InlineBody.{listed}
 use Rattle.lower_forms.specs.Block.{is_pop, emit_pop, emit_straight}
 use Rattle.emit_instr.proofs.Chosen.{chosen, refused}
-use Rattle.emit_instr.proofs.Steps.{same-form}
+use Rattle.emit_instr.proofs.Steps.{same_form}
 use Rattle.emit_instr.proofs.instr.emit_block_mem.Statement.{statement}
 use Rattle.emit_instr.proofs.instr.emit_block_mem.Tie as tie
 
@@ -15,7 +15,7 @@ returns c =
     let a = c1.before.before.before.before.before.args in
     let m = a.m in
     λ ks b j fs h g.
-    same-form _ _
+    same_form _ _
     (ap (λ (n : ℕ). (Form.native (emit_pop a.s.thumb n m.rn (listed m.rlist 15)), 0))
     (c2.before.with-cost.ensures g)
     ∙ chosen
@@ -32,7 +32,7 @@ returns-2 c =
     let a = c1.before.before.before.before.before.args in
     let m = a.m in
     λ ks b j fs h g.
-    same-form _ _
+    same_form _ _
     (refused
     (is_pop a.s.region a.x.instr m.load m.rn m.rlist m.pre m.up m.s_bit
     m.writeback) _ (emit_straight a.s.thumb true a.cycles a.x)

@@ -5,7 +5,7 @@ use Rattle.lower_forms.specs.Forms.{Form}
 use Rattle.lower_forms.specs.Block.{emit_branch, emit_op, emit_instr}
 use Rattle.base_lists.specs.Lists.{among}
 use Rattle.emit_instr.specs.Steps.{BranchInside}
-use Rattle.emit_instr.proofs.Steps.{same-form}
+use Rattle.emit_instr.proofs.Steps.{same_form}
 use Rattle.emit_instr.proofs.Operations.{straight_on}
 use Rattle.emit_instr.proofs.instr.emit_instr.Statement.{statement}
 use Rattle.emit_instr.proofs.instr.emit_instr.Tie as tie
@@ -17,7 +17,7 @@ returns c =
     let known = done.before.before.before in
     let a = known.before.before.before.before.args in
     λ ks b j fs h e g reach.
-    same-form _ _
+    same_form _ _
     (ap (emit_op a.s.thumb a.s.region a.cycles a.x) (sym known.op.given.1))
     (done.emit-any-bx.ensures ks b j fs h g)
 
@@ -30,7 +30,7 @@ returns-2 c =
     let a = known.before.before.before.before.args in
     let v = known.op2.given.0 in
     λ ks b j fs h e g reach.
-    same-form _ _
+    same_form _ _
     (ap (λ (n : ℕ). (Form.native (emit_branch a.s.thumb n a.x.instr v.0 v.1.0), 0))
     (key.before.with-cost.ensures g)
     ∙ ap (emit_op a.s.thumb a.s.region a.cycles a.x) (sym known.op2.given.1))
@@ -45,7 +45,7 @@ returns-3 c =
     let known = done.before.before in
     let a = known.before.before.before.before.args in
     λ ks b j fs h e g reach.
-    same-form _ _
+    same_form _ _
     (ap (emit_op a.s.thumb a.s.region a.cycles a.x) (sym known.enum_told.given.1))
     (done.emit-half.ensures ks b j fs h)
 
@@ -56,7 +56,7 @@ returns-4 c =
     let known = done.before.before in
     let a = known.before.before.before.before.args in
     λ ks b j fs h e g reach.
-    same-form _ _
+    same_form _ _
     (ap (emit_op a.s.thumb a.s.region a.cycles a.x)
     (sym known.enum-told2.given.1))
     (done.emit-straight.ensures ks b j fs h g)
@@ -68,7 +68,7 @@ returns-5 c =
     let known = done.before.before.before in
     let a = known.before.before.before.before.args in
     λ ks b j fs h e g reach.
-    same-form _ _
+    same_form _ _
     (ap (emit_op a.s.thumb a.s.region a.cycles a.x) (sym known.op3.given.1))
     (done.emit-block-mem.ensures ks b j fs h g)
 
@@ -79,7 +79,7 @@ returns-6 c =
     let known = done.before.before in
     let a = known.before.before.before.args in
     λ ks b j fs h e g reach.
-    same-form _ _
+    same_form _ _
     (sym (straight_on a.s.thumb a.s.region a.cycles a.x a.x.instr.op
     known.match.keys6)) (done.emit-straight2.ensures ks b j fs h g)
 

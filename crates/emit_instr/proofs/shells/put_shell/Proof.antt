@@ -9,7 +9,7 @@ use Rattle.file_blocks.specs.Address.{fall_through}
 use Rattle.lower_forms.specs.Forms.{Lines}
 use Rattle.lower_forms.specs.Block.{flush_ticks, pc_line}
 use Rattle.lower_units.specs.Block.{body_key, lines, shell_code}
-use Rattle.emit_instr.proofs.Texts.{shell-step, last_step}
+use Rattle.emit_instr.proofs.Texts.{shell_step, last_step}
 use Rattle.emit_instr.proofs.shells.put_shell.Statement.{statement}
 use Rattle.emit_instr.proofs.shells.put_shell.Tie as tie
 
@@ -31,7 +31,7 @@ returns-2 c =
     let a = c1.before.before.args in
     let t : Lines = flush_ticks a.cycles ++ pc_line a.i.addr in
     λ high ks b j fs h.
-    shell-step ks b j high a.last t (fall_through a.thumb a.i) fs h c1.if1.false
+    shell_step ks b j high a.last t (fall_through a.thumb a.i) fs h c1.if1.false
     (wrote_as (c3.emit-shell.ensures b j)
     (ap (λ (n : ℕ). flat (code_text (lines common 4 t (shell_code b j n end))) [])
     c2.fall-through.ensures))

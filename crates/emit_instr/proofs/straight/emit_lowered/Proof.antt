@@ -5,7 +5,7 @@ use Rattle.base_text.proofs.Laws.{seq}
 use Rattle.armv4t.specs.Cond.{is_al}
 use Rattle.lower_forms.specs.Operands.{cond_expr}
 use Rattle.lower_forms.specs.Block.{flush_ticks}
-use Rattle.emit_instr.proofs.Texts.{lowered-step}
+use Rattle.emit_instr.proofs.Texts.{lowered_step}
 use Rattle.emit_instr.proofs.straight.emit_lowered.Statement.{statement}
 use Rattle.emit_instr.proofs.straight.emit_lowered.Tie as tie
 
@@ -17,7 +17,7 @@ returns c =
     λ body e ks b j fs h.
     record {
       onward =
-          lowered-step ks b j (is_al a.x.instr.cond)
+          lowered_step ks b j (is_al a.x.instr.cond)
           (cond a.touches-bus (flush_ticks a.cycles) []) (cond_expr a.x.instr.cond)
           body fs
           (seq c1.put-ticks.ensures (c2.put-lowered.ensures body e));

@@ -7,10 +7,10 @@ use mathlib.Core.Path.{sym, ◌∙◌}
 use native.Mathlib.Omega.{arith}
 use lib.ListN.{drop}
 use Rattle.file_blocks.specs.Read.{instrs_of}
-use Rattle.file_blocks.proofs.Accepted.{few-instrs}
-use Rattle.file_blocks.proofs.IsBlock.{instrs-counted}
-use Rattle.emit_reasons.proofs.Putting.{putting-as, progress_on, rest_nothing, rest_same}
-use Rattle.emit_reasons.proofs.Reading.{from-absent, from-unreached, from-reached}
+use Rattle.file_blocks.proofs.Accepted.{few_instrs}
+use Rattle.file_blocks.proofs.IsBlock.{instrs_counted}
+use Rattle.emit_reasons.proofs.Putting.{putting_as, progress_on, rest_nothing, rest_same}
+use Rattle.emit_reasons.proofs.Reading.{from_absent, from_unreached, from_reached}
 use Rattle.emit_reasons.proofs.lines.put_block.Statement.{statement}
 use Rattle.emit_reasons.proofs.lines.put_block.Tie as tie
 
@@ -18,7 +18,7 @@ use Rattle.emit_reasons.proofs.lines.put_block.Tie as tie
 add-end : tie.Need-overflow-add-end
 add-end c =
     let is = c.before.before.before.requires.0.1 in
-    omega (arith, instrs-counted is, few-instrs _ _ is.accepted)
+    omega (arith, instrs_counted is, few_instrs _ _ is.accepted)
 
 returns : tie.Need-returns
 returns c =
@@ -28,9 +28,9 @@ returns c =
       start.requires.2,
       λ whole all after put.
           progress_on
-          (putting-as
+          (putting_as
           (rest_nothing (drop a.index (instrs_of a.file.now a.block a.first))
-          (from-absent a.file.now a.block a.first a.index
+          (from_absent a.file.now a.block a.first a.index
           (sym code.has_code.ensures ∙ not_true _ c.if1.true)) _ after) put),
     )
 
@@ -49,9 +49,9 @@ returns-2 c =
       start.requires.2,
       λ whole all after put.
           progress_on
-          (putting-as
+          (putting_as
           (rest_nothing (drop a.index (instrs_of a.file.now a.block a.first))
-          (from-unreached a.file.now a.block a.first a.index
+          (from_unreached a.file.now a.block a.first a.index
           (sym code.has_code.ensures ∙ not-false _ place.before.if1.false)
           place.region-of.ensures (sym reaches.reaches.ensures ∙ not_true _
           c.if2.true)) _
@@ -73,9 +73,9 @@ returns-3 c =
       rest.put_rest.ensures.0,
       λ whole all after put.
           rest.put_rest.ensures.1 whole all after
-          (putting-as
+          (putting_as
           (rest_same
-          (from-reached a.file.now a.block a.first a.index
+          (from_reached a.file.now a.block a.first a.index
           (sym code.has_code.ensures ∙ not-false _ place.before.if1.false)
           place.region-of.ensures
           (sym reaches.reaches.ensures ∙ not-false _ rest.before.before.if2.false)) _

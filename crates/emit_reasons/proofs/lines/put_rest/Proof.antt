@@ -10,12 +10,12 @@ use native.Mathlib.Omega.{arith}
 use Rattle.file_blocks.specs.Read.{instrs_of}
 use Rattle.lower_reasons.specs.Lines.{Line, lines_of}
 use Rattle.lower_reasons.specs.Said.{said_each}
-use Rattle.file_blocks.proofs.Accepted.{few-instrs}
-use Rattle.file_blocks.proofs.IsBlock.{instrs-counted}
-use Rattle.file_blocks.proofs.ReadInstrs.{not-missing, drop_all}
-use Rattle.file_blocks.proofs.ReadNext.{here-read}
+use Rattle.file_blocks.proofs.Accepted.{few_instrs}
+use Rattle.file_blocks.proofs.IsBlock.{instrs_counted}
+use Rattle.file_blocks.proofs.ReadInstrs.{not_missing, drop_all}
+use Rattle.file_blocks.proofs.ReadNext.{here_read}
 use Rattle.emit_reasons.specs.Steps.{Putting}
-use Rattle.emit_reasons.proofs.Putting.{putting-as, progress_on, rest_end, rest-pair}
+use Rattle.emit_reasons.proofs.Putting.{putting_as, progress_on, rest_end, rest_pair}
 use Rattle.emit_reasons.proofs.Putting.{alone-over, alone-drops, alone-on}
 use Rattle.emit_reasons.proofs.lines.put_rest.Statement.{statement}
 use Rattle.emit_reasons.proofs.lines.put_rest.Tie as tie
@@ -39,7 +39,7 @@ add-end : tie.Need-overflow-add-end invariant-loop decreases-loop
 add-end c =
     let start = c.before.before.before in
     let is = start.requires.0.1 in
-    omega (arith, instrs-counted is, few-instrs _ _ is.accepted)
+    omega (arith, instrs_counted is, few_instrs _ _ is.accepted)
 
 loop-holds : tie.Need-loop-init invariant-loop decreases-loop
 loop-holds c =
@@ -52,7 +52,7 @@ returns c =
     let loop = read.before.before.before in
     let start = loop.before.before.before.before in
     absurd
-    (not-missing start.requires.0.1 _ _ (omega arith) read.instr-of.ensures
+    (not_missing start.requires.0.1 _ _ (omega arith) read.instr-of.ensures
     c.enum_told.given.1)
 
 pairs-at-requires : tie.Need-pairs-at-requires invariant-loop decreases-loop
@@ -76,9 +76,9 @@ returns-2 c =
       omega (arith, loop.loop.invariant.1),
       λ whole all after put.
           progress_on
-          (putting-as
-          (rest-pair start.args.region
-          (here-read start.requires.0.1 _ (omega arith) _ _ read.instr-of.ensures
+          (putting_as
+          (rest_pair start.args.region
+          (here_read start.requires.0.1 _ (omega arith) _ _ read.instr-of.ensures
           known.x.given.1) _ after (sym pairs.pairs-at.ensures ∙ c.if2.true))
           (loop.loop.invariant.3 whole all after put)),
     )
@@ -95,7 +95,7 @@ add-next c =
     c.before.before.before.before.before.before.before.before.before.before.before.before in
     let start = loop.before.before.before.before in
     let is = start.pre.0.1 in
-    omega (arith, instrs-counted is, few-instrs _ _ is.accepted)
+    omega (arith, instrs_counted is, few_instrs _ _ is.accepted)
 
 same-length-3 : tie.Need-same-length-3 invariant-loop decreases-loop
 same-length-3 c =
@@ -115,7 +115,7 @@ returns-3 c =
       omega (arith, loop.loop.invariant.1),
       λ whole all after put.
           alone-over start.args.region
-          (here-read start.requires.0.1 _ (omega arith) _ _ read.instr-of.ensures
+          (here_read start.requires.0.1 _ (omega arith) _ _ read.instr-of.ensures
           known.x.given.1) _ after
           (sym pairs.pairs-at.ensures ∙ told.before.if2.false)
           (loop.loop.invariant.3 whole all after put) told.said_of.ensures
@@ -158,7 +158,7 @@ returns-4 c =
       λ whole all after put.
           progress_on
           (alone-drops start.args.region
-          (here-read start.requires.0.1 _ (omega arith) _ _ read.instr-of.ensures
+          (here_read start.requires.0.1 _ (omega arith) _ _ read.instr-of.ensures
           known.x.given.1) _ after
           (sym pairs.pairs-at.ensures ∙ told.before.if2.false)
           (loop.loop.invariant.3 whole all after put) told.said_of.ensures
@@ -183,7 +183,7 @@ loop-again c =
       omega (arith, loop.loop.invariant.0, loop.loop.invariant.1),
       omega arith,
       λ whole all after put.
-          putting-as
+          putting_as
           (ap (λ (n : ℕ). lines_of n
           (said_each a.region (drop (suc loop.loop.j) (instrs_of a.file.now a.block
           a.first)))
@@ -194,7 +194,7 @@ loop-again c =
           (said_each a.region (drop n (instrs_of a.file.now a.block a.first))) ++ after)
           (let e : suc loop.loop.j ≡ loop.loop.j + 1 = omega arith in e))
           (alone-on a.region
-          (here-read start.requires.0.1 _ (omega arith) _ _ read.instr-of.ensures
+          (here_read start.requires.0.1 _ (omega arith) _ _ read.instr-of.ensures
           known.x.given.1) _ after
           (sym pairs.pairs-at.ensures ∙ told.before.if2.false)
           (loop.loop.invariant.3 whole all after put) told.said_of.ensures
@@ -214,7 +214,7 @@ returns-5 c =
       loop.loop.invariant.1,
       λ whole all after put.
           progress_on
-          (putting-as
+          (putting_as
           (rest_end a.region
           (ap (λ (n : ℕ). drop n (instrs_of a.file.now b a.first)) all_read
           ∙ drop_all a.file.now b.thumb b.count a.first b.addr) _ after)

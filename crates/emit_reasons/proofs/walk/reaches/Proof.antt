@@ -5,10 +5,10 @@ use borrow.Author.Rules.{rules}
 use mathlib.Core.Path.{sym, ◌∙◌}
 use native.Mathlib.Omega.{arith}
 use Rattle.file_blocks.specs.Read.{instrs_of}
-use Rattle.file_blocks.proofs.ReadInstrs.{not-missing}
-use Rattle.file_blocks.proofs.ReadNext.{here-read}
-use Rattle.emit_reasons.proofs.Reading.{Coming, coming_none, coming-ends, coming-on}
-use Rattle.emit_reasons.proofs.Reading.{coming-there}
+use Rattle.file_blocks.proofs.ReadInstrs.{not_missing}
+use Rattle.file_blocks.proofs.ReadNext.{here_read}
+use Rattle.emit_reasons.proofs.Reading.{Coming, coming_none, coming_ends, coming_on}
+use Rattle.emit_reasons.proofs.Reading.{coming_there}
 use Rattle.emit_reasons.proofs.walk.reaches.Statement.{statement}
 use Rattle.emit_reasons.proofs.walk.reaches.Tie as tie
 
@@ -27,7 +27,7 @@ returns c =
     let read = c.before.before in
     let start = read.before.before.before.before in
     absurd
-    (not-missing start.requires.0.1 _ _ (omega (arith, start.requires.1)) read.instr-of.ensures
+    (not_missing start.requires.0.1 _ _ (omega (arith, start.requires.1)) read.instr-of.ensures
     c.enum_told.given.1)
 
 ends-at-requires : tie.Need-ends-at-requires invariant-loop decreases-loop
@@ -42,8 +42,8 @@ returns-2 c =
     let read = known.before.before in
     let loop = read.before.before in
     let start = loop.before.before in
-    coming-ends loop.loop.invariant.1 _
-    (here-read start.requires.0.1 _ (omega (arith, start.requires.1)) _ _ read.instr-of.ensures
+    coming_ends loop.loop.invariant.1 _
+    (here_read start.requires.0.1 _ (omega (arith, start.requires.1)) _ _ read.instr-of.ensures
     known.x.given.1) (omega arith) (sym ends.ends_at.ensures ∙ c.if1.true)
 
 loop-again : tie.Need-loop-preserved invariant-loop decreases-loop
@@ -54,14 +54,14 @@ loop-again c =
     let loop = read.before.before in
     let start = loop.before.before in (
       omega arith,
-      coming-on loop.loop.invariant.1 _
-          (here-read start.requires.0.1 _ (omega (arith, start.requires.1)) _ _
+      coming_on loop.loop.invariant.1 _
+          (here_read start.requires.0.1 _ (omega (arith, start.requires.1)) _ _
           read.instr-of.ensures known.x.given.1) (omega arith)
           (sym ends.ends_at.ensures ∙ c.if1.false),
     )
 
 returns-3 : tie.Need-returns-3 invariant-loop decreases-loop
-returns-3 c = coming-there c.before.loop.invariant.1 (omega arith)
+returns-3 c = coming_there c.before.loop.invariant.1 (omega arith)
 
 pub reaches-spec : {M : Type 1} → statement M
 reaches-spec =

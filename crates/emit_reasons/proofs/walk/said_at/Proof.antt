@@ -7,7 +7,7 @@ use borrow.Author.Tests.{not_true, not-false}
 use native.Mathlib.Omega.{arith}
 use lib.ListN.{drop}
 use Rattle.file_blocks.specs.Read.{instrs_of}
-use Rattle.emit_reasons.proofs.Reading.{from-absent, from-unreached, from-reached}
+use Rattle.emit_reasons.proofs.Reading.{from_absent, from_unreached, from_reached}
 use Rattle.emit_reasons.proofs.Reading.{at_nothing, at_said}
 use Rattle.emit_reasons.proofs.walk.said_at.Statement.{statement}
 use Rattle.emit_reasons.proofs.walk.said_at.Tie as tie
@@ -17,7 +17,7 @@ returns c =
     let code = c.before in
     let a = code.before.before.args in
     at_nothing _ a.index (drop a.index (instrs_of a.file.now a.block a.first))
-    (from-absent a.file.now a.block a.first a.index
+    (from_absent a.file.now a.block a.first a.index
     (sym code.has_code.ensures ∙ not_true _ c.if1.true))
 
 reaches-requires : tie.Need-reaches-requires
@@ -32,7 +32,7 @@ returns-2 c =
     let code = place.before.before in
     let a = code.before.before.args in
     at_nothing _ a.index (drop a.index (instrs_of a.file.now a.block a.first))
-    (from-unreached a.file.now a.block a.first a.index
+    (from_unreached a.file.now a.block a.first a.index
     (sym code.has_code.ensures ∙ not-false _ place.before.if1.false)
     place.region-of.ensures (sym reaches.reaches.ensures ∙ not_true _ c.if2.true))
 
@@ -47,7 +47,7 @@ returns-3 c =
     let a = code.before.before.args in
     c.said_here.ensures
     ∙ at_said _ a.index _ _
-    (from-reached a.file.now a.block a.first a.index
+    (from_reached a.file.now a.block a.first a.index
     (sym code.has_code.ensures ∙ not-false _ place.before.if1.false)
     place.region-of.ensures (sym reaches.reaches.ensures ∙ not-false _
     c.before.if2.false))

@@ -2,9 +2,9 @@
 -- Assumes nothing.
 use borrow.Author.Rules.{rules}
 use mathlib.Core.Path.{sym, ◌∙◌}
-use Rattle.file_blocks.proofs.ReadInstrs.{not-missing}
-use Rattle.file_blocks.proofs.ReadNext.{here-read}
-use Rattle.emit_reasons.proofs.Reading.{first-pair, first_alone}
+use Rattle.file_blocks.proofs.ReadInstrs.{not_missing}
+use Rattle.file_blocks.proofs.ReadNext.{here_read}
+use Rattle.emit_reasons.proofs.Reading.{first_pair, first_alone}
 use Rattle.emit_reasons.proofs.walk.said_here.Statement.{statement}
 use Rattle.emit_reasons.proofs.walk.said_here.Tie as tie
 
@@ -13,7 +13,7 @@ returns c =
     let read = c.before.before in
     let start = read.before.before in
     absurd
-    (not-missing start.requires.0.1 _ _ start.requires.1 read.instr-of.ensures
+    (not_missing start.requires.0.1 _ _ start.requires.1 read.instr-of.ensures
     c.enum_told.given.1)
 
 pairs-at-requires : tie.Need-pairs-at-requires
@@ -25,8 +25,8 @@ returns-2 c =
     let known = pairs.before.before.before in
     let read = known.before.before in
     let start = read.before.before in
-    first-pair start.args.region _ _ _
-    (here-read start.requires.0.1 _ start.requires.1 _ _ read.instr-of.ensures
+    first_pair start.args.region _ _ _
+    (here_read start.requires.0.1 _ start.requires.1 _ _ read.instr-of.ensures
     known.x.given.1) (sym pairs.pairs-at.ensures ∙ c.if1.true)
 
 returns-3 : tie.Need-returns-3
@@ -37,7 +37,7 @@ returns-3 c =
     let start = read.before.before in
     c.said_of.ensures
     ∙ first_alone start.args.region _ _ _
-    (here-read start.requires.0.1 _ start.requires.1 _ _ read.instr-of.ensures
+    (here_read start.requires.0.1 _ start.requires.1 _ _ read.instr-of.ensures
     known.x.given.1) (sym pairs.pairs-at.ensures ∙ c.before.if1.false)
 
 pub said-here-spec : {M : Type 1} → statement M

@@ -13,7 +13,7 @@ use Rattle.base_text.proofs.Laws.{none, wrote_as, kept}
 use Rattle.base_text.specs.Doc.{Doc}
 use Rattle.base_text.specs.Wrote.{Wrote}
 use Rattle.emit_tables.proofs.Around.{numbered, numbered_more, cases_keys}
-use Rattle.plan_members.proofs.RowKeys.{group-size, keys-size, row_of}
+use Rattle.plan_members.proofs.RowKeys.{group_size, keys_size, row_of}
 use Rattle.emit_tables.proofs.entries.put_cases.Statement.{statement}
 use Rattle.emit_tables.proofs.entries.put_cases.Tie as tie
 use Rattle.plan_members.specs.GroupRows.{IsGroup}
@@ -46,8 +46,8 @@ loop-again c =
       kept put.put-case.ensures ∙ inv.1,
       λ limit g is.
           let inside : k < length (members_of limit (blocks_of file) g) =
-          omega (arith, group-size is) in
-          numbered_more case (group_keys limit file g) k _ (omega (arith, keys-size is))
+          omega (arith, group_size is) in
+          numbered_more case (group_keys limit file g) k _ (omega (arith, keys_size is))
           (key.row-key.ensures _ limit g k (row_of is k inside))
           (inv.2 limit g is) put.put-case.ensures,
     )
@@ -60,7 +60,7 @@ returns c = λ limit g is bs keys.
     let file = c.before.before.before.before.before.before.args.file.now in
     wrote_as (c.before.loop.invariant.2 limit g is)
     (cases_keys bs (group_keys limit file g) c.before.loop.k [] keys
-    (omega (arith, keys-size is, group-size is)))
+    (omega (arith, keys_size is, group_size is)))
 
 pub put-cases-spec : {M : Type 1} → statement M
 put-cases-spec =

@@ -11,7 +11,7 @@ use Rattle.file_blocks.specs.Parse.{blocks_of}
 use Rattle.base_text.proofs.Laws.{none, seq, wrote_as, kept}
 use Rattle.base_text.specs.Wrote.{Wrote}
 use Rattle.emit_tables.proofs.Around.{numbered, numbered_more, entry, forwarders_keys}
-use Rattle.plan_members.proofs.RowKeys.{group-size, keys-size, row_first, row_of}
+use Rattle.plan_members.proofs.RowKeys.{group_size, keys_size, row_first, row_of}
 use Rattle.emit_tables.proofs.entries.put_forwarders.Statement.{statement}
 use Rattle.emit_tables.proofs.entries.put_forwarders.Tie as tie
 use Rattle.plan_members.specs.GroupRows.{IsGroup}
@@ -42,9 +42,9 @@ loop-again c =
       kept put.put-forwarder.ensures ∙ inv.1,
       λ limit g is.
           let inside : k < length (members_of limit (blocks_of file) g) =
-          omega (arith, group-size is) in
+          omega (arith, group_size is) in
           numbered_more (entry group.row-key.result) (group_keys limit file g) k _
-          (omega (arith, keys-size is))
+          (omega (arith, keys_size is))
           (key.row-key2.ensures _ limit g k (row_of is k inside))
           (inv.2 limit g is) put.put-forwarder.ensures,
     )
@@ -64,7 +64,7 @@ returns c = λ limit g is b bs keys.
     (forwarders_keys b bs (group_keys limit file g) group.row-key.result turn.loop.k [] keys
     (group.row-key.ensures _ limit g 0
     (row_first is group.before.before.before.before.requires.1))
-    (omega (arith, keys-size is, group-size is)))
+    (omega (arith, keys_size is, group_size is)))
 
 pub put-forwarders-spec : {M : Type 1} → statement M
 put-forwarders-spec =

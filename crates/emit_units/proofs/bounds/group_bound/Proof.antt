@@ -7,7 +7,7 @@ use mathlib.Core.Path.{subst}
 use native.Mathlib.Omega.{arith}
 use Rattle.emit_units.specs.Bounds.{IsBlockBound}
 use Rattle.plan_members.specs.GroupRows.{IsGroup}
-use Rattle.emit_units.proofs.Bounded.{BoundTo, bound_none, bound-more, bound_all, rows_all}
+use Rattle.emit_units.proofs.Bounded.{BoundTo, bound_none, bound_more, bound_all, rows_all}
 use Rattle.emit_units.proofs.bounds.group_bound.Statement.{statement}
 use Rattle.emit_units.proofs.bounds.group_bound.Tie as tie
 
@@ -32,7 +32,7 @@ loop-again c =
       omega arith,
       omega (arith, c.block-bound.ensures.0, inv.1),
       λ limit g is.
-          bound-more is (inv.2 limit g is) _ (omega arith)
+          bound_more is (inv.2 limit g is) _ (omega arith)
           (subst (λ (i : ℕ). IsBlockBound f i c.block-bound.result)
           (row.row_block.ensures.1 f _ limit g turn.loop.k is.ready
           (omega (arith, is.first)) (omega (arith, rows_all is)))

@@ -4,7 +4,7 @@ use Prim.Native.Nat.{ℕ, ◌-◌, ◌≤◌, ◌^◌}
 use borrow.Author.Rules.{rules}
 use native.Mathlib.Omega.{arith}
 use Rattle.plan_members.specs.Prepared.{HoldsPlan}
-use Rattle.emit_units.proofs.Bounded.{LongestTo, longest_none, longest-more, longest-all}
+use Rattle.emit_units.proofs.Bounded.{LongestTo, longest_none, longest_more, longest_all}
 use Rattle.emit_units.proofs.bounds.unit_bound.Statement.{statement}
 use Rattle.emit_units.proofs.bounds.unit_bound.Tie as tie
 
@@ -32,7 +32,7 @@ loop-again c =
       λ limit ready.
           let to = inv.2 limit ready in
           let ends = next.group-end.ensures.1 f limit to.group ready to.here in
-          longest-more ready to _ _ _ (omega arith) ends
+          longest_more ready to _ _ _ (omega arith) ends
           (call.group-bound.ensures.1 limit to.group
           (record { ready = ready; first = to.here; next = ends })) (omega arith) (omega arith),
     )
@@ -49,14 +49,14 @@ loop-again-2 c =
       λ limit ready.
           let to = inv.2 limit ready in
           let ends = next.group-end.ensures.1 f limit to.group ready to.here in
-          longest-more ready to _ _ _ (omega arith) ends
+          longest_more ready to _ _ _ (omega arith) ends
           (call.group-bound.ensures.1 limit to.group
           (record { ready = ready; first = to.here; next = ends })) (omega arith) (omega arith),
     )
 
 returns : tie.Need-returns invariant-loop decreases-loop
 returns c = λ limit ready.
-    longest-all ready (c.before.before.loop.invariant.2 limit ready) _ _ (omega arith)
+    longest_all ready (c.before.before.loop.invariant.2 limit ready) _ _ (omega arith)
     c.sum.ensures
 
 pub unit-bound-spec : {M : Type 1} → statement M

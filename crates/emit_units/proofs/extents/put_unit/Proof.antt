@@ -13,8 +13,8 @@ use Rattle.file_blocks.specs.Parse.{blocks_of}
 use Rattle.plan_groups.specs.Plan.{groups}
 use Rattle.emit_tables.proofs.Around.{body_keys}
 use Rattle.emit_group.specs.Groups.{file_bodies}
-use Rattle.emit_units.proofs.Written.{Making, making_none, making-more, making-handed}
-use Rattle.emit_units.proofs.Written.{making-end}
+use Rattle.emit_units.proofs.Written.{Making, making_none, making_more, making_handed}
+use Rattle.emit_units.proofs.Written.{making_end}
 use Rattle.emit_units.proofs.extents.put_unit.Statement.{statement}
 use Rattle.emit_units.proofs.extents.put_unit.Tie as tie
 
@@ -50,7 +50,7 @@ returns c =
           let m = turn.loop.invariant.2 limit g ready h e in
           let ends =
           next.group-end.ensures.1 f limit (g + m.walked.size) ready m.walked.here in
-          making-handed ready m (omega arith) ends
+          making_handed ready m (omega arith) ends
           (put.emit-group.ensures limit (g + m.walked.size)
           (record { ready = ready; first = m.walked.here; next = ends }))
           (omega (arith, start.ranges.max)) _ e (omega arith) head.put-preamble.ensures,
@@ -70,7 +70,7 @@ loop-again c =
           let m = turn.loop.invariant.2 limit g ready h e in
           let ends =
           next.group-end.ensures.1 f limit (g + m.walked.size) ready m.walked.here in
-          making-more ready m (omega arith) ends
+          making_more ready m (omega arith) ends
           (put.emit-group.ensures limit (g + m.walked.size)
           (record { ready = ready; first = m.walked.here; next = ends }))
           (omega (arith, start.ranges.max)) (omega arith),
@@ -90,7 +90,7 @@ returns-2 c =
     let f = head.before.before.before.before.before.args.file.now in (
       turn.loop.invariant.0,
       λ limit g ready h e.
-          making-end ready (turn.loop.invariant.2 limit g ready h e) _ e (omega arith)
+          making_end ready (turn.loop.invariant.2 limit g ready h e) _ e (omega arith)
           head.put-preamble.ensures
           (put.put-tail.ensures (file_bodies f) (body_keys hash_multiplier (blocks_of f))),
     )

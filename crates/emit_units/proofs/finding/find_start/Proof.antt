@@ -6,7 +6,7 @@ use mathlib.Core.Path.{◌≡◌, subst}
 use native.Mathlib.Omega.{arith}
 use Rattle.plan_members.specs.Prepared.{HoldsPlan}
 use Rattle.emit_units.specs.Units.{StartsAt, StartWithin, IsFoundStart}
-use Rattle.emit_units.proofs.Cuts.{starts_first, starts-next, starts-past}
+use Rattle.emit_units.proofs.Cuts.{starts_first, starts_next, starts_past}
 use Rattle.emit_units.proofs.finding.find_start.Statement.{statement}
 use Rattle.emit_units.proofs.finding.find_start.Tie as tie
 
@@ -26,7 +26,7 @@ returns c = (
   tt,
   λ limit ready.
       let s = c.before.before.before.loop.invariant.2 limit ready in
-      starts-past s
+      starts_past s
       (c.before.measure-unit.ensures.1 limit s.group ready s.within s.here)
       c.if1.true c.before.before.before.before.before.before.args.k (omega arith),
 )
@@ -38,7 +38,7 @@ loop-again c =
       omega arith,
       λ limit ready.
           let s = inv.2 limit ready in
-          starts-next s
+          starts_next s
           (c.before.measure-unit.ensures.1 limit s.group ready s.within s.here)
           c.if1.false,
     )

@@ -5,7 +5,7 @@ use borrow.Author.Rules.{rules}
 use native.Mathlib.Omega.{arith}
 use lib.ListN.{length}
 use Rattle.lower_units.specs.Units.{text_of}
-use Rattle.emit_units.proofs.Cuts.{same_tree, unit-bytes}
+use Rattle.emit_units.proofs.Cuts.{same_tree, unit_bytes}
 use Rattle.emit_units.proofs.Fitted.{unit_over, unit_bounded, unit_fits}
 use Rattle.emit_units.proofs.fronts.fit_unit.Statement.{statement}
 use Rattle.emit_units.proofs.fronts.fit_unit.Tie as tie
@@ -36,9 +36,9 @@ returns-3 c =
       λ limit k ready s bounds.
           let u = measured.1 limit s.group ready s.within s.here in
           let m = put.put-unit2.ensures.1 limit s.group ready s.within s.here in
-          let same = unit-bytes s m.first ready.accepted
+          let same = unit_bytes s m.first ready.accepted
           ∙ ap (λ t. length (text_of t)) (same_tree m.first u)
-          ∙ sym (unit-bytes s u ready.accepted) in
+          ∙ sym (unit_bytes s u ready.accepted) in
           unit_fits ready.accepted s m (omega (arith, same)),
     )
 

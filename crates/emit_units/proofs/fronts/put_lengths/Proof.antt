@@ -8,9 +8,9 @@ use mathlib.Core.Path.{◌≡◌, refl, ◌∙◌}
 use native.Mathlib.Omega.{arith}
 use Rattle.plan_members.specs.Prepared.{HoldsPlan}
 use Rattle.lower_units.specs.Units.{TranslationUnit}
-use Rattle.base_fitting.proofs.Laws.{fit-full, fit_all, total_none}
+use Rattle.base_fitting.proofs.Laws.{fit_full, fit_all, total_none}
 use Rattle.emit_units.specs.Units.{StartsAt}
-use Rattle.emit_units.proofs.Fitted.{Going, going_none, going_more, list-more, lengths_done}
+use Rattle.emit_units.proofs.Fitted.{Going, going_none, going_more, list_more, lengths_done}
 use Rattle.emit_units.proofs.fronts.put_lengths.Statement.{statement}
 use Rattle.emit_units.proofs.fronts.put_lengths.Tie as tie
 
@@ -28,13 +28,13 @@ loop-holds : tie.Need-loop-init invariant-loop decreases-loop
 loop-holds c = (omega arith, refl, λ limit k ready s. going_none _ _ _ s)
 
 returns : tie.Need-returns invariant-loop decreases-loop
-unfolding list-more
+unfolding list_more
 returns c = λ limit k ready s.
     let turn = c.before.before.before in
     let inv = turn.loop.invariant in
     let go = inv.2 limit k ready s in
     let l =
-    list-more ready.accepted go
+    list_more ready.accepted go
     (c.before.measure-unit.ensures.1 limit _ ready go.starts.within go.starts.here)
     (omega (arith, total_none go.list.made)) (omega arith) inv.1 true c.if1.true in
     lengths_done l (fit_all _ _ _ _ l.so)
@@ -64,7 +64,7 @@ returns-2 : tie.Need-returns-2 invariant-loop decreases-loop
 returns-2 c = λ limit k ready s.
     let go = c.before.loop.invariant.2 limit k ready s in
     lengths_done go.list
-    (fit-full _ _ _ _ go.list.so (omega (arith, go.list.counted)))
+    (fit_full _ _ _ _ go.list.so (omega (arith, go.list.counted)))
 
 pub put-lengths-spec : {M : Type 1} → statement M
 put-lengths-spec =

@@ -7,8 +7,8 @@ use mathlib.Core.Path.{◌≡◌, refl, ◌∙◌}
 use native.Mathlib.Omega.{arith}
 use Rattle.plan_members.specs.Prepared.{HoldsPlan}
 use Rattle.emit_units.specs.Units.{StartsAt}
-use Rattle.emit_units.proofs.Fitted.{Putting, putting_none, putting-full, putting-over}
-use Rattle.emit_units.proofs.Fitted.{putting-more, putting-last}
+use Rattle.emit_units.proofs.Fitted.{Putting, putting_none, putting_full, putting_over}
+use Rattle.emit_units.proofs.Fitted.{putting_more, putting_last}
 use Rattle.emit_units.proofs.fronts.put_units.Statement.{statement}
 use Rattle.emit_units.proofs.fronts.put_units.Tie as tie
 
@@ -35,7 +35,7 @@ returns c = λ limit k ready s.
     let turn = call.before.before.before in
     let inv = turn.loop.invariant in
     let put = inv.4 limit k ready s in
-    putting-over ready.accepted put inv.2
+    putting_over ready.accepted put inv.2
     (call.fit-unit.ensures.1 limit _ ready put.go.starts
     (turn.before.unit-bound.ensures limit ready)) (omega arith)
 
@@ -45,7 +45,7 @@ returns-2 c = λ limit k ready s.
     let turn = call.before.before.before in
     let inv = turn.loop.invariant in
     let put = inv.4 limit k ready s in
-    putting-last ready.accepted put inv.2
+    putting_last ready.accepted put inv.2
     (call.fit-unit.ensures.1 limit _ ready put.go.starts
     (turn.before.unit-bound.ensures limit ready)) (omega arith) inv.1 (omega arith)
     inv.3 c.if2.true
@@ -61,7 +61,7 @@ loop-again c =
       search (rules, inv),
       λ limit k ready s.
           let put = inv.4 limit k ready s in
-          putting-more ready.accepted put inv.2
+          putting_more ready.accepted put inv.2
           (call.fit-unit.ensures.1 limit _ ready put.go.starts
           (turn.before.unit-bound.ensures limit ready)) (omega arith) inv.1
           (omega arith) inv.3 c.if2.false,
@@ -69,7 +69,7 @@ loop-again c =
 
 returns-3 : tie.Need-returns-3 invariant-loop decreases-loop
 returns-3 c = λ limit k ready s.
-    putting-full ready.accepted (c.before.loop.invariant.4 limit k ready s) (omega arith)
+    putting_full ready.accepted (c.before.loop.invariant.4 limit k ready s) (omega arith)
 
 same-length-4 : tie.Need-same-length-4 invariant-loop decreases-loop
 same-length-4 c =

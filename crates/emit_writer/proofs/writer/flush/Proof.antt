@@ -139,8 +139,8 @@ module _ {M : Type 1} {𝓤 : Ura M} (𝓛 : Logic 𝓤)
       move ! (1 ∷ 0 ∷ []) $ join ! $ frame ! $ done !
 
   -- what is had at exit of the result's fields, at their machine values
-  abbrev given-on : ℕ → List ℕ → List Val × (List Val × (List Val × Unit {0})) → Fml
-  given-on r zs vss =
+  abbrev given_on : ℕ → List ℕ → List Val × (List Val × (List Val × Unit {0})) → Fml
+  given_on r zs vss =
       fsep ((MutSlice (named 0) κ u8).own_val (x γ zs) vss.0)
       (fsep (usize.own_val r vss.1.0) (fsep (u64.own_val 0 vss.1.1.0) ftrue))
 
@@ -160,7 +160,7 @@ module _ {M : Type 1} {𝓤 : Ura M} (𝓛 : Logic 𝓤)
       $ owned ! usize (Is usize) (uint_Makes 𝓛 w64) r _ (refl, r-fits) $ fjoin ! $ move !
       (1 ∷ 0 ∷ []) $ fjoin ! $
       use1 𝓛 (‵ ((T.the_row α).own_val (record { text = x γ zs; at = r; cycles = 0 }) (mach r 0 ∷ [])))
-      (makes 𝓛 (MutSlice (named 0) κ u8 ∷ usize ∷ u64 ∷ []) (given-on r zs)
+      (makes 𝓛 (MutSlice (named 0) κ u8 ∷ usize ∷ u64 ∷ []) (given_on r zs)
       (s ∷ [], (vint w64 r ∷ [], (vint w64 0 ∷ [], tt)))) $
       nothing ! $ nothing ! $ fjoin ! $ done !
 
@@ -278,10 +278,10 @@ module _ {M : Type 1} {𝓤 : Ura M} (𝓛 : Logic 𝓤)
     (mem : Memory → SProp 𝓤) (run : Routine → Fun 𝓤) where
   open 𝓛 use {H}
 
-  flush-walks : (C : Calls 𝓤 H) (Λ : Loops 𝓤 H) → FmC 𝓤 H 𝓛.laws C
+  flush_walks : (C : Calls 𝓤 H) (Λ : Loops 𝓤 H) → FmC 𝓤 H 𝓛.laws C
       → Triple 𝓤 (C #put-tick) (PutTick 𝓛 mem run)
       → Walks 𝓛 flush.ended stayed (WpFn 𝓤 H C Λ code.function) (flush.clauses 𝓛 mem run)
-  flush-walks C Λ fm known =
+  flush_walks C Λ fm known =
       walked 𝓛 flush.ended stayed (flush.clauses 𝓛 mem run) (WpFn 𝓤 H C Λ code.function)
       (λ κs. (LL.vals (T.the_type (named_lft 1 0 tt κs)) (T'.the_laws (named_lft 1 0 tt κs)), tt))
       (λ κs. (
@@ -310,7 +310,7 @@ flush_meets {𝓤 = 𝓤} 𝓛 mem run 𝓣 known =
     walk_Meets 𝓛 flush.ended stayed (spent_goes 𝓛, tt)
     (flush.clauses 𝓛 mem run)
     (WpFn 𝓤 𝓛.H 𝓣.C 𝓣.Λ code.function) (WpFn-mono 𝓤 𝓛.H 𝓛.laws 𝓣 code.function)
-    (flush-walks 𝓛 mem run 𝓣.C 𝓣.Λ (fm_of 𝓤 𝓛.H 𝓛.laws 𝓣) known)
+    (flush_walks 𝓛 mem run 𝓣.C 𝓣.Λ (fm_of 𝓤 𝓛.H 𝓛.laws 𝓣) known)
 
 pub flush-spec : {M : Type 1} → stated.statement M
 unfolding code.routine tables_of

@@ -82,17 +82,17 @@ module _ {M : Type 1} {𝓤 : Ura M} (𝓛 : Logic 𝓤) (mem : Memory → SProp
   Flush = triple_of 𝓛 flush.signature (flush.spec 𝓛 mem run)
 
   -- of what each ensures, the clause alone: neither has a last value
-  new-of : (κ : Lft) (x : MutBor (List ℕ)) (n c : ℕ) (r : Writer)
+  new_of : (κ : Lft) (x : MutBor (List ℕ)) (n c : ℕ) (r : Writer)
       → ent 𝓤 (ensured 𝓛 new.ended (new.clauses 𝓛 mem run) (κ, tt) (x, (n, (c, tt))) tt r)
       (fact 𝓤 ((r.text ≡ x) × (r.at ≡ n) × (r.cycles ≡ c)))
-  new-of κ x n c r =
+  new_of κ x n c r =
       ex_e 𝓤 _ (λ ws. snd∗ 𝓤 (sem 𝓛 (lasts new.ended (κ, tt) (x, (n, (c, tt))) ws))
       (fact 𝓤 ((r.text ≡ x) × (r.at ≡ n) × (r.cycles ≡ c))))
 
-  flush-of : (κ : Lft) (h r : Writer)
+  flush_of : (κ : Lft) (h r : Writer)
       → ent 𝓤 (ensured 𝓛 flush.ended (flush.clauses 𝓛 mem run) (κ, tt) (h, tt) tt r)
       (fact 𝓤 (r ≡ flushed h))
-  flush-of κ h r =
+  flush_of κ h r =
       ex_e 𝓤 _ (λ ws. snd∗ 𝓤 (sem 𝓛 (lasts flush.ended (κ, tt) (h, tt) ws))
       (fact 𝓤 (r ≡ flushed h)))
 
@@ -162,25 +162,25 @@ module _ {M : Type 1} {𝓤 : Ura M} (𝓛 : Logic 𝓤)
       (((κ, tt), (q, tt), tt, a, vals), tt)
 
   -- what each callee's triple binds outside, and that the caller has what it asks
-  abbrev to-new : (New 𝓛 mem run).Ghost
-  to-new = (((κ, tt), (q, tt), tt, a, vals), tt)
+  abbrev to_new : (New 𝓛 mem run).Ghost
+  to_new = (((κ, tt), (q, tt), tt, a, vals), tt)
 
-  goes-new : ent 𝓤
+  goes_new : ent 𝓤
       (sep 𝓤 (sep 𝓤 (A.lft κ q) (sem 𝓛 ftrue))
-      (sem 𝓛 ((MutSlice (named 0) κ u8).own_val x (s ∷ [])))) ((New 𝓛 mem run).pre to-new)
-  goes-new =
+      (sem 𝓛 ((MutSlice (named 0) κ u8).own_val x (s ∷ [])))) ((New 𝓛 mem run).pre to_new)
+  goes_new =
       qed 𝓛 ((‵ (flft κ q) ⊛ ‵ ftrue) ∷ ‵ ((MutSlice (named 0) κ u8).own_val x (s ∷ [])) ∷ []) ∵
       nothing ! $ owned ! u64 (Is u64) (uint_Makes 𝓛 w64) c _ (refl, c-fits) $ fjoin ! $ owned
       ! usize (Is usize) (uint_Makes 𝓛 w64) n _ (refl, n-fits) $ fjoin ! $
       move ! (2 ∷ 0 ∷ []) $ fjoin ! $ move ! (1 ∷ 0 ∷ []) $ join ! $ frame ! $ done !
 
-  abbrev to-flush : Val → (Flush 𝓛 mem run).Ghost
-  to-flush w = (((κ, tt), (q, tt), tt, (h₀, tt), (w ∷ [], tt)), tt)
+  abbrev to_flush : Val → (Flush 𝓛 mem run).Ghost
+  to_flush w = (((κ, tt), (q, tt), tt, (h₀, tt), (w ∷ [], tt)), tt)
 
-  goes-flush : (w : Val)
+  goes_flush : (w : Val)
       → ent 𝓤 (sep 𝓤 (sep 𝓤 (A.lft κ q) (sem 𝓛 ftrue))
-      (sem 𝓛 ((T.the_row α).own_val h₀ (w ∷ [])))) ((Flush 𝓛 mem run).pre (to-flush w))
-  goes-flush w =
+      (sem 𝓛 ((T.the_row α).own_val h₀ (w ∷ [])))) ((Flush 𝓛 mem run).pre (to_flush w))
+  goes_flush w =
       qed 𝓛 ((‵ (flft κ q) ⊛ ‵ ftrue) ∷ ‵ ((T.the_row α).own_val h₀ (w ∷ [])) ∷ []) ∵ nothing ! $ move !
       (2 ∷ 0 ∷ []) $ fjoin ! $ move ! (1 ∷ 0 ∷ []) $ join ! $ frame ! $ done !
 
@@ -237,8 +237,8 @@ module _ {M : Type 1} {𝓤 : Ura M} (𝓛 : Logic 𝓤)
         (init ! 0 refl (tt, (tt, (record { fits = room.0 }, tt)))) $
         -- `new`
         move ! (17 ∷ []) $ fsplit ! $ move ! (18 ∷ 0 ∷ []) $ use2 𝓛
-        (raw ((New 𝓛 mem run).pre to-new)) goes-new $
-        calls_at ! fm (New 𝓛 mem run) known-new to-new
+        (raw ((New 𝓛 mem run).pre to_new)) goes_new $
+        calls_at ! fm (New 𝓛 mem run) known-new to_new
         (and_then ! (load ! (from ! (stop !)) (look ! 2 refl))
         (and_then ! (load ! (from ! (stop !)) (look ! 12 refl))
         (and_then ! (load ! (from ! (stop !)) (look ! 10 refl)) (no_more !)))) (λ w₀.
@@ -248,22 +248,22 @@ module _ {M : Type 1} {𝓤 : Ura M} (𝓛 : Logic 𝓤)
         r)))) (id⊢ 𝓤 _) $ await ! tt $ pick ! (λ r₀.
         split ! $ move ! (1 ∷ []) $ use1 𝓛
         (raw (fact 𝓤 ((r₀.text ≡ x) × (r₀.at ≡ n) × (r₀.cycles ≡ c))))
-        (new-of 𝓛 mem run κ x n c r₀) $ heard !
+        (new_of 𝓛 mem run κ x n c r₀) $ heard !
         ((r₀.text ≡ x) × (r₀.at ≡ n) × (r₀.cycles ≡ c)) (λ e₀.
         split ! $ rewrite ! 1 (λ (h : Writer). ‵ ((T.the_row α).own_val h (w₀ ∷ [])))
         (λ i. record { text = e₀.0 i; at = e₀.1 i; cycles = e₀.2 i }) refl $
         move ! (1 ∷ []) $ peeks ! (T.the_row α) (Is (T.the_row α)) (shows 𝓛 (T.the_row α)) h₀
         (w₀ ∷ []) (λ is₀. land ! (from ! (stop !)) (init ! 7 refl (typed h₀ w₀ is₀)) $
         -- `flush`
-        move ! (1 ∷ 0 ∷ []) $ use2 𝓛 (raw ((Flush 𝓛 mem run).pre (to-flush w₀))) (goes-flush w₀)
+        move ! (1 ∷ 0 ∷ []) $ use2 𝓛 (raw ((Flush 𝓛 mem run).pre (to_flush w₀))) (goes_flush w₀)
         $
-        calls_at ! fm (Flush 𝓛 mem run) known-flush (to-flush w₀)
+        calls_at ! fm (Flush 𝓛 mem run) known-flush (to_flush w₀)
         (and_then ! (load ! (from ! (stop !)) (look ! 6 refl)) (no_more !)) (λ w₁.
         use1 𝓛 (later
         (some (λ (r : Writer). ((‵ (flft κ q) ⊛ ‵ ftrue) ⊛ ‵ ((T.the_row α).own_val r (w₁ ∷ []))) ⊛
         raw (ensured 𝓛 flush.ended (flush.clauses 𝓛 mem run) (κ, tt) (h₀, tt) tt r))))
         (id⊢ 𝓤 _) $ await ! tt $ pick ! (λ r₁.
-        split ! $ move ! (1 ∷ []) $ use1 𝓛 (raw (fact 𝓤 (r₁ ≡ h₁))) (flush-of 𝓛 mem run κ h₀ r₁)
+        split ! $ move ! (1 ∷ []) $ use1 𝓛 (raw (fact 𝓤 (r₁ ≡ h₁))) (flush_of 𝓛 mem run κ h₀ r₁)
         $ heard ! (r₁ ≡ h₁) (λ e₁.
         split ! $ rewrite ! 1 (λ (h : Writer). ‵ ((T.the_row α).own_val h (w₁ ∷ []))) e₁ refl $
         move ! (1 ∷ []) $ peeks ! (T.the_row α) (Is (T.the_row α)) (shows 𝓛 (T.the_row α)) h₁
@@ -293,11 +293,11 @@ module _ {M : Type 1} {𝓤 : Ura M} (𝓛 : Logic 𝓤)
     (mem : Memory → SProp 𝓤) (run : Routine → Fun 𝓤) where
   open 𝓛 use {H}
 
-  flush-ticks-walks : (C : Calls 𝓤 H) (Λ : Loops 𝓤 H) → FmC 𝓤 H 𝓛.laws C
+  flush_ticks_walks : (C : Calls 𝓤 H) (Λ : Loops 𝓤 H) → FmC 𝓤 H 𝓛.laws C
       → Triple 𝓤 (C #new) (New 𝓛 mem run) → Triple 𝓤 (C #flush) (Flush 𝓛 mem run)
       → Walks 𝓛 flush-ticks.ended stayed (WpFn 𝓤 H C Λ code.function)
       (flush-ticks.clauses 𝓛 mem run)
-  flush-ticks-walks C Λ fm known-new known-flush =
+  flush_ticks_walks C Λ fm known-new known-flush =
       walked 𝓛 flush-ticks.ended stayed (flush-ticks.clauses 𝓛 mem run)
       (WpFn 𝓤 H C Λ code.function)
       (λ κs. (mut_slice_vals, (uint_vals w64, (uint_vals w64, tt))))
@@ -321,7 +321,7 @@ flush_ticks_meets {𝓤 = 𝓤} 𝓛 mem run 𝓣 known-new known-flush =
       ),
     ) (flush-ticks.clauses 𝓛 mem run)
     (WpFn 𝓤 𝓛.H 𝓣.C 𝓣.Λ code.function) (WpFn-mono 𝓤 𝓛.H 𝓛.laws 𝓣 code.function)
-    (flush-ticks-walks 𝓛 mem run 𝓣.C 𝓣.Λ (fm_of 𝓤 𝓛.H 𝓛.laws 𝓣) known-new
+    (flush_ticks_walks 𝓛 mem run 𝓣.C 𝓣.Λ (fm_of 𝓤 𝓛.H 𝓛.laws 𝓣) known-new
     known-flush)
 
 pub flush-ticks-spec : {M : Type 1} → stated.statement M

@@ -3,8 +3,8 @@
 use Rattle.std.proofs.Common.{suc, drop, sym, ◌∙◌, arith, rules}
 use Rattle.file_blocks.specs.Read.{instrs_of}
 use borrow.Author.Tests.{not_true}
-use Rattle.file_blocks.proofs.ReadInstrs.{not-missing}
-use Rattle.file_blocks.proofs.ReadNext.{next_last, next-read}
+use Rattle.file_blocks.proofs.ReadInstrs.{not_missing}
+use Rattle.file_blocks.proofs.ReadNext.{next_last, next_read}
 use Rattle.file_blocks.proofs.next.next_of.Statement.{statement}
 use Rattle.file_blocks.proofs.next.next_of.Tie as tie
 
@@ -23,7 +23,7 @@ returns-2 c =
 returns-3 : tie.Need-returns-3
 returns-3 c =
     λ i is. absurd
-    (not-missing is _ _
+    (not_missing is _ _
     (omega (
       arith,
       c.before.before.before.before.before.before.before.before.requires,
@@ -32,7 +32,7 @@ returns-3 c =
 
 returns-4 : tie.Need-returns-4
 returns-4 c = λ i is. c.fused-next.ensures
-    ∙ next-read is _
+    ∙ next_read is _
     c.before.before.before.before.before.before.before.before.before.before.requires _ _ _
     c.before.before.before.before.before.if2.false
     c.before.before.before.before.instr-of.ensures c.before.before.y.given.1

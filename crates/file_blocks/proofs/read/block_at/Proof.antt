@@ -10,11 +10,11 @@ returns : tie.Need-returns
 returns c = reading.no_block _ _ 0 (omega arith)
 
 returns-2 : tie.Need-returns-2
-returns-2 c = reading.block-past _ _ _ c.before.section-start.ensures c.if2.true
+returns-2 c = reading.block_past _ _ _ c.before.section-start.ensures c.if2.true
 
 returns-3 : tie.Need-returns-3
 returns-3 c = ap FoundBlock.At c.block-record.ensures
-    ∙ reading.block-there _ _ _ (omega arith) c.before.before.section-start.ensures
+    ∙ reading.block_there _ _ _ (omega arith) c.before.before.section-start.ensures
     c.before.if2.false
 
 pub block-at-spec : {M : Type 1} → statement M

@@ -13,12 +13,12 @@ returns c =
 
 returns-2 : tie.Need-returns-2
 returns-2 c =
-    reading.code-there _ _ _ c.before.before.before.before.instrs-length.ensures.0
+    reading.code_there _ _ _ c.before.before.before.before.instrs-length.ensures.0
     (not-false _ c.before.before.if1.false) c.before.if2.true
 
 returns-3 : tie.Need-returns-3
 returns-3 c =
-    reading.code-past _ _ _ c.before.before.before.before.instrs-length.ensures.0
+    reading.code_past _ _ _ c.before.before.before.before.instrs-length.ensures.0
     (not-false _ c.before.before.if1.false) c.before.if2.false
 
 pub code-bytes-spec : {M : Type 1} → statement M

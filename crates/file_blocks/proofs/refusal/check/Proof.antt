@@ -12,12 +12,12 @@ returns c = whole.too_short _ c.if1.true
 
 returns-2 : tie.Need-returns-2
 returns-2 c =
-    whole.over-limits _ c.before.before.if1.false
+    whole.over_limits _ c.before.before.if1.false
     (sym c.before.within-limits.ensures ∙ not_true _ c.if2.true)
 
 returns-3 : tie.Need-returns-3
 returns-3 c =
-    whole.wrong-trailer _ c.before.before.before.before.if1.false
+    whole.wrong_trailer _ c.before.before.before.before.if1.false
     (sym c.before.before.before.within-limits.ensures
     ∙ not-false _ c.before.before.if2.false)
     (sym c.before.trailer-right.ensures ∙ not_true _ c.if3.true)
@@ -32,7 +32,7 @@ returns-4 c =
     let at-if2 = at-trailer-right.before in
     let at-within-limits = at-if2.before in
     let at-if1 = at-within-limits.before in
-    whole.blocks-refused _
+    whole.blocks_refused _
     at-if1.if1.false
     (sym at-within-limits.within-limits.ensures
     ∙ not-false _ at-if2.if2.false)
@@ -53,7 +53,7 @@ returns-5 c =
     let at-if2 = at-trailer-right.before in
     let at-within-limits = at-if2.before in
     let at-if1 = at-within-limits.before in
-    whole.instrs-refused _
+    whole.instrs_refused _
     at-if1.if1.false (sym
     at-within-limits.within-limits.ensures
     ∙ not-false _
@@ -75,7 +75,7 @@ returns-6 c =
     let at-within-limits = at-if2.before in
     let at-if1 = at-within-limits.before in
     ap₂ Checked.Accepted c.before.trailer-word.ensures c.trailer-word2.ensures
-    ∙ whole.all-kept _
+    ∙ whole.all_kept _
     at-if1.if1.false
     (sym at-within-limits.within-limits.ensures
     ∙ not-false _

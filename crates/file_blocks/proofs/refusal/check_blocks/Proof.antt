@@ -15,7 +15,7 @@ abbrev decreases-loop : tie.decreases-loop
 decreases-loop file start blocks least₀ sum₀ i₀ least sum i = blocks - i
 
 loop-holds : tie.Need-loop-init invariant-loop decreases-loop
-loop-holds c = passes.blocks-none _ _ c.trailer-word.ensures
+loop-holds c = passes.blocks_none _ _ c.trailer-word.ensures
 
 add_at : tie.Need-overflow-add-at invariant-loop decreases-loop
 add_at c = omega (arith, sections _ c.before.before.before.before.before.requires)
@@ -28,7 +28,7 @@ returns : tie.Need-returns invariant-loop decreases-loop
 returns c = ap found
     (sym
     (c.before.before.before.loop.invariant.kept
-    ∙ passes.block-broken _ _ _ _ _
+    ∙ passes.block_broken _ _ _ _ _
     c.before.before.before.before.before.section-start.ensures
     c.before.before.loop-test.true
     (sym c.before.block-right.ensures ∙ not_true _ c.if1.true)))
@@ -45,7 +45,7 @@ returns-2 c =
     ap found
     (sym
     (at_loop.loop.invariant.kept
-    ∙ passes.order-broken _ _ _ _ _
+    ∙ passes.order_broken _ _ _ _ _
     at-section-start.section-start.ensures
     at-loop-test.loop-test.true
     (sym c.before.before.before.block-right.ensures
@@ -71,14 +71,14 @@ loop-again c =
     record {
       inside = omega arith;
       key = ap (λ (k : ℕ). k + 1) c.before.before.key.ensures.0
-          ∙ passes.least-next _ _ _ starts;
+          ∙ passes.least_next _ _ _ starts;
       counts =
           ap₂ (λ (s n : ℕ). s + n)
           at_loop.loop.invariant.counts c.count.ensures
-          ∙ passes.sum-next _ _ _ starts;
+          ∙ passes.sum_next _ _ _ starts;
       small = omega (arith, passes.count_small _ _ right);
       kept = at_loop.loop.invariant.kept
-          ∙ passes.block-kept _ _ _ _ _ starts
+          ∙ passes.block_kept _ _ _ _ _ starts
           at-loop-test.loop-test.true right (omega arith);
     }
 
@@ -86,7 +86,7 @@ returns-3 : tie.Need-returns-3 invariant-loop decreases-loop
 returns-3 c = ap found
     (sym
     (c.before.before.before.loop.invariant.kept
-    ∙ passes.sum-right _ _ c.before.before.before.before.trailer-word.ensures _
+    ∙ passes.sum_right _ _ c.before.before.before.before.trailer-word.ensures _
     (omega arith)
     (sym c.before.before.before.loop.invariant.counts ∙ c.if3.true
     ∙ c.before.trailer-word2.ensures)))
@@ -95,7 +95,7 @@ returns-4 : tie.Need-returns-4 invariant-loop decreases-loop
 returns-4 c = ap found
     (sym
     (c.before.before.before.loop.invariant.kept
-    ∙ passes.sum-wrong _ _ c.before.before.before.before.trailer-word.ensures _
+    ∙ passes.sum_wrong _ _ c.before.before.before.before.trailer-word.ensures _
     (omega arith)
     (λ e. c.if3.false
     (c.before.before.before.loop.invariant.counts ∙ e

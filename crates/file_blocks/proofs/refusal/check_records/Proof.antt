@@ -20,7 +20,7 @@ abbrev decreases-loop : tie.decreases-loop
 decreases-loop file limits start instrs i₀ i = instrs - i
 
 loop-holds : tie.Need-loop-init invariant-loop decreases-loop
-loop-holds c = (omega arith, passes.instrs-none _ _ c.trailer-word.ensures)
+loop-holds c = (omega arith, passes.instrs_none _ _ c.trailer-word.ensures)
 
 add-instr-right : tie.Need-overflow-add-instr-right invariant-loop decreases-loop
 add-instr-right c =

@@ -6,7 +6,7 @@ use borrow.Author.Rules.{rules}
 use native.Mathlib.Omega.{arith}
 use Rattle.file_keys.specs.Order.{block_keys}
 use Rattle.file_keys.specs.Answers.{Between}
-use Rattle.file_keys.proofs.Ordered.{is-order}
+use Rattle.file_keys.proofs.Ordered.{is_order}
 use Rattle.file_keys.proofs.Finding as laws
 use Rattle.file_keys.proofs.find.first_place.Statement.{statement}
 use Rattle.file_keys.proofs.find.first_place.Tie as tie
@@ -23,7 +23,7 @@ loop-holds c = c.near.ensures
 loop-again : tie.Need-loop-preserved invariant-loop decreases-loop
 loop-again c =
     let at = c.before.before.before.before in
-    laws.between-after _ _ (is-order _ _ at.before.before.before.before.requires.0.1) _ _ _
+    laws.between_after _ _ (is_order _ _ at.before.before.before.before.requires.0.1) _ _ _
     (at.loop.low + (at.loop.high - at.loop.low) / 2) at.loop.invariant (omega arith)
     (omega arith)
     (subst (λ (k : ℕ). k < at.before.before.before.before.args.key) c.before.key_of.ensures
@@ -32,7 +32,7 @@ loop-again c =
 loop-again-2 : tie.Need-loop-preserved-2 invariant-loop decreases-loop
 loop-again-2 c =
     let at = c.before.before.before.before in
-    laws.between-before _ _ (is-order _ _ at.before.before.before.before.requires.0.1) _ _ _
+    laws.between_before _ _ (is_order _ _ at.before.before.before.before.requires.0.1) _ _ _
     (at.loop.low + (at.loop.high - at.loop.low) / 2) at.loop.invariant (omega arith)
     (omega arith)
     (subst (λ (k : ℕ). at.before.before.before.before.args.key ≤ k) c.before.key_of.ensures

@@ -3,7 +3,7 @@
 use mathlib.Core.Path.{sym, ◌∙◌}
 use native.Mathlib.Omega.{arith}
 use borrow.Author.Rules.{rules}
-use Rattle.file_keys.proofs.Ordered.{is-order}
+use Rattle.file_keys.proofs.Ordered.{is_order}
 use Rattle.file_keys.proofs.Whole.{order_as}
 use Rattle.file_keys.proofs.Reading.{length_keys}
 use Rattle.file_keys.proofs.find.repeated_on_stack.Statement.{statement}
@@ -28,7 +28,7 @@ slice-aggregate-first-repeated : tie.Need-slice-aggregate-first-repeated
 slice-aggregate-first-repeated c =
     let start = c.before.before.before.before.before in
     let order = (order_as (sym start.requires.1) c.before.before.order-blocks.ensures).order in
-    start.requires.1 ∙ sym ((is-order _ _ order).long ∙ length_keys start.args.file.now)
+    start.requires.1 ∙ sym ((is_order _ _ order).long ∙ length_keys start.args.file.now)
 
 first-repeated-requires : tie.Need-first-repeated-requires
 first-repeated-requires c κs =

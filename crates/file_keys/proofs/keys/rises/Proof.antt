@@ -34,7 +34,7 @@ returns c =
           at.before.before.before.args.file.now,
       at.before.before.before.requires.many,
     ) in
-    laws.rises-no keys at.loop.last at.loop.i at.loop.invariant h
+    laws.rises_no keys at.loop.last at.loop.i at.loop.invariant h
     (subst (λ (k : ℕ). k ≤ at.loop.last) c.before.key-at2.ensures c.if2.true)
 
 loop-again : tie.Need-loop-preserved invariant-loop decreases-loop
@@ -47,7 +47,7 @@ loop-again c =
           at.before.before.before.args.file.now,
       at.before.before.before.requires.many,
     ) in
-    laws.rises-more keys at.loop.last at.loop.i at.loop.invariant h
+    laws.rises_more keys at.loop.last at.loop.i at.loop.invariant h
     (subst (λ (k : ℕ). at.loop.last < k) c.before.key-at2.ensures c.if2.false)
     ∙ ap (λ (k : ℕ). rises_from k (drop (at.loop.i + 1) keys)) (sym c.before.key-at2.ensures)
 
@@ -55,7 +55,7 @@ returns-2 : tie.Need-returns-2 invariant-loop decreases-loop
 returns-2 c =
     let at = c.before.before in
     let keys = block_keys at.before.before.before.args.file.now in
-    laws.rises-end keys at.loop.last at.loop.i at.loop.invariant
+    laws.rises_end keys at.loop.last at.loop.i at.loop.invariant
     (omega (
       arith,
       length_keys at.before.before.before.args.file.now,

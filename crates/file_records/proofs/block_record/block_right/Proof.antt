@@ -9,26 +9,26 @@ use Rattle.file_records.proofs.block_record.block_right.Statement.{statement}
 use Rattle.file_records.proofs.block_record.block_right.Tie as tie
 
 returns : tie.Need-returns
-returns c = rules.wrong-flags _ _ (omega arith)
+returns c = rules.wrong_flags _ _ (omega arith)
 
 returns-2 : tie.Need-returns-2
-returns-2 c = rules.no-count _ _ (omega arith)
+returns-2 c = rules.no_count _ _ (omega arith)
 
 returns-3 : tie.Need-returns-3
-returns-3 c = rules.large-count _ _ (omega arith)
+returns-3 c = rules.large_count _ _ (omega arith)
 
 returns-4 : tie.Need-returns-4
 returns-4 c = rules.not_aligned _ _ (sym c.before.aligned.ensures ∙ not_true _ c.if4.true)
 
 returns-5 : tie.Need-returns-5
-returns-5 c = rules.end-past _ _ (omega arith)
+returns-5 c = rules.end_past _ _ (omega arith)
 
 returns-6 : tie.Need-returns-6
 returns-6 c =
     let at-if4 = c.before.before.before.before in
     let at_Aligned = at-if4.before in
     c.code-right.ensures
-    ∙ rules.right-but-code _ _ (omega arith) (omega arith) (omega arith)
+    ∙ rules.right_but_code _ _ (omega arith) (omega arith) (omega arith)
     (sym at_Aligned.aligned.ensures
     ∙ not-false _ at-if4.if4.false) (omega arith)
 

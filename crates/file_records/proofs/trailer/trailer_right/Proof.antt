@@ -7,24 +7,24 @@ use Rattle.file_records.proofs.trailer.trailer_right.Statement.{statement}
 use Rattle.file_records.proofs.trailer.trailer_right.Tie as tie
 
 returns : tie.Need-returns
-returns c = rules.wrong-edition _ (omega arith)
+returns c = rules.wrong_edition _ (omega arith)
 
 returns-2 : tie.Need-returns-2
-returns-2 c = rules.wrong-blocks _ (omega arith)
+returns-2 c = rules.wrong_blocks _ (omega arith)
 
 returns-3 : tie.Need-returns-3
-returns-3 c = rules.wrong-instrs _ (omega arith)
+returns-3 c = rules.wrong_instrs _ (omega arith)
 
 returns-4 : tie.Need-returns-4
-returns-4 c = rules.wrong-code _ (omega arith)
+returns-4 c = rules.wrong_code _ (omega arith)
 
 returns-5 : tie.Need-returns-5
-returns-5 c = rules.wrong-touch _ (omega arith)
+returns-5 c = rules.wrong_touch _ (omega arith)
 
 returns-6 : tie.Need-returns-6
 returns-6 c =
     rw c.trailer-word8.ensures
-    (rules.right-but-length _ (omega arith) (omega arith) (omega arith) (omega arith) (omega arith))
+    (rules.right_but_length _ (omega arith) (omega arith) (omega arith) (omega arith) (omega arith))
 
 pub trailer-right-spec : {M : Type 1} → statement M
 trailer-right-spec =

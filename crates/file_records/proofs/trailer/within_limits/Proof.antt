@@ -10,11 +10,11 @@ use Rattle.file_records.proofs.trailer.within_limits.Statement.{statement}
 use Rattle.file_records.proofs.trailer.within_limits.Tie as tie
 
 returns : tie.Need-returns
-returns c = rules.many-blocks _ (omega arith)
+returns c = rules.many_blocks _ (omega arith)
 
 returns-2 : tie.Need-returns-2
 returns-2 c =
-    ap (λ (n : ℕ). leb n 1048576) c.trailer-word2.ensures ∙ rules.few-blocks _ (omega arith)
+    ap (λ (n : ℕ). leb n 1048576) c.trailer-word2.ensures ∙ rules.few_blocks _ (omega arith)
 
 pub within-limits-spec : {M : Type 1} → statement M
 within-limits-spec = tie.close (tie.spec (search rules) returns (search rules) returns-2)

@@ -5,7 +5,7 @@ use mathlib.Core.Option.{some}
 use Rattle.file_records.specs.BlockRecord.{count_sum}
 use Rattle.file_blocks.specs.Parse.{Accepted}
 use Rattle.file_blocks.specs.Read.{IsBlock}
-use Rattle.file_blocks.proofs.IsBlock.{missing, sum-next}
+use Rattle.file_blocks.proofs.IsBlock.{missing, sum_next}
 use Rattle.plan_exits.proofs.Closing.{no_exits, exits_here}
 use Rattle.plan_exits.proofs.exits.block_exits.Statement.{statement}
 use Rattle.plan_exits.proofs.exits.block_exits.Tie as tie
@@ -36,7 +36,7 @@ loop-again c =
     let found = sym known.before.before.block_at.ensures ∙ known.earlier.given.1 in (
       omega arith,
       λ ok. c.wrapping-add-usize.ensures
-          ∙ sum-next (record { accepted = ok; found = found; starts = head.loop.invariant.1 ok }),
+          ∙ sum_next (record { accepted = ok; found = found; starts = head.loop.invariant.1 ok }),
     )
 
 returns-2 : tie.Need-returns-2 invariant-loop decreases-loop

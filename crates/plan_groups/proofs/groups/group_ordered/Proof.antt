@@ -27,7 +27,7 @@ link-members-requires c κs =
     let at-first-instrs = at-join-blocks.before.before.before.before in
     let start = at-first-instrs.before.before.before.before in
     let pre = start.requires in
-    grouping.link-asks _ _ start.args.limit _ _ _ _ pre.0.1 pre.0.0.1 pre.0.0.2
+    grouping.link_asks _ _ start.args.limit _ _ _ _ pre.0.1 pre.0.0.1 pre.0.0.2
     pre.0.0.0 pre.1 at-first-instrs.first-instrs.ensures
     at-join-blocks.join-blocks.ensures at-put-roots.put-roots.ensures
 
@@ -40,7 +40,7 @@ place-blocks-requires c κs =
     let start = at-first-instrs.before.before.before.before in
     let pre = start.requires in
     let linked = at-link-members.link-members.ensures in
-    grouping.place-asks _ _ start.args.limit _ _ _ _ pre.0.1 pre.0.0.1 pre.0.0.2
+    grouping.place_asks _ _ start.args.limit _ _ _ _ pre.0.1 pre.0.0.1 pre.0.0.2
     pre.0.0.0 pre.1 at-first-instrs.first-instrs.ensures
     at-join-blocks.join-blocks.ensures at-put-roots.put-roots.ensures _ linked.0
     linked.1

@@ -14,7 +14,7 @@ use Rattle.plan_groups.proofs.groups.join_block.Tie as tie
 returns : tie.Need-returns
 returns c =
     let start = c.before.before.before.before.before in
-    joining.block-missing _ _ _ _ _ c.before.before.block_at.ensures
+    joining.block_missing _ _ _ _ _ c.before.before.block_at.ensures
     start.requires.0.2 start.requires.0.3 start.requires.1.0.0 c.enum_told.given.1
 
 returns-2 : tie.Need-returns-2
@@ -39,7 +39,7 @@ returns-3 c =
     let found = at_block.block.given.1 in
     let reads = at-block-at.block_at.ensures in
     let starts = at-as-index.as-index.ensures ∙ pre.1.1.0 _ pre.0.2 in
-    joining.block-joins _ _ _ _ _ reads pre.0.2 pre.0.3 _ found
+    joining.block_joins _ _ _ _ _ reads pre.0.2 pre.0.3 _ found
     (sym at-on-page-8.on-page-8.ensures
     ∙ not-false _ at-if1.if1.false)
     at-exits-at.exits-at.result _

@@ -46,11 +46,11 @@ join-block-requires c κs =
         (
           pre.1.0.0,
           grouping.edges-order _ _ _ _ _ room inv
-              (grouping.own-order _ _ _ _ pre.0.0 own pre.1.0.1),
+              (grouping.own_order _ _ _ _ pre.0.0 own pre.1.0.1),
         ),
         (
           grouping.edges-firsts _ _ _ _ _ room inv
-              (grouping.own-firsts _ _ _ _ pre.0.0 own pre.1.1),
+              (grouping.own_firsts _ _ _ _ pre.0.0 own pre.1.1),
           inv.forest,
         ),
       ),
@@ -70,7 +70,7 @@ same_length c =
     let at-own-roots = c.before.before.before.before in
     let start = at-own-roots.before.before.before.before in
     c.before.loop.invariant.same
-    ∙ grouping.own-length
+    ∙ grouping.own_length
     start.args.file.now _ _ _
     start.requires.0.0
     (rw lending.lent_is at at-own-roots.own-roots.ensures)
@@ -81,7 +81,7 @@ returns c =
     let start = at-own-roots.before.before.before.before in
     let pre = start.requires in
     let own = (rw lending.lent_is at at-own-roots.own-roots.ensures) in
-    grouping.edges-from _ _ _ _ pre.0.0 own _
+    grouping.edges_from _ _ _ _ pre.0.0 own _
     (grouping.edges_done _ _ _ _ _
     (grouping.own_room
     start.args.file.now _ _ _

@@ -27,7 +27,7 @@ join-key-requires-3 c κs = let pre =
     )
 
 returns : tie.Need-returns
-returns c = joining.exits-none _ _ _ _ _ c.enum_told.given.1
+returns c = joining.exits_none _ _ _ _ _ c.enum_told.given.1
 
 returns-2 : tie.Need-returns-2
 returns-2 c =
@@ -38,7 +38,7 @@ returns-3 : tie.Need-returns-3
 returns-3 c =
     let at-join-key2 = c.before.before.before.before.before.before in
     let at-exits2 = at-join-key2.before.before.before in
-    joining.exits-two _ _ _ _ _ _ _ _ _
+    joining.exits_two _ _ _ _ _ _ _ _ _
     at-exits2.exits2.given.1
     at-join-key2.join-key2.ensures
     c.before.before.join-key3.ensures

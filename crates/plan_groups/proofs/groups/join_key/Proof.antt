@@ -20,7 +20,7 @@ find-target-requires c κs =
 
 returns : tie.Need-returns
 returns c =
-    joining.join-nothing _ _ _ _ _ _ c.before.before.find-target.ensures.1
+    joining.join_nothing _ _ _ _ _ _ c.before.before.find-target.ensures.1
     c.enum_told.given.1
 
 hang-under-requires : tie.Need-hang-under-requires
@@ -45,7 +45,7 @@ returns-2 c =
     let at_j = c.before.before.before.before.before in
     let at-find-target = at_j.before.before in
     let start = at-find-target.before.before.before.before in
-    joining.join-at _ _ _ _ _ _
+    joining.join_at _ _ _ _ _ _
     at-find-target.find-target.ensures.1 _ _
     start.requires.0.0
     at_j.j.given.1

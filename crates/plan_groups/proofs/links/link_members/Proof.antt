@@ -26,7 +26,7 @@ slice-read-i c =
 
 link-one-requires : tie.Need-link-one-requires invariant-loop decreases-loop
 link-one-requires c κs =
-    linking.linking-asks _ _ _ _ c.before.before.loop-test.true
+    linking.linking_asks _ _ _ _ c.before.before.loop-test.true
     c.before.before.before.loop.invariant
 
 loop-again : tie.Need-loop-preserved invariant-loop decreases-loop
@@ -34,7 +34,7 @@ loop-again c =
     let at-loop-test = c.before.before.before.before.before in
     let at_loop = at-loop-test.before in
     rw c.before.before.link-one.ensures
-    (linking.linking-more _ _ _ _ at-loop-test.loop-test.true
+    (linking.linking_more _ _ _ _ at-loop-test.loop-test.true
     at_loop.loop.invariant)
 
 same_length : tie.Need-same-length invariant-loop decreases-loop

@@ -1,7 +1,7 @@
 -- `count_of` gives a block's instruction count: of an accepted file every block is found.
 use Rattle.file_blocks.specs.Read.{record_at}
 use Rattle.file_blocks.specs.declared.read.BlockRecord.{BlockRecord}
-use Rattle.file_blocks.proofs.IsBlock.{missing, found-record}
+use Rattle.file_blocks.proofs.IsBlock.{missing, found_record}
 use mathlib.Core.Path.{sym, ◌∙◌, ap}
 use native.Mathlib.Omega.{arith}
 use borrow.Author.Rules.{rules}
@@ -23,7 +23,7 @@ unfolding record_at
 returns-2 c = (
   search rules,
   ap (λ (r : BlockRecord). r.count)
-      (found-record _ _ _
+      (found_record _ _ _
       (sym c.before.before.before.before.block_at.ensures
       ∙ c.before.before.block.given.1)),
 )

@@ -19,7 +19,7 @@ decreases-loop file work₀ n limit size place₀ group₀ total₀ open₀ r₀
 loop-holds : tie.Need-loop-init invariant-loop decreases-loop
 loop-holds c =
     let pre = c.before.before.requires in
-    ordering.placing-none _ _ _ _ pre.0.0.1 pre.0.0.0 pre.1.0 pre.1.1
+    ordering.placing_none _ _ _ _ pre.0.0.1 pre.0.0.0 pre.1.0 pre.1.1
 
 count-of-requires : tie.Need-count-of-requires invariant-loop decreases-loop
 count-of-requires c κs =
@@ -33,7 +33,7 @@ loop-again c =
     let at-if1 = at-count-of.before in
     let at-loop-test = at-if1.before in
     let at_loop = at-loop-test.before in
-    ordering.placing-next _ _ _ _ _ _ _ _ _ _ _
+    ordering.placing_next _ _ _ _ _ _ _ _ _ _ _
     at_loop.loop.invariant
     at-loop-test.loop-test.true
     at-if1.if1.true _
@@ -47,13 +47,13 @@ same_length c = c.before.before.before.loop.invariant.same
 
 returns : tie.Need-returns invariant-loop decreases-loop
 returns c =
-    ordering.placing-done _ _ _ _ _ _ _ _ _ _ _ c.before.before.before.loop.invariant
+    ordering.placing_done _ _ _ _ _ _ _ _ _ _ _ c.before.before.before.loop.invariant
     c.before.if1.false c.if2.true
 
 loop-again-2 : tie.Need-loop-preserved-2 invariant-loop decreases-loop
 loop-again-2 c =
     rw c.before.close-part.ensures
-    (ordering.placing-component _ _ _ _ _ _ _ _ _ _ _
+    (ordering.placing_component _ _ _ _ _ _ _ _ _ _ _
     c.before.before.before.before.before.loop.invariant c.before.before.before.if1.false
     c.before.before.if2.false)
 
@@ -61,7 +61,7 @@ same-length-2 : tie.Need-same-length-2 invariant-loop decreases-loop
 same-length-2 c = c.before.loop.invariant.same
 
 returns-2 : tie.Need-returns-2 invariant-loop decreases-loop
-returns-2 c = ordering.placing-all _ _ _ _ _ _ _ _ _ _ _ c.before.loop.invariant c.loop-test.false
+returns-2 c = ordering.placing_all _ _ _ _ _ _ _ _ _ _ _ c.before.loop.invariant c.loop-test.false
 
 pub place-blocks-spec : {M : Type 1} → statement M
 place-blocks-spec =

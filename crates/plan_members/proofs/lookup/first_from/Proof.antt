@@ -6,9 +6,9 @@ use native.Mathlib.Omega.{arith}
 use Rattle.plan_members.specs.Members.{group_keys}
 use Rattle.plan_members.specs.GroupRows.{IsGroup}
 use Rattle.plan_members.specs.Lookup.{KeyBetween}
-use Rattle.plan_members.proofs.Among.{keys_sorted, between-all, between-after}
-use Rattle.plan_members.proofs.Among.{between-before}
-use Rattle.plan_members.proofs.RowKeys.{group-size, keys-size, key-inside, row_of}
+use Rattle.plan_members.proofs.Among.{keys_sorted, between_all, between_after}
+use Rattle.plan_members.proofs.Among.{between_before}
+use Rattle.plan_members.proofs.RowKeys.{group_size, keys_size, key_inside, row_of}
 use Rattle.plan_members.proofs.lookup.first_from.Statement.{statement}
 use Rattle.plan_members.proofs.lookup.first_from.Tie as tie
 
@@ -25,7 +25,7 @@ loop-holds : tie.Need-loop-init invariant-loop decreases-loop
 loop-holds c = (
   omega arith,
   omega arith,
-  λ limit g is. between-all _ (omega (arith, keys-size is, group-size is)),
+  λ limit g is. between_all _ (omega (arith, keys_size is, group_size is)),
 )
 
 loop-again : tie.Need-loop-preserved invariant-loop decreases-loop
@@ -36,9 +36,9 @@ loop-again c =
       inv.1,
       λ limit g is.
           let mid = turn.low + (turn.high - turn.low) / 2 in
-          let row = row_of is mid (omega (arith, group-size is)) in
-          between-after (keys_sorted limit _ g) (inv.2 limit g is) mid
-          (key-inside is mid (omega arith))
+          let row = row_of is mid (omega (arith, group_size is)) in
+          between_after (keys_sorted limit _ g) (inv.2 limit g is) mid
+          (key_inside is mid (omega arith))
           (omega (arith, c.before.row-key.ensures _ limit g mid row, c.if1.true)),
     )
 
@@ -50,9 +50,9 @@ loop-again-2 c =
       omega arith,
       λ limit g is.
           let mid = turn.low + (turn.high - turn.low) / 2 in
-          let row = row_of is mid (omega (arith, group-size is)) in
-          between-before (keys_sorted limit _ g) (inv.2 limit g is) mid
-          (key-inside is mid (omega arith))
+          let row = row_of is mid (omega (arith, group_size is)) in
+          between_before (keys_sorted limit _ g) (inv.2 limit g is) mid
+          (key_inside is mid (omega arith))
           (omega (arith, c.before.row-key.ensures _ limit g mid row, c.if1.false)),
     )
 

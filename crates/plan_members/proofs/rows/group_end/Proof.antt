@@ -6,7 +6,7 @@ use mathlib.Core.List.{List}
 use mathlib.Core.Path.{◌≡◌, ap, ◌∙◌}
 use native.Mathlib.Decide.{ℕ_discrete}
 use native.Mathlib.Omega.{arith}
-use Rattle.plan_members.proofs.Places.{end-next}
+use Rattle.plan_members.proofs.Places.{end_next}
 use Rattle.plan_members.proofs.rows.group_end.Statement.{statement}
 use Rattle.plan_members.proofs.rows.group_end.Tie as tie
 
@@ -40,7 +40,7 @@ loop-holds c = (
 returns : tie.Need-returns invariant-loop decreases-loop
 returns c = let inv = c.before.before.before.loop.invariant in (
   (inv.0, inv.1),
-  λ f limit g ready is. end-next ready _ g _ is inv.0 inv.1 inv.3
+  λ f limit g ready is. end_next ready _ g _ is inv.0 inv.1 inv.3
       (λ h. c.if1.true),
 )
 
@@ -60,7 +60,7 @@ loop-again c =
 returns-2 : tie.Need-returns-2 invariant-loop decreases-loop
 returns-2 c = let inv = c.before.loop.invariant in (
   (inv.0, inv.1),
-  λ f limit g ready is. end-next ready _ g _ is inv.0 inv.1 inv.3
+  λ f limit g ready is. end_next ready _ g _ is inv.0 inv.1 inv.3
       (λ h. absurd (omega arith)),
 )
 
