@@ -106,6 +106,20 @@ def answers(path, text):
     }
 
 
+USE = re.compile(r"(?ms)^use ([\w.+'-]+?)\.\{([^}]*)\}")
+
+
+def borrowed(root, text):
+    """The names that a file takes from the library, which stay as they are there."""
+    own = {f"Rattle.{crate}" for crate in os.listdir(os.path.join(root, "crates"))}
+    return {
+        name.split(" as ")[0].strip()
+        for module, names in USE.findall(text)
+        if ".".join(module.split(".")[:2]) not in own
+        for name in names.split(",")
+    }
+
+
 def mapping(root):
     words, lemmas = set(), set()
     for path in files(root, ".antt"):
@@ -168,7 +182,7 @@ def main():
         dashes = antt or bool(re.search(r"(?m)^file: .*\.antt$", text))
         local = LOCAL.get(os.path.relpath(path, root), {})
         to = turned(text, local, set(), set(), True)
-        to = turned(to, new, answers(path, text), aliases, dashes)
+        to = turned(to, new, answers(path, text) | borrowed(root, text), aliases, dashes)
         if to != text:
             with open(path, "w", encoding="utf-8") as f:
                 f.write(to)

@@ -1,4 +1,5 @@
 // The ARMv4T (ARM7TDMI) instruction model of gba-recomp's armv4t crate, by value.
+#![tactic(auto)]
 
 ghost use Rattle.std.specs.Prelude.{◌≡◌, ◌%◌};
 ghost use Rattle.armv4t.specs.AluOp.{alu_op_of, is_compare};
@@ -23,7 +24,7 @@ pub fn is_listed(rlist: u16, r: Reg) -> bool
 }
 
 // Condition codes, in encoding order. Nv (0b1111) is never valid on ARMv4.
-#[derive(Drop)]
+#[derive(Clone, Copy)]
 pub enum Cond {
     Eq,
     Ne,
@@ -82,7 +83,7 @@ impl Cond {
 }
 
 // Data-processing operations, in ARM encoding order (bits 24-21).
-#[derive(Drop)]
+#[derive(Clone, Copy)]
 pub enum AluOp {
     And,
     Eor,
@@ -141,7 +142,7 @@ impl AluOp {
 }
 
 // Kinds of shift, in encoding order.
-#[derive(Drop)]
+#[derive(Clone, Copy)]
 pub enum ShiftKind {
     Lsl,
     Lsr,
@@ -167,7 +168,7 @@ impl ShiftKind {
 
 // A shift applied to a register operand, as encoded: Lsr and Asr with amount 0 mean a shift by 32,
 // Ror with amount 0 means RRX.
-#[derive(Drop)]
+#[derive(Clone, Copy)]
 pub enum Shift {
     Imm { kind: ShiftKind, amount: u8 },
     Reg { kind: ShiftKind, rs: Reg },
@@ -182,7 +183,7 @@ impl Shift {
 }
 
 // Second operand of a data-processing instruction.
-#[derive(Drop)]
+#[derive(Clone, Copy)]
 pub enum Operand2 {
     // A value, already rotated. `ror` is the rotate amount (0, 2, .., 30); where it is not 0 the
     // shifter's carry is bit 31 of `value`.
@@ -210,7 +211,7 @@ impl Operand2 {
 }
 
 // Width of a single load or store.
-#[derive(Drop)]
+#[derive(Clone, Copy)]
 pub enum MemWidth {
     Byte,
     Half,
@@ -218,14 +219,14 @@ pub enum MemWidth {
 }
 
 // Offset of a single load or store.
-#[derive(Drop)]
+#[derive(Clone, Copy)]
 pub enum MemOffset {
     Imm(u16),
     Reg { rm: Reg, shift: Shift },
 }
 
 // The operation, shared between ARM and Thumb encodings.
-#[derive(Drop)]
+#[derive(Clone, Copy)]
 pub enum Op {
     // Data processing. For compares `rd` is meaningless, for Mov and Mvn `rn` is.
     Alu {
@@ -328,7 +329,7 @@ pub enum Op {
 }
 
 // A decoded instruction: address, condition, operation, and whether its encoding is Thumb.
-#[derive(Drop)]
+#[derive(Clone, Copy)]
 pub struct Instr {
     pub addr: u32,
     pub cond: Cond,
@@ -382,7 +383,7 @@ pub fn set_bit0(x: u32) -> u32
 }
 
 // What the two halves of a Thumb BL make together.
-#[derive(Drop)]
+#[derive(Clone, Copy)]
 pub enum Fused {
     // Where it goes, and the return address with the Thumb bit.
     Pair { target: u32, ret: u32 },

@@ -6,7 +6,7 @@ use native.Mathlib.Nat.{mul_comm, mod-lt, mod-eq_of_lt, add-zero, add-mod-mod, a
 use native.Mathlib.Omega.{arith}
 use mathlib.Core.Path.{◌≡◌, refl, sym, ap, ap₂, fun_ext, ◌∙◌, subst}
 use mathlib.Core.Bool.{Bool, true, false, not, cond, ◌&&◌, beq}
-use mathlib.Core.List.{List, [], ◌∷◌, ◌++◌, append_nil}
+use mathlib.Core.List.{List, [], ◌∷◌, ◌++◌, append-nil}
 use mathlib.Core.Option.{Option, some}
 use lib.Dec.{T, eqb, eqb→eq, leb, leb→le, lit<, lit≤}
 use lib.ListN.{length, length-append}
@@ -283,26 +283,26 @@ listed_16 x list k p q =
 -- a list of Thumb's: of LDMIA and STMIA, and of PUSH and POP with and without R
 
 plain_15 : (list : ℕ) → list < 256 → listed list 15 ≡ listed list 8
-plain_15 list h = listed_15 list list 0 (omega arith) (omega arith) ∙ simp append_nil
+plain_15 list h = listed_15 list list 0 (omega arith) (omega arith) ∙ simp append-nil
 
 plain_16 : (list : ℕ) → list < 256 → listed list 16 ≡ listed list 8
-plain_16 list h = listed_16 list list 0 (omega arith) (omega arith) ∙ simp append_nil
+plain_16 list h = listed_16 list list 0 (omega arith) (omega arith) ∙ simp append-nil
 
 pushed : (list : ℕ) (r : Bool) → list < 256
     → listed (list + one_if r * 2 ^ 14) 16 ≡ listed list 8 ++ cond r (14 ∷ []) []
-pushed list false h = listed_16 (list + 0) list 0 (omega arith) (omega arith) ∙ simp append_nil
-pushed list true h = listed_16 (list + 16384) list 64 (omega arith) (omega arith) ∙ simp append_nil
+pushed list false h = listed_16 (list + 0) list 0 (omega arith) (omega arith) ∙ simp append-nil
+pushed list true h = listed_16 (list + 16384) list 64 (omega arith) (omega arith) ∙ simp append-nil
 
 popped_15 : (list : ℕ) (r : Bool) → list < 256 → listed (list + one_if r * 2 ^ 15) 15 ≡ listed list 8
-popped_15 list false h = listed_15 (list + 0) list 0 (omega arith) (omega arith) ∙ simp append_nil
+popped_15 list false h = listed_15 (list + 0) list 0 (omega arith) (omega arith) ∙ simp append-nil
 popped_15 list true h =
-    listed_15 (list + 32768) list 128 (omega arith) (omega arith) ∙ simp append_nil
+    listed_15 (list + 32768) list 128 (omega arith) (omega arith) ∙ simp append-nil
 
 popped_16 : (list : ℕ) (r : Bool) → list < 256
     → listed (list + one_if r * 2 ^ 15) 16 ≡ listed list 8 ++ cond r (15 ∷ []) []
-popped_16 list false h = listed_16 (list + 0) list 0 (omega arith) (omega arith) ∙ simp append_nil
+popped_16 list false h = listed_16 (list + 0) list 0 (omega arith) (omega arith) ∙ simp append-nil
 popped_16 list true h =
-    listed_16 (list + 32768) list 128 (omega arith) (omega arith) ∙ simp append_nil
+    listed_16 (list + 32768) list 128 (omega arith) (omega arith) ∙ simp append-nil
 
 listed_below : (x n : ℕ) → Each (λ i. i < n) (listed x n)
 unfolding listed

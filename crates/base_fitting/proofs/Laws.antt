@@ -3,7 +3,7 @@
 use Prim.Native.Nat.{ℕ, zero, suc, ◌+◌, ◌-◌, ◌≤◌, ◌<◌}
 use mathlib.Core.Path.{◌≡◌, refl, sym, ap, ap₂, ◌∙◌, subst}
 use mathlib.Core.Bool.{Bool, true, false, cond}
-use mathlib.Core.List.{List, [], ◌∷◌, ◌++◌, append_assoc, append_nil, cons≢nil}
+use mathlib.Core.List.{List, [], ◌∷◌, ◌++◌, append_assoc, append-nil, cons≢nil}
 use native.Mathlib.Omega.{arith}
 use native.Mathlib.Decide.{dec_lt}
 use borrow.Author.Tests.{lt-ltb, le-ltb}
@@ -82,7 +82,7 @@ module _ {X : Type 0} (size : X → ℕ) (room places : ℕ) (all : List X) wher
         ∙ ap (λ (p : ℕ). made ++ fitting size (room - total size made) p rest)
         (let over : places - length made ≡ 0 = omega arith in over)
         ∙ ap (λ (xs : List X). made ++ xs) (no_places _ rest)
-        ∙ append_nil made
+        ∙ append-nil made
 
     -- the next does not fit
     pub fit_over : {x : X} {rest : List X} → FitSoFar size room places all made (x ∷ rest)
@@ -93,14 +93,14 @@ module _ {X : Type 0} (size : X → ℕ) (room places : ℕ) (all : List X) wher
               ∙ ap (λ (p : ℕ). made ++ fitting size (room - total size made) p (x ∷ rest))
               (let one : places - length made ≡ suc (places - suc (length made)) = omega arith in one)
               ∙ ap (λ (xs : List X). made ++ xs) (first_over _ _ x rest over)
-              ∙ append_nil made
+              ∙ append-nil made
           | no d ↦ fit_full so (omega arith)
         ]
 
     -- no piece is left
     pub fit_all : FitSoFar size room places all made [] → fitting size room places all ≡ made
     unfolding fitting
-    fit_all so = so.same ∙ append_nil made
+    fit_all so = so.same ∙ append-nil made
 
 -- what fits has room, and a place each
 pub fit_room : {X : Type 0} (size : X → ℕ) (room places : ℕ) (xs : List X)

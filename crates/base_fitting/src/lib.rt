@@ -1,1 +1,2 @@
 // Which of some pieces fit what is lent: a definition and its laws only.
+#![tactic(auto)]

@@ -1,5 +1,7 @@
 // Parents in lent numbers: element i is the parent of i, and a number that is its own parent is a
 // root.
+#![tactic(auto)]
+
 ghost use Rattle.std.specs.Prelude.{◌*◌, ◌≤◌, ◌<◌, ◌^◌, ◌≡◌, length, set};
 ghost use Rattle.base_forest.specs.Forest.{Forest, RootFound, Hung};
 ghost use Rattle.base_lists.specs.Lists.{range};

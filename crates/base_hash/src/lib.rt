@@ -1,4 +1,6 @@
 // The hash of a part of a file: `fnv64`.
+#![tactic(auto)]
+
 ghost use Rattle.std.specs.Prelude.{◌≡◌, ◌*◌, ◌%◌, ◌^◌};
 ghost use Rattle.base_hash.specs.Fnv.{fnv64};
 

@@ -18,6 +18,7 @@ member_at (x ∷ xs) (suc i) d h = Memᴰ.tail (member_at xs i d (le_of_suc-le-s
 -- what is in the list stands at a place
 pub place_of : {A : Type 0} (xs : List A) (d a : A) → Memᴰ a xs
     → (i : ℕ) × (i < length xs) × (get_or xs i d ≡ a)
+place_of {A = A} [] d a x' = elim x' [ ]
 place_of (x ∷ xs) d a (Memᴰ.head e) = (0, omega arith, sym e)
 place_of (x ∷ xs) d a (Memᴰ.tail m) =
     let r = place_of xs d a m in (suc r.0, suc-le-suc r.1, r.2)

@@ -14,6 +14,7 @@ length_range (suc n) i = ap suc (length_range n (suc i))
 
 -- number k of those from i on
 pub range_at : (n i k : ℕ) → k < n → get_or (range n i) k 0 ≡ i + k
+range_at zero i k h = absurd (omega arith)
 range_at (suc n) i zero h = omega arith
 range_at (suc n) i (suc k) h = range_at n (suc i) k (omega arith) ∙ omega arith
 

@@ -1,1 +1,2 @@
 // Lists, options and Boolean values: definitions and laws only.
+#![tactic(auto)]

@@ -3,7 +3,7 @@ use mathlib.Core.Path.{◌≡◌, refl, sym, ap, ◌∙◌}
 use Prim.Native.Nat.{ℕ, ◌+◌, ◌≤◌, ◌<◌, min}
 use native.Mathlib.Omega.{arith}
 use native.Mathlib.Numerals.{add-one}
-use mathlib.Core.List.{List, [], ◌∷◌, ◌++◌, append_nil, append_assoc}
+use mathlib.Core.List.{List, [], ◌∷◌, ◌++◌, append-nil, append_assoc}
 use lib.ListN.{length, take, drop, get_or, length-append}
 use lib.Seq.{take-suc, take_all}
 use Rattle.base_text.specs.Doc.{Doc, nothing, raw, text, dec, hex, hex8, hex16, ◌▸◌, print}
@@ -54,7 +54,7 @@ flat_print (a ▸ b) k = ap (flat a) (flat_print b k) ∙ flat_print a (print b 
 -- docs of the same bytes
 pub same_bytes : (d e : Doc) → flat d [] ≡ flat e [] → print d ≡ print e
 same_bytes d e p =
-    sym (append_nil (print d)) ∙ sym (flat_print d []) ∙ p ∙ flat_print e [] ∙ append_nil (print e)
+    sym (append-nil (print d)) ∙ sym (flat_print d []) ∙ p ∙ flat_print e [] ∙ append-nil (print e)
 
 -- the same bytes, put together otherwise: `wrote_as w refl`
 pub wrote_as : {o o' : List ℕ} {at r : ℕ} {d e : Doc} → Wrote o at d o' r → flat d [] ≡ flat e []

@@ -5,7 +5,7 @@ use Prim.Native.Nat.{ℕ, suc, ◌+◌, ◌-◌, ◌^◌, ◌≤◌, ◌<◌, mi
 use native.Mathlib.Nat.{zero-add}
 use native.Mathlib.Omega.{arith}
 use native.Mathlib.Numerals.{add-one}
-use mathlib.Core.List.{List, ◌++◌, append_nil}
+use mathlib.Core.List.{List, ◌++◌, append-nil}
 use lib.ListN.{length, take, drop, set, get_or, length-drop, drop_of_length-le}
 use lib.Dec.{lit<}
 use lib.Seq.{take_all}
@@ -74,7 +74,7 @@ lent {o} {part'} {at} {from} {n} {r} {d} h e w q =
     let l : length (drop from o) ≤ length o - from = omega (arith, length-drop from o) in
     record {
       bytes =
-          rw (drop_of_length-le (drop from o) l, append_nil)
+          rw (drop_of_length-le (drop from o) l, append-nil)
           (ap (λ (s : List ℕ). take from o ++ s)
           (w.bytes
           ∙ ap (λ (s : List ℕ). overlay s 0 (print d))

@@ -83,7 +83,7 @@ pub fn decimal_length(n: u64) -> usize
 }
 
 // How often a power of ten has been subtracted from a number, and what is left of it.
-#[derive(Drop)]
+#[derive(Clone, Copy)]
 pub struct Digit {
     pub digit: u64,
     pub rest: u64,

@@ -1,5 +1,7 @@
 // Text put piece by piece into a lent buffer. What does not fit is dropped and still counted, so
 // that an empty buffer measures.
+#![tactic(auto)]
+
 mod digits;
 
 ghost use Rattle.std.specs.Prelude.{◌≡◌, ◌+◌, ◌-◌, ◌/◌, ◌%◌, ◌^◌, ◌≤◌, ◌<◌, min, length, set};

@@ -1,1 +1,2 @@
 // Operations on the bits of numbers: definitions only.
+#![tactic(auto)]

@@ -1,1 +1,2 @@
 // The C that emit.rs prints, as a tree: definitions only.
+#![tactic(auto)]

@@ -1,11 +1,13 @@
 // The answers of the calls for a unit, apart from how the unit is measured and written: by what is
 // found of it, and as the numbers that are handed over.
+#![tactic(auto)]
+
 ghost use Rattle.std.specs.Prelude.{◌≡◌, ◌∷◌, []};
 ghost use Rattle.call_answers.specs.Values.{told_of, same_values};
 ghost use Rattle.call_answers.specs.Answers.{answer_in, measure_numbers_of, write_numbers_of};
 
 // What measuring tells of a unit, and writing it takes back.
-#[derive(Drop)]
+#[derive(Clone, Copy)]
 pub struct Told {
     // The unit's number.
     pub unit: u64,
@@ -18,7 +20,7 @@ pub struct Told {
 }
 
 // The answer of the call that measures a unit.
-#[derive(Drop)]
+#[derive(Clone, Copy)]
 pub enum MeasureAnswer {
     Told(Told),
     // The number of the refusal, and i or 0.
@@ -26,7 +28,7 @@ pub enum MeasureAnswer {
 }
 
 // The answer of the call that writes a unit.
-#[derive(Drop)]
+#[derive(Clone, Copy)]
 pub enum WriteAnswer {
     Written,
     // The number of the refusal, and i or 0.

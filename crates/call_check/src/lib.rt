@@ -1,4 +1,6 @@
 // The public call for the check of a file.
+#![tactic(auto)]
+
 ghost use Rattle.std.specs.Prelude.{◌≡◌, ◌∷◌, []};
 ghost use Rattle.file_blocks.specs.Parse.{parse};
 ghost use Rattle.call_check.specs.Calls.{check_call, check_numbers};

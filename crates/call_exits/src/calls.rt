@@ -9,7 +9,7 @@ use call_frame::{Early, Opened, open_file};
 use plan_exits::{Exits, FoundExits, block_exits};
 
 // The answer of the call for the exits of a block.
-#[derive(Drop)]
+#[derive(Clone, Copy)]
 pub enum ExitsAnswer {
     Exits(Exits),
     // The number of the refusal, and i or 0.

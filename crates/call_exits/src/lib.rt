@@ -1,4 +1,6 @@
 // The public call for the exits of a block.
+#![tactic(auto)]
+
 mod calls;
 
 pub use calls::{ExitsAnswer, exits_numbers, exits_of};

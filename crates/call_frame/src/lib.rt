@@ -1,4 +1,6 @@
 // What all public calls share: a file is opened, and work numbers are cleared.
+#![tactic(auto)]
+
 mod open;
 mod work;
 

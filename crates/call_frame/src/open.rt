@@ -5,14 +5,14 @@ ghost use Rattle.call_frame.specs.Open.{early_of, IsOpened};
 use file_blocks::{Checked, check};
 
 // The refusal in what else a call is given, if there is one.
-#[derive(Drop)]
+#[derive(Clone, Copy)]
 pub enum Early {
     Refused { number: u32, at: u64 },
     Nothing,
 }
 
 // What opening a file tells.
-#[derive(Drop)]
+#[derive(Clone, Copy)]
 pub enum Opened {
     // How many blocks and instructions the file has.
     Blocks { blocks: u32, instructions: u64 },

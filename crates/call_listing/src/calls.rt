@@ -14,7 +14,7 @@ use plan_groups::group_blocks;
 use plan_members::put_groups;
 
 // The answer of the call for the listing.
-#[derive(Drop)]
+#[derive(Clone, Copy)]
 pub enum ListingAnswer {
     // How many bytes the text has.
     Length(u64),

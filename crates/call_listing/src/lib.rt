@@ -1,4 +1,6 @@
 // The public call for the listing.
+#![tactic(auto)]
+
 mod calls;
 mod lines;
 

@@ -7,7 +7,7 @@ use mathlib.Core.List.{List, [], ◌∷◌, ◌++◌, map, flatten, Memᴰ}
 use native.Mathlib.Omega.{arith}
 use lib.ListN.{length, get_or, take, drop, length-take, length-drop, take-append-drop}
 use lib.ListN.{drop_of_length-le}
-use lib.Seq.{get_or-take, get_or-drop, drop-drop, drop_nil}
+use lib.Seq.{get_or-take, get_or-drop, drop-drop, drop-nil}
 use Rattle.base_lists.specs.Lists.{range}
 use Rattle.file_blocks.specs.Parse.{Block, blocks_of}
 use Rattle.plan_groups.specs.Plan.{plan}
@@ -64,7 +64,7 @@ drop_pages zero m k rows enough =
     (let same : k ≡ k + 0 = omega arith in same)
 drop_pages (suc j) m k [] enough =
     ap (drop (suc j)) (pages_none m k) ∙ sym (pages_none (m - suc j) (k + suc j))
-    ∙ ap (pages_from (m - suc j) (k + suc j)) (sym (drop_nil (per_page * suc j)))
+    ∙ ap (pages_from (m - suc j) (k + suc j)) (sym (drop-nil (per_page * suc j)))
 drop_pages (suc j) zero k (r ∷ rows) enough = absurd (omega arith)
 drop_pages (suc j) (suc m) k (r ∷ rows) enough =
     drop_pages j m (suc k) (drop per_page (r ∷ rows))

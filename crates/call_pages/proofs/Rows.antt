@@ -8,7 +8,7 @@ use mathlib.Core.Logic.{◌⊎◌, inl, inr}
 use native.Mathlib.Nat.{le_of_suc-le-suc}
 use native.Mathlib.Omega.{arith}
 use native.Mathlib.Decide.{dec_lt}
-use lib.ListN.{length, get_or, take, drop, length-append, length-drop, length_map}
+use lib.ListN.{length, get_or, take, drop, length-append, length-drop, length-map}
 use lib.Seq.{length-take-le, get_or-take, get_or-drop}
 use Rattle.base_lists.specs.Interleave.{interleave}
 use Rattle.base_lists.specs.Lists.{count}
@@ -128,7 +128,7 @@ module _ (limit : ℕ) (bs : List Block) where
 
   -- one row for each block
   pub rows_all : length (rows_of (plan limit bs)) ≡ length bs
-  rows_all = sym (length_map rows block_in) ∙ ap length rows_blocks ∙ groups_length bs limit
+  rows_all = sym (length-map rows block_in) ∙ ap length rows_blocks ∙ groups_length bs limit
 
   pub rows_once : (i : ℕ) → i < length bs → count i (map block_in (rows_of (plan limit bs))) ≡ 1
   rows_once i h = ap (count i) rows_blocks ∙ groups_once limit bs i h

@@ -1,4 +1,6 @@
 // The public calls for one page of the plan and for the pages from a given one on.
+#![tactic(auto)]
+
 mod lines;
 mod page;
 mod pages;

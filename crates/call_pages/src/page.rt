@@ -14,7 +14,7 @@ use call_frame::{Early, Opened, clear, open_file};
 use plan_members::prepare;
 
 // The answer of the call for one page.
-#[derive(Drop)]
+#[derive(Clone, Copy)]
 pub enum PageAnswer {
     // How many bytes the text has.
     Length(u64),

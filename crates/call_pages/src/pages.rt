@@ -15,7 +15,7 @@ use call_frame::{Early, Opened, clear, open_file};
 use plan_members::prepare;
 
 // The answer of the call for pages.
-#[derive(Drop)]
+#[derive(Clone, Copy)]
 pub enum PagesAnswer {
     // How many pages are written, and how many bytes their texts have.
     Pages { count: u64, length: u64 },

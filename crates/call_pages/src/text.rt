@@ -16,7 +16,7 @@ const PER_PAGE: usize = 60;
 const LINE: usize = 65;
 
 // Where a page begins.
-#[derive(Drop)]
+#[derive(Clone, Copy)]
 pub(crate) enum FoundPage {
     // The row of its first line.
     Row(usize),
@@ -25,7 +25,7 @@ pub(crate) enum FoundPage {
 }
 
 // Some pages: how many they are, and the bytes of their texts in all.
-#[derive(Drop)]
+#[derive(Clone, Copy)]
 pub(crate) struct Front {
     pub count: usize,
     pub length: usize,

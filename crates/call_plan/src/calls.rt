@@ -10,7 +10,7 @@ use call_frame::{Early, Opened, clear, open_file};
 use plan_groups::group_blocks;
 
 // The answer of the call for the plan.
-#[derive(Drop)]
+#[derive(Clone, Copy)]
 pub enum PlanAnswer {
     // How many blocks the file has; the plan has two numbers for each.
     Blocks(u64),

@@ -1,4 +1,6 @@
 // The public call for the plan.
+#![tactic(auto)]
+
 mod calls;
 mod rows;
 

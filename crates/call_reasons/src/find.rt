@@ -7,7 +7,7 @@ ghost use Rattle.call_reasons.specs.Steps.{IsFoundPlace};
 use file_blocks::{FoundBlock, block_at};
 
 // Where an instruction stands.
-#[derive(Drop)]
+#[derive(Clone, Copy)]
 pub(crate) enum FoundPlace {
     // The number of its block, and that of the block's first instruction.
     At { block: usize, first: usize },

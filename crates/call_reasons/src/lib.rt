@@ -1,4 +1,6 @@
 // The public calls for the sentence of one instruction, and for all from an instruction on.
+#![tactic(auto)]
+
 mod find;
 mod lines;
 mod reason;

@@ -14,7 +14,7 @@ use emit_sentences::{Sentence, put_said};
 use file_blocks::{FoundBlock, block_at};
 
 // The answer of the call for one sentence.
-#[derive(Drop)]
+#[derive(Clone, Copy)]
 pub enum ReasonAnswer {
     // How many bytes the sentence has; 0 where there is none.
     Length(u64),
@@ -23,7 +23,7 @@ pub enum ReasonAnswer {
 }
 
 // What is said of instruction k.
-#[derive(Drop)]
+#[derive(Clone, Copy)]
 pub(crate) enum FoundSaid {
     At(Sentence),
     // There is no such instruction.

@@ -12,7 +12,7 @@ use crate::lines::put_lines;
 use call_frame::{Early, Opened, open_file};
 
 // The answer of the call for sentences.
-#[derive(Drop)]
+#[derive(Clone, Copy)]
 pub enum ReasonsAnswer {
     // The first instruction whose line was not written, or how many there are where none is left;
     // and how many bytes the lines have.

@@ -1,4 +1,6 @@
 // The public calls for a unit: one measures it, one writes it by what was measured.
+#![tactic(auto)]
+
 mod measure;
 mod write;
 

@@ -6,7 +6,7 @@ use mathlib.Core.Bool.{Bool, true, false, cond, ◌||◌}
 use mathlib.Core.List.{List, [], ◌∷◌, ◌++◌, map, flatten}
 use native.Mathlib.Omega.{arith}
 use borrow.Author.Tests.{ltb-false, lt-ltb, le-ltb}
-use lib.ListN.{length, drop, length_map}
+use lib.ListN.{length, drop, length-map}
 use mir.Val.{bool_byte}
 use Rattle.base_fitting.specs.Fitting.{fitting}
 use Rattle.base_fitting.specs.Steps.{total}
@@ -146,7 +146,7 @@ module _ (asked : Asked) (f text lengths : List ℕ) where
           (le-ltb (length lengths) (length (map unit_length put.made))
           (omega (
             arith,
-            length_map put.made unit_length,
+            length-map put.made unit_length,
             ap length put.fits,
             fit_places unit_length (length text) (length lengths) asks,
           ))))
@@ -211,7 +211,7 @@ module _ (asked : Asked) (f lengths : List ℕ) where
         ∙ ap made_lengths (sym m.is)) work lengths _ lengths' values
         (omega (
           arith,
-          length_map put.made unit_length,
+          length-map put.made unit_length,
           ap length put.fits,
           fit_places (λ (u : TranslationUnit). 0) 0 (length lengths) from,
         )) put.sizes.same

@@ -14,7 +14,7 @@ use emit_units::{FoundStart, find_start, put_lengths};
 use plan_members::prepare;
 
 // The answer of the call for lengths.
-#[derive(Drop)]
+#[derive(Clone, Copy)]
 pub enum LengthsAnswer {
     // How many lengths there are, how many blocks are done with the last of their units, and
     // whether it is the last of the file.

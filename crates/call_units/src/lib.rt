@@ -1,4 +1,6 @@
 // The public calls for the units from a given one on, and for their lengths.
+#![tactic(auto)]
+
 mod lengths;
 mod units;
 

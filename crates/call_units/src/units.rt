@@ -16,7 +16,7 @@ use plan_members::prepare;
 
 // Which units are asked for: the limit by which the blocks are grouped, the wished size, and the
 // number of the first.
-#[derive(Drop)]
+#[derive(Clone, Copy)]
 pub struct Asked {
     pub limit: u64,
     pub max: u64,
@@ -24,7 +24,7 @@ pub struct Asked {
 }
 
 // The answer of the call for units.
-#[derive(Drop)]
+#[derive(Clone, Copy)]
 pub enum UnitsAnswer {
     // How many units there are, how many bytes their texts have, how many blocks are done with the
     // last of them, and whether it is the last of the file.

@@ -1,5 +1,7 @@
 // The section of the decimal printer: numbers, each with an index and how much to lend, and what
 // the printer must answer and leave in what it was lent.
+#![tactic(auto)]
+
 ghost use Rattle.std.specs.Prelude.{◌≡◌, ◌∷◌, [], ◌≤◌};
 ghost use Rattle.case_lent.specs.Left.{same_left};
 ghost use Rattle.case_decimal.specs.DecimalCases.{prints_over, printer_leaves};
@@ -10,7 +12,7 @@ use case_io::{compare, input, report, verdict};
 use case_lent::{TEXT, no_text, same_text, whole};
 
 // What a vector asks for, and how much it lends.
-#[derive(Drop)]
+#[derive(Clone, Copy)]
 struct Asked {
     // The number to print.
     number: u64,

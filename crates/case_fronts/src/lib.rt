@@ -1,10 +1,12 @@
 // The sections of the units from one on and of their lengths: block files, each with what is asked
 // for and how much to lend, and what the call must answer and leave in what it was lent.
+#![tactic(auto)]
+
 pub mod lengths_cases;
 pub mod units_cases;
 
 // What a vector asks for, and how much it lends.
-#[derive(Drop)]
+#[derive(Clone, Copy)]
 pub(crate) struct Asked {
     // The wished bytes of a unit.
     size: u64,

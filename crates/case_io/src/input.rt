@@ -6,14 +6,14 @@ ghost use Rattle.case_io.specs.Input.{Within};
 use libc::STDIN_FILENO;
 
 // The next number, of 32 bits, or that the input ends before its last byte.
-#[derive(Drop)]
+#[derive(Clone, Copy)]
 pub enum Read {
     Number(u64),
     Ended,
 }
 
 // What a buffer was filled with.
-#[derive(Drop)]
+#[derive(Clone, Copy)]
 pub enum Filled {
     // A file, which takes so many bytes from the start.
     To(usize),

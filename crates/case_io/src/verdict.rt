@@ -2,7 +2,7 @@
 use crate::report;
 
 // The sections, in the order in which they stand in the input.
-#[derive(Drop)]
+#[derive(Clone, Copy)]
 pub enum Section {
     Check,
     Exits,
@@ -19,7 +19,7 @@ pub enum Section {
 }
 
 // What became of a vector.
-#[derive(Drop)]
+#[derive(Clone, Copy)]
 pub enum Verdict {
     Right,
     Wrong,

@@ -1,5 +1,7 @@
 // What vectors lend: numbers and bytes that no call writes, of which each vector lends a front, and
 // the comparison of what stands in all of them afterwards.
+#![tactic(auto)]
+
 ghost use Rattle.std.specs.Prelude.{◌≡◌, length};
 ghost use Rattle.case_io.specs.Same.{same_numbers};
 

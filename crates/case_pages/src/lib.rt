@@ -1,5 +1,7 @@
 // The sections of one page of the plan and of the pages from one on: block files, each with the
 // page asked for and how much to lend, and what the call must answer and leave in what it was lent.
+#![tactic(auto)]
+
 ghost use Rattle.std.specs.Prelude.{◌≡◌, ◌∷◌, [], ◌≤◌};
 ghost use Rattle.file_blocks.specs.Parse.{parse};
 ghost use Rattle.case_lent.specs.Left.{same_left};
@@ -13,7 +15,7 @@ use case_lent::{LONGEST, TEXT, WORK, no_text, same_text, same_work, whole, work_
 use plan_groups::PART_LIMIT;
 
 // What a vector asks for, and how much it lends.
-#[derive(Drop)]
+#[derive(Clone, Copy)]
 struct Asked {
     // Whether the pages from one on are asked for, and not one alone.
     many: bool,

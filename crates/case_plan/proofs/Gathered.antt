@@ -3,7 +3,7 @@
 use Prim.Native.Nat.{ℕ, ◌+◌, ◌≤◌}
 use native.Mathlib.Omega.{arith}
 use mathlib.Core.Path.{◌≡◌, refl, sym, ap, ap₂, ◌∙◌}
-use mathlib.Core.List.{List, [], ◌∷◌, ◌++◌, append_nil}
+use mathlib.Core.List.{List, [], ◌∷◌, ◌++◌, append-nil}
 use lib.ListN.{length, take, drop, set, get_or}
 use lib.Seq.{take-length, drop-length, sets-eq, length-sets, paste, length-paste, take-paste}
 use Rattle.call_frame.specs.Answer.{Answer, refusal, value}
@@ -18,7 +18,7 @@ ends : (front g w : List ℕ) (at : ℕ) → take at g ≡ front → length g �
 ends front g w at t l =
     let rest : drop (at + length w) g ≡ [] = ap (λ (k : ℕ). drop k g) (sym l) ∙ drop-length g in
     ap₂ (λ (x y : List ℕ). x ++ y) (ap₂ (λ (x y : List ℕ). x ++ y) t (take-length w)) rest
-    ∙ append_nil (front ++ w)
+    ∙ append-nil (front ++ w)
 
 module _ (a b c : ℕ) (g w r : List ℕ) (long : length g ≡ 3 + (length w + length r)) where
   abbrev stored : List ℕ

@@ -1,5 +1,7 @@
 // The section of the plan: block files, each with how many numbers to lend, and the numbers that
 // the call for its plan must answer and leave in what it was lent.
+#![tactic(auto)]
+
 ghost use Rattle.std.specs.Prelude.{◌≡◌, ◌∷◌, [], ◌+◌, ◌≤◌, length};
 ghost use Rattle.std.proofs.Math.Seq.{paste};
 ghost use Rattle.file_blocks.specs.Parse.{parse};

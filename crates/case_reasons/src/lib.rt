@@ -1,6 +1,8 @@
 // The sections of the sentence of one instruction and of those from one on: block files, each with
 // the instruction asked for and how much to lend, and what the call must answer and leave in what
 // it was lent.
+#![tactic(auto)]
+
 ghost use Rattle.std.specs.Prelude.{◌≡◌, ◌∷◌, [], ◌≤◌};
 ghost use Rattle.file_blocks.specs.Parse.{parse};
 ghost use Rattle.case_lent.specs.Left.{same_left};
@@ -13,7 +15,7 @@ use case_io::{compare, input, report, verdict};
 use case_lent::{LONGEST, TEXT, no_text, same_text, whole};
 
 // What a vector asks for, and how much it lends.
-#[derive(Drop)]
+#[derive(Clone, Copy)]
 struct Asked {
     // Whether the sentences from an instruction on are asked for, and not one alone.
     many: bool,

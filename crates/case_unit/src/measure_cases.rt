@@ -13,7 +13,7 @@ use case_lent::{LONGEST, WORK, same_work, whole, work_numbers};
 use plan_groups::PART_LIMIT;
 
 // What a vector asks for, and how much it lends.
-#[derive(Drop)]
+#[derive(Clone, Copy)]
 struct Asked {
     // The wished bytes of a unit.
     size: u64,

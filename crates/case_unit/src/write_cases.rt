@@ -15,7 +15,7 @@ use case_lent::{LONGEST, TEXT, WORK, no_text, same_text, same_work, whole, work_
 use plan_groups::PART_LIMIT;
 
 // What a vector asks for, and how much it lends.
-#[derive(Drop)]
+#[derive(Clone, Copy)]
 struct Asked {
     // The wished bytes of a unit.
     size: u64,

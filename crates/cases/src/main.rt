@@ -1,4 +1,6 @@
 // Replays the stored vectors of standard input, section by section, and prints what differs.
+#![tactic(auto)]
+
 mod sections;
 
 use case_io::verdict::Section;

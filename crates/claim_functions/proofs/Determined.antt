@@ -2,7 +2,7 @@
 use Prim.Native.Nat.{ℕ}
 use mathlib.Core.Path.{◌≡◌, refl, sym, ap, ◌∙◌, subst}
 use mathlib.Core.Bool.{Bool, true, cond, beq, true≢false}
-use mathlib.Core.List.{List, [], ◌∷◌, ◌++◌, append_nil, append_assoc, Memᴰ}
+use mathlib.Core.List.{List, [], ◌∷◌, ◌++◌, append-nil, append_assoc, Memᴰ}
 use mathlib.Core.Option.{Option, none, some}
 use Rattle.c_tree.specs.Expr.{Expr}
 use Rattle.c_tree.specs.Stmt.{Test, Owner, common, Simple, ret_if, Code, ◌⨾◌, when, group, Top}
@@ -51,8 +51,8 @@ itself xs es =
     record {
       later_answers = [];
       later_events = [];
-      answers = sym (append_nil xs);
-      events = sym (append_nil es);
+      answers = sym (append-nil xs);
+      events = sym (append-nil es);
     }
 
 -- the same before both

@@ -8,7 +8,7 @@ use mathlib.Core.Option.{none, some}
 use native.Mathlib.Nat.{le_of_suc-le-suc, not-suc-le-zero, mod-eq_of_lt}
 use native.Mathlib.Omega.{arith}
 use lib.Dec.{T}
-use lib.ListN.{length, get_or, get_elem?, length_map, length-append}
+use lib.ListN.{length, get_or, get_elem?, length-map, length-append}
 use Rattle.file_instrs.specs.declared.decode.TimedInstr.{TimedInstr}
 use Rattle.file_blocks.specs.Parse.{Block, Parsed, parse, block_key}
 use Rattle.file_blocks.specs.Address.{region}
@@ -149,7 +149,7 @@ module _ (multiplier limit max : ℕ) (f : List ℕ) (bs : List Block)
       in
       let short : length g ≤ length bs =
       omega (arith, length_within g (groups limit bs) among, groups_length bs limit) in
-      let long : length (map body_key (of_group g)) ≡ length g = simp length_map in
+      let long : length (map body_key (of_group g)) ≡ length g = simp length-map in
       ap (λ (j : ℕ). some j)
       (mod-eq_of_lt (omega (arith, below_length (map body_key (of_group g)) n k e)))
 

@@ -1,1 +1,2 @@
 // What is claimed of the sentences: definitions and their proofs only.
+#![tactic(auto)]

@@ -13,7 +13,7 @@ use armv4t::{AluOp, Operand2, Reg};
 use emit_operands::op2_is_native;
 
 // The fields of data processing, and the PC value of its instruction.
-#[derive(Drop)]
+#[derive(Clone, Copy)]
 pub struct Processing {
     pub op: AluOp,
     pub s: bool,

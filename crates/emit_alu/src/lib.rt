@@ -1,4 +1,6 @@
 // Writers of the lines that data processing and multiplication are lowered to.
+#![tactic(auto)]
+
 mod alu;
 mod logical;
 mod mul;

@@ -65,7 +65,7 @@ fn put_nz(out: &mut [u8], at: usize, s: bool) -> usize
 }
 
 // The fields of a multiplication.
-#[derive(Drop)]
+#[derive(Clone, Copy)]
 pub struct Multiply {
     pub acc: bool,
     pub s: bool,
@@ -144,7 +144,7 @@ fn put_nz64(out: &mut [u8], at: usize, s: bool) -> usize
 }
 
 // The fields of a long multiplication; hi and lo name the registers of the halves.
-#[derive(Drop)]
+#[derive(Clone, Copy)]
 pub struct LongMultiply {
     pub signed: bool,
     pub acc: bool,

@@ -1,4 +1,6 @@
 // The text of a block: the walk over its instructions, and the guard before them.
+#![tactic(auto)]
+
 mod block;
 mod instrs;
 mod member;

@@ -7,7 +7,7 @@ use file_blocks::BlockRecord;
 use plan_members::{Rows, in_group};
 
 // A block, as it stands in the plan.
-#[derive(Drop)]
+#[derive(Clone, Copy)]
 pub struct Member {
     // Its number.
     pub index: usize,
@@ -20,7 +20,7 @@ pub struct Member {
 }
 
 // A block of a group that was found, as the walk over its records has it.
-#[derive(Drop)]
+#[derive(Clone, Copy)]
 pub(crate) struct MemberBlock {
     pub member: Member,
     pub block: BlockRecord,

@@ -74,7 +74,7 @@ fn put_return(out: &mut [u8], at: usize, key: u32, deep: bool) -> usize
 }
 
 // Where a block goes.
-#[derive(Drop)]
+#[derive(Clone, Copy)]
 pub struct Exit {
     // The address of the block.
     pub src: u32,

@@ -1,5 +1,7 @@
 // The text of control flow: transfers, labels, shells, branches, guards, and the braces around
 // statements. Each function writes at index `at` of a lent buffer, and answers the index after it.
+#![tactic(auto)]
+
 mod braces;
 mod exits;
 mod flow;

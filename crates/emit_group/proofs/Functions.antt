@@ -4,7 +4,7 @@ use Prim.Native.Nat.{ℕ, ◌≤◌, ◌<◌}
 use native.Mathlib.Omega.{arith}
 use mathlib.Core.Bool.{Bool}
 use mathlib.Core.List.{List, [], ◌∷◌, map}
-use lib.ListN.{length, get_or, length_map}
+use lib.ListN.{length, get_or, length-map}
 use Rattle.base_text.specs.Doc.{◌▸◌, each}
 use Rattle.base_text.specs.Flat.{flat}
 use Rattle.base_text.specs.Wrote.{Wrote}
@@ -41,8 +41,8 @@ members_each written f ks (i ∷ is) k =
 pub members_count : (written : Bool) (f is : List ℕ)
     → length (map (hashed_if written) (bodies_of (file_bodies f) is)) ≡ length is
 unfolding bodies_of
-members_count written f is = length_map (bodies_of (file_bodies f) is) (hashed_if written)
-    ∙ length_map is (λ (i : ℕ). get_or (file_bodies f) i default_body)
+members_count written f is = length-map (bodies_of (file_bodies f) is) (hashed_if written)
+    ∙ length-map is (λ (i : ℕ). get_or (file_bodies f) i default_body)
 
 -- the key of a member, by its place
 pub member_key : (limit : ℕ) (f : List ℕ) (g k : ℕ)

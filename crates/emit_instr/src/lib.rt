@@ -1,5 +1,7 @@
 // The text of one instruction of a block: its lines where it is inlined, a call of the interpreter
 // where it is not, or an exit of the block.
+#![tactic(auto)]
+
 mod bodies;
 mod cycles;
 mod exits;

@@ -1,7 +1,7 @@
 // What the text of an instruction takes from its block.
 
 // The block that an instruction stands in.
-#[derive(Drop)]
+#[derive(Clone, Copy)]
 pub struct Setting {
     // Whether its instructions are Thumb, or else ARM.
     pub thumb: bool,

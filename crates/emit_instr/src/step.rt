@@ -2,7 +2,7 @@
 
 // Where the text has come to, the cycles pending there, and whether nothing of the block is left to
 // write.
-#[derive(Drop)]
+#[derive(Clone, Copy)]
 pub struct Step {
     pub at: usize,
     pub cycles: u64,

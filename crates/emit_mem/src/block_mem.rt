@@ -13,7 +13,7 @@ use armv4t::{Instr, PC, is_listed};
 use base_text::{put, put_then_dec};
 
 // The fields of a BlockMem.
-#[derive(Drop)]
+#[derive(Clone, Copy)]
 pub struct BlockTransfer {
     pub load: bool,
     pub rn: u8,

@@ -1,5 +1,7 @@
 // The text of the instructions that touch memory: Mem, BlockMem and the pop of PC. Each printer
 // writes at index `at` of a buffer, and answers the index after.
+#![tactic(auto)]
+
 mod access;
 mod block_mem;
 mod inlined;

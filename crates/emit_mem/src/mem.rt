@@ -17,7 +17,7 @@ use base_text::{put, put_hex, put_then_hex8};
 use emit_operands::{put_op2_value, put_place, put_reg};
 
 // The fields of a Mem.
-#[derive(Drop)]
+#[derive(Clone, Copy)]
 pub struct Transfer {
     pub load: bool,
     pub width: MemWidth,

@@ -88,7 +88,7 @@ fn put_stored_pc(out: &mut [u8], at: usize, i: Instr) -> usize
 
 // What a store of registers stores depends on: the instruction, its base, whether that is written
 // back, the lowest register listed, and the base after the store, up or down by total bytes.
-#[derive(Drop)]
+#[derive(Clone, Copy)]
 pub(crate) struct Stored {
     pub i: Instr,
     pub rn: u8,

@@ -1,5 +1,7 @@
 // Writers of conditions, registers and shifted operands. Each writes the text of an expression into
 // out at index `at`, and answers the index after it.
+#![tactic(auto)]
+
 mod shifts;
 
 ghost use Rattle.std.specs.Prelude.{◌≡◌, ℕ};
@@ -68,7 +70,7 @@ pub fn put_reg(out: &mut [u8], at: usize, n: Reg, pc: u32) -> usize
 }
 
 // A register that is shifted: its number, and the PC value of the instruction that reads it.
-#[derive(Drop)]
+#[derive(Clone, Copy)]
 pub struct Source {
     pub n: Reg,
     pub pc: u32,

@@ -1,4 +1,6 @@
 // Why instructions went to shells, as code: reasons, the walk over a block, and its lines.
+#![tactic(auto)]
+
 mod lines;
 mod reasons;
 mod said;

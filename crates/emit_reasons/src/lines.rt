@@ -11,7 +11,7 @@ use emit_sentences::{line_length, put_line};
 use file_blocks::{BlockRecord, FoundInstr, instr_of, region_of};
 
 // How far the lines are written.
-#[derive(Drop)]
+#[derive(Clone, Copy)]
 pub struct Progress {
     // The first instruction whose line was not written, or the one after the last.
     pub next: usize,

@@ -20,7 +20,7 @@ use armv4t::{Cond, Instr, MemOffset, Op, Operand2, PC, Shift, ShiftKind, is_list
 use lower_reasons::Reason;
 
 // What becomes of an instruction: a shell with its reason, or native code.
-#[derive(Drop)]
+#[derive(Clone, Copy)]
 pub(crate) enum Why {
     Shell(Reason),
     Native,

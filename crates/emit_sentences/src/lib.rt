@@ -1,4 +1,6 @@
 // The sentence of an instruction that went to a shell, as it is and as a line.
+#![tactic(auto)]
+
 ghost use Rattle.std.specs.Prelude.{◌≡◌, length};
 ghost use Rattle.base_text.specs.Doc.{text, ◌▸◌, print};
 ghost use Rattle.base_text.specs.Wrote.{Wrote};
@@ -8,7 +10,7 @@ ghost use Rattle.emit_sentences.specs.Steps.{said_by, line_if};
 use lower_reasons::{Kind, Reason};
 
 // What is said of an instruction: nothing, or the parts of its sentence.
-#[derive(Drop)]
+#[derive(Clone, Copy)]
 pub enum Sentence {
     Nothing,
     Of {

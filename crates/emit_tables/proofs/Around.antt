@@ -5,7 +5,7 @@ use native.Mathlib.Omega.{arith}
 use native.Mathlib.Numerals.{add-one}
 use mathlib.Core.Bool.{Bool}
 use mathlib.Core.List.{List, [], ◌∷◌, ◌++◌, map}
-use lib.ListN.{length, get_or, take, length_map}
+use lib.ListN.{length, get_or, take, length-map}
 use lib.Seq.{take-suc, take_all, length-take-le}
 use Rattle.base_text.specs.Doc.{Doc, nothing, text, ◌▸◌, each}
 use Rattle.base_text.specs.Flat.{flat}
@@ -62,7 +62,7 @@ end_keys bs ks n k e h =
     → Doc = λ js m. each (λ (j : ℕ). top_text (extern j)) js ▸ table_open ▸ each row_text js
     ▸ table_end ▸ top_text (count m) in
     ap₂ (λ (js : List ℕ) (m : ℕ). flat (docs js m) k) (sym e)
-    (h ∙ ap length (sym e) ∙ length_map bs body_key)
+    (h ∙ ap length (sym e) ∙ length-map bs body_key)
     ∙ each_map (λ (j : ℕ). top_text (extern j)) body_key bs
     (flat (table_open ▸ each row_text (map body_key bs) ▸ table_end ▸ top_text (count (length bs)))
     k)

@@ -1,6 +1,8 @@
 // What a unit has around the code of its blocks: PREAMBLE, heads and ends of functions, the cases
 // and entries of a group, and declarations, table and count at its end. Each function writes at
 // index `at` of a lent buffer, and answers the index after it.
+#![tactic(auto)]
+
 mod ends;
 mod entries;
 mod heads;

@@ -7,7 +7,7 @@ use mathlib.Core.Option.{none}
 use mathlib.Core.List.{List, [], ◌∷◌, ◌++◌, map, Memᴰ}
 use native.Mathlib.Omega.{arith}
 use native.Mathlib.Decide.{dec_lt}
-use lib.ListN.{length, get_or, take, length_map}
+use lib.ListN.{length, get_or, take, length-map}
 use lib.Seq.{take-suc, take_all}
 use Rattle.base_hash.specs.Fnv.{hash_multiplier}
 use Rattle.base_text.specs.Wrote.{max_usize}
@@ -197,7 +197,7 @@ module _ {f : List ℕ} {n limit : ℕ} {work : List ℕ} (ready : HoldsPlan f n
           (bodies_of (file_bodies f) [])
           (λ h below.
           let inside : h < length (groups limit (blocks_of f)) =
-          omega (arith, length_map (groups limit (blocks_of f)) (bodies_of (file_bodies f))) in
+          omega (arith, length-map (groups limit (blocks_of f)) (bodies_of (file_bodies f))) in
           subst (λ (g : List Body). length (text_of (emit_group g)) ≤ longest)
           (sym (map_at (bodies_of (file_bodies f)) (groups limit (blocks_of f)) h []
           (bodies_of (file_bodies f) []) inside))

@@ -9,8 +9,8 @@ use mathlib.Core.List.{List, [], ◌∷◌, ◌++◌, map, Memᴰ}
 use mathlib.Core.List.{nil≢cons, cons≢nil, head-eq_of_cons-eq}
 use mathlib.Core.Option.{none, some, none-ne-some, some-injective}
 use lib.Dec.{leb}
-use lib.ListN.{length, length as ListN·length, get_or, take, drop, get_elem?, length_map, length-drop}
-use lib.Seq.{take-suc, drop-cons, drop-drop, drop-length, drop_nil, get_or-drop}
+use lib.ListN.{length, length as ListN·length, get_or, take, drop, get_elem?, length-map, length-drop}
+use lib.Seq.{take-suc, drop-cons, drop-drop, drop-length, drop-nil, get_or-drop}
 use Rattle.base_text.specs.Wrote.{max_usize}
 use Rattle.base_hash.specs.Fnv.{hash_multiplier}
 use Rattle.file_blocks.specs.Parse.{blocks_of, Accepted}
@@ -70,7 +70,7 @@ module _ (f : List ℕ) (limit max : ℕ) where
       omega (
         arith,
         start_next gs j,
-        length_map (get_or gs j [])
+        length-map (get_or gs j [])
             (λ (i : ℕ). get_or (file_bodies f) i default_body),
       ) in
       ap (λ (hs : List (List ℕ)). cut max (last_unit_end (file_bodies f)) ts (start_of gs j)
@@ -318,7 +318,7 @@ module _ {f : List ℕ} {limit max i p : ℕ} (s : StartsAt f limit max i p) {e 
       ∙ ap (drop (suc (k - suc i))) (s.units ∙ u.units)
       ∙ ap (λ (x : Bool). drop (k - suc i) (cond x [] (units_from f limit max (s.group + u.size))))
       over
-      ∙ drop_nil (k - suc i)
+      ∙ drop-nil (k - suc i)
 
   -- the unit stands in the list
   pub unit_found : get_elem? (units hash_multiplier limit max (blocks_of f)) i

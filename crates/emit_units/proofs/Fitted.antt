@@ -3,9 +3,9 @@
 use Prim.Native.Nat.{ℕ, suc, ◌+◌, ◌-◌, ◌≤◌, ◌<◌}
 use mathlib.Core.Path.{◌≡◌, refl, sym, ap, ap₂, ◌∙◌, subst}
 use mathlib.Core.Bool.{Bool, true, false, cond}
-use mathlib.Core.List.{List, [], ◌∷◌, ◌++◌, map, flatten, append_nil, append_assoc}
+use mathlib.Core.List.{List, [], ◌∷◌, ◌++◌, map, flatten, append-nil, append_assoc}
 use native.Mathlib.Omega.{arith}
-use lib.ListN.{length, take, drop, set, length-append, length_map, length-drop, take-append-drop}
+use lib.ListN.{length, take, drop, set, length-append, length-map, length-drop, take-append-drop}
 use lib.ListN.{drop_of_length-le}
 use lib.Seq.{take_all}
 use Rattle.base_fitting.specs.Fitting.{fitting}
@@ -30,7 +30,7 @@ use Rattle.emit_units.proofs.Written.{made_text}
 texts_more : (us : List TranslationUnit) (u : TranslationUnit)
     → texts_of (us ++ (u ∷ [])) ≡ texts_of us ++ text_of u.tree
 unfolding texts_of flatten
-texts_more [] u = append_nil (text_of u.tree)
+texts_more [] u = append-nil (text_of u.tree)
 texts_more (v ∷ us) u =
     ap (λ (t : List ℕ). text_of v.tree ++ t) (texts_more us u)
     ∙ sym (append_assoc (text_of v.tree) (texts_of us) (text_of u.tree))
@@ -162,7 +162,7 @@ module _ {size : TranslationUnit → ℕ} {room : ℕ} {f : List ℕ} {limit max
         (set lengths count e.length)
     sizes_set =
         let here : length (map unit_length go.list.made) ≡ count =
-        omega (arith, go.list.counted, length_map go.list.made unit_length) in
+        omega (arith, go.list.counted, length-map go.list.made unit_length) in
         subst (λ (ns : List ℕ). HasFront ns lengths₀ (set lengths count e.length))
         (sym (sizes_more go.list.made next_unit))
         (subst (λ (m : ℕ). HasFront (map unit_length go.list.made ++ (m ∷ [])) lengths₀
@@ -239,7 +239,7 @@ part_back_lem : (text : List ℕ) (at : ℕ) (part : List ℕ)
     → take at text ++ part ≡ part_back text at part
 part_back_lem text at part =
     ap (λ (t : List ℕ). take at text ++ t)
-    (sym (append_nil part)
+    (sym (append-nil part)
     ∙ ap (λ (t : List ℕ). part ++ t)
     (sym (drop_of_length-le (drop at text) {i = length text - at}
     (omega (arith, length-drop at text)))))

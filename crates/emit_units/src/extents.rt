@@ -13,7 +13,7 @@ use plan_members::{Rows, group_end};
 
 // A unit: the rows from start to the one before end, the length of its text, and whether it is the
 // last.
-#[derive(Drop)]
+#[derive(Clone, Copy)]
 pub struct Extent {
     pub start: usize,
     pub end: usize,

@@ -10,14 +10,14 @@ ghost use Rattle.plan_groups.specs.Groups.{HasRoom};
 use crate::extents::{Extent, measure_unit, put_unit};
 
 // The row where the unit with a number begins, if there is one.
-#[derive(Drop)]
+#[derive(Clone, Copy)]
 pub enum FoundStart {
     Nothing,
     Row(usize),
 }
 
 // The unit with a number, if there is one.
-#[derive(Drop)]
+#[derive(Clone, Copy)]
 pub enum FoundUnit {
     Nothing,
     At(Extent),

@@ -12,7 +12,7 @@ use crate::extents::{Extent, measure_unit, put_unit};
 
 // Some units of which only the lengths are told: how many they are, the row after the last of them,
 // and whether that is the last of the file.
-#[derive(Drop)]
+#[derive(Clone, Copy)]
 pub struct Lengths {
     pub count: usize,
     pub end: usize,
@@ -21,7 +21,7 @@ pub struct Lengths {
 
 // Some units: how many they are, the bytes of their texts in all, the row after the last of them,
 // and whether that is the last of the file.
-#[derive(Drop)]
+#[derive(Clone, Copy)]
 pub struct Front {
     pub count: usize,
     pub length: usize,

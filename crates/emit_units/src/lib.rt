@@ -1,5 +1,7 @@
 // The units of a file at a wished size: where the unit with a number begins, its rows, its text,
 // and the units from a given one on that fit what is lent.
+#![tactic(auto)]
+
 mod bounds;
 mod extents;
 mod finding;

@@ -1,4 +1,6 @@
 // Block files: refusals 1 to 7, and readers of records, of a block's instructions and code bytes.
+#![tactic(auto)]
+
 mod instrs;
 mod next;
 mod read;

@@ -10,7 +10,7 @@ use armv4t::{Fused, Instr, Op, fuse_thumb_bl};
 use file_instrs::decode::TimedInstr;
 
 // What an instruction makes with the one after it.
-#[derive(Drop)]
+#[derive(Clone, Copy)]
 pub enum Next {
     // A fused pair; the cost is that of the second half.
     Pair { target: u32, ret: u32, cost: u16 },

@@ -10,7 +10,7 @@ use file_records::block_record::{addr, count, instrs_length, offset, present, th
 use file_records::trailer::{section_start, trailer_word};
 
 // The fields of a block record.
-#[derive(Drop)]
+#[derive(Clone, Copy)]
 pub struct BlockRecord {
     // The address of its first instruction.
     pub addr: u32,
@@ -26,14 +26,14 @@ pub struct BlockRecord {
 }
 
 // The block record with a number, or that there is none to read.
-#[derive(Drop)]
+#[derive(Clone, Copy)]
 pub enum FoundBlock {
     At(BlockRecord),
     Nothing,
 }
 
 // The instruction of the record with a number, or that there is none to read.
-#[derive(Drop)]
+#[derive(Clone, Copy)]
 pub enum FoundInstr {
     At(TimedInstr),
     Nothing,

@@ -11,7 +11,7 @@ use file_records::block_record::{block_right, count, key};
 use file_records::trailer::{section_start, trailer_right, trailer_word, within_limits};
 
 // The answer of the check.
-#[derive(Drop)]
+#[derive(Clone, Copy)]
 pub enum Checked {
     // How many blocks and instructions the file has.
     Accepted { blocks: u64, instructions: u64 },
@@ -20,7 +20,7 @@ pub enum Checked {
 }
 
 // The first broken one of some rules of the refusal table.
-#[derive(Drop)]
+#[derive(Clone, Copy)]
 pub(crate) enum Found {
     Broken { number: u32, at: u64 },
     Nothing,

@@ -11,7 +11,7 @@ use armv4t::{AluOp, Cond, Instr, MemOffset, MemWidth, Op, Operand2, Shift, Shift
 use file_records::bytes::{half, word};
 
 // An instruction with its cost in cycles.
-#[derive(Drop)]
+#[derive(Clone, Copy)]
 pub struct TimedInstr {
     pub instr: Instr,
     pub cost: u16,

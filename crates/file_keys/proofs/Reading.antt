@@ -6,7 +6,7 @@ use mathlib.Core.Bool.{Bool, true, false, cond, true≢false}
 use mathlib.Core.List.{List}
 use native.Mathlib.Omega.{arith}
 use native.Mathlib.Decide.{dec_lt}
-use lib.ListN.{length, get_or, length_map, get_or-eq_default}
+use lib.ListN.{length, get_or, length-map, get_or-eq_default}
 use Rattle.armv4t.specs.Instr.{size_of}
 use Rattle.base_lists.proofs.Places.{map_at}
 use Rattle.file_records.specs.Trailer.{block_count, block_start}
@@ -24,7 +24,7 @@ use Rattle.file_keys.specs.Steps.{RightBlocks, HasRecords}
 
 -- there is a key for each block
 pub length_keys : (f : List ℕ) → length (block_keys f) ≡ block_count f
-length_keys f = length_map (blocks_of f) block_key ∙ length_blocks f (block_count f) 0 0
+length_keys f = length-map (blocks_of f) block_key ∙ length_blocks f (block_count f) 0 0
 
 -- it is that of its record
 pub key_at_lem : (f : List ℕ) (i : ℕ) → i < block_count f

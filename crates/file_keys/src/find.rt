@@ -11,14 +11,14 @@ use crate::keys::{Records, key_of, records_of, rises};
 use crate::sorting::order_blocks;
 
 // The number of a block, if there is one.
-#[derive(Drop)]
+#[derive(Clone, Copy)]
 pub enum Numbered {
     At(u32),
     Nothing,
 }
 
 // The places from `low` to the one before `high`.
-#[derive(Drop)]
+#[derive(Clone, Copy)]
 pub(crate) struct Range {
     low: usize,
     high: usize,

@@ -9,7 +9,7 @@ use file_records::block_record::key;
 use file_records::trailer::section_start;
 
 // Where the block records of a file stand, and how many there are.
-#[derive(Drop)]
+#[derive(Clone, Copy)]
 pub(crate) struct Records {
     pub start: usize,
     pub count: usize,

@@ -1,4 +1,6 @@
 // Prints the listing of the block file on standard input.
+#![tactic(auto)]
+
 ghost use Rattle.std.specs.Prelude.{◌≡◌, ◌+◌, ◌≤◌, length, take};
 ghost use Rattle.base_text.specs.Wrote.{Wrote};
 ghost use Rattle.list_program.specs.Output.{longest, room, refusal_line, output};

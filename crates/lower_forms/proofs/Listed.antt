@@ -2,7 +2,7 @@
 use mathlib.Core.Path.{◌≡◌, refl, sym, ap, ap₂, ◌∙◌, subst}
 use mathlib.Core.Logic.{◌≢◌}
 use mathlib.Core.Bool.{Bool, true, false, cond, ◌||◌}
-use mathlib.Core.List.{List, [], ◌∷◌, ◌++◌, append_nil}
+use mathlib.Core.List.{List, [], ◌∷◌, ◌++◌, append-nil}
 use Prim.Native.Nat.{ℕ, zero, suc, ◌+◌, ◌%◌, ◌≤◌, ◌<◌}
 use lib.ListN.{length, length-append}
 use native.Mathlib.Omega.{arith}
@@ -43,7 +43,7 @@ listed_length rlist (suc n) = go (bit rlist n) (listed_length rlist n)
 pub listed_15 : (rlist : ℕ) → bit rlist 15 ≡ false → listed rlist 16 ≡ listed rlist 15
 unfolding listed
 listed_15 rlist q =
-    ap (λ (b : Bool). listed rlist 15 ++ cond b (15 ∷ []) []) q ∙ append_nil (listed rlist 15)
+    ap (λ (b : Bool). listed rlist 15 ++ cond b (15 ∷ []) []) q ∙ append-nil (listed rlist 15)
 
 -- members are below n and named
 abbrev pub Named : ℕ → ℕ → ℕ → Type 0

@@ -1,7 +1,7 @@
 // The parts of a sentence.
 
 // The kinds of `Op`, in its order.
-#[derive(Drop)]
+#[derive(Clone, Copy)]
 pub enum Kind {
     Alu,
     Mul,
@@ -21,7 +21,7 @@ pub enum Kind {
 }
 
 // Why an instruction is left to the interpreter, in the order in which the reasons count.
-#[derive(Drop)]
+#[derive(Clone, Copy)]
 pub enum Reason {
     UnpairedHalf,
     ConditionalExit,

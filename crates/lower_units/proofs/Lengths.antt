@@ -9,7 +9,7 @@ use native.Mathlib.Omega.{arith}
 use native.Mathlib.Decide.{dec_lt}
 use borrow.Author.Tests.{leb-false}
 use lib.Dec.{leb, eqb}
-use lib.ListN.{length, get_or, length_map}
+use lib.ListN.{length, get_or, length-map}
 use Rattle.armv4t.specs.Bit0.{clear_bit0}
 use Rattle.file_blocks.specs.Parse.{Block, Parsed, parse, instr_total}
 use Rattle.file_blocks.proofs.Accepted.{length_of_lem, few_blocks, few_instrs, instrs_of_lem}
@@ -426,7 +426,7 @@ units_within multiplier limit max longest bs g u m =
           (map (bodies_of (map (body_of multiplier) bs)) (groups limit bs)) g
           (omega (arith, head_most)) u m,
       end_most (map (body_of multiplier) bs),
-      length_map bs (body_of multiplier),
+      length-map bs (body_of multiplier),
     )
 
 -- what each block adds to a unit at most
@@ -501,7 +501,7 @@ module _ (limit : ℕ) (bs : List Block) where
         arith,
         groups_cost bodies (groups limit bs)
             (λ g m i h. omega
-            (arith, length_map bs (body_of multiplier), group_inside limit bs g m i h)),
+            (arith, length-map bs (body_of multiplier), group_inside limit bs g m i h)),
         instructions_within (costs bodies) (flatten (groups limit bs)) (range (length bs) 0) once,
         file_cost multiplier bs,
       )
@@ -519,7 +519,7 @@ module _ (limit : ℕ) (bs : List Block) where
             (groups_short bodies (bodies_short multiplier bs) (groups limit bs))
             (omega (arith, head_most)) u m,
         end_most bodies,
-        length_map bs (body_of multiplier),
+        length-map bs (body_of multiplier),
         all_members multiplier,
       )
 

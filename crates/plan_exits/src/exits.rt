@@ -11,7 +11,7 @@ use armv4t::{Cond, Fused, Instr, Op, PC, fuse_thumb_bl, is_listed, set_bit0};
 use file_blocks::{BlockRecord, FoundBlock, FoundInstr, block_at, fall_through, instr_of, key_of};
 
 // The keys of an exit list, the target before the fall-through.
-#[derive(Drop)]
+#[derive(Clone, Copy)]
 pub enum Exits {
     None,
     One(u32),
@@ -19,7 +19,7 @@ pub enum Exits {
 }
 
 // The exits of a block by its number, or that there is no such block.
-#[derive(Drop)]
+#[derive(Clone, Copy)]
 pub enum FoundExits {
     Exits(Exits),
     Nothing,

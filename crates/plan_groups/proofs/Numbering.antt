@@ -9,7 +9,7 @@ use native.Mathlib.Numerals.{one-add}
 use native.Mathlib.Omega.{arith}
 use native.Mathlib.Decide.{ℕ_discrete}
 use borrow.Author.Tests.{eq-eqb, ne_eqb}
-use lib.ListN.{length, get_or, length-append, length_map}
+use lib.ListN.{length, get_or, length-append, length-map}
 use lib.Dec.{eqb}
 use Rattle.base_lists.specs.Lists.{is_empty, range}
 use Rattle.base_lists.specs.Interleave.{interleave}
@@ -44,7 +44,7 @@ pub component_is : (bs : List Block) (roots : List ℕ)
 component_is bs roots same r =
     ap (sort_by_key (map block_key bs))
     (members_rooted (parents bs) roots r (length bs) 0 (λ j l b. same j (rw zero-add at b))
-    ∙ ap (λ (n : ℕ). with_root_in roots r (range n 0)) (sym (length_map bs block_key)))
+    ∙ ap (λ (n : ℕ). with_root_in roots r (range n 0)) (sym (length-map bs block_key)))
     ∙ members_order (λ (i : ℕ). eqb (get_or roots i 0) r) (map block_key bs)
 
 group_rows_append : (g : ℕ) (xs ys : List ℕ)

@@ -3,7 +3,7 @@
 use mathlib.Core.Path.{◌≡◌, refl, sym, ap, ap₂, ◌∙◌, subst}
 use mathlib.Core.Bool.{Bool, true, false, cond, true≢false}
 use mathlib.Core.List.Memᴰ
-use mathlib.Core.List.{List, [], ◌∷◌, ◌++◌, append_assoc, append_nil}
+use mathlib.Core.List.{List, [], ◌∷◌, ◌++◌, append_assoc, append-nil}
 use Prim.Native.Nat.{ℕ, zero, suc, pred, zero-le, ◌+◌, ◌*◌, ◌-◌, ◌≤◌, ◌<◌, ◌^◌}
 use native.Mathlib.Nat.{sub-zero, le_refl}
 use native.Mathlib.Omega.{arith}
@@ -69,7 +69,7 @@ pred_more r = omega arith
 
 -- a front that is as long as the whole is the whole
 whole : (xs ys zs : List ℕ) → zs ≡ xs ++ ys → length zs ≡ length xs → xs ≡ zs
-whole xs [] zs e h = sym (e ∙ append_nil xs)
+whole xs [] zs e h = sym (e ∙ append-nil xs)
 whole xs (y ∷ ys) zs e h = absurd (omega (arith, ap length e, length-append xs (y ∷ ys)))
 
 pub length_numbers : (limit : ℕ) (counts : List ℕ) (g t : ℕ) (o : Bool) (is : List ℕ)
@@ -452,7 +452,7 @@ module _ (f w₀ : List ℕ) (n limit : ℕ) where
           let order_is : order_from roots order n 0 ≡ take place w ++ [] = p.rows
           ∙ ap (λ (l : List ℕ). take place w ++ l)
           (rw (from_none roots order (pred r) n h no_more, none_left)) in
-          omega (arith, ap length (order_is ∙ append_nil (take place w)), long_order)
+          omega (arith, ap length (order_is ∙ append-nil (take place w)), long_order)
 
       pub placing_done : Placed f n limit w₀ w
       placing_done =

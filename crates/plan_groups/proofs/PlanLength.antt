@@ -4,7 +4,7 @@ use Prim.Native.Nat.{ℕ, zero, suc, ◌*◌, ◌<◌}
 use mathlib.Core.Path.{◌≡◌, refl, ap, ap₂, ◌∙◌}
 use mathlib.Core.List.{List, [], ◌∷◌, ◌++◌, map, flatten, Memᴰ}
 use native.Mathlib.Omega.{arith}
-use lib.ListN.{length, get_or, length-append, length_map}
+use lib.ListN.{length, get_or, length-append, length-map}
 use Rattle.file_blocks.specs.Parse.{Block, block_key}
 use Rattle.base_forest.specs.Roots.{root}
 use Rattle.base_lists.specs.Lists.{range}
@@ -61,11 +61,11 @@ module _ (bs : List Block) where
   groups_length limit =
       let order = is_order (map block_key bs) (key_order (map block_key bs)) refl in
       let inside : (j : ℕ) → Memᴰ j (key_order (map block_key bs)) → j < length bs =
-      λ j m. omega (arith, order.member m, length_map bs block_key) in
+      λ j m. omega (arith, order.member m, length-map bs block_key) in
       ap length (groups_flat limit bs ∙ components_are (length bs) 0)
       ∙ order_all roots (key_order (map block_key bs)) (length bs)
       (λ j m. rw (roots_at j (inside j m)) (root_block bs j (inside j m)))
-      ∙ order.long ∙ length_map bs block_key
+      ∙ order.long ∙ length-map bs block_key
 
   pub plan_length : (limit : ℕ) → length (plan limit bs) ≡ 2 * length bs
   unfolding plan

@@ -1,4 +1,6 @@
 // The plan: which blocks share a group, in lent work numbers.
+#![tactic(auto)]
+
 mod groups;
 mod limit;
 mod links;

@@ -11,7 +11,7 @@ ghost use Rattle.plan_groups.specs.Order.{part_with, Placed};
 use file_blocks::{FoundBlock, block_at};
 
 // The part of a component that is being filled: the number of its group, and its instructions.
-#[derive(Drop)]
+#[derive(Clone, Copy)]
 pub(crate) struct Part {
     group: u32,
     total: u64,

@@ -9,7 +9,7 @@ use native.Mathlib.Nat.{le_refl, le_of_suc-le-suc}
 use native.Mathlib.Omega.{arith}
 use borrow.Author.Tests.{eq-eqb, ne_eqb, eqb-true, eqb-false}
 use lib.Dec.{eqb}
-use lib.ListN.{length, get_or, length_map}
+use lib.ListN.{length, get_or, length-map}
 use Rattle.base_lists.specs.Lists.{among}
 use Rattle.base_lists.proofs.Order.{order_at}
 use Rattle.base_lists.proofs.Places.{map_at}
@@ -72,7 +72,7 @@ pub keys_sorted : (limit : ℕ) (f : List ℕ) (g : ℕ) → NeverFall (group_ke
 keys_sorted limit f g a b l h =
     let is : List ℕ = members_of limit (blocks_of f) g in
     let key : ℕ → ℕ = λ i. get_or (block_keys f) i 0 in
-    let inside : b < length is = omega (arith, length_map is key) in
+    let inside : b < length is = omega (arith, length-map is key) in
     let listed = list_at (groups limit (blocks_of f)) g
     (has_member (groups limit (blocks_of f)) g (omega arith)) in
     omega (

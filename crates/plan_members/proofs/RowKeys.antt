@@ -3,7 +3,7 @@ use mathlib.Core.Path.{◌≡◌, refl, sym, ap, ◌∙◌}
 use Prim.Native.Nat.{ℕ, ◌+◌, ◌<◌}
 use native.Mathlib.Omega.{arith}
 use mathlib.Core.List.{List}
-use lib.ListN.{length, get_or, length_map, get_or-eq_default}
+use lib.ListN.{length, get_or, length-map, get_or-eq_default}
 use Rattle.file_blocks.specs.declared.read.BlockRecord.{BlockRecord}
 use Rattle.file_blocks.specs.declared.read.FoundBlock.{FoundBlock}
 use Rattle.file_records.specs.BlockRecord.{count_sum, key_plus}
@@ -63,7 +63,7 @@ module _ {f : List ℕ} {limit : ℕ} {work : List ℕ} {g : ℕ} {r : Rows}
   group_size = omega (arith, is.first, is.next, start_next (groups limit (blocks_of f)) g)
 
   pub keys_size : length (group_keys limit f g) ≡ length (members_of limit (blocks_of f) g)
-  keys_size = length_map (members_of limit (blocks_of f) g) (λ (j : ℕ). get_or (block_keys f) j 0)
+  keys_size = length-map (members_of limit (blocks_of f) g) (λ (j : ℕ). get_or (block_keys f) j 0)
 
   pub key_inside : (k : ℕ) → r.first + k < r.end → k < length (group_keys limit f g)
   key_inside k h = omega (arith, keys_size, group_size)

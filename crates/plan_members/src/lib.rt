@@ -1,4 +1,6 @@
 // The plan of a file in its work numbers, as the passes over blocks and groups read it.
+#![tactic(auto)]
+
 mod group_numbers;
 mod group_rows;
 mod keys;

@@ -1,4 +1,6 @@
 // The search for a block by its key: where an edge leads.
+#![tactic(auto)]
+
 ghost use Rattle.std.specs.Prelude.{◌≡◌, ◌<◌};
 ghost use Rattle.file_records.specs.Trailer.{block_count};
 ghost use Rattle.file_blocks.specs.Parse.{Accepted, blocks_of};
@@ -12,7 +14,7 @@ use file_keys::{Numbered, find_key};
 use file_records::block_record::key_plus;
 
 // The number of a block, if there is one.
-#[derive(Drop)]
+#[derive(Clone, Copy)]
 pub enum Target {
     At(usize),
     Nothing,

@@ -1,5 +1,7 @@
 // The C forms of the public calls, each of which hands on to the crate of its call. The library
 // that C and Rust link exports these and nothing else.
+#![tactic(auto)]
+
 mod c_check;
 mod c_exits;
 mod c_listing;
