@@ -316,13 +316,15 @@ module _ {m : Machine} (s : Sound m) (width : MemWidth) (rd rn x off : ℕ) (pre
 load_all_words : {f r : ℕ → ℕ} → Bytes f → (is : List ℕ) (a : ℕ) → Words r
     → Words (load_all is a f r)
 load_all_words b [] a w = w
-load_all_words b (i ∷ is) a w =
-    load_all_words b is ((a + 4) % two32) (update_words i (word_lt b a) w)
+load_all_words {f = f} {r = r} b (i ∷ is) a w =
+    load_all_words {r = update i (Memory4 f a) r} b is ((a + 4) % two32)
+    (update_words i (word_lt b a) w)
 
 store_all_bytes : {f : ℕ → ℕ} (r : ℕ → ℕ) (is : List ℕ) (a : ℕ) → Bytes f
     → Bytes (store_all r is a f)
 store_all_bytes r [] a b = b
-store_all_bytes r (i ∷ is) a b = store_all_bytes r is ((a + 4) % two32) (word_bytes b a (r i))
+store_all_bytes {f = f} r (i ∷ is) a b =
+    store_all_bytes {f = set_memory4 a (r i) f} r is ((a + 4) % two32) (word_bytes b a (r i))
 
 module _ {m : Machine} (s : Sound m) (up pre writeback : Bool) (rn rlist : ℕ) where
   load_multiple_sound : Sound (load_multiple up pre writeback rn rlist m)

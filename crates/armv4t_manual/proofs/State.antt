@@ -1,15 +1,12 @@
 -- T after an instruction of the machine's own set is bit 0 of the key where it goes on.
 use mathlib.Core.Path.{◌≡◌, refl, sym, ap, ◌∙◌, subst}
 use mathlib.Core.Bool.{Bool, true, false, cond, not, ◌&&◌, true≢false}
-use mathlib.Core.Option.{Option, none, some}
-use mathlib.Core.List.{List}
-use Prim.Native.Nat.{ℕ, ◌+◌, ◌*◌, ◌/◌, ◌%◌, ◌^◌, ◌<◌}
-use native.Mathlib.Nat.{mod-lt}
+use mathlib.Core.Option.{none, some}
+use Prim.Native.Nat.{ℕ, ◌+◌, ◌*◌, ◌/◌, ◌%◌, ◌^◌}
 use native.Mathlib.Omega.{arith}
-use lib.Dec.{eqb, lit<}
+use lib.Dec.{eqb}
 use Rattle.base_lists.proofs.Bools.{either}
 use Rattle.base_words.specs.Word.{bit, one_if}
-use Rattle.base_words.proofs.Bits.{bit_num}
 use Rattle.armv4t.specs.declared.AluOp.{AluOp}
 use Rattle.armv4t.specs.declared.Operand2.{Operand2}
 use Rattle.armv4t.specs.declared.MemWidth.{MemWidth}
@@ -22,7 +19,7 @@ use Rattle.armv4t.specs.AluOp.{is_compare}
 use Rattle.armv4t.specs.Cond.{is_al}
 use Rattle.armv4t.specs.Instr.{size_of, pc_value}
 use Rattle.armv4t.specs.InRange.{InRange}
-use Rattle.armv4t_manual.specs.Machine.{two32, Machine, R, set_reg, set_flags, set_mem}
+use Rattle.armv4t_manual.specs.Machine.{two32, Machine, R, set_reg, set_flags}
 use Rattle.armv4t_manual.specs.Machine.{thumb_state, set_t}
 use Rattle.armv4t_manual.specs.Conditions.{passed}
 use Rattle.armv4t_manual.specs.DataProcessing.{alu, settle, data_processing}

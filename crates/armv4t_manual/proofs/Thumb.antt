@@ -69,9 +69,12 @@ puts a rd m x = onto a (set_reg rd (x % two32) m)
 does_1 : (a : ℕ) (op : Opcode1) (immed rm rd : ℕ) → rm < 8 → rd < 8 → (m : Machine)
     → Does a (format_1 op immed rm rd) m
 unfolding execute thumb_operation
-does_1 a lsl-1 immed rm rd p q m = rw (low rd q, low rm p)
-does_1 a lsr-1 immed rm rd p q m = rw (low rd q, low rm p)
-does_1 a asr-1 immed rm rd p q m = rw (low rd q, low rm p)
+does_1 a lsl-1 zero rm rd p q m = rw (low rd q, low rm p)
+does_1 a lsl-1 (suc immed) rm rd p q m = rw (low rd q, low rm p)
+does_1 a lsr-1 zero rm rd p q m = rw (low rd q, low rm p)
+does_1 a lsr-1 (suc immed) rm rd p q m = rw (low rd q, low rm p)
+does_1 a asr-1 zero rm rd p q m = rw (low rd q, low rm p)
+does_1 a asr-1 (suc immed) rm rd p q m = rw (low rd q, low rm p)
 
 -- x plus 0 is x, with neither carry nor overflow
 add_with_carry_zero : (x : ℕ) → x < two32 → add_with_carry x 0 0 ≡ (x, false, false)

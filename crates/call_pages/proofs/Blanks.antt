@@ -11,7 +11,7 @@ use Rattle.base_text.specs.Flat.{flat}
 use Rattle.base_text.specs.Wrote.{index_after}
 use Rattle.base_text.proofs.Lengths.{length_most}
 use Rattle.base_text.proofs.Numerals.{length_fixed}
-use Rattle.call_pages.specs.Page.{left_in_lem, right_in, keys_text}
+use Rattle.call_pages.specs.Page.{left_in, right_in, keys_text}
 
 -- the first of many blanks
 pub take_blanks : (k m a : ℕ) → k ≤ m → take k (replicate m a) ≡ replicate k a
@@ -50,7 +50,7 @@ module _ (width n k : ℕ) (counted : k ≡ index_after 0 (dec n)) where
 
 -- a text of n characters at the left of the field of exits, and what stands after it
 left_in_lem : (d rest : Doc) (n : ℕ) → length (print d) ≡ n
-    → flat (d ▸ spaces (17 - n) ▸ rest) [] ≡ flat (left_in_lem 17 d ▸ rest) []
+    → flat (d ▸ spaces (17 - n) ▸ rest) [] ≡ flat (left_in 17 d ▸ rest) []
 left_in_lem d rest n h = ap (λ (j : ℕ). flat (d ▸ spaces (17 - j) ▸ rest) []) (sym h)
 
 -- what ends a line
@@ -59,7 +59,7 @@ line_end = spaces 24 ▸ text "\n"
 
 -- one key there takes 8 columns, two take 17
 pub one_key : (k : ℕ)
-    → flat (hex8 k ▸ spaces 33 ▸ text "\n") [] ≡ flat (left_in_lem 17 (keys_text (k ∷ [])) ▸ line_end) []
+    → flat (hex8 k ▸ spaces 33 ▸ text "\n") [] ≡ flat (left_in 17 (keys_text (k ∷ [])) ▸ line_end) []
 unfolding print hexadecimal8
 one_key k =
     left_in_lem (keys_text (k ∷ [])) line_end 8
@@ -67,7 +67,7 @@ one_key k =
 
 pub two_keys : (k l : ℕ)
     → flat (hex8 k ▸ text " " ▸ hex8 l ▸ line_end) []
-    ≡ flat (left_in_lem 17 (keys_text (k ∷ l ∷ [])) ▸ line_end) []
+    ≡ flat (left_in 17 (keys_text (k ∷ l ∷ [])) ▸ line_end) []
 unfolding print hexadecimal8
 two_keys k l =
     left_in_lem (keys_text (k ∷ l ∷ [])) line_end 17

@@ -123,6 +123,7 @@ pages_few limit bs = few_from (length (rows_of (plan limit bs))) 1 (rows_of (pla
 in_flatten : (ps : List Page) (p : Page) → Memᴰ p ps → (r : Row) → Memᴰ r p.rows
     → Memᴰ r (flatten (map rows_in ps))
 unfolding flatten
+in_flatten [] p h r m = elim h [ ]
 in_flatten (q ∷ ps) p (Memᴰ.head e) r m =
     Memᴰ.append_left (flatten (map rows_in ps)) (subst (λ (s : Page). Memᴰ r s.rows) e m)
 in_flatten (q ∷ ps) p (Memᴰ.tail l) r m = Memᴰ.append_right q.rows (in_flatten ps p l r m)

@@ -211,11 +211,11 @@ other_key w = omega (arith, ap (λ (s : List ℕ). get_or s 7 0) w.key)
 
 no_gap_1 : Whole (text "08000000-     1      1 08000008                                 \n") → ⊥
 unfolding print
-no_gap_1 w = omega (arith, ap (λ (s : List ℕ). get_or s 0 0) w.after-key)
+no_gap_1 w = omega (arith, ap (λ (s : List ℕ). get_or s 0 0) w.after_key)
 
 other_group : Whole (text "08000000 111111      1 08000008                                 \n") → ⊥
 unfolding print decimal numeral
-other_group w = go w.group-whole.blanks w.group-whole.same
+other_group w = go w.group_whole.blanks w.group_whole.same
   where
     go : (k : ℕ) → print (text "111111") ≡ replicate k 32 ++ decimal 1 → ⊥
     go zero e = omega (arith, ap length e)
@@ -223,11 +223,11 @@ other_group w = go w.group-whole.blanks w.group-whole.same
 
 no_gap_2 : Whole (text "08000000      1-     1 08000008                                 \n") → ⊥
 unfolding print
-no_gap_2 w = omega (arith, ap (λ (s : List ℕ). get_or s 0 0) w.after-group)
+no_gap_2 w = omega (arith, ap (λ (s : List ℕ). get_or s 0 0) w.after_group)
 
 other_count : Whole (text "08000000      1 111111 08000008                                 \n") → ⊥
 unfolding print decimal numeral arm_block
-other_count w = go w.count-whole.blanks w.count-whole.same
+other_count w = go w.count_whole.blanks w.count_whole.same
   where
     go : (k : ℕ) → print (text "111111") ≡ replicate k 32 ++ decimal 1 → ⊥
     go zero e = omega (arith, ap length e)
@@ -235,15 +235,15 @@ other_count w = go w.count-whole.blanks w.count-whole.same
 
 no_gap_3 : Whole (text "08000000      1      1-08000008                                 \n") → ⊥
 unfolding print
-no_gap_3 w = omega (arith, ap (λ (s : List ℕ). get_or s 0 0) w.after-count)
+no_gap_3 w = omega (arith, ap (λ (s : List ℕ). get_or s 0 0) w.after_count)
 
 other_exit : Whole (text "08000000      1      1 08000009                                 \n") → ⊥
 unfolding print hexadecimal8 last_digits arm_block exits instr_exits
-other_exit w = omega (arith, ap (λ (s : List ℕ). get_or s 7 0) w.exits-whole.same)
+other_exit w = omega (arith, ap (λ (s : List ℕ). get_or s 7 0) w.exits_whole.same)
 
 more_after : Whole (text "08000000      1      1 08000008                                -\n") → ⊥
 unfolding print
-more_after w = omega (arith, ap (λ (s : List ℕ). get_or s 23 0) w.after-exits)
+more_after w = omega (arith, ap (λ (s : List ℕ). get_or s 23 0) w.after_exits)
 
 -- a row's block is the one at its place, even where another has the same line
 abbrev same_lines : List Block

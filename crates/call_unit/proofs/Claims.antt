@@ -220,7 +220,7 @@ measure_then_write limit max f =
     record {
       tells = tells limit max (parse f);
       up_to9 = up_to_9 limit max f (first_broken f (rules f));
-      as_before_lem = as_before_lem limit max (parse f);
+      as_before = as_before_lem limit max (parse f);
       refused_alike = refused_alike_lem limit max (parse f);
       caught = caught limit max (parse f);
     }

@@ -300,7 +300,7 @@ module _ (step : ℕ → ℕ → Machine → Machine × ℕ) (multiplier : ℕ) 
       -- what is counted of it
       mine : log_all c [] z ≡ block_events (block_key b) d.by
       mine = append_nil (log c z)
-          ∙ same.logs-so l.end l.exit d.out.1 z (l.ends end) l.leads
+          ∙ same.logs_so l.end l.exit d.out.1 z (l.ends end) l.leads
           ∙ logs b i n z m d.out d.used r d.by
 
       go : Onward (n + d.used) l.end d.out q (log_all c [] z) es → Carried n k z m q es

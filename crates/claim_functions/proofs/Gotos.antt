@@ -159,6 +159,7 @@ module _ (ks : List ℕ) where
         go false = in_code b.forms 0
 
 pub among_key : (k : ℕ) (ks : List ℕ) → Memᴰ k ks → T (among k ks)
+among_key k [] m = elim m [ ]
 among_key k (j ∷ ks) (Memᴰ.head e) = rw (eq-eqb k j e) tt
 among_key k (j ∷ ks) (Memᴰ.tail m) = go (eqb k j) (among_key k ks m)
   where

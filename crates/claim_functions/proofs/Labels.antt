@@ -111,6 +111,7 @@ after_code_lem (braces b c) p = l_braces (after_code_lem c p)
 to_labelled : (ks : List ℕ) (b : Body) (bs : List Body) → Memᴰ b bs
     → (rest : Code) × LabelIn (body_key b) (labelled ks bs) (nl ⨾ (block_code ks b ⧺ rest))
 unfolding labelled
+to_labelled ks b [] m = elim m [ ]
 to_labelled ks b (c ∷ bs) (Memᴰ.head e) =
     subst (λ x. (rest : Code)
     × LabelIn (body_key x) (labelled ks (c ∷ bs)) (nl ⨾ (block_code ks x ⧺ rest))) (sym e)

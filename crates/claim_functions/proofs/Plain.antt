@@ -164,6 +164,7 @@ once_group {k} bs h {d} {e} p q = once_labelled (map body_key bs) bs h (inner p)
 
 -- numbers that are counted once are distinct
 in_count : (i : ℕ) (g : List ℕ) → Memᴰ i g → 1 ≤ count i g
+in_count i [] m = elim m [ ]
 in_count i (j ∷ g) (Memᴰ.head e) =
     subst (λ k. 1 ≤ count i (k ∷ g)) e (omega (arith, count_here i g))
 in_count i (j ∷ g) (Memᴰ.tail m) = omega (arith, in_count i g m, count_tail i j g)
@@ -178,6 +179,7 @@ distinct_of (i ∷ g) h = (
 part_count : (i : ℕ) (g : List ℕ) (gs : List (List ℕ)) → Memᴰ g gs
     → count i g ≤ count i (flatten gs)
 unfolding flatten
+part_count i g [] m = elim m [ ]
 part_count i g (h ∷ gs) (Memᴰ.head e) =
     subst (λ x. count i x ≤ count i (h ++ flatten gs)) (sym e)
     (omega (arith, count_append i h (flatten gs)))

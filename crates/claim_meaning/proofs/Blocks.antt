@@ -30,7 +30,7 @@ use Rattle.lower_forms.proofs.Gives.{lt_true}
 use Rattle.lower_units.specs.Block.{nl, sp, code_from, defer, under_guard, block_code}
 use Rattle.lower_units.specs.Text.{Leaves}
 use Rattle.lower_units.specs.Records.{RecordMeans, PairMeans, ClosingMeans}
-use Rattle.claim_meaning.specs.Block.{is_covered, Sequence, Carries, in_order_lem, granted, absent}
+use Rattle.claim_meaning.specs.Block.{is_covered, Sequence, Carries, in_order, granted, absent}
 use Rattle.claim_meaning.specs.Block.{refused, BlockMeans}
 use Rattle.lower_units.proofs.Exits.{moved_on}
 use Rattle.file_blocks.proofs.Ranges.{Consecutive}
@@ -187,7 +187,7 @@ module _ (multiplier : ℕ) (ks : List ℕ) (b : Block) (step : ℕ → ℕ → 
         → Claim
     unfolding under_guard
     block_done false h t e f g =
-        in_order_lem (λ out n s. in_order_lem n e s) z q (run_block multiplier ks b z false h e f)
+        in_order_lem (λ out n s. in_order n e s) z q (run_block multiplier ks b z false h e f)
     block_done true none t e f g =
         let s = stepped b.addr z m (left_now q.left) q.sound q.agrees in (
           step 0 b.addr m,

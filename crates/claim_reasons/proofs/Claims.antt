@@ -28,7 +28,7 @@ use Rattle.lower_forms.specs.Block.{emit_instrs, body_of}
 use Rattle.lower_units.specs.Block.{code_from, block_code}
 use Rattle.lower_reasons.specs.declared.types.Reason.{Reason}
 use Rattle.lower_reasons.specs.Reasons.{kind_of, kind_number, reasons, holds, reason_by, reason_of}
-use Rattle.lower_reasons.specs.Said.{Said, has_code_lem, pairs, drops_rest, said_of, nothing_of}
+use Rattle.lower_reasons.specs.Said.{Said, has_code, pairs, drops_rest, said_of, nothing_of}
 use Rattle.lower_reasons.specs.Said.{said_each, said_in, said_at, said_in_all}
 use Rattle.claim_reasons.specs.Claims.{Explains, ReasonClaims}
 use Rattle.claim_reasons.specs.InterpCalls.{interp_calls}
@@ -56,7 +56,7 @@ each_length area (x ∷ xs) =
 
 pub in_length : (b : Block) → length (said_in b) ≡ length b.instrs
 unfolding said_in
-in_length b = by (has_code_lem b)
+in_length b = by (has_code b)
   where
     by : (t : Bool) → length
         (cond t (said_each (region b.addr) b.instrs) (nothing_of b.instrs))
@@ -107,7 +107,7 @@ said_here area (x ∷ xs) i s e =
 in_here : (b : Block) (i : ℕ) (s : Said) → said_at b i ≡ some s
     → Here (region b.addr) b.instrs i s
 unfolding said_in
-in_here b i s e = by (has_code_lem b) e
+in_here b i s e = by (has_code b) e
   where
     by : (t : Bool)
         → get_or (cond t (said_each (region b.addr) b.instrs) (nothing_of b.instrs)) i none

@@ -87,6 +87,7 @@ at_most_total a (b ∷ g) = omega (arith, at_most_total a g, test_le (leb a b.ad
 member : (b : Body) (g : List Body) → Memᴰ b g
     → b.count + at_least (suc b.addr) g ≤ at_least b.addr g
 unfolding at_least
+member b [] m = elim m [ ]
 member b (c ∷ g) (Memᴰ.head e) =
     subst (λ x. b.count
     + (cond (leb (suc b.addr) x.addr) x.count 0 + at_least (suc b.addr) g)

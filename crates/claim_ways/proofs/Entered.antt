@@ -267,6 +267,7 @@ first_carried b es h e =
 to_label : (ks : List ℕ) (b : Body) (bs : List Body) → Memᴰ b bs
     → (d : Code) × LabelAt (body_key b) (labelled ks bs) (nl ⨾ (block_code ks b ⧺ d))
 unfolding labelled
+to_label ks b [] m = elim m [ ]
 to_label ks b (c ∷ bs) (Memᴰ.head e) =
     subst (λ x. (d : Code) × LabelAt (body_key x) (labelled ks (c ∷ bs)) (nl ⨾ (block_code ks x ⧺ d)))
     (sym e) (nl ⨾ labelled ks bs, here)
@@ -302,6 +303,7 @@ module _ (ts : List Top) (b : Body) where
   has_forwarder : (k n : ℕ) (bs : List Body) → Memᴰ b bs
       → (j : ℕ) × Memᴰ (function (block (body_key b)) (forwarder k j)) (forwarders k n bs)
   unfolding forwarders
+  has_forwarder k n [] m = elim m [ ]
   has_forwarder k n (c ∷ bs) (Memᴰ.head e) =
       (n, Memᴰ.head (ap (λ x. function (block (body_key x)) (forwarder k n)) e))
   has_forwarder k n (c ∷ bs) (Memᴰ.tail m) =
@@ -313,6 +315,7 @@ module _ (ts : List Top) (b : Body) where
       → (c : Code) × Memᴰ (function (block (body_key b)) c) (emit_group g)
       × Through ts c (body_events b) c
   unfolding emit_group emit_block
+  entered [] m all = elim m [ ]
   entered (a ∷ []) (Memᴰ.head e) all = (
     with_locals (block_code [] b),
     Memᴰ.head (ap (λ x. function (block (body_key x)) (with_locals (block_code [] x))) e),

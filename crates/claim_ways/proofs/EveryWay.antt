@@ -52,6 +52,8 @@ module _ (limit : ℕ) (bodies : List Body) (apart : Apart bodies) where
   group_both : (g : List Body) → Many g → Good limit bodies g
       → {ts : List Top} {xs : List Bool} {es : List Event}
       → Way ts (group_code g) (group_code g) xs es → Both g es
+  group_both [] v h {ts = ts} {xs = xs} {es = es} w = elim v [ ]
+  group_both (b ∷ []) v h {ts = ts} {xs = xs} {es = es} w = elim v [ ]
   group_both (b ∷ c ∷ g) v h w =
       let small : total (b ∷ c ∷ g) ≤ limit = h.small tt in (
         group_follows (Spent limit (b ∷ c ∷ g)) b (c ∷ g)

@@ -78,6 +78,7 @@ module _ (max : ℕ) (closed : List Top) where
   pub group_part : (g : List Body) (gs : List (List Body)) (ts : List Top) (n : ℕ) → Memᴰ g gs
       → Part (emit_group g) (cut max closed ts n gs)
   unfolding cut
+  group_part g [] ts n m = elim m [ ]
   group_part g (h ∷ gs) ts n (Memᴰ.head e) =
       subst (λ x. Part (emit_group x) (cut max closed ts n (h ∷ gs))) (sym e)
       (go (leb max (length (text_of (ts ++ emit_group h))))
@@ -120,6 +121,7 @@ module _ (max : ℕ) (closed : List Top) where
 pub in_trees : (t : Top) (u : TranslationUnit) (us : List TranslationUnit) → Memᴰ u us
     → Memᴰ t u.tree → Memᴰ t (trees us)
 unfolding flatten
+in_trees t u [] h m = elim h [ ]
 in_trees t u (v ∷ us) (Memᴰ.head e) m =
     Memᴰ.append_left (trees us) (subst (λ x. Memᴰ t x.tree) e m)
 in_trees t u (v ∷ us) (Memᴰ.tail n) m = Memᴰ.append_right v.tree (in_trees t u us n m)

@@ -163,13 +163,13 @@ module _ (f : List ℕ) (bs : List Block) (accepted : parse f ≡ Parsed.accepte
   pub few_blocks : block_count f ≤ 65536
   few_blocks =
       let never : 65536 < block_count f → ⊥ =
-      λ h. true≢false (sym limits ∙ sym (by-record.many-blocks f h)) in
+      λ h. true≢false (sym limits ∙ sym (by-record.many_blocks f h)) in
       omega arith
 
   pub few_instrs : instr_count f ≤ 1048576
   few_instrs =
       let never : 1048576 < instr_count f → ⊥ =
-      λ h. true≢false (sym limits ∙ sym (by-record.many-instrs f h)) in
+      λ h. true≢false (sym limits ∙ sym (by-record.many_instrs f h)) in
       omega arith
 
   -- the counts sum to I
@@ -194,19 +194,19 @@ module _ (f : List ℕ) (bs : List Block) (accepted : parse f ≡ Parsed.accepte
     pub has_instr : 1 ≤ count_at f (block_start f i)
     has_instr =
         let never : count_at f (block_start f i) < 1 → ⊥ =
-        λ h. true≢false (sym right ∙ sym (by-record.no-count f (block_start f i) h)) in
+        λ h. true≢false (sym right ∙ sym (by-record.no_count f (block_start f i) h)) in
         omega arith
 
     pub few_in_block : count_at f (block_start f i) ≤ 65535
     few_in_block =
         let never : 65535 < count_at f (block_start f i) → ⊥ =
-        λ h. true≢false (sym right ∙ sym (by-record.large-count f (block_start f i) h)) in
+        λ h. true≢false (sym right ∙ sym (by-record.large_count f (block_start f i) h)) in
         omega arith
 
     pub ends_inside : addr_at f (block_start f i) + length_at f (block_start f i) ≤ 2 ^ 32
     ends_inside =
         let never : 2 ^ 32 < addr_at f (block_start f i) + length_at f (block_start f i) → ⊥ =
-        λ h. true≢false (sym right ∙ sym (by-record.end-past f (block_start f i) h)) in
+        λ h. true≢false (sym right ∙ sym (by-record.end_past f (block_start f i) h)) in
         omega arith
 
     pub address_aligned : addr_at f (block_start f i) % size_of (thumb_at f (block_start f i)) ≡ 0
@@ -225,7 +225,7 @@ module _ (f : List ℕ) (bs : List Block) (accepted : parse f ≡ Parsed.accepte
     unfolding code_right
     code_inside e =
         let within : leb (code_offset_at f (block_start f i) + length_at f (block_start f i))
-        (code_count f) ≡ true = (rw e at (by-record.code-kept f (block_start f i) right)) in
+        (code_count f) ≡ true = (rw e at (by-record.code_kept f (block_start f i) right)) in
         let below : code_offset_at f (block_start f i) + length_at f (block_start f i) ≤ code_count f =
         leb-true _ _ within in
         omega (arith, below, sections_of)

@@ -1,6 +1,6 @@
 -- The whole check: its passes one after the other give the first broken rule, and an accepted file
 -- has the counts of its trailer. Assumes nothing.
-use Rattle.std.proofs.Common.{◌≡◌, ℕ, zero, suc, ◌+◌, ◌<◌, ◌≤◌, Bool, true, false, cond, ◌⊎◌, List, [], ◌∷◌, ◌++◌, length, sym, refl, ap, ◌∙◌, ap₂, inl, inr, append_assoc, append_nil, le_of_suc-le-suc, not-suc-le-zero, add-zero, add_assoc, zero-add, arith, eqb-true, le-leb}
+use Rattle.std.proofs.Common.{◌≡◌, ℕ, zero, suc, ◌+◌, ◌<◌, ◌≤◌, Bool, true, false, cond, ◌⊎◌, List, [], ◌∷◌, ◌++◌, length, sym, refl, ap, ◌∙◌, ap₂, inl, inr, append_assoc, append-nil, le_of_suc-le-suc, not-suc-le-zero, add-zero, add_assoc, zero-add, arith, eqb-true, le-leb}
 use mathlib.Core.List.Memᴰ
 use mathlib.Core.List.{Memᴰ}
 use mathlib.Core.Option.{Option, none, some}
@@ -112,7 +112,7 @@ module _ (f : List ℕ) where
   last_pass : (ys : List Rule)
       → or_else (found (first_broken f ys)) (checked (parsed f none))
       ≡ checked (parsed f (first_broken f ys))
-  last_pass ys = rw append_nil at (passes f ys [])
+  last_pass ys = rw append-nil at (passes f ys [])
 
   pub too_short : length f < 32 → Checked.Refused 1 0 ≡ checked (parse f)
   unfolding parse checked

@@ -2,7 +2,7 @@
 -- byte by byte, and what must be even. Assumes nothing.
 use mathlib.Core.Path.{◌≡◌, refl, ap, ap₂, sym, ◌∙◌}
 use mathlib.Core.Bool.{Bool, true, false, not, cond, ◌&&◌, ◌||◌, and-true, and_assoc}
-use mathlib.Core.Bool.{and-eq-true_iff, not_not}
+use mathlib.Core.Bool.{and-eq-true_iff, not-not}
 use mathlib.Core.Logic.{◌⊎◌, inl, inr}
 use mathlib.Core.List.{List, [], ◌∷◌, ◌++◌, append_assoc}
 use Prim.Native.Nat.{ℕ, zero, suc, ◌+◌, ◌*◌, ◌/◌, ◌%◌, ◌≤◌, ◌<◌}
@@ -144,7 +144,7 @@ ask_one : (p q a b : Bool) → (p ≡ true → q ≡ false)
     → not (p && not a || q && not b) ≡ cond p a (cond q b true)
 ask_one true q true b h = rw (h refl)
 ask_one true q false b h = refl
-ask_one false true a b h = not_not b
+ask_one false true a b h = not-not b
 ask_one false false a b h = refl
 
 -- a kind is not both Alu and Branch

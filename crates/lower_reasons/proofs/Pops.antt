@@ -42,17 +42,17 @@ pop_parts true false true false true true false h = (refl, refl, refl, refl)
 
 -- the pop of PC is none of the others but the last
 pub pop_facts : (t : ListFields) → pops_pc t ≡ true
-    → (t.s-bit ≡ false) × (eqb t.rlist 0 ≡ false) × (eqb t.rn 15 ≡ false)
+    → (t.s_bit ≡ false) × (eqb t.rlist 0 ≡ false) × (eqb t.rn 15 ≡ false)
     × (loads_pc t ≡ true)
 pop_facts t h =
     let p =
-    pop_parts t.load t.pre t.up t.s-bit t.writeback (is_listed t.rlist 15)
+    pop_parts t.load t.pre t.up t.s_bit t.writeback (is_listed t.rlist 15)
     (eqb t.rn 15) h in
     (p.0, not_empty t.rlist p.1, p.2, p.3)
 
 -- the reason of the pop of PC is that of an exit
 pub pop_reason : (t : ListFields) (al bios : Bool) → pops_pc t ≡ true
-    → list_reason (pops_pc t) t.s-bit (eqb t.rlist 0) (eqb t.rn 15) (loads_pc t) al bios
+    → list_reason (pops_pc t) t.s_bit (eqb t.rlist 0) (eqb t.rn 15) (loads_pc t) al bios
     ≡ cond (not al) (some ConditionalExit) (cond bios (some BiosExit) none)
 pop_reason t al bios h =
     rw (h, (pop_facts t h).0, (pop_facts t h).1, (pop_facts t h).2, (pop_facts t h).3) (by al bios)

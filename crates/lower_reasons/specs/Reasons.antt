@@ -148,7 +148,7 @@ loads_pc t = t.load && is_listed t.rlist 15
 -- the pop of PC that emit_block knows, with a base other than PC
 abbrev pub pops_pc : ListFields → Bool
 pops_pc t =
-    t.load && not t.pre && t.up && not t.s-bit && t.writeback && is_listed t.rlist 15
+    t.load && not t.pre && t.up && not t.s_bit && t.writeback && is_listed t.rlist 15
     && not (eqb t.rn 15)
 
 -- the exits that two of the reasons concern: Bx, and that pop
@@ -187,7 +187,7 @@ test region c o BiosExit = is_indirect_exit o && eqb region 0
 test region c o PcResult = passes (λ (rd : ℕ). eqb rd 15) o.rd
 test region c o RegisterShift = passes by_register o.operand || passes by_register o.offset
 test region c o ExtendOffset = passes by_extend o.offset
-test region c o UserRegisters = passes (λ (t : ListFields). t.s-bit) o.registers
+test region c o UserRegisters = passes (λ (t : ListFields). t.s_bit) o.registers
 test region c o EmptyList = passes (λ (t : ListFields). eqb t.rlist 0) o.registers
 test region c o PcBase = passes (λ (t : ListFields). eqb t.rn 15) o.registers
 test region c o PcLoaded = passes loads_pc o.registers && not (is_native_exit region c o)

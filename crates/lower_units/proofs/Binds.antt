@@ -171,6 +171,7 @@ labelled_binds ks (b ∷ bs) h =
 forwarders_bind : (k n : ℕ) (bs : List Body) (t : Top) → Memᴰ t (forwarders k n bs)
     → top_binds t ≡ true
 unfolding code_binds simple_binds forwarders
+forwarders_bind k n [] t (Memᴰ.tail m) = elim m [ ]
 forwarders_bind k n [] t (Memᴰ.head e) = rw e
 forwarders_bind k n (b ∷ bs) t (Memᴰ.head e) = rw e
 forwarders_bind k n (b ∷ bs) t (Memᴰ.tail m) = forwarders_bind k (suc n) bs t m
@@ -179,6 +180,8 @@ forwarders_bind k n (b ∷ bs) t (Memᴰ.tail m) = forwarders_bind k (suc n) bs 
 pub group_binds : (bs : List Body) → AllBinding bs → (t : Top) → Memᴰ t (emit_group bs)
     → top_binds t ≡ true
 unfolding code_binds simple_binds plain_binds emit_group emit_block with_locals group_code
+group_binds [] h t m = elim m [ ]
+group_binds (b ∷ []) h t (Memᴰ.tail (Memᴰ.tail m)) = elim m [ ]
 group_binds (b ∷ []) h t (Memᴰ.head e) = rw e (block_binds [] b h.0)
 group_binds (b ∷ []) h t (Memᴰ.tail (Memᴰ.head e)) = rw e
 group_binds (b ∷ c ∷ bs) h t (Memᴰ.head e) =
@@ -203,6 +206,9 @@ unfolding code_binds simple_binds plain_binds declarators_bind binds level
 head_binds t m = first m
   where
     first : Memᴰ t unit_head → top_binds t ≡ true
+    first (Memᴰ.tail
+        (Memᴰ.tail (Memᴰ.tail (Memᴰ.tail (Memᴰ.tail (Memᴰ.tail (Memᴰ.tail l))))))) =
+        elim l [ ]
     first (Memᴰ.head e) = rw e
     first (Memᴰ.tail (Memᴰ.head e)) = rw e
     first (Memᴰ.tail (Memᴰ.tail (Memᴰ.head e))) = rw e
@@ -227,6 +233,7 @@ end_binds bs = holds_append (map (λ (b : Body). extern (body_key b)) bs) _ (ext
     externs (c ∷ cs) t (Memᴰ.tail m) = externs cs t m
 
     ends : Holds (table (map body_key bs) ∷ count (length bs) ∷ [])
+    ends t (Memᴰ.tail (Memᴰ.tail m)) = elim m [ ]
     ends t (Memᴰ.head e) = rw e
     ends t (Memᴰ.tail (Memᴰ.head e)) = rw e
 
@@ -234,6 +241,7 @@ cut_binds : (max : ℕ) (closed ts : List Top) (n : ℕ) (gs : List (List Body))
     → Holds ts → Each AllBinding gs
     → (u : TranslationUnit) → Memᴰ u (cut max closed ts n gs) → Holds u.tree
 unfolding cut
+cut_binds max closed ts n [] h k g u (Memᴰ.tail m) = elim m [ ]
 cut_binds max closed ts n [] h k g u (Memᴰ.head e) = rw e (holds_append ts closed k h)
 cut_binds max closed ts n (c ∷ gs) h k g u m =
     let more : Holds (ts ++ emit_group c) = holds_append ts (emit_group c) k (group_binds c g.0) in

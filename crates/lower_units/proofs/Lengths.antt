@@ -326,6 +326,7 @@ cut_most : (max : ℕ) (closed ts : List Top) (n before : ℕ) (gs : List (List 
     → (u : TranslationUnit) → Memᴰ u (cut max closed ts n gs)
     → Within (4000 + before + groups_most gs + length (text_of closed)) u.tree
 unfolding cut
+cut_most max closed ts n before [] g h u (Memᴰ.tail m) = elim m [ ]
 cut_most max closed ts n before [] g h u (Memᴰ.head e) =
     rw e (omega (arith, text_append ts closed, h))
 cut_most max closed ts n before (c ∷ gs) g h u m =
@@ -388,6 +389,7 @@ cut_within : (max longest : ℕ) (closed ts : List Top) (n : ℕ) (gs : List (Li
     → (u : TranslationUnit) → Memᴰ u (cut max closed ts n gs)
     → Within (4000 + max + longest + length (text_of closed)) u.tree
 unfolding cut
+cut_within max longest closed ts n [] g h u (Memᴰ.tail m) = elim m [ ]
 cut_within max longest closed ts n [] g h u (Memᴰ.head e) =
     rw e (omega (arith, text_append ts closed, h))
 cut_within max longest closed ts n (c ∷ gs) g h u m =

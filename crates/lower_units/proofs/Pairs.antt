@@ -195,7 +195,7 @@ unfolding fuse
 pair_means ks at x y t r f cycles o z m s g half next d e =
     let high = high_half x.instr.op y.instr.op y.instr.addr t r f in
     let low = high.second in
-    subst (λ (r : ℕ). Leaves (native_text ks at o (emit_pair cycles t r)) z next) low.ret-is
+    subst (λ (r : ℕ). Leaves (native_text ks at o (emit_pair cycles t r)) z next) low.ret_is
     (subst (λ (t : ℕ). Leaves
     (native_text ks at o (emit_pair cycles t (set_bit0 ((y.instr.addr + 2) % 4294967296)))) z
     next) low.target_is

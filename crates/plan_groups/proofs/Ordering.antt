@@ -97,7 +97,8 @@ length_all limit counts roots order g zero r = refl
 length_all limit counts roots order g (suc left) r =
     length-append (numbers_of limit counts g 0 false (with_root_in roots r order)) _
     ∙ ap₂ (λ (a b : ℕ). a + b) (length_numbers limit counts g 0 false (with_root_in roots r order))
-    (length_all limit counts roots order _ left (suc r))
+    (length_all limit counts roots order
+    (next_group limit counts g 0 false (with_root_in roots r order)) left (suc r))
     ∙ sym (length-append (with_root_in roots r order) (order_from roots order left (suc r)))
 
 -- the two stores of a row

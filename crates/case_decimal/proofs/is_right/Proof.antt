@@ -4,7 +4,7 @@ use mathlib.Core.List.{[]}
 use mathlib.Core.Path.{refl, sym, ◌∙◌}
 use lib.ListN.{take, drop}
 use lib.Seq.{length-take-le, length_front}
-use borrow.Author.Tests.{not_true, not-false}
+use borrow.Author.Tests.{not-true, not-false}
 use Rattle.case_lent.proofs.Compared.{compared}
 use Rattle.case_decimal.specs.DecimalCases.{prints_over}
 use borrow.Author.Rules.{rules}
@@ -34,7 +34,7 @@ returns c =
     call.result
     (prints_over args.asked.number args.asked.at (take args.asked.text args.t5))
     call.ensures
-    (sym (not_true _ c.before.before.before.if1.true) ∙ same.same.ensures)
+    (sym (not-true _ c.before.before.before.if1.true) ∙ same.same.ensures)
     refl
     refl
 

@@ -3,7 +3,7 @@
 use mathlib.Core.Path.{refl, sym, ◌∙◌}
 use lib.ListN.{take, drop}
 use lib.Seq.{length-take-le, length_front}
-use borrow.Author.Tests.{not_true, not-false}
+use borrow.Author.Tests.{not-true, not-false}
 use Rattle.file_blocks.specs.Parse.{parse}
 use Rattle.case_lent.proofs.Compared.{compared}
 use Rattle.case_pages.specs.PageCases.{hands_over}
@@ -41,7 +41,7 @@ returns c =
     (hands_over args.asked.many args.asked.page (parse args.file.now)
     (take args.asked.work args.t7) (take args.asked.text args.t8))
     call.ensures
-    (sym (not_true _ c.before.before.before.if1.true) ∙ same.same.ensures)
+    (sym (not-true _ c.before.before.before.if1.true) ∙ same.same.ensures)
     refl
     refl
 
@@ -83,7 +83,7 @@ returns-2 c =
     (take args.asked.work args.t7) (take args.asked.text args.t8))
     call.ensures
     (sym (not-false _ c.before.before.before.before.if1.false) ∙ same.same.ensures)
-    (sym (not_true _ c.if2.true) ∙ c.before.same-work.ensures)
+    (sym (not-true _ c.if2.true) ∙ c.before.same-work.ensures)
     refl
 
 slice-aggregate-same-text-2 : tie.Need-slice-aggregate-same-text-2

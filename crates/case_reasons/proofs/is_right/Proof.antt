@@ -4,7 +4,7 @@ use mathlib.Core.List.{[]}
 use mathlib.Core.Path.{refl, sym, ◌∙◌}
 use lib.ListN.{take, drop}
 use lib.Seq.{length-take-le, length_front}
-use borrow.Author.Tests.{not_true, not-false}
+use borrow.Author.Tests.{not-true, not-false}
 use Rattle.file_blocks.specs.Parse.{parse}
 use Rattle.case_lent.proofs.Compared.{compared}
 use Rattle.case_reasons.specs.ReasonCases.{hands_over}
@@ -36,7 +36,7 @@ returns c =
     (hands_over args.asked.many args.asked.instruction (parse args.file.now)
     (take args.asked.text args.t6))
     call.ensures
-    (sym (not_true _ c.before.before.before.if1.true) ∙ same.same.ensures)
+    (sym (not-true _ c.before.before.before.if1.true) ∙ same.same.ensures)
     refl
     refl
 

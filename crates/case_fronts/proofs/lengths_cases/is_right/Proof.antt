@@ -3,7 +3,7 @@
 use mathlib.Core.Path.{refl, sym, ◌∙◌}
 use lib.ListN.{take, drop}
 use lib.Seq.{length-take-le, length_front}
-use borrow.Author.Tests.{not_true, not-false}
+use borrow.Author.Tests.{not-true, not-false}
 use Rattle.file_blocks.specs.Parse.{parse}
 use Rattle.plan_groups.specs.Limit.{part_limit}
 use Rattle.call_units.specs.Calls.{lengths_call, lengths_numbers}
@@ -44,7 +44,7 @@ returns c =
     (parse args.file.now) (take args.asked.work args.t7)
     (take args.asked.lengths args.t8)))
     call.ensures
-    (sym (not_true _ c.before.before.before.if1.true) ∙ same.same.ensures)
+    (sym (not-true _ c.before.before.before.if1.true) ∙ same.same.ensures)
     refl
     refl
 
@@ -88,7 +88,7 @@ returns-2 c =
     (take args.asked.lengths args.t8)))
     call.ensures
     (sym (not-false _ c.before.before.before.before.if1.false) ∙ same.same.ensures)
-    (sym (not_true _ c.if2.true) ∙ c.before.same-work.ensures)
+    (sym (not-true _ c.if2.true) ∙ c.before.same-work.ensures)
     refl
 
 returns-3 : tie.Need-returns-3

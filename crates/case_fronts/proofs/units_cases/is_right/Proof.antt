@@ -3,7 +3,7 @@
 use mathlib.Core.Path.{refl, sym, ◌∙◌}
 use lib.ListN.{take, drop}
 use lib.Seq.{length-take-le, length_front}
-use borrow.Author.Tests.{not_true, not-false}
+use borrow.Author.Tests.{not-true, not-false}
 use Rattle.file_blocks.specs.Parse.{parse}
 use Rattle.plan_groups.specs.Limit.{part_limit}
 use Rattle.call_units.specs.Calls.{units_call, units_numbers}
@@ -53,7 +53,7 @@ returns c =
     (parse args.file.now) (take args.asked.work args.t8)
     (take args.asked.text args.t9) (take args.asked.lengths args.t10)))
     call.ensures
-    (sym (not_true _ c.before.before.before.if1.true) ∙ same.same.ensures)
+    (sym (not-true _ c.before.before.before.if1.true) ∙ same.same.ensures)
     refl
     refl
     refl
@@ -101,7 +101,7 @@ returns-2 c =
     (take args.asked.text args.t9) (take args.asked.lengths args.t10)))
     call.ensures
     (sym (not-false _ c.before.before.before.before.if1.false) ∙ same.same.ensures)
-    (sym (not_true _ c.if2.true) ∙ c.before.same-work.ensures)
+    (sym (not-true _ c.if2.true) ∙ c.before.same-work.ensures)
     refl
     refl
 
@@ -152,7 +152,7 @@ returns-3 c =
     call.ensures
     (sym (not-false _ work.before.before.before.if1.false) ∙ same.same.ensures)
     (sym (not-false _ c.before.before.before.before.if2.false) ∙ work.same-work.ensures)
-    (sym (not_true _ c.if3.true) ∙ c.before.same_text.ensures)
+    (sym (not-true _ c.if3.true) ∙ c.before.same_text.ensures)
     refl
 
 returns-4 : tie.Need-returns-4

@@ -3,7 +3,7 @@
 use mathlib.Core.Path.{refl, sym, ◌∙◌}
 use lib.ListN.{take, drop}
 use lib.Seq.{length-take-le, length_front}
-use borrow.Author.Tests.{not_true, not-false}
+use borrow.Author.Tests.{not-true, not-false}
 use Rattle.file_blocks.specs.Parse.{parse}
 use Rattle.plan_groups.specs.Limit.{part_limit}
 use Rattle.call_unit.specs.Calls.{measure_call, measure_numbers}
@@ -34,7 +34,7 @@ returns c =
     (measure_call part_limit args.asked.size args.asked.unit (parse args.file.now)
     (take args.asked.work args.t6)))
     call.ensures
-    (sym (not_true _ c.before.before.before.if1.true) ∙ same.same.ensures)
+    (sym (not-true _ c.before.before.before.if1.true) ∙ same.same.ensures)
     refl
 
 slice-aggregate-same-work-2 : tie.Need-slice-aggregate-same-work-2

@@ -2,7 +2,7 @@
 -- Assumes nothing.
 use Rattle.std.proofs.Common.{true, false, sym, ap, ◌∙◌, arith, rules}
 use mathlib.Core.Option.{some}
-use borrow.Author.Tests.{not_true, not-false}
+use borrow.Author.Tests.{not-true, not-false}
 use Rattle.file_blocks.specs.Read.{IsBlock}
 use Rattle.file_blocks.proofs.IsBlock.{missing}
 use Rattle.emit_block.proofs.Bodies.{body_here, is_body, hash_there, hash_absent, guarded_by}
@@ -40,7 +40,7 @@ returns-2 c =
     let b = body_here is v.hashing in
     code_bare ks b
     (guarded_by body false
-    (sym (not_true _ bare.if1.true) ∙ bare.before.is-guarded.ensures))
+    (sym (not-true _ bare.if1.true) ∙ bare.before.is-guarded.ensures))
     (put.emit-records.ensures ks b (record { stands = s; is = is; body = body }))
 
 returns-3 : tie.Need-returns-3
@@ -61,7 +61,7 @@ returns-3 c =
     code_deferred ks b
     (guarded_by body true
     (sym (not-false _ guarded.if1.false) ∙ guarded.before.is-guarded.ensures))
-    (hash_absent is v.hashing (not_true _ absent.if2.true))
+    (hash_absent is v.hashing (not-true _ absent.if2.true))
     (put.emit-defer.ensures ks b body.addr)
 
 emit-records-requires-2 : tie.Need-emit-records-requires-2

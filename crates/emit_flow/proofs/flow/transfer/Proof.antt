@@ -5,7 +5,7 @@ use Prim.Native.Nat.{ℕ}
 use native.Mathlib.Omega.{arith}
 use lib.Dec.{leb}
 use borrow.Author.Rules.{rules}
-use borrow.Author.Tests.{not_true, not-false, le-leb, lt-leb}
+use borrow.Author.Tests.{not-true, not-false, le-leb, lt-leb}
 use Rattle.emit_flow.proofs.Pieces.{returned, gated, ungated}
 use Rattle.emit_flow.specs.Pieces.{indent}
 use Rattle.base_text.proofs.Laws.{seq, wrote_as}
@@ -17,7 +17,7 @@ returns c =
     let c2 = c.before.before in
     let c1 = c2.before.before in
     λ ks o h. wrote_as c2.put-return.ensures
-    (returned ks _ o _ _ (h ∙ not_true _ c1.if1.true))
+    (returned ks _ o _ _ (h ∙ not-true _ c1.if1.true))
 
 returns-2 : tie.Need-returns-2
 returns-2 c =

@@ -2,7 +2,7 @@
 -- instruction.
 -- Assumes nothing.
 use borrow.Author.Rules.{rules}
-use borrow.Author.Tests.{not_true, not-false}
+use borrow.Author.Tests.{not-true, not-false}
 use mathlib.Core.Path.{sym, ◌∙◌}
 use native.Mathlib.Omega.{arith}
 use lib.ListN.{drop}
@@ -31,7 +31,7 @@ returns c =
           (putting_as
           (rest_nothing (drop a.index (instrs_of a.file.now a.block a.first))
           (from_absent a.file.now a.block a.first a.index
-          (sym code.has_code.ensures ∙ not_true _ c.if1.true)) _ after) put),
+          (sym code.has_code.ensures ∙ not-true _ c.if1.true)) _ after) put),
     )
 
 reaches-requires : tie.Need-reaches-requires
@@ -53,7 +53,7 @@ returns-2 c =
           (rest_nothing (drop a.index (instrs_of a.file.now a.block a.first))
           (from_unreached a.file.now a.block a.first a.index
           (sym code.has_code.ensures ∙ not-false _ place.before.if1.false)
-          place.region-of.ensures (sym reaches.reaches.ensures ∙ not_true _
+          place.region-of.ensures (sym reaches.reaches.ensures ∙ not-true _
           c.if2.true)) _
           after) put),
     )

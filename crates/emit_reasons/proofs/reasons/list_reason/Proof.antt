@@ -1,7 +1,7 @@
 -- `list_reason` tests as the reasons come.
 -- Assumes nothing.
 use borrow.Author.Rules.{rules}
-use borrow.Author.Tests.{eq-eqb, ne_eqb, not_true, not-false}
+use borrow.Author.Tests.{eq-eqb, ne_eqb, not-true, not-false}
 use mathlib.Core.Path.{refl, sym, ◌∙◌}
 use Rattle.emit_reasons.proofs.reasons.list_reason.Statement.{statement}
 use Rattle.emit_reasons.proofs.reasons.list_reason.Tie as tie
@@ -26,7 +26,7 @@ returns-4 c = rw (
   ne_eqb _ _
       c.before.before.if2.false,
   ne_eqb _ _ c.before.if3.false,
-  not_true
+  not-true
       c.before.before.before.before.args.load c.if4.true,
 ) refl
 

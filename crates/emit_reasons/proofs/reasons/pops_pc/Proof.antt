@@ -1,13 +1,13 @@
 -- `pops_pc` tests what the definition does, in its order.
 -- Assumes nothing.
 use borrow.Author.Rules.{rules}
-use borrow.Author.Tests.{not_true, not-false}
+use borrow.Author.Tests.{not-true, not-false}
 use mathlib.Core.Path.{refl, sym, ◌∙◌}
 use Rattle.emit_reasons.proofs.reasons.pops_pc.Statement.{statement}
 use Rattle.emit_reasons.proofs.reasons.pops_pc.Tie as tie
 
 returns : tie.Need-returns
-returns c = rw (not_true c.before.args.load c.if1.true) refl
+returns c = rw (not-true c.before.args.load c.if1.true) refl
 
 returns-2 : tie.Need-returns-2
 returns-2 c = rw (not-false c.before.before.args.load c.before.if1.false, c.if2.true)
@@ -18,7 +18,7 @@ returns-3 c = rw (
   not-false c.before.before.before.args.load
       c.before.before.if1.false,
   c.before.if2.false,
-  not_true
+  not-true
       c.before.before.before.args.up c.if3.true,
 ) refl
 
@@ -40,7 +40,7 @@ returns-5 c = rw (
   not-false
       c.before.before.before.before.before.args.up c.before.before.if3.false,
   c.before.if4.false,
-  not_true c.before.before.before.before.before.args.writeback
+  not-true c.before.before.before.before.before.args.writeback
       c.if5.true,
 ) refl
 
@@ -55,7 +55,7 @@ returns-6 c =
       k.before.if4.false,
       not-false a.writeback k.if5.false,
       sym
-          c.before.is-listed.ensures ∙ not_true c.before.is-listed.result c.if6.true,
+          c.before.is-listed.ensures ∙ not-true c.before.is-listed.result c.if6.true,
     ) refl
 
 returns-7 : tie.Need-returns-7

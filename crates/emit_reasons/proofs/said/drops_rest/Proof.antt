@@ -1,7 +1,7 @@
 -- `drops_rest` tells the unconditional native exits.
 -- Assumes nothing.
 use borrow.Author.Rules.{rules}
-use borrow.Author.Tests.{not_true, not-false}
+use borrow.Author.Tests.{not-true, not-false}
 use mathlib.Core.Path.{sym, ap, ◌∙◌}
 use Rattle.lower_reasons.specs.Said.{drops_rest_by}
 use Rattle.lower_reasons.proofs.Leaving.{
@@ -18,7 +18,7 @@ use Rattle.emit_reasons.proofs.said.drops_rest.Tie as tie
 returns : tie.Need-returns
 returns c =
     let a = c.before.before.args in
-    leaves_not a.region a.i.cond a.i.op (sym c.before.is-al.ensures ∙ not_true
+    leaves_not a.region a.i.cond a.i.op (sym c.before.is-al.ensures ∙ not-true
     c.before.is-al.result c.if1.true)
 
 returns-2 : tie.Need-returns-2

@@ -3,7 +3,7 @@
 -- Assumes nothing.
 use borrow.Author.Rules.{rules}
 use mathlib.Core.Path.{sym, ◌∙◌}
-use borrow.Author.Tests.{not_true, not-false}
+use borrow.Author.Tests.{not-true, not-false}
 use native.Mathlib.Omega.{arith}
 use lib.ListN.{drop}
 use Rattle.file_blocks.specs.Read.{instrs_of}
@@ -18,7 +18,7 @@ returns c =
     let a = code.before.before.args in
     at_nothing _ a.index (drop a.index (instrs_of a.file.now a.block a.first))
     (from_absent a.file.now a.block a.first a.index
-    (sym code.has_code.ensures ∙ not_true _ c.if1.true))
+    (sym code.has_code.ensures ∙ not-true _ c.if1.true))
 
 reaches-requires : tie.Need-reaches-requires
 reaches-requires c κs =
@@ -34,7 +34,7 @@ returns-2 c =
     at_nothing _ a.index (drop a.index (instrs_of a.file.now a.block a.first))
     (from_unreached a.file.now a.block a.first a.index
     (sym code.has_code.ensures ∙ not-false _ place.before.if1.false)
-    place.region-of.ensures (sym reaches.reaches.ensures ∙ not_true _ c.if2.true))
+    place.region-of.ensures (sym reaches.reaches.ensures ∙ not-true _ c.if2.true))
 
 said-here-requires : tie.Need-said-here-requires
 said-here-requires c κs = c.before.before.before.before.before.before.requires

@@ -2,7 +2,7 @@
 -- found. Assumes nothing.
 use Rattle.std.proofs.Common.{suc, drop, sym, ◌∙◌, arith, rules}
 use Rattle.file_blocks.specs.Read.{instrs_of}
-use borrow.Author.Tests.{not_true}
+use borrow.Author.Tests.{not-true}
 use Rattle.file_blocks.proofs.ReadInstrs.{not_missing}
 use Rattle.file_blocks.proofs.ReadNext.{next_last, next_read}
 use Rattle.file_blocks.proofs.next.next_of.Statement.{statement}
@@ -11,7 +11,7 @@ use Rattle.file_blocks.proofs.next.next_of.Tie as tie
 returns : tie.Need-returns
 returns c =
     λ i is. sym
-    (c.before.begins-bl.ensures (not_true _ c.if1.true)
+    (c.before.begins-bl.ensures (not-true _ c.if1.true)
     (drop (suc c.before.before.before.args.j)
     (instrs_of c.before.before.before.args.file.now c.before.before.before.args.block
     c.before.before.before.args.first)))

@@ -1,6 +1,6 @@
 -- `code_bytes` gives the slice of the file at a record's offset. The definition's three cases:
 -- absent, inside the file, past its end.
-use borrow.Author.Tests.{not_true, not-false}
+use borrow.Author.Tests.{not-true, not-false}
 use Rattle.file_blocks.proofs.Reading as reading
 use Rattle.std.proofs.Common.{rules}
 use Rattle.file_blocks.proofs.read.code_bytes.Statement.{statement}
@@ -9,7 +9,7 @@ use Rattle.file_blocks.proofs.read.code_bytes.Tie as tie
 returns : tie.Need-returns
 returns c =
     reading.no_code _ _ _ c.before.before.before.instrs-length.ensures.0
-    (not_true _ c.before.if1.true)
+    (not-true _ c.before.if1.true)
 
 returns-2 : tie.Need-returns-2
 returns-2 c =

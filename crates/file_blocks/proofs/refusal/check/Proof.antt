@@ -3,7 +3,7 @@
 use Rattle.file_blocks.specs.declared.refusal.Checked.{Checked}
 use Rattle.std.proofs.Common.{sym, ◌∙◌, ap₂, rules}
 use Rattle.file_blocks.proofs.Whole as whole
-use borrow.Author.Tests.{not_true, not-false}
+use borrow.Author.Tests.{not-true, not-false}
 use Rattle.file_blocks.proofs.refusal.check.Statement.{statement}
 use Rattle.file_blocks.proofs.refusal.check.Tie as tie
 
@@ -13,14 +13,14 @@ returns c = whole.too_short _ c.if1.true
 returns-2 : tie.Need-returns-2
 returns-2 c =
     whole.over_limits _ c.before.before.if1.false
-    (sym c.before.within-limits.ensures ∙ not_true _ c.if2.true)
+    (sym c.before.within-limits.ensures ∙ not-true _ c.if2.true)
 
 returns-3 : tie.Need-returns-3
 returns-3 c =
     whole.wrong_trailer _ c.before.before.before.before.if1.false
     (sym c.before.before.before.within-limits.ensures
     ∙ not-false _ c.before.before.if2.false)
-    (sym c.before.trailer-right.ensures ∙ not_true _ c.if3.true)
+    (sym c.before.trailer-right.ensures ∙ not-true _ c.if3.true)
 
 check-blocks-requires : tie.Need-check-blocks-requires
 check-blocks-requires c κs = sym c.before.trailer-right.ensures ∙ not-false _ c.if3.false

@@ -1,6 +1,6 @@
 -- `check_blocks` finds the first broken rule of refusals 4 to 6. The loop's invariant: the blocks
 -- before block i keep their rules, so the first broken one is among the rest.
-use borrow.Author.Tests.{not_true, not-false}
+use borrow.Author.Tests.{not-true, not-false}
 use Rattle.std.proofs.Common.{ℕ, ◌+◌, ◌-◌, sym, ap, ◌∙◌, ap₂, arith, rules}
 use Rattle.file_blocks.specs.Found.{found}
 use Rattle.file_records.proofs.Sections.{sections}
@@ -31,7 +31,7 @@ returns c = ap found
     ∙ passes.block_broken _ _ _ _ _
     c.before.before.before.before.before.section-start.ensures
     c.before.before.loop-test.true
-    (sym c.before.block-right.ensures ∙ not_true _ c.if1.true)))
+    (sym c.before.block-right.ensures ∙ not-true _ c.if1.true)))
 
 key-requires : tie.Need-key-requires invariant-loop decreases-loop
 key-requires c κs =

@@ -6,7 +6,7 @@ use Rattle.file_blocks.specs.Found.{found}
 use Rattle.file_records.proofs.Sections.{sections}
 use Rattle.file_blocks.proofs.Passes as passes
 use Rattle.std.proofs.Common.{◌≡◌, ◌-◌, ◌≤◌, sym, ap, ◌∙◌, arith, rules}
-use borrow.Author.Tests.{not_true, not-false}
+use borrow.Author.Tests.{not-true, not-false}
 use Rattle.file_blocks.proofs.refusal.check_records.Statement.{statement}
 use Rattle.file_blocks.proofs.refusal.check_records.Tie as tie
 use Rattle.file_blocks.proofs.refusal.check_records.Reads as reads
@@ -38,7 +38,7 @@ returns c = ap found
     ∙ passes.instr-broken _ _ _ _
     c.before.before.before.before.before.section-start.ensures
     c.before.before.loop-test.true
-    (sym c.before.instr-right.ensures ∙ not_true _ c.if1.true)))
+    (sym c.before.instr-right.ensures ∙ not-true _ c.if1.true)))
 
 loop-again : tie.Need-loop-preserved invariant-loop decreases-loop
 loop-again c = (

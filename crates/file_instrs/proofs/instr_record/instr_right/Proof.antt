@@ -3,7 +3,7 @@
 use mathlib.Core.Path.{sym, ap, ◌∙◌}
 use native.Mathlib.Omega.{arith}
 use borrow.Author.Rules.{rules}
-use borrow.Author.Tests.{not_true, not-false}
+use borrow.Author.Tests.{not-true, not-false}
 use Rattle.file_instrs.specs.InstrRecord.{within as limits-within}
 use Rattle.file_instrs.proofs.Limits.{all_long, limits_of, out_of_range, in_range}
 use Rattle.file_instrs.proofs.instr_record.instr_right.Statement.{statement}
@@ -23,7 +23,7 @@ returns c =
     number.ensures.1 in
     out_of_range _ _
     (ap (limits-within start.args.file.now start.args.at) (sym limits)
-    ∙ sym c.before.within.ensures ∙ not_true _ c.if1.true)
+    ∙ sym c.before.within.ensures ∙ not-true _ c.if1.true)
 
 returns-2 : tie.Need-returns-2
 returns-2 c =

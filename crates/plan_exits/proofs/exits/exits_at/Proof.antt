@@ -1,7 +1,7 @@
 -- `plan_exits::exits::exits_at` meets its contract. Of a block of an accepted file each
 -- instruction is found, so the answers with nothing are for other files. Assumes nothing.
 use Rattle.std.proofs.Common.{◌∙◌, arith, rules}
-use borrow.Author.Tests.{not_true}
+use borrow.Author.Tests.{not-true}
 use Rattle.file_blocks.proofs.ReadInstrs.{not_missing}
 use Rattle.file_blocks.proofs.IsBlock.{some_instr}
 use Rattle.plan_exits.proofs.Closing.{exits_alone, exits_paired, exits_unpaired}
@@ -29,7 +29,7 @@ returns-4 c i is =
     let known = c.before.before.before.before.before in
     c.last-exits2.ensures
     ∙ exits_unpaired is _ _ c.before.before.before.if2.false
-    (c.before.before.ends-bl.ensures (not_true _ c.before.if3.true))
+    (c.before.before.ends-bl.ensures (not-true _ c.before.if3.true))
     known.before.before.instr-of.ensures
     known.last.given.1
 

@@ -7,7 +7,7 @@ use Prim.Native.Nat.{ℕ}
 use mathlib.Core.Path.{ap, sym, ◌∙◌}
 use Rattle.plan_groups.proofs.Joining as joining
 use borrow.Author.Rules.{rules}
-use borrow.Author.Tests.{not_true, not-false}
+use borrow.Author.Tests.{not-true, not-false}
 use Rattle.plan_groups.proofs.groups.join_block.Statement.{statement}
 use Rattle.plan_groups.proofs.groups.join_block.Tie as tie
 
@@ -23,7 +23,7 @@ returns-2 c =
     let pre = known.before.before.before.before.before.requires in
     joining.block_apart _ _ _ _ _ known.before.before.block_at.ensures pre.0.2 pre.0.3
     _ known.block.given.1
-    (sym c.before.on-page-8.ensures ∙ not_true _ c.if1.true)
+    (sym c.before.on-page-8.ensures ∙ not-true _ c.if1.true)
 
 returns-3 : tie.Need-returns-3
 returns-3 c =

@@ -2,18 +2,13 @@
 -- Assumes nothing.
 use mathlib.Core.Path.{◌≡◌, refl}
 use mathlib.Core.Bool.{Bool, true, false, cond}
-use borrow.Author.Rules.{rules}
 use mir.Val.{bool_byte}
-use Rattle.call_answers.proofs.told_of.Statement.{statement}
-use Rattle.call_answers.proofs.told_of.Tie as tie
+use Rattle.call_answers.proofs.told_of.Goals as goal
 
 -- a Boolean value as a number
 bool_byte_lem : (b : Bool) → bool_byte b ≡ cond b 1 0
 bool_byte_lem true = refl
 bool_byte_lem false = refl
 
-returns : tie.Need-returns
+pub returns : goal.returns
 returns c = rw (bool_byte_lem c.args.last)
-
-pub told-of-spec : {M : Type 1} → statement M
-told-of-spec = tie.close (tie.spec (search rules) returns)
