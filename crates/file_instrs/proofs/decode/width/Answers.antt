@@ -6,9 +6,7 @@ use native.Mathlib.Nat.{le_of_suc-le-suc, not-suc-le-zero}
 use Rattle.file_instrs.specs.Decode.{width_of}
 use Rattle.file_instrs.proofs.Limits.{next}
 use mathlib.Core.Path.{◌≡◌, refl, sym}
-use borrow.Author.Rules.{rules}
-use Rattle.file_instrs.proofs.decode.width.Statement.{statement}
-use Rattle.file_instrs.proofs.decode.width.Tie as tie
+use Rattle.file_instrs.proofs.decode.width.Goals as goal
 
 -- a number from 2 on encodes a word
 from_two : (n : ℕ) → 2 ≤ n → width_of n ≡ MemWidth.Word
@@ -17,8 +15,5 @@ from_two (suc zero) h = absurd (not-suc-le-zero (le_of_suc-le-suc h))
 from_two (suc (suc zero)) h = refl
 from_two (suc (suc (suc n))) h = refl
 
-returns-3 : tie.Need-returns-3
-returns-3 c = sym (from_two _ (next (next zero-le c.match.rest.0.1) c.match.rest.1))
-
-pub width_spec : {M : Type 1} → statement M
-width_spec = tie.close (tie.spec (λ c. search rules) (λ c. search rules) returns-3)
+pub returns-in_default : goal.returns-in_default
+returns-in_default c = sym (from_two _ (next (next zero-le c.in_default.in_default-own.rest.0.1) c.in_default.in_default-own.rest.1))

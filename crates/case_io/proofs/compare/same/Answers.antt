@@ -1,0 +1,30 @@
+use mathlib.Core.Path.{refl, ◌∙◌, sym}
+use borrow.Author.Rules.{rules}
+use Rattle.case_io.proofs.Same.{lengths_differ, place_differs, place_same, end_same}
+use Rattle.case_io.proofs.compare.same.Goals as goal
+
+pub returns-then-expected-got : goal.returns-then-expected-got
+returns-then-expected-got c =
+    lengths_differ c.args.expected.now c.args.got.now c.if-expected-got.true
+
+pub loop-i-init : goal.loop-i-init
+loop-i-init c = (c.if-expected-got.false, search rules, refl)
+
+pub returns-then-expected-i : goal.returns-then-expected-i
+returns-then-expected-i c =
+    let at = c.loop-i in
+    place_differs _ _ at.i (search rules) (search rules) c.if-expected-i.true ∙ sym at.invariant.2
+
+pub loop-i-preserved : goal.loop-i-preserved
+loop-i-preserved c =
+    let at = c.loop-i in (
+      search rules,
+      search rules,
+      at.invariant.2
+          ∙ place_same _ _ at.i (search rules) (search rules) c.if-expected-i.false,
+    )
+
+pub returns : goal.returns
+returns c =
+    let at = c.loop-i in
+    end_same _ _ at.i (search rules) (search rules) ∙ sym at.invariant.2
