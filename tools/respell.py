@@ -95,6 +95,16 @@ def declared(path, text):
         yield m.group(2), bool(re.match(r"^(abbrev|unfoldable)", first))
 
 
+def fields(root):
+    """The names of the fields of records, which stand behind a dot too."""
+    found = set()
+    for path in files(root, ".antt"):
+        for block in flat(blocks(read(path))):
+            if re.match(r"^(pub )?record ", block[0]):
+                found |= {m.group(1) for m in map(MEMBER.match, block[1:]) if m}
+    return found
+
+
 def answers(path, text):
     """The names of a walk's own answers, which stay in that file."""
     if not is_walk(path):
@@ -147,7 +157,7 @@ def together(new, all_names):
     return {n: s for n, s in by.items() if len(s) > 1 and n not in APART}
 
 
-def turned(text, new, keep, aliases, dashes):
+def turned(text, new, keep, aliases, dashes, dotted=frozenset()):
     out, at, before = [], 0, []
     for m in TOKEN.finditer(text):
         token = m.group(0)
@@ -156,7 +166,8 @@ def turned(text, new, keep, aliases, dashes):
             bare = token.rstrip(":?!")
             if bare in new and ("-" not in bare or dashes):
                 path = before[-1:] == ["."] and m.start() == before_end
-                if "-" not in bare or not path or before[-2][0].isupper() or before[-2] in aliases:
+                cited = not path or before[-2][0].isupper() or before[-2] in aliases
+                if "-" not in bare or cited or bare in dotted:
                     to = new[bare] + token[len(bare):]
         if to is not None:
             out += [text[at:m.start()], to]
@@ -175,6 +186,7 @@ def main():
         print(f"fall together: {fallen}", file=sys.stderr)
         return 1
     changed = 0
+    own_fields = fields(root)
     for path in files(root, ".antt", ".rt", ".edit"):
         text = read(path)
         antt = path.endswith(".antt")
@@ -182,7 +194,8 @@ def main():
         dashes = antt or bool(re.search(r"(?m)^file: .*\.antt$", text))
         local = LOCAL.get(os.path.relpath(path, root), {})
         to = turned(text, local, set(), set(), True)
-        to = turned(to, new, answers(path, text) | borrowed(root, text), aliases, dashes)
+        dotted = set() if is_walk(path) else own_fields
+        to = turned(to, new, answers(path, text) | borrowed(root, text), aliases, dashes, dotted)
         if to != text:
             with open(path, "w", encoding="utf-8") as f:
                 f.write(to)

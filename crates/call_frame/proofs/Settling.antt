@@ -1,7 +1,7 @@
 -- What the decision of a call leaves, and work numbers that a call changed and then cleared.
 -- Assumes nothing.
-use Prim.Native.Nat.{ℕ, ◌+◌, ◌*◌, ◌≤◌, ◌<◌, ◌-◌}
-use mathlib.Core.Path.{◌≡◌, refl, sym, ap, ap₂, ◌∙◌}
+use Prim.Native.Nat.{ℕ, ◌+◌, ◌≤◌, ◌<◌, ◌-◌}
+use mathlib.Core.Path.{◌≡◌, sym, ap, ◌∙◌}
 use mathlib.Core.Bool.{true, false}
 use mathlib.Core.List.{List, [], ◌∷◌, ◌++◌}
 use native.Mathlib.Omega.{arith}
@@ -9,7 +9,7 @@ use borrow.Author.Tests.{lt-ltb, le-ltb}
 use lib.ListN.{length, get_or, drop, replicate, length-drop}
 use lib.Seq.{ext_get_or, get_or-drop}
 use Rattle.call_frame.specs.Answer.{value}
-use Rattle.call_frame.specs.Frame.{Refusal, Decision, Outcome, refuses, makes, numbered}
+use Rattle.call_frame.specs.Frame.{Refusal, Decision, refuses, makes, numbered}
 use Rattle.call_frame.specs.Frame.{cleared, refused_with, too_short, put_fronts, settle}
 
 -- numbers past m, where none of them changed

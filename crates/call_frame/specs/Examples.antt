@@ -4,7 +4,7 @@ use Rattle.std.specs.Prelude.{ℕ, ◌≡◌, refl, List, [], ◌∷◌}
 use Rattle.std.proofs.Math.Option.{Option, none, some}
 use Rattle.call_frame.specs.Answer.{refusal, value}
 use Rattle.file_blocks.specs.Parse.{Block, Parsed}
-use Rattle.call_frame.specs.Frame.{Refusal, Decision, Call, Outcome, refuses, makes, numbered}
+use Rattle.call_frame.specs.Frame.{Refusal, Decision, Call, refuses, makes, numbered}
 use Rattle.call_frame.specs.Frame.{call_on_blocks, call_frame}
 use Rattle.call_frame.specs.Numbers.{handed}
 
