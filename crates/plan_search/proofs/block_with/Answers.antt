@@ -2,7 +2,6 @@
 -- does, else the one that the search in the order finds.
 use mathlib.Core.Path.{sym, ap, ◌∙◌}
 use native.Mathlib.Omega.{arith}
-use borrow.Author.Rules.{rules}
 use Rattle.file_blocks.proofs.Accepted.{few_blocks}
 use Rattle.file_keys.specs.Answers.{number_of}
 use Rattle.file_keys.proofs.Ordered.{is_order}
@@ -25,3 +24,8 @@ returns-in_default c =
 pub returns : goal.returns
 returns c =
     sym (ap number_of c.in-At.is) ∙ c.find_key.ensures
+
+pub returns-then-has_key : goal.returns-then-has_key
+returns-then-has_key c =
+    searching.with_key _ c.requires.accepted.0 _ _
+    (sym c.has_key.ensures ∙ c.if-has_key.true)

@@ -1,7 +1,6 @@
 -- `find_target` finds the block that an edge to a key leads to: the one that has the key, if it is
 -- of page 8.
 use mathlib.Core.Path.{sym, ap, ◌∙◌}
-use borrow.Author.Rules.{rules}
 use Rattle.plan_search.specs.Search.{target_of}
 use Rattle.plan_search.proofs.Searching as searching
 use Rattle.plan_search.proofs.find_target.Goals as goal

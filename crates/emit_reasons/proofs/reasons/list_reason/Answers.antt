@@ -1,8 +1,7 @@
 -- `list_reason` tests as the reasons come.
 -- Assumes nothing.
-use borrow.Author.Rules.{rules}
-use borrow.Author.Tests.{eq-eqb, ne_eqb, not-true, not-false}
-use mathlib.Core.Path.{refl, sym, ◌∙◌}
+use borrow.Author.Tests.{eq-eqb, ne_eqb}
+use mathlib.Core.Path.{refl}
 use Rattle.emit_reasons.proofs.reasons.list_reason.Goals as goal
 
 pub returns-then-s_bit : goal.returns-then-s_bit
