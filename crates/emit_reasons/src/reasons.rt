@@ -134,7 +134,7 @@ pub(crate) fn pops_pc(
       rlist = rlist;
       pre = pre;
       up = up;
-      s-bit =
+      s_bit =
           s_bit;
       writeback = writeback;
     }) }

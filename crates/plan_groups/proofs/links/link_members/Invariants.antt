@@ -1,0 +1,13 @@
+-- `link_members` links the members of each component. The loop's invariant: the blocks from
+-- place `left` of the key order on are linked, and only quarters 1 and 3 changed.
+use mathlib.Core.Path.{◌≡◌, ◌∙◌}
+use Rattle.plan_groups.proofs.Linking as linking
+use borrow.Author.Rules.{rules}
+use native.Mathlib.Omega.{arith}
+use Rattle.plan_groups.proofs.links.link_members.Given as goal
+
+abbrev pub invariant-loop-left : goal.invariant-loop-left
+invariant-loop-left l = linking.Linking l.initial.work l.n l.left l.work
+
+abbrev pub decreases-loop-left : goal.decreases-loop-left
+decreases-loop-left l = l.left
