@@ -85,6 +85,11 @@ overflow_add-length c =
     let small : size c.args.text.now ≤ 18446744073709551615 = search rules in
     omega (arith, c.loop-j.invariant.0, c.loop-j.invariant.1)
 
+pub shape_of-text-then-drops_rest : goal.shape_of-text-then-drops_rest
+shape_of-text-then-drops_rest c =
+    c.put_line.auto.0
+    ∙ c.loop-j.invariant.0
+
 -- no line comes after an exit that drops the rest
 pub returns-then-drops_rest : goal.returns-then-drops_rest
 returns-then-drops_rest c = record {
@@ -100,6 +105,33 @@ returns-then-drops_rest c = record {
       (omega arith) c.put_line.ensures (sym c.drops_rest.ensures
       ∙ c.if-drops_rest.true));
 }
+
+pub loop-j-preserved : goal.loop-j-preserved
+loop-j-preserved c =
+    let a = c.args in (
+      c.put_line.auto.0 ∙ c.loop-j.invariant.0,
+      omega (arith, c.loop-j.invariant.0, c.loop-j.invariant.1),
+      omega arith,
+      λ whole all after put.
+          putting_as
+          (ap (λ (n : ℕ). lines_of n
+          (said_each a.region (drop (suc c.loop-j.j) (instrs_of a.file.now a.block
+          a.first)))
+          ++ after)
+          (let e : suc (a.first + c.loop-j.j) ≡ a.first +
+          (c.loop-j.j + 1) = omega arith in e)
+          ∙ ap (λ (n : ℕ). lines_of (a.first + (c.loop-j.j + 1))
+          (said_each a.region (drop n (instrs_of a.file.now a.block a.first))) ++ after)
+          (let e : suc c.loop-j.j ≡ c.loop-j.j + 1 = omega arith in e))
+          (alone-on a.region
+          (here_read c.requires.0.1 _ (omega arith) _ _ c.instr_of.ensures
+          c.in-At.is) _ after
+          (sym c.pairs_at.ensures ∙ c.if-pairs_at.false)
+          (c.loop-j.invariant.3 whole all after put) c.said_of-said.ensures
+          c.line_length-size.ensures
+          (omega arith) c.put_line.ensures (sym c.drops_rest.ensures
+          ∙ c.if-drops_rest.false)),
+    )
 
 -- no instruction is left
 pub returns : goal.returns

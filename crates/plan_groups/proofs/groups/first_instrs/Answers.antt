@@ -1,5 +1,5 @@
 use Rattle.plan_groups.proofs.Grouping as grouping
-use Prim.Native.Nat.{ℕ, ◌-◌}
+use Prim.Native.Nat.{ℕ}
 use mathlib.Core.Path.{◌≡◌, subst}
 use native.Mathlib.Omega.{arith}
 use Rattle.plan_groups.proofs.groups.first_instrs.Goals as goal

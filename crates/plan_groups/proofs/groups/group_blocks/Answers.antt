@@ -1,7 +1,6 @@
 -- `group_blocks` puts the blocks in the order of their keys, then groups them.
 use Rattle.plan_groups.proofs.Grouping as grouping
 use native.Mathlib.Omega.{arith}
-use borrow.Author.Rules.{rules}
 use Rattle.file_keys.proofs.Reading.{right_blocks}
 use Rattle.plan_groups.proofs.groups.group_blocks.Goals as goal
 

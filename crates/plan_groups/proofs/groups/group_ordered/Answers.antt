@@ -2,7 +2,6 @@
 -- steps leaves in the work numbers is what the next asks for.
 use Rattle.plan_groups.proofs.Grouping as grouping
 use native.Mathlib.Omega.{arith}
-use borrow.Author.Rules.{rules}
 use Rattle.plan_groups.proofs.groups.group_ordered.Goals as goal
 
 pub first_instrs-requires : goal.first_instrs-requires
@@ -13,20 +12,20 @@ join_blocks-requires c = record { has_room = (omega (arith, c.first_instrs.ensur
 
 pub link_members-requires : goal.link_members-requires
 link_members-requires c =
-    record {
-      n_in_bounds = grouping.link_asks _ _ c.args.limit _ _ _ _ c.requires.has_room.1 c.requires.has_room.0.1 c.requires.has_room.0.2
-          c.requires.has_room.0.0 c.requires.has_order c.first_instrs.ensures
-          c.join_blocks.ensures c.put_roots.ensures;
-    }
+    let asks =
+    grouping.link_asks _ _ c.args.limit _ _ _ _ c.requires.has_room.1 c.requires.has_room.0.1
+    c.requires.has_room.0.2 c.requires.has_room.0.0 c.requires.has_order
+    c.first_instrs.ensures c.join_blocks.ensures c.put_roots.ensures in
+    record { n_in_bounds = asks.0; all_once = asks.1 }
 
 pub place_blocks-requires : goal.place_blocks-requires
 place_blocks-requires c =
-    record {
-      has_room = grouping.place_asks _ _ c.args.limit _ _ _ _ c.requires.has_room.1 c.requires.has_room.0.1 c.requires.has_room.0.2
-          c.requires.has_room.0.0 c.requires.has_order c.first_instrs.ensures
-          c.join_blocks.ensures c.put_roots.ensures _ c.link_members.ensures.kept
-          c.link_members.ensures.links;
-    }
+    let asks =
+    grouping.place_asks _ _ c.args.limit _ _ _ _ c.requires.has_room.1 c.requires.has_room.0.1
+    c.requires.has_room.0.2 c.requires.has_room.0.0 c.requires.has_order
+    c.first_instrs.ensures c.join_blocks.ensures c.put_roots.ensures _
+    c.link_members.ensures.kept c.link_members.ensures.links in
+    record { has_room = asks.0; all_once = asks.1.0; linked = asks.1.1 }
 
 pub returns : goal.returns
 returns c =

@@ -6,8 +6,6 @@ use Rattle.file_records.specs.Trailer.{block_start}
 use Prim.Native.Nat.{ℕ}
 use mathlib.Core.Path.{ap, sym, ◌∙◌}
 use Rattle.plan_groups.proofs.Joining as joining
-use borrow.Author.Rules.{rules}
-use borrow.Author.Tests.{not-true, not-false}
 use Rattle.plan_groups.proofs.groups.join_block.Goals as goal
 
 pub returns-in_default : goal.returns-in_default

@@ -1,8 +1,6 @@
 use Rattle.plan_groups.proofs.Lending as lending
 use Rattle.plan_groups.proofs.Grouping as grouping
-use Prim.Native.Nat.{◌-◌}
 use mathlib.Core.Path.{◌∙◌}
-use borrow.Author.Rules.{rules}
 use native.Mathlib.Omega.{arith}
 use Rattle.plan_groups.proofs.groups.join_blocks.Goals as goal
 

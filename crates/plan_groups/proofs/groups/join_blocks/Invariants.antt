@@ -1,11 +1,7 @@
 -- `join_blocks` makes all edges. The loop's invariant: the roots are those of the definition after
 -- the edges of the blocks before block i, and no way is longer than 2i.
-use Rattle.plan_groups.proofs.Lending as lending
 use Rattle.plan_groups.proofs.Grouping as grouping
 use Prim.Native.Nat.{◌-◌}
-use mathlib.Core.Path.{◌∙◌}
-use borrow.Author.Rules.{rules}
-use native.Mathlib.Omega.{arith}
 use Rattle.plan_groups.proofs.groups.join_blocks.Given as goal
 
 abbrev pub invariant-loop-i : goal.invariant-loop-i

@@ -3,7 +3,6 @@
 use Rattle.plan_groups.proofs.Joining as joining
 use Rattle.base_forest.proofs.Roots.{deeper}
 use native.Mathlib.Omega.{arith}
-use borrow.Author.Rules.{rules}
 use Rattle.plan_groups.proofs.groups.join_exits.Goals as goal
 
 pub join_key-requires : goal.join_key-requires

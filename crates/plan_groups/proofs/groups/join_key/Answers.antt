@@ -6,7 +6,6 @@ use Rattle.plan_groups.proofs.Lending as lending
 use lib.Seq.{length-take-le}
 use mathlib.Core.Path.{sym}
 use native.Mathlib.Omega.{arith}
-use borrow.Author.Rules.{rules}
 use Rattle.plan_groups.proofs.groups.join_key.Goals as goal
 
 pub slice_bounds-find_target-end-2 : goal.slice_bounds-find_target-end-2

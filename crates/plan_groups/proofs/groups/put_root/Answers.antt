@@ -1,7 +1,6 @@
 -- `put_root` stores the root of a block in quarter 2, past the parents, so that the store leaves
 -- those as the search left them.
 use Rattle.plan_groups.proofs.Lending as lending
-use borrow.Author.Rules.{rules}
 use Rattle.plan_groups.proofs.groups.put_root.Goals as goal
 
 pub find-r-requires : goal.find-r-requires

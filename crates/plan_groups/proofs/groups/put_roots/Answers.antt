@@ -1,8 +1,7 @@
 use Rattle.plan_groups.proofs.Lending as lending
-use Rattle.plan_groups.specs.Groups.{quarter1, AllRooted}
-use Rattle.base_forest.specs.Forest.{Forest}
+use Rattle.plan_groups.specs.Groups.{AllRooted}
 use lib.ListN.{length}
-use Prim.Native.Nat.{ℕ, ◌*◌, ◌-◌, ◌≤◌}
+use Prim.Native.Nat.{ℕ, ◌*◌, ◌≤◌}
 use mathlib.Core.Path.{◌≡◌, subst}
 use native.Mathlib.Omega.{arith}
 use Rattle.plan_groups.proofs.groups.put_roots.Goals as goal

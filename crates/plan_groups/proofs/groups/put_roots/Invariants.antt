@@ -1,12 +1,9 @@
 -- `put_roots` stores the roots of all blocks. The loop's invariant: quarter 2 has the roots of the
 -- first i blocks, and the searches kept every root.
-use Rattle.plan_groups.proofs.Lending as lending
 use Rattle.plan_groups.specs.Groups.{quarter1, AllRooted}
 use Rattle.base_forest.specs.Forest.{Forest}
 use lib.ListN.{length}
-use Prim.Native.Nat.{ℕ, ◌*◌, ◌-◌, ◌≤◌}
-use mathlib.Core.Path.{◌≡◌, subst}
-use native.Mathlib.Omega.{arith}
+use Prim.Native.Nat.{◌*◌, ◌-◌, ◌≤◌}
 use Rattle.plan_groups.proofs.groups.put_roots.Given as goal
 
 abbrev pub invariant-loop-i : goal.invariant-loop-i

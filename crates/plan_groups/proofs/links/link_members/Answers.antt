@@ -1,6 +1,5 @@
 use mathlib.Core.Path.{◌≡◌, ◌∙◌}
 use Rattle.plan_groups.proofs.Linking as linking
-use borrow.Author.Rules.{rules}
 use native.Mathlib.Omega.{arith}
 use Rattle.plan_groups.proofs.links.link_members.Goals as goal
 

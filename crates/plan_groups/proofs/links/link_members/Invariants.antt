@@ -1,9 +1,6 @@
 -- `link_members` links the members of each component. The loop's invariant: the blocks from
 -- place `left` of the key order on are linked, and only quarters 1 and 3 changed.
-use mathlib.Core.Path.{◌≡◌, ◌∙◌}
 use Rattle.plan_groups.proofs.Linking as linking
-use borrow.Author.Rules.{rules}
-use native.Mathlib.Omega.{arith}
 use Rattle.plan_groups.proofs.links.link_members.Given as goal
 
 abbrev pub invariant-loop-left : goal.invariant-loop-left

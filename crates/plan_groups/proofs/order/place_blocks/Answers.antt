@@ -1,5 +1,4 @@
 use Rattle.plan_groups.proofs.Ordering as ordering
-use Prim.Native.Nat.{◌+◌, ◌-◌}
 use mathlib.Core.Path.{sym, ◌∙◌}
 use native.Mathlib.Omega.{arith}
 use Rattle.plan_groups.proofs.order.place_blocks.Goals as goal
