@@ -11,7 +11,7 @@ use Rattle.base_text.specs.Doc.{Doc, nothing, raw, text, dec, hex, hex8, hex16, 
 use Rattle.base_text.specs.Doc.{hexadecimal, hexadecimal8, hexadecimal16, print}
 use Rattle.base_text.proofs.Numerals.{length_fixed}
 use Rattle.c_tree.specs.Stmt.{Owner, common, record_mark, call, Code, end, ◌⨾◌, when, braces, ◌⧺◌}
-use Rattle.c_tree.specs.Stmt.{block, Top, function, count}
+use Rattle.c_tree.specs.Stmt.{block, Top, function}
 use Rattle.c_tree.specs.Print.{cases_text, code_text, unit_text}
 use Rattle.lower_forms.specs.Forms.{Form, shell, records_in, Body}
 use Rattle.lower_units.specs.Block.{body_key, nl, sp, lines, closing, native_text, shell_code}

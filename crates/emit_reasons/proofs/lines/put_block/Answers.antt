@@ -1,8 +1,6 @@
 -- `put_block` writes lines only where the block has its code, and the walk comes to the
 -- instruction.
 -- Assumes nothing.
-use borrow.Author.Rules.{rules}
-use borrow.Author.Tests.{not-true, not-false}
 use mathlib.Core.Path.{sym, ◌∙◌}
 use native.Mathlib.Omega.{arith}
 use lib.ListN.{drop}

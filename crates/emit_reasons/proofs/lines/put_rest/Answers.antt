@@ -1,17 +1,16 @@
-use Prim.Native.Nat.{ℕ, suc, ◌+◌, ◌-◌, ◌≤◌}
+use Prim.Native.Nat.{ℕ, suc, ◌+◌, ◌≤◌}
 use borrow.Author.Rules.{rules}
 use lib.ListN.{length as size, drop}
-use mathlib.Core.List.{List, ◌++◌}
+use mathlib.Core.List.{◌++◌}
 use mathlib.Core.Path.{◌≡◌, refl, sym, ap, ◌∙◌}
 use native.Mathlib.Omega.{arith}
 use Rattle.file_blocks.specs.Read.{instrs_of}
-use Rattle.lower_reasons.specs.Lines.{Line, lines_of}
+use Rattle.lower_reasons.specs.Lines.{lines_of}
 use Rattle.lower_reasons.specs.Said.{said_each}
 use Rattle.file_blocks.proofs.Accepted.{few_instrs}
 use Rattle.file_blocks.proofs.IsBlock.{instrs_counted}
 use Rattle.file_blocks.proofs.ReadInstrs.{not_missing, drop_all}
 use Rattle.file_blocks.proofs.ReadNext.{here_read}
-use Rattle.emit_reasons.specs.Steps.{Putting}
 use Rattle.emit_reasons.proofs.Putting.{putting_as, progress_on, rest_end, rest_pair}
 use Rattle.emit_reasons.proofs.Putting.{alone-over, alone-drops, alone-on}
 use Rattle.emit_reasons.proofs.lines.put_rest.Goals as goal
@@ -85,11 +84,6 @@ overflow_add-length c =
     let small : size c.args.text.now ≤ 18446744073709551615 = search rules in
     omega (arith, c.loop-j.invariant.0, c.loop-j.invariant.1)
 
-pub shape_of-text-then-drops_rest : goal.shape_of-text-then-drops_rest
-shape_of-text-then-drops_rest c =
-    c.put_line.auto.0
-    ∙ c.loop-j.invariant.0
-
 -- no line comes after an exit that drops the rest
 pub returns-then-drops_rest : goal.returns-then-drops_rest
 returns-then-drops_rest c = record {
@@ -106,10 +100,26 @@ returns-then-drops_rest c = record {
       ∙ c.if-drops_rest.true));
 }
 
+-- no instruction is left
+pub returns : goal.returns
+returns c =
+    let a = c.args in
+    let b = a.block in
+    let all_read : c.loop-j.j ≡ b.count = omega (arith, c.loop-j.invariant.2) in record {
+      within = c.loop-j.invariant.1;
+      lines = λ whole all after put.
+          progress_on
+          (putting_as
+          (rest_end a.region
+          (ap (λ (n : ℕ). drop n (instrs_of a.file.now b a.first)) all_read
+          ∙ drop_all a.file.now b.thumb b.count a.first b.addr) _ after)
+          (c.loop-j.invariant.3 whole all after put));
+    }
+
 pub loop-j-preserved : goal.loop-j-preserved
 loop-j-preserved c =
     let a = c.args in (
-      c.put_line.auto.0 ∙ c.loop-j.invariant.0,
+      c.put_line.auto.out ∙ c.loop-j.invariant.0,
       omega (arith, c.loop-j.invariant.0, c.loop-j.invariant.1),
       omega arith,
       λ whole all after put.
@@ -133,18 +143,7 @@ loop-j-preserved c =
           ∙ c.if-drops_rest.false)),
     )
 
--- no instruction is left
-pub returns : goal.returns
-returns c =
-    let a = c.args in
-    let b = a.block in
-    let all_read : c.loop-j.j ≡ b.count = omega (arith, c.loop-j.invariant.2) in record {
-      within = c.loop-j.invariant.1;
-      lines = λ whole all after put.
-          progress_on
-          (putting_as
-          (rest_end a.region
-          (ap (λ (n : ℕ). drop n (instrs_of a.file.now b a.first)) all_read
-          ∙ drop_all a.file.now b.thumb b.count a.first b.addr) _ after)
-          (c.loop-j.invariant.3 whole all after put));
-    }
+pub shape_of-text-then-drops_rest : goal.shape_of-text-then-drops_rest
+shape_of-text-then-drops_rest c =
+    c.put_line.auto.out
+    ∙ c.loop-j.invariant.0

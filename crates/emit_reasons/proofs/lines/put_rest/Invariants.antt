@@ -1,22 +1,14 @@
 -- `put_rest` writes line after line. The loop's invariant: which follow is decided over the lines
 -- of the instructions from index j on.
 -- Assumes nothing.
-use Prim.Native.Nat.{ℕ, suc, ◌+◌, ◌-◌, ◌≤◌}
-use borrow.Author.Rules.{rules}
+use Prim.Native.Nat.{ℕ, ◌+◌, ◌-◌, ◌≤◌}
 use lib.ListN.{length as size, drop}
 use mathlib.Core.List.{List, ◌++◌}
-use mathlib.Core.Path.{◌≡◌, refl, sym, ap, ◌∙◌}
-use native.Mathlib.Omega.{arith}
+use mathlib.Core.Path.{◌≡◌}
 use Rattle.file_blocks.specs.Read.{instrs_of}
 use Rattle.lower_reasons.specs.Lines.{Line, lines_of}
 use Rattle.lower_reasons.specs.Said.{said_each}
-use Rattle.file_blocks.proofs.Accepted.{few_instrs}
-use Rattle.file_blocks.proofs.IsBlock.{instrs_counted}
-use Rattle.file_blocks.proofs.ReadInstrs.{not_missing, drop_all}
-use Rattle.file_blocks.proofs.ReadNext.{here_read}
 use Rattle.emit_reasons.specs.Steps.{Putting}
-use Rattle.emit_reasons.proofs.Putting.{putting_as, progress_on, rest_end, rest_pair}
-use Rattle.emit_reasons.proofs.Putting.{alone-over, alone-drops, alone-on}
 use Rattle.emit_reasons.proofs.lines.put_rest.Given as goal
 
 abbrev pub invariant-loop-j : goal.invariant-loop-j

@@ -1,6 +1,5 @@
 -- `block_mem_reason` tells the pop of PC from other lists.
 -- Assumes nothing.
-use borrow.Author.Rules.{rules}
 use mathlib.Core.Bool.{Bool, not, cond}
 use mathlib.Core.Option.{some, none}
 use mathlib.Core.Path.{sym, ap, ◌∙◌}

@@ -1,7 +1,6 @@
 -- `reason_of` gives the first reason that holds, by the kind: an arm of one kind is given its
 -- fields, and `_` stands for the kinds without a native form.
 -- Assumes nothing.
-use borrow.Author.Rules.{rules}
 use mathlib.Core.Path.{sym, ap, ◌∙◌}
 use Rattle.lower_reasons.specs.Reasons.{reason_by}
 use Rattle.lower_reasons.proofs.Formless.{formless_reason}

@@ -1,7 +1,5 @@
 -- `drops_rest` tells the unconditional native exits.
 -- Assumes nothing.
-use borrow.Author.Rules.{rules}
-use borrow.Author.Tests.{not-true, not-false}
 use mathlib.Core.Path.{sym, ap, ◌∙◌}
 use Rattle.lower_reasons.specs.Said.{drops_rest_by}
 use Rattle.lower_reasons.proofs.Leaving.{
@@ -12,56 +10,49 @@ use Rattle.lower_reasons.proofs.Leaving.{
   leaves_pop,
   leaves_other,
 }
+use borrow.Enum.Refused.{opened}
 use Rattle.emit_reasons.proofs.said.drops_rest.Goals as goal
 
-pub returns-then-not-is_al : goal.returns-then-not-is_al
-returns-then-not-is_al c =
+pub returns-in_default : goal.returns-in_default
+returns-in_default c =
     let a = c.args in
-    leaves_not a.region a.i.cond a.i.op (sym c.is_al.ensures ∙ not-true
-    c.is_al.result c.if-not-is_al.true)
+    leaves_other a.region a.i.cond a.i.op (opened c.in_default.in_default-own.keys4)
 
-pub returns-in-Branch : goal.returns-in-Branch
-returns-in-Branch c =
+pub returns-else-region-eq0 : goal.returns-else-region-eq0
+returns-else-region-eq0 c =
     let k = c.is_al in
     let a = c.args in
-    let v = c.enum_told-1.given.0 in
-    leaves_branch a.region a.i.cond v.0 v.1.0 (sym k.ensures ∙ not-false
-    k.result c.if-not-is_al.false)
-    ∙ sym (ap (drops_rest_by a.region a.i.cond) c.in-Branch.is)
+    c.pops_pc.ensures
+    ∙ leaves_pop a.region a.i.cond c.in-BlockMem.load c.in-BlockMem.rn c.in-BlockMem.rlist c.in-BlockMem.pre
+    c.in-BlockMem.up c.in-BlockMem.s_bit c.in-BlockMem.writeback
+    (sym k.ensures ∙ c.if-not-is_al.false) c.if-region-eq0.false
+    ∙ sym (ap (drops_rest_by a.region a.i.cond) c.in-BlockMem.is)
+
+pub returns-then-region-eq0 : goal.returns-then-region-eq0
+returns-then-region-eq0 c =
+    let k = c.is_al in
+    let a = c.args in
+    leaves_bios a.region a.i.cond c.in-BlockMem.load c.in-BlockMem.rn c.in-BlockMem.rlist c.in-BlockMem.pre
+    c.in-BlockMem.up c.in-BlockMem.s_bit c.in-BlockMem.writeback
+    (sym k.ensures ∙ c.if-not-is_al.false)
+    c.if-region-eq0.true
+    ∙ sym (ap (drops_rest_by a.region a.i.cond) c.in-BlockMem.is)
 
 pub returns-in-Bx : goal.returns-in-Bx
 returns-in-Bx c =
     let k = c.is_al in
     let a = c.args in
-    leaves_bx a.region a.i.cond c.in-Bx.rm (sym k.ensures ∙ not-false
-    k.result c.if-not-is_al.false)
+    leaves_bx a.region a.i.cond c.in-Bx.rm (sym k.ensures ∙ c.if-not-is_al.false)
     ∙ sym (ap (drops_rest_by a.region a.i.cond) c.in-Bx.is)
 
-pub returns-then-region-eq0 : goal.returns-then-region-eq0
-returns-then-region-eq0 c =
-    let o = c.op-1.given in
+pub returns-in-Branch : goal.returns-in-Branch
+returns-in-Branch c =
     let k = c.is_al in
     let a = c.args in
-    let v = o.0 in
-    leaves_bios a.region a.i.cond v.0 v.1.0 v.1.1.0 v.1.1.1.0
-    v.1.1.1.1.0 v.1.1.1.1.1.0 v.1.1.1.1.1.1.0
-    (sym k.ensures ∙ not-false k.result c.if-not-is_al.false)
-    c.if-region-eq0.true
-    ∙ sym (ap (drops_rest_by a.region a.i.cond) o.1)
+    leaves_branch a.region a.i.cond c.in-Branch.link c.in-Branch.target (sym k.ensures ∙ c.if-not-is_al.false)
+    ∙ sym (ap (drops_rest_by a.region a.i.cond) c.in-Branch.is)
 
-pub returns-else-region-eq0 : goal.returns-else-region-eq0
-returns-else-region-eq0 c =
-    let o = c.op-1.given in
-    let k = c.is_al in
+pub returns-then-not-is_al : goal.returns-then-not-is_al
+returns-then-not-is_al c =
     let a = c.args in
-    let v = o.0 in
-    c.pops_pc.ensures
-    ∙ leaves_pop a.region a.i.cond v.0 v.1.0 v.1.1.0 v.1.1.1.0
-    v.1.1.1.1.0 v.1.1.1.1.1.0 v.1.1.1.1.1.1.0
-    (sym k.ensures ∙ not-false k.result c.if-not-is_al.false) c.if-region-eq0.false
-    ∙ sym (ap (drops_rest_by a.region a.i.cond) o.1)
-
-pub returns-in_default : goal.returns-in_default
-returns-in_default c =
-    let a = c.args in
-    leaves_other a.region a.i.cond a.i.op c.in_default.in_default-own.keys4
+    leaves_not a.region a.i.cond a.i.op (sym c.is_al.ensures ∙ c.if-not-is_al.true)

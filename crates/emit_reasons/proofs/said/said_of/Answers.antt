@@ -1,6 +1,5 @@
 -- `said_of` says what the reason is of an instruction that has one.
 -- Assumes nothing.
-use borrow.Author.Rules.{rules}
 use Rattle.emit_reasons.proofs.Telling.{said_shell, said_native}
 use Rattle.emit_reasons.proofs.said.said_of.Goals as goal
 

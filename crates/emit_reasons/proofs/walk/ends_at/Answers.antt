@@ -1,6 +1,5 @@
 -- `ends_at` tests for a pair, and then for another exit.
 -- Assumes nothing.
-use borrow.Author.Rules.{rules}
 use mathlib.Core.Path.{refl, sym, ◌∙◌}
 use Rattle.emit_reasons.proofs.walk.ends_at.Goals as goal
 

@@ -1,11 +1,8 @@
-use Prim.Native.Nat.{◌-◌, ◌≤◌}
-use borrow.Author.Rules.{rules}
 use mathlib.Core.Path.{sym, ◌∙◌}
 use native.Mathlib.Omega.{arith}
-use Rattle.file_blocks.specs.Read.{instrs_of}
 use Rattle.file_blocks.proofs.ReadInstrs.{not_missing}
 use Rattle.file_blocks.proofs.ReadNext.{here_read}
-use Rattle.emit_reasons.proofs.Reading.{Coming, coming_none, coming_ends, coming_on}
+use Rattle.emit_reasons.proofs.Reading.{coming_none, coming_ends, coming_on}
 use Rattle.emit_reasons.proofs.Reading.{coming_there}
 use Rattle.emit_reasons.proofs.walk.reaches.Goals as goal
 

@@ -1,14 +1,8 @@
 -- `reaches` walks to an instruction. The loop's invariant: it has come to index j.
 -- Assumes nothing.
 use Prim.Native.Nat.{◌-◌, ◌≤◌}
-use borrow.Author.Rules.{rules}
-use mathlib.Core.Path.{sym, ◌∙◌}
-use native.Mathlib.Omega.{arith}
 use Rattle.file_blocks.specs.Read.{instrs_of}
-use Rattle.file_blocks.proofs.ReadInstrs.{not_missing}
-use Rattle.file_blocks.proofs.ReadNext.{here_read}
-use Rattle.emit_reasons.proofs.Reading.{Coming, coming_none, coming_ends, coming_on}
-use Rattle.emit_reasons.proofs.Reading.{coming_there}
+use Rattle.emit_reasons.proofs.Reading.{Coming}
 use Rattle.emit_reasons.proofs.walk.reaches.Given as goal
 
 abbrev pub invariant-loop-j : goal.invariant-loop-j

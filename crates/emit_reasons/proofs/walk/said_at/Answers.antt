@@ -1,9 +1,7 @@
 -- `said_at` says something only where the block has its code, and the walk comes to the
 -- instruction.
 -- Assumes nothing.
-use borrow.Author.Rules.{rules}
 use mathlib.Core.Path.{sym, ◌∙◌}
-use borrow.Author.Tests.{not-true, not-false}
 use native.Mathlib.Omega.{arith}
 use lib.ListN.{drop}
 use Rattle.file_blocks.specs.Read.{instrs_of}

@@ -1,6 +1,5 @@
 -- `said_here` reads an instruction, and says nothing where it makes a pair.
 -- Assumes nothing.
-use borrow.Author.Rules.{rules}
 use mathlib.Core.Path.{sym, ◌∙◌}
 use Rattle.file_blocks.proofs.ReadInstrs.{not_missing}
 use Rattle.file_blocks.proofs.ReadNext.{here_read}

@@ -1,0 +1,34 @@
+-- `put_listing` writes the listing. The loop's invariant: the lines of the blocks before block i
+-- are written. Assumes nothing.
+use Rattle.std.proofs.Common.{◌≡◌, ℕ, ◌-◌, ◌<◌, ◌≤◌, List, [], length, get_or, take, sym, refl, ap, ◌∙◌, arith, take_all, rules}
+use Rattle.file_blocks.proofs.Accepted.{length_of_lem}
+use Rattle.file_records.specs.BlockRecord.{count_sum}
+use Rattle.file_blocks.specs.Parse.{Block, block_at, blocks_of}
+use Rattle.file_records.specs.Trailer.{block_count, block_start}
+use Rattle.file_blocks.proofs.IsBlock.{missing, sum_next, nth_block}
+use Rattle.file_blocks.specs.Read.{IsBlock}
+use Rattle.plan_groups.specs.Plan.{plan}
+use Rattle.base_text.proofs.Laws.{seq, wrote_as}
+use Rattle.base_text.specs.Doc.{Doc, text, ◌▸◌}
+use Rattle.base_text.specs.Flat.{flat}
+use Rattle.base_text.specs.Wrote.{Wrote}
+use Rattle.call_listing.specs.Listing.{lines_from, listing}
+use Rattle.call_listing.specs.Steps.{HoldsGroups}
+use Rattle.call_listing.proofs.Blocks.{lines_next}
+use Rattle.call_listing.proofs.lines.put_listing.Given as goal
+
+abbrev pub header : Doc
+header = text "key group exits\n"
+
+-- the header and the lines of the first i blocks
+abbrev pub lines_to : List ℕ → ℕ → ℕ → Doc
+lines_to f limit i = header ▸ lines_from (plan limit (blocks_of f)) 0 (take i (blocks_of f))
+
+abbrev pub invariant-loop-i : goal.invariant-loop-i
+invariant-loop-i l = (l.i ≤ l.n) × (l.first ≡ count_sum l.file l.i)
+    × (length l.out ≡ length l.initial.out)
+    × ((limit : ℕ) → HoldsGroups l.file l.n limit l.work → (o : List ℕ) → Wrote o 0 header l.initial.out l.initial.at
+    → Wrote o 0 (lines_to l.file limit l.i) l.out l.at)
+
+abbrev pub decreases-loop-i : goal.decreases-loop-i
+decreases-loop-i l = l.n - l.i

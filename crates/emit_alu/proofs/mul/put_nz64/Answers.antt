@@ -1,0 +1,14 @@
+-- `emit_alu::mul::put_nz64` meets its contract: what its calls write, one after another. Assumes
+-- nothing.
+use mathlib.Core.Path.{refl}
+use borrow.Author.Rules.{rules}
+use Rattle.base_text.proofs.Laws.{none, wrote_as}
+use Rattle.emit_alu.proofs.mul.put_nz64.Goals as goal
+
+pub returns-then-s : goal.returns-then-s
+returns-then-s c =
+    rw c.if-s.true (wrote_as c.put.ensures refl)
+
+pub returns : goal.returns
+returns c =
+    rw c.if-s.false (none (search rules) (search rules))

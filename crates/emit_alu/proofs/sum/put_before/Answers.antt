@@ -1,0 +1,14 @@
+-- `emit_alu::sum::put_before` meets its contract: what its calls write, one after another. Assumes
+-- nothing.
+use mathlib.Core.Path.{refl}
+use borrow.Author.Rules.{rules}
+use Rattle.base_text.proofs.Laws.{wrote_as, kept}
+use Rattle.emit_alu.proofs.sum.put_before.Goals as goal
+
+pub returns-then-s : goal.returns-then-s
+returns-then-s c =
+    rw c.if-s.true (wrote_as c.put.ensures refl)
+
+pub returns-else-s : goal.returns-else-s
+returns-else-s c =
+    rw c.if-s.false (wrote_as c.put-else-s.ensures refl)

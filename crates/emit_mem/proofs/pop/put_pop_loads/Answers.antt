@@ -1,0 +1,10 @@
+-- `pop::put_pop_loads` meets its contract: what its calls write, one after another.
+-- Assumes nothing.
+use Rattle.std.proofs.Common.{refl}
+use Rattle.base_text.proofs.Laws.{seq, wrote_as}
+use Rattle.emit_mem.proofs.pop.put_pop_loads.Goals as goal
+
+pub returns : goal.returns
+returns c =
+    wrote_as (seq c.put_then_dec-p.ensures (seq c.put-q.ensures c.put_loads.ensures))
+    refl

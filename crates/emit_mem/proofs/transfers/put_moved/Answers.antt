@@ -1,0 +1,13 @@
+-- `transfers::put_moved` meets its contract: what its calls write, one after another.
+-- Assumes nothing.
+use Rattle.std.proofs.Common.{refl}
+use Rattle.base_text.proofs.Laws.{seq, wrote_as}
+use Rattle.emit_mem.proofs.transfers.put_moved.Goals as goal
+
+pub returns-then-up : goal.returns-then-up
+returns-then-up c =
+    rw c.if-up.true (wrote_as (seq c.put_then_dec-p.ensures c.put.ensures) refl)
+
+pub returns-else-up : goal.returns-else-up
+returns-else-up c =
+    rw c.if-up.false (wrote_as (seq c.put_then_dec-p-else-up.ensures c.put-else-up.ensures) refl)

@@ -1,0 +1,12 @@
+-- `transfers::put_store` meets its contract: what its calls write, one after another.
+-- Assumes nothing.
+use Rattle.std.proofs.Common.{refl}
+use Rattle.base_text.specs.Digits.{numeral}
+use Rattle.base_text.specs.Doc.{decimal}
+use Rattle.base_text.proofs.Laws.{seq, wrote_as}
+use Rattle.emit_mem.proofs.transfers.put_store.Goals as goal
+
+pub returns : goal.returns
+unfolding decimal numeral
+returns c =
+    wrote_as (seq c.put-p.ensures (seq c.put_stored-q.ensures c.put.ensures)) refl
