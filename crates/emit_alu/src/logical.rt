@@ -6,7 +6,7 @@ ghost use Rattle.c_tree.specs.Expr.{x-r};
 ghost use Rattle.c_tree.specs.Stmt.{f-nz, run};
 ghost use Rattle.c_tree.specs.Preamble.{v32};
 ghost use Rattle.c_tree.specs.Print.{expr_text};
-ghost use Rattle.lower_forms.specs.InlineBody.{result, logical_c};
+ghost use Rattle.lower_forms.specs.InlineBody.{result as result_lines, logical_c};
 ghost use Rattle.lower_forms.specs.Operands.{operand_of};
 ghost use Rattle.emit_alu.specs.Texts.{statements_text};
 ghost use Rattle.emit_alu.specs.Processing.{first, second, logical_rest_text};
@@ -17,9 +17,7 @@ use emit_operands::{op2_has_carry, put_op2_carry, put_op2_value, put_reg};
 
 // The last line of data processing.
 pub(crate) fn put_result(out: &mut [u8], at: usize, op: AluOp, rd: Reg) -> usize
-    ensures* { λ r. ⌜
-        Wrote out.old at (statements_text (result op rd ∷ [])) out.new r
-        ⌝ }
+    ensures { Wrote out.old at (statements_text (result_lines op rd ∷ [])) out.new result }
 {
     if op.is_compare() {
         return base_text::put(out, at, b"        (void)r;\n");
@@ -30,10 +28,8 @@ pub(crate) fn put_result(out: &mut [u8], at: usize, op: AluOp, rd: Reg) -> usize
 
 // The line that sets C, if the second operand gives a carry.
 fn put_logical_c(out: &mut [u8], at: usize, op2: Operand2, pc: u32) -> usize
-    ensures* { λ r. ⌜
-        Wrote out.old at (statements_text (logical_c (operand_of pc op2).1))
-        out.new r
-        ⌝ }
+    ensures { Wrote out.old at (statements_text (logical_c (operand_of pc op2).1))
+        out.new result }
 {
     if op2_has_carry(op2) {
         let p = base_text::put(out, at, b"        f_c(c, ");
@@ -45,11 +41,9 @@ fn put_logical_c(out: &mut [u8], at: usize, op2: Operand2, pc: u32) -> usize
 
 // The lines that set the flags, if s is set: N and Z, and C where the second operand gives a carry.
 fn put_flags(out: &mut [u8], at: usize, s: bool, op2: Operand2, pc: u32) -> usize
-    ensures* { λ r. ⌜
-        Wrote out.old at
+    ensures { Wrote out.old at
         (statements_text (cond s (run f-nz (v32 x-r) ∷ logical_c (operand_of pc op2).1) []))
-        out.new r
-        ⌝ }
+        out.new result }
 {
     if s {
         let p = base_text::put(out, at, b"        f_nz(c, r);\n");
@@ -60,7 +54,7 @@ fn put_flags(out: &mut [u8], at: usize, s: bool, op2: Operand2, pc: u32) -> usiz
 
 // The lines after the first.
 fn put_logical_rest(out: &mut [u8], at: usize, a: Processing) -> usize
-    ensures* { λ r. ⌜ Wrote out.old at (logical_rest_text a) out.new r ⌝ }
+    ensures { Wrote out.old at (logical_rest_text a) out.new result }
 {
     let op = a.op;
     let op2 = a.op2;
@@ -70,12 +64,10 @@ fn put_logical_rest(out: &mut [u8], at: usize, a: Processing) -> usize
 
 // The lines of an operation with two operands: t stands between them.
 pub(crate) fn put_two(out: &mut [u8], at: usize, a: Processing, t: &[u8]) -> usize
-    ensures* { λ r. ⌜
-        Wrote out.old at
+    ensures { Wrote out.old at
         (text "        uint32_t r = (" ▸ expr_text (first a) ▸ raw t.now
         ▸ expr_text (second a) ▸ text ");\n" ▸ logical_rest_text a)
-        out.new r
-        ⌝ }
+        out.new result }
 {
     let op2 = a.op2;
     let p = base_text::put(out, at, b"        uint32_t r = (");
@@ -88,11 +80,9 @@ pub(crate) fn put_two(out: &mut [u8], at: usize, a: Processing, t: &[u8]) -> usi
 
 // The lines of an operation with one operand: t stands before it, u after it.
 pub(crate) fn put_one(out: &mut [u8], at: usize, a: Processing, t: &[u8], u: &[u8]) -> usize
-    ensures* { λ r. ⌜
-        Wrote out.old at
+    ensures { Wrote out.old at
         (raw t.now ▸ expr_text (second a) ▸ raw u.now ▸ logical_rest_text a)
-        out.new r
-        ⌝ }
+        out.new result }
 {
     let op2 = a.op2;
     let p = base_text::put(out, at, t);

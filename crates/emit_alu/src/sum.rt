@@ -4,7 +4,7 @@ ghost use Rattle.base_text.specs.Doc.{raw, ◌▸◌};
 ghost use Rattle.base_text.specs.Wrote.{Wrote};
 ghost use Rattle.c_tree.specs.Expr.{compl, Expr, un};
 ghost use Rattle.c_tree.specs.Print.{expr_text};
-ghost use Rattle.lower_forms.specs.InlineBody.{result};
+ghost use Rattle.lower_forms.specs.InlineBody.{result as result_lines};
 ghost use Rattle.emit_alu.specs.Texts.{statements_text, before, between, after, SameText};
 ghost use Rattle.emit_alu.specs.Processing.{first, second, sum_text};
 
@@ -14,7 +14,7 @@ use emit_operands::{put_op2_value, put_reg};
 
 // What stands before the terms of a sum: with s the call of op_adds, which sets the flags.
 fn put_before(out: &mut [u8], at: usize, s: bool) -> usize
-    ensures* { λ r. ⌜ Wrote out.old at (before s) out.new r ⌝ }
+    ensures { Wrote out.old at (before s) out.new result }
 {
     if s {
         base_text::put(out, at, b"        uint32_t r = op_adds(c, ")
@@ -25,7 +25,7 @@ fn put_before(out: &mut [u8], at: usize, s: bool) -> usize
 
 // What stands between two terms.
 fn put_between(out: &mut [u8], at: usize, s: bool) -> usize
-    ensures* { λ r. ⌜ Wrote out.old at (between s) out.new r ⌝ }
+    ensures { Wrote out.old at (between s) out.new result }
 {
     if s {
         base_text::put(out, at, b", ")
@@ -36,7 +36,7 @@ fn put_between(out: &mut [u8], at: usize, s: bool) -> usize
 
 // What stands after the last term.
 fn put_after(out: &mut [u8], at: usize, s: bool) -> usize
-    ensures* { λ r. ⌜ Wrote out.old at (after s) out.new r ⌝ }
+    ensures { Wrote out.old at (after s) out.new result }
 {
     if s {
         base_text::put(out, at, b");\n")
@@ -47,12 +47,10 @@ fn put_after(out: &mut [u8], at: usize, s: bool) -> usize
 
 // The third term, and the lines after the first.
 fn put_sum_rest(out: &mut [u8], at: usize, a: Processing, carry: &[u8]) -> usize
-    ensures* { λ r. ⌜
-        Wrote out.old at
+    ensures { Wrote out.old at
         (between a.s ▸ raw carry.now ▸ after a.s
-        ▸ statements_text (result a.op a.rd ∷ []))
-        out.new r
-        ⌝ }
+        ▸ statements_text (result_lines a.op a.rd ∷ []))
+        out.new result }
 {
     let op = a.op;
     let p = put_between(out, at, a.s);
@@ -63,11 +61,9 @@ fn put_sum_rest(out: &mut [u8], at: usize, a: Processing, carry: &[u8]) -> usize
 
 // The lines of a sum of rn, the second operand with t before it, and a carry.
 pub(crate) fn put_sum(out: &mut [u8], at: usize, a: Processing, t: &[u8], carry: &[u8]) -> usize
-    ensures* { λ r. ⌜
-        ((y z : Expr) → SameText (raw t.now ▸ expr_text (second a)) (expr_text y)
+    ensures { ((y z : Expr) → SameText (raw t.now ▸ expr_text (second a)) (expr_text y)
         → SameText (raw carry.now) (expr_text z)
-        → Wrote out.old at (sum_text a (first a) y z) out.new r)
-        ⌝ }
+        → Wrote out.old at (sum_text a (first a) y z) out.new result) }
 {
     let op2 = a.op2;
     let p = put_before(out, at, a.s);
@@ -80,11 +76,9 @@ pub(crate) fn put_sum(out: &mut [u8], at: usize, a: Processing, t: &[u8], carry:
 
 // The lines of a sum of the second operand, the complement of rn, and a carry.
 pub(crate) fn put_reversed(out: &mut [u8], at: usize, a: Processing, carry: &[u8]) -> usize
-    ensures* { λ r. ⌜
-        ((z : Expr) → SameText (raw carry.now) (expr_text z)
+    ensures { ((z : Expr) → SameText (raw carry.now) (expr_text z)
         → Wrote out.old at (sum_text a (second a) (un compl (first a)) z)
-        out.new r)
-        ⌝ }
+        out.new result) }
 {
     let op2 = a.op2;
     let p = put_before(out, at, a.s);

@@ -6,8 +6,7 @@ use Rattle.emit_operands.proofs.Operands.{zero_text, carry_in_text}
 use Rattle.lower_forms.specs.Operands.{carry_in}
 use Rattle.emit_alu.specs.Processing.{second}
 use Rattle.c_tree.specs.Expr.{udec, compl, lit, un}
-use borrow.Author.Rules.{rules}
-use Rattle.base_text.proofs.Laws.{wrote_as, kept}
+use Rattle.base_text.proofs.Laws.{wrote_as}
 use Rattle.emit_alu.proofs.alu.put_alu.Goals as goal
 
 pub returns-in-And : goal.returns-in-And

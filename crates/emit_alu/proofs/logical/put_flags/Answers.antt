@@ -2,7 +2,7 @@
 -- Assumes nothing.
 use mathlib.Core.Path.{refl}
 use borrow.Author.Rules.{rules}
-use Rattle.base_text.proofs.Laws.{none, seq, wrote_as, kept}
+use Rattle.base_text.proofs.Laws.{none, seq, wrote_as}
 use Rattle.emit_alu.proofs.logical.put_flags.Goals as goal
 
 pub returns-then-s : goal.returns-then-s

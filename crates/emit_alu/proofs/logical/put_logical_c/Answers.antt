@@ -4,7 +4,7 @@ use mathlib.Core.Path.{sym, ◌∙◌}
 use Rattle.emit_alu.proofs.Texts.{with_carry, without_carry}
 use mathlib.Core.List.{[]}
 use borrow.Author.Rules.{rules}
-use Rattle.base_text.proofs.Laws.{none, seq, wrote_as, kept}
+use Rattle.base_text.proofs.Laws.{none, seq, wrote_as}
 use Rattle.lower_forms.specs.Operands.{operand_of}
 use Rattle.emit_alu.proofs.logical.put_logical_c.Goals as goal
 

@@ -7,8 +7,7 @@ use Rattle.c_tree.specs.Expr.{x-r}
 use Rattle.c_tree.specs.Preamble.{v32}
 use Rattle.c_tree.specs.Stmt.{f-nz, run}
 use Rattle.lower_forms.specs.InlineBody.{result, logical_c}
-use borrow.Author.Rules.{rules}
-use Rattle.base_text.proofs.Laws.{seq, wrote_as, kept}
+use Rattle.base_text.proofs.Laws.{seq, wrote_as}
 use Rattle.lower_forms.specs.Operands.{operand_of}
 use Rattle.emit_alu.proofs.logical.put_logical_rest.Goals as goal
 

@@ -1,8 +1,7 @@
 -- `emit_alu::logical::put_one` meets its contract: what its calls write, one after another. Assumes
 -- nothing.
 use mathlib.Core.Path.{refl}
-use borrow.Author.Rules.{rules}
-use Rattle.base_text.proofs.Laws.{seq, wrote_as, kept}
+use Rattle.base_text.proofs.Laws.{seq, wrote_as}
 use Rattle.emit_alu.proofs.logical.put_one.Goals as goal
 
 pub returns : goal.returns

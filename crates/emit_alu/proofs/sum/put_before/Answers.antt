@@ -1,8 +1,7 @@
 -- `emit_alu::sum::put_before` meets its contract: what its calls write, one after another. Assumes
 -- nothing.
 use mathlib.Core.Path.{refl}
-use borrow.Author.Rules.{rules}
-use Rattle.base_text.proofs.Laws.{wrote_as, kept}
+use Rattle.base_text.proofs.Laws.{wrote_as}
 use Rattle.emit_alu.proofs.sum.put_before.Goals as goal
 
 pub returns-then-s : goal.returns-then-s

@@ -7,7 +7,6 @@ use Rattle.c_tree.specs.Expr.{compl, un}
 use Rattle.c_tree.specs.Print.{expr_text}
 use Rattle.base_text.specs.Doc.{raw, text, ◌▸◌}
 use mathlib.Core.List.{[]}
-use borrow.Author.Rules.{rules}
 use Rattle.base_text.proofs.Laws.{seq, wrote_as, kept}
 use Rattle.emit_alu.proofs.sum.put_reversed.Goals as goal
 

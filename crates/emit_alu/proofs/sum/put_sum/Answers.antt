@@ -5,7 +5,6 @@ use Rattle.lower_forms.specs.Operands.{reg_of, operand_of}
 use Rattle.c_tree.specs.Print.{expr_text}
 use Rattle.base_text.specs.Doc.{raw, ◌▸◌}
 use mathlib.Core.List.{[]}
-use borrow.Author.Rules.{rules}
 use Rattle.base_text.proofs.Laws.{seq, wrote_as, kept}
 use Rattle.emit_alu.proofs.sum.put_sum.Goals as goal
 

@@ -10,7 +10,7 @@ use mathlib.Core.List.{[], ◌∷◌, List}
 use lib.Dec.{T as Holds}
 use lib.ListN.{length}
 use seplogic.Ra.Ura.{Ura}
-use seplogic.Ra.TreeShare.{full_share}
+use base.Fraction.{full_share}
 use mir.Syntax.{named, erased, w64}
 use mir.Val.{Val, WT, has_ty, vint, vstruct, vnil, vcons}
 use base.Logic.{SProp, ent, sep, emp, via, fst∗, id⊢, ex_e, snd∗}
@@ -41,7 +41,7 @@ use denote.Triple.Spec.{Meets, triple_of}
 use denote.Triple.Statement.{Contract, Triple}
 use denote.Triple.Call.{calls_at}
 use denote.Triple.Clauses.{ensured, lasts}
-use denote.Triple.Table.{entered, cited}
+use denote.Triple.Table.{entered}
 use denote.Triple.Walked.{says, Stays, stay_none, stay_slice, walk_of, Goes-none, Goes-slice, Walks}
 use denote.Triple.Walked.{ends_at, walked, walk_Meets}
 use denote.Exit.{yes}
@@ -54,11 +54,9 @@ use Rattle.emit_writer.specs.Ticks.{ticks}
 use Rattle.emit_writer.specs.contracts.writer.Writer as T
 use Rattle.emit_writer.proofs.writer.Writer.TheLaws as T'
 use Rattle.emit_writer.specs.contracts.writer.new as new
-use Rattle.emit_writer.proofs.writer.new.Symbol as new-def
 use Rattle.emit_writer.proofs.writer.new.Symbol.{name as #new}
 use Rattle.emit_writer.proofs.writer.new.Met as new-thm
 use Rattle.emit_writer.specs.contracts.writer.flush as flush
-use Rattle.emit_writer.proofs.writer.flush.Symbol as flush-def
 use Rattle.emit_writer.proofs.writer.flush.Symbol.{name as #flush}
 use Rattle.emit_writer.proofs.writer.flush.Met as flush-thm
 use Rattle.emit_writer.specs.contracts.writer.flush_ticks.Key.{name as #flush-ticks}
@@ -324,17 +322,15 @@ flush_ticks_meets {𝓤 = 𝓤} 𝓛 mem run 𝓣 known-new known-flush =
     (flush_ticks_walks 𝓛 mem run 𝓣.C 𝓣.Λ (fm_of 𝓤 𝓛.H 𝓛.laws 𝓣) known-new
     known-flush)
 
-pub flush-ticks-spec : {M : Type 1} → stated.statement M
-unfolding code.routine tables_of
-flush-ticks-spec 𝓤 𝓛 𝓜 𝓡 =
+pub flush_ticks_spec : {M : Type 1} → stated.statement M
+unfolding tables_of
+flush_ticks_spec 𝓤 𝓛 𝓜 𝓡 wired =
     entered 𝓤 𝓛.H
     (triple_of 𝓛 flush-ticks.signature
-    (flush-ticks.spec 𝓛 𝓜.mem 𝓡.run))
-    (tables 𝓤 𝓛.H 𝓜 𝓡 code.env).C (tables 𝓤 𝓛.H 𝓜 𝓡 code.env).Λ #flush-ticks code.function
-    (code.unfolded 𝓤 𝓛.H 𝓜 𝓡)
-    (flush_ticks_meets 𝓛 𝓜.mem 𝓡.run
-    (tables_of 𝓤 𝓛.H 𝓜 (tables 𝓤 𝓛.H 𝓜 𝓡 code.env))
-    (cited 𝓤 𝓛.H (New 𝓛 𝓜.mem 𝓡.run) 𝓜 𝓡 code.env #new new-def.routine
-    code.calls-emit-writer::writer::new (new-thm.met 𝓤 𝓛 𝓜 𝓡))
-    (cited 𝓤 𝓛.H (Flush 𝓛 𝓜.mem 𝓡.run) 𝓜 𝓡 code.env #flush flush-def.routine
-    code.calls-emit-writer::writer::flush (flush-thm.met 𝓤 𝓛 𝓜 𝓡)))
+    (flush-ticks.spec 𝓛 𝓜.mem 𝓡.returns))
+    (tables 𝓤 𝓛.H 𝓜 𝓡 𝓡.env).C (tables 𝓤 𝓛.H 𝓜 𝓡 𝓡.env).Λ #flush-ticks code.function
+    (code.unfolded 𝓤 𝓛.H 𝓜 𝓡 wired)
+    (flush_ticks_meets 𝓛 𝓜.mem 𝓡.returns
+    (tables_of 𝓤 𝓛.H 𝓜 (tables 𝓤 𝓛.H 𝓜 𝓡 𝓡.env))
+    (new-thm.met 𝓤 𝓛 𝓜 𝓡 (code.calls-emit_writer::writer::new 𝓡.env wired))
+    (flush-thm.met 𝓤 𝓛 𝓜 𝓡 (code.calls-emit_writer::writer::flush 𝓡.env wired)))
