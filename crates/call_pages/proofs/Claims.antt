@@ -8,13 +8,12 @@ use mathlib.Core.Logic.{◌⊎◌, inl, inr}
 use mathlib.Core.Option.{some}
 use native.Mathlib.Nat.{le_of_suc-le-suc}
 use native.Mathlib.Omega.{arith}
-use lib.ListN.{length, get_or, get_elem?}
+use lib.ListN.{length, get_elem?}
 use Rattle.armv4t.specs.Instr.{size_of}
 use Rattle.base_lists.specs.Lists.{range, count}
 use Rattle.base_lists.proofs.Places.{member_at, found_at, map_at}
 use Rattle.base_text.specs.Doc.{Doc, nothing, dec, decimal, print, each}
 use Rattle.base_text.proofs.Lengths.{length_most}
-use Rattle.file_records.specs.Trailer.{block_count}
 use Rattle.file_records.specs.BlockRecord.{key_plus}
 use Rattle.file_blocks.specs.Parse.{Block, block_key, AcceptedAs}
 use Rattle.file_blocks.proofs.Accepted.{length_of_lem, few_blocks}

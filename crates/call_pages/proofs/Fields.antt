@@ -14,8 +14,8 @@ use Rattle.base_fitting.specs.Steps.{total}
 use Rattle.base_lists.specs.Lists.{among}
 use Rattle.base_lists.proofs.Counts.{flatten_append}
 use Rattle.base_lists.proofs.Each.{Each}
-use Rattle.base_text.specs.Digits.{glyph, numeral, last_digits}
-use Rattle.base_text.specs.Doc.{Doc, text, dec, hex8, ◌▸◌, decimal, hexadecimal8, print, spaces}
+use Rattle.base_text.specs.Digits.{glyph, last_digits}
+use Rattle.base_text.specs.Doc.{Doc, dec, decimal, hexadecimal8, print, spaces}
 use Rattle.base_text.proofs.Lengths.{numeral_short}
 use Rattle.base_text.proofs.Numerals.{length_fixed, numeral_fixed}
 use Rattle.call_pages.specs.Page.{left_in, right_in, keys_text, page_line, head_line}

@@ -4,19 +4,18 @@ use Prim.Native.Nat.{ℕ, suc, ◌+◌, ◌*◌, ◌-◌, ◌≤◌, ◌<◌, mi
 use mathlib.Core.Path.{◌≡◌, refl, sym, ap, ap₂, ◌∙◌, subst}
 use mathlib.Core.List.{List, [], ◌∷◌, ◌++◌, append_assoc, Memᴰ}
 use native.Mathlib.Omega.{arith}
-use lib.ListN.{length, take, drop, length-append, length-drop, drop_of_length-le}
+use lib.ListN.{length, drop, length-append, length-drop, drop_of_length-le}
 use lib.Seq.{drop-drop}
 use Rattle.base_fitting.specs.Fitting.{fitting}
-use Rattle.base_fitting.specs.Steps.{total, FitSoFar, HasFront}
+use Rattle.base_fitting.specs.Steps.{total, FitSoFar}
 use Rattle.base_fitting.proofs.Laws.{fit_none, fit_more, fit_over, fit_all, total_more}
-use Rattle.base_text.specs.Doc.{Doc, dec, ◌▸◌, print, each}
+use Rattle.base_text.specs.Doc.{dec, print, each}
 use Rattle.base_text.specs.Wrote.{Wrote}
 use Rattle.base_text.proofs.Laws.{none, seq, wrote_as, each_append, whole}
 use Rattle.base_text.proofs.Lengths.{length_most}
 use Rattle.file_blocks.specs.Parse.{Block, blocks_of}
 use Rattle.plan_groups.specs.Plan.{plan}
 use Rattle.plan_members.specs.Prepared.{HoldsPlan}
-use Rattle.call_pages.specs.declared.text.Front.{Front}
 use Rattle.call_pages.specs.Page.{Row, rows_of, row_line, Page, per_page, pages_from, page_text}
 use Rattle.call_pages.specs.Page.{head_line, page_length}
 use Rattle.call_pages.specs.Claims.{IsLine, RowWhole}

@@ -14,9 +14,8 @@ use Rattle.base_lists.specs.Interleave.{interleave}
 use Rattle.base_lists.specs.Lists.{count}
 use Rattle.base_lists.proofs.Counts.{counted}
 use Rattle.base_lists.proofs.Places.{member_at, map_at}
-use Rattle.base_text.specs.Doc.{Doc, nothing}
+use Rattle.base_text.specs.Doc.{nothing}
 use Rattle.file_records.specs.Trailer.{block_count, block_start}
-use Rattle.file_records.specs.BlockRecord.{count_sum}
 use Rattle.file_blocks.specs.declared.read.BlockRecord.{BlockRecord}
 use Rattle.file_blocks.specs.Address.{key_of}
 use Rattle.file_blocks.specs.Parse.{Block, block_at, blocks_of}

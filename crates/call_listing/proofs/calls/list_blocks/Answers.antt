@@ -1,6 +1,6 @@
 -- One law for each of the two answers; the work numbers that grouping and the groups of the blocks
 -- changed are all cleared. Assumes nothing.
-use Rattle.std.proofs.Common.{◌≤◌, length, refl, ◌∙◌, arith, rules}
+use Rattle.std.proofs.Common.{◌≤◌, length, refl, ◌∙◌, arith}
 use Rattle.file_blocks.specs.Parse.{blocks_of}
 use Rattle.base_text.proofs.Laws.{whole}
 use Rattle.base_text.specs.Doc.{print}

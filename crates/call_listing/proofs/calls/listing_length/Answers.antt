@@ -1,6 +1,6 @@
 -- A text that is written to no bytes is measured, and a listing is short enough for its length to
 -- be exact. Assumes nothing.
-use Rattle.std.proofs.Common.{ℕ, ◌<◌, ◌≤◌, sym, subst, arith, rules}
+use Rattle.std.proofs.Common.{ℕ, ◌<◌, ◌≤◌, sym, subst, arith}
 use Rattle.file_blocks.specs.Parse.{blocks_of}
 use Rattle.base_text.proofs.Laws.{exact, counted}
 use Rattle.base_text.specs.Wrote.{max_usize}

@@ -1,6 +1,5 @@
 -- Each case hands over the numbers of its answer.
 -- Assumes nothing.
-use Rattle.std.proofs.Common.{rules}
 use Rattle.call_listing.specs.Calls.{listing_answer}
 use Rattle.call_listing.proofs.calls.listing_numbers.Goals as goal
 

@@ -1,6 +1,6 @@
 -- By what opening tells of the file.
 -- Assumes nothing.
-use Rattle.std.proofs.Common.{[], ◌∷◌, rules}
+use Rattle.std.proofs.Common.{[], ◌∷◌}
 use Rattle.call_frame.proofs.Opening.{is_open, refused_call}
 use Rattle.call_listing.specs.Calls.{listing_answer, asks_listing}
 use Rattle.call_listing.proofs.calls.listing_of.Goals as goal

@@ -1,20 +1,13 @@
 -- `put_listing` writes the listing. The loop's invariant: the lines of the blocks before block i
 -- are written. Assumes nothing.
-use Rattle.std.proofs.Common.{◌≡◌, ℕ, ◌-◌, ◌<◌, ◌≤◌, List, [], length, get_or, take, sym, refl, ap, ◌∙◌, arith, take_all, rules}
-use Rattle.file_blocks.proofs.Accepted.{length_of_lem}
+use Rattle.std.proofs.Common.{◌≡◌, ℕ, ◌-◌, ◌≤◌, List, length, take}
 use Rattle.file_records.specs.BlockRecord.{count_sum}
-use Rattle.file_blocks.specs.Parse.{Block, block_at, blocks_of}
-use Rattle.file_records.specs.Trailer.{block_count, block_start}
-use Rattle.file_blocks.proofs.IsBlock.{missing, sum_next, nth_block}
-use Rattle.file_blocks.specs.Read.{IsBlock}
+use Rattle.file_blocks.specs.Parse.{blocks_of}
 use Rattle.plan_groups.specs.Plan.{plan}
-use Rattle.base_text.proofs.Laws.{seq, wrote_as}
 use Rattle.base_text.specs.Doc.{Doc, text, ◌▸◌}
-use Rattle.base_text.specs.Flat.{flat}
 use Rattle.base_text.specs.Wrote.{Wrote}
-use Rattle.call_listing.specs.Listing.{lines_from, listing}
+use Rattle.call_listing.specs.Listing.{lines_from}
 use Rattle.call_listing.specs.Steps.{HoldsGroups}
-use Rattle.call_listing.proofs.Blocks.{lines_next}
 use Rattle.call_listing.proofs.lines.put_listing.Given as goal
 
 abbrev pub header : Doc

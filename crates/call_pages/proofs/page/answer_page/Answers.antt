@@ -1,7 +1,6 @@
 -- One law for each of the three answers.
 -- Assumes nothing.
-use borrow.Author.Rules.{rules}
-use mathlib.Core.Path.{refl, subst}
+use mathlib.Core.Path.{subst}
 use native.Mathlib.Omega.{arith}
 use Rattle.call_pages.specs.Steps.{Begins, IsFoundPage}
 use Rattle.call_pages.proofs.Answers.{page_9, page_10, page_made}

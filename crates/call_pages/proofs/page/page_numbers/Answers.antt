@@ -1,6 +1,5 @@
 -- Each case hands over the numbers of its answer.
 -- Assumes nothing.
-use borrow.Author.Rules.{rules}
 use Rattle.call_pages.specs.Calls.{page_answer}
 use Rattle.call_pages.proofs.page.page_numbers.Goals as goal
 

@@ -1,9 +1,8 @@
 -- One law for each of the three answers.
 -- Assumes nothing.
-use borrow.Author.Rules.{rules}
 use mathlib.Core.Path.{subst}
 use native.Mathlib.Omega.{arith}
-use Rattle.call_pages.specs.Steps.{Begins, IsFoundPage}
+use Rattle.call_pages.specs.Steps.{IsFoundPage}
 use Rattle.call_pages.proofs.Answers.{pages_9, pages_10, pages_made}
 use Rattle.call_pages.proofs.pages.answer_pages.Goals as goal
 

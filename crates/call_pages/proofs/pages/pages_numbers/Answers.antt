@@ -1,6 +1,5 @@
 -- Each case hands over the numbers of its answer.
 -- Assumes nothing.
-use borrow.Author.Rules.{rules}
 use Rattle.call_pages.specs.Calls.{pages_answer}
 use Rattle.call_pages.proofs.pages.pages_numbers.Goals as goal
 

@@ -1,17 +1,11 @@
-use Prim.Native.Nat.{ℕ, ◌-◌, ◌≤◌, ◌<◌, min}
-use borrow.Author.Rules.{rules}
-use lib.ListN.{length, take}
-use mathlib.Core.List.{List, []}
-use mathlib.Core.Path.{◌≡◌, refl, sym, ap, ◌∙◌}
+use Prim.Native.Nat.{◌-◌, ◌<◌, min}
+use mathlib.Core.List.{[]}
+use mathlib.Core.Path.{refl, sym, ap, ◌∙◌}
 use native.Mathlib.Omega.{arith}
-use Rattle.base_text.specs.Doc.{each}
 use Rattle.base_text.specs.Flat.{flat}
-use Rattle.base_text.specs.Wrote.{Wrote}
 use Rattle.base_text.proofs.Laws.{none, seq, kept, wrote_as, each_more, each_all}
 use Rattle.file_blocks.specs.Parse.{blocks_of}
-use Rattle.plan_members.specs.Prepared.{HoldsPlan}
 use Rattle.call_pages.specs.Page.{Row, row_line, page_text}
-use Rattle.call_pages.specs.Steps.{page_on}
 use Rattle.call_pages.proofs.Paging.{page_row, page_rows}
 use Rattle.call_pages.proofs.text.put_page.Invariants.{rows_on}
 use Rattle.call_pages.proofs.text.put_page.Goals as goal
@@ -30,6 +24,25 @@ overflow_add-p c =
 pub put_row-next-requires : goal.put_row-next-requires
 put_row-next-requires c =
     (c.requires.0, omega (arith, c.rows_on-rows.ensures, c.requires.1))
+
+pub loop-i-preserved : goal.loop-i-preserved
+loop-i-preserved c =
+    let put = c.put_row-next in
+    let loop = c.loop-i in
+    let a = c.args in
+    let few : loop.i < min 60 (a.n - a.p) = omega (arith, c.rows_on-rows.ensures) in (
+      omega arith,
+      put.auto.out ∙ loop.invariant.1,
+      λ limit ready. each_more (row_line (blocks_of a.file.now))
+          (rows_on a.file.now limit a.k a.p) _ loop.i
+          (omega (arith, page_rows ready a.k a.p)) (loop.invariant.2 limit ready)
+          (wrote_as (put.ensures limit ready)
+          (ap (λ (r : Row). flat (row_line (blocks_of a.file.now) r) [])
+          (sym (page_row limit (blocks_of a.file.now) a.k a.p loop.i (omega arith))))),
+    )
+
+pub shape_of-out : goal.shape_of-out
+shape_of-out c = c.loop-i.invariant.1 ∙ c.put_head-next.auto.out
 
 pub returns : goal.returns
 unfolding page_text

@@ -1,20 +1,15 @@
 -- `put_page` writes a page. The loop's invariant: the lines of its rows before row i are written.
 -- Assumes nothing.
-use Prim.Native.Nat.{ℕ, ◌-◌, ◌≤◌, ◌<◌, min}
-use borrow.Author.Rules.{rules}
+use Prim.Native.Nat.{ℕ, ◌-◌, ◌≤◌}
 use lib.ListN.{length, take}
-use mathlib.Core.List.{List, []}
-use mathlib.Core.Path.{◌≡◌, refl, sym, ap, ◌∙◌}
-use native.Mathlib.Omega.{arith}
+use mathlib.Core.List.{List}
+use mathlib.Core.Path.{◌≡◌}
 use Rattle.base_text.specs.Doc.{each}
-use Rattle.base_text.specs.Flat.{flat}
 use Rattle.base_text.specs.Wrote.{Wrote}
-use Rattle.base_text.proofs.Laws.{none, seq, kept, wrote_as, each_more, each_all}
 use Rattle.file_blocks.specs.Parse.{blocks_of}
 use Rattle.plan_members.specs.Prepared.{HoldsPlan}
-use Rattle.call_pages.specs.Page.{Row, row_line, page_text}
+use Rattle.call_pages.specs.Page.{Row, row_line}
 use Rattle.call_pages.specs.Steps.{page_on}
-use Rattle.call_pages.proofs.Paging.{page_row, page_rows}
 use Rattle.call_pages.proofs.text.put_page.Given as goal
 
 -- the rows of a page

@@ -1,10 +1,9 @@
-use Prim.Native.Nat.{ℕ, ◌+◌, ◌*◌, ◌-◌, ◌≤◌}
+use Prim.Native.Nat.{◌≤◌}
 use borrow.Author.Rules.{rules}
 use lib.ListN.{length as size}
-use mathlib.Core.Path.{◌≡◌, refl, ◌∙◌}
+use mathlib.Core.Path.{refl, ◌∙◌}
 use native.Mathlib.Omega.{arith}
-use Rattle.plan_members.specs.Prepared.{HoldsPlan}
-use Rattle.call_pages.proofs.Fitted.{Putting, putting_none, putting-end, putting_over}
+use Rattle.call_pages.proofs.Fitted.{putting_none, putting-end, putting_over}
 use Rattle.call_pages.proofs.Fitted.{putting_more}
 use Rattle.call_pages.proofs.text.put_pages.Goals as goal
 
@@ -49,6 +48,19 @@ overflow_add-length c =
 pub overflow_add-row : goal.overflow_add-row
 overflow_add-row c =
     omega (arith, c.requires.0.1)
+
+pub loop-row-preserved : goal.loop-row-preserved
+loop-row-preserved c =
+    let put = c.put_page in
+    let loop = c.loop-row in
+    let inv = loop.invariant in (
+      put.auto.out ∙ inv.0,
+      omega (arith, inv.0, inv.1),
+      omega (arith, inv.2),
+      λ limit ready.
+          putting_more ready (inv.3 limit ready) (omega arith) _ c.page_length-size.ensures
+          (omega (arith, inv.0)) (put.ensures limit ready),
+    )
 
 pub shape_of-text : goal.shape_of-text
 shape_of-text c = c.loop-row.invariant.0

@@ -1,13 +1,10 @@
 -- `put_pages` writes page after page. The loop's invariant: those written are the first that fit.
 -- Assumes nothing.
 use Prim.Native.Nat.{ℕ, ◌+◌, ◌*◌, ◌-◌, ◌≤◌}
-use borrow.Author.Rules.{rules}
 use lib.ListN.{length as size}
-use mathlib.Core.Path.{◌≡◌, refl, ◌∙◌}
-use native.Mathlib.Omega.{arith}
+use mathlib.Core.Path.{◌≡◌}
 use Rattle.plan_members.specs.Prepared.{HoldsPlan}
-use Rattle.call_pages.proofs.Fitted.{Putting, putting_none, putting-end, putting_over}
-use Rattle.call_pages.proofs.Fitted.{putting_more}
+use Rattle.call_pages.proofs.Fitted.{Putting}
 use Rattle.call_pages.proofs.text.put_pages.Given as goal
 
 abbrev pub invariant-loop-row : goal.invariant-loop-row

@@ -1,11 +1,10 @@
 -- `find_said` finds the block, and says what is said in it.
 -- Assumes nothing.
-use borrow.Author.Rules.{rules}
 use mathlib.Core.Option.{none}
 use mathlib.Core.Path.{sym, ap, ◌∙◌, subst}
 use native.Mathlib.Omega.{arith}
 use lib.ListN.{get_or}
-use Prim.Native.Nat.{ℕ, ◌-◌}
+use Prim.Native.Nat.{ℕ}
 use Rattle.file_blocks.specs.Parse.{blocks_of}
 use Rattle.file_blocks.proofs.Accepted.{instrs_of_lem, few_in_block}
 use Rattle.file_blocks.proofs.IsBlock.{missing, instrs_counted}
@@ -67,3 +66,23 @@ said_at-requires c =
     block_is c.requires.accepted c.block_at.ensures c.in-At-block_at.is
     stands.starts in
     ((_, is), omega (arith, stands.from, stands.before, record_count_lem is))
+
+pub returns : goal.returns
+unfolding IsFoundPlace IsSaid
+returns c =
+    let f = c.args.file.now in
+    let ok = c.requires.accepted in
+    let stands : StandsAt f c.args.k _ _ =
+    subst (IsFoundPlace f c.args.k) c.in-At.is c.find_instr.ensures in
+    let is = block_is ok c.block_at.ensures c.in-At-block_at.is stands.starts in (
+      omega (
+        arith,
+        stands.before,
+        record_count_lem is,
+        instrs_counted is,
+        instrs_of_lem f (blocks_of f) ok,
+      ),
+      c.said_at.ensures
+          ∙ said_in_all_lem is _ (omega (arith, stands.from, stands.before, record_count_lem is))
+          ∙ ap (λ (n : ℕ). get_or (said_in_all (blocks_of f)) n none) (omega (arith, stands.from)),
+    )

@@ -1,6 +1,5 @@
 -- One law for each of the three answers.
 -- Assumes nothing.
-use borrow.Author.Rules.{rules}
 use mathlib.Core.List.{[], ◌∷◌}
 use mathlib.Core.Path.{subst}
 use native.Mathlib.Omega.{arith}

@@ -1,6 +1,5 @@
 -- Each case hands over the numbers of its answer.
 -- Assumes nothing.
-use borrow.Author.Rules.{rules}
 use Rattle.call_reasons.specs.Calls.{reason_answer}
 use Rattle.call_reasons.proofs.reason.reason_numbers.Goals as goal
 

@@ -1,7 +1,6 @@
 -- By what opening tells of the file; the claims hold of every file.
 -- Assumes nothing.
 use mathlib.Core.List.{[], ◌∷◌}
-use borrow.Author.Rules.{rules}
 use Rattle.claim_reasons.proofs.Claims.{reason_claims}
 use Rattle.call_frame.proofs.Opening.{is_open, refused_call}
 use Rattle.call_reasons.specs.Calls.{reason_answer, asks_reason}

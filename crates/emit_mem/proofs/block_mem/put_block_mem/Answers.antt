@@ -1,11 +1,11 @@
 -- `block_mem::put_block_mem` meets its contract: what its calls write, one after another.
 -- Assumes nothing.
 use Rattle.emit_mem.specs.BlockMem.{base_lines, moves}
-use Rattle.std.proofs.Common.{ℕ, [], sym, rules}
+use Rattle.std.proofs.Common.{ℕ, [], sym}
 use Rattle.c_tree.specs.Stmt.{end}
 use Rattle.emit_mem.proofs.Lines.{lines_both}
 use Rattle.lower_forms.specs.Forms.{Lines}
-use Rattle.base_text.proofs.Laws.{seq, wrote_as, kept}
+use Rattle.base_text.proofs.Laws.{seq, wrote_as}
 use Rattle.emit_mem.proofs.block_mem.put_block_mem.Goals as goal
 
 pub returns : goal.returns

@@ -1,7 +1,7 @@
 -- `put_mem` writes the lines of a Mem, where the definition has such.
 -- Assumes nothing.
 use Rattle.emit_mem.specs.Mem.{whole_access}
-use Rattle.std.proofs.Common.{[], ap, rules}
+use Rattle.std.proofs.Common.{[], ap}
 use Rattle.emit_mem.proofs.Offsets.{mem_lines_lem}
 use Rattle.lower_forms.specs.Forms.{Lines}
 use Rattle.lower_forms.specs.InlineBody.{base_expr}

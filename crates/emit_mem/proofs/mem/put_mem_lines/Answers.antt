@@ -1,12 +1,12 @@
 -- `mem::put_mem_lines` meets its contract: what its calls write, one after another.
 -- Assumes nothing.
-use Rattle.std.proofs.Common.{[], sym, rules}
+use Rattle.std.proofs.Common.{[], sym}
 use Rattle.c_tree.specs.Stmt.{end}
 use Rattle.emit_mem.proofs.Lines.{lines_both}
 use Rattle.emit_mem.specs.Mem.{transfer_lines, access_of}
 use Rattle.lower_forms.specs.Forms.{Lines}
 use Rattle.lower_forms.specs.InlineBody.{each_on_line}
-use Rattle.base_text.proofs.Laws.{seq, wrote_as, kept}
+use Rattle.base_text.proofs.Laws.{seq, wrote_as}
 use Rattle.emit_mem.proofs.mem.put_mem_lines.Goals as goal
 
 pub returns : goal.returns

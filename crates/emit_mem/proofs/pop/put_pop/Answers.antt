@@ -1,9 +1,9 @@
 -- `pop::put_pop` meets its contract: what its calls write, one after another.
 -- Assumes nothing.
-use Rattle.std.proofs.Common.{true, false, rules}
+use Rattle.std.proofs.Common.{true, false}
 use Rattle.emit_mem.proofs.PopText.{pop_text}
 use Rattle.lower_forms.specs.InlineBody.{listed}
-use Rattle.base_text.proofs.Laws.{seq, wrote_as, kept}
+use Rattle.base_text.proofs.Laws.{seq, wrote_as}
 use Rattle.emit_mem.proofs.pop.put_pop.Goals as goal
 
 pub returns-then-thumb : goal.returns-then-thumb

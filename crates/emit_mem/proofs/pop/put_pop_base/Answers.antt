@@ -1,8 +1,8 @@
 -- `pop::put_pop_base` meets its contract: what its calls write, one after another.
 -- Assumes nothing.
-use Rattle.std.proofs.Common.{◌≡◌, ◌+◌, ◌*◌, length, refl, arith, rules}
+use Rattle.std.proofs.Common.{◌≡◌, ◌+◌, ◌*◌, length, refl, arith}
 use Rattle.lower_forms.specs.InlineBody.{listed}
-use Rattle.base_text.proofs.Laws.{seq, wrote_as, kept}
+use Rattle.base_text.proofs.Laws.{seq, wrote_as}
 use Rattle.emit_mem.proofs.pop.put_pop_base.Goals as goal
 
 pub overflow_add-total : goal.overflow_add-total

@@ -1,7 +1,6 @@
 -- `bytes_listed` counts the bytes of the registers listed. The loop's invariant: n is the bytes of
 -- those below r. Assumes nothing.
-use Rattle.std.proofs.Common.{◌≡◌, ◌-◌, ◌*◌, ◌≤◌, length, sym, refl, ◌∙◌, ⊎_elim, arith, rules}
-use Rattle.emit_mem.proofs.Listed.{bytes_more, bytes_same}
+use Rattle.std.proofs.Common.{◌≡◌, ◌-◌, ◌*◌, ◌≤◌, length}
 use Rattle.lower_forms.specs.InlineBody.{listed}
 use Rattle.emit_mem.proofs.registers.bytes_listed.Given as goal
 
