@@ -21,7 +21,7 @@ pub const FLOORS: [(&str, &str); 12] = [
 ];
 
 /// Libraries of the kit that a crate may list, which stand on no floor.
-const KIT: [&str; 5] = ["bytes", "check", "io", "libc", "os"];
+const KIT: [&str; 2] = ["bytes", "check"];
 
 /// A line of the list: a crate and the libraries that it uses.
 pub struct Listed {
