@@ -1,9 +1,9 @@
 /* The calls of librecomp.a: block files to plans, exits, listings, pages, reasons and C units.
  *
- * `rt staticlib recomp` proves the library and writes target/staticlib/librecomp.a; lib/ keeps one
+ * `rt lib` in crates/recomp proves the library and writes out/librecomp.a there; lib/ keeps one
  * (`lib/archive take FILE`). What is said here in words is proved of every call and every input,
  * but for what is marked as not proved; the definitions are named at each call. What every call
- * leaves: `callFrame` in crates/call_frame/specs/Frame.antt; the numbers handed over: `numbersOf`
+ * leaves: `call_frame` in crates/call_frame/specs/Frame.antt; the numbers handed over: `numbers_of`
  * in Numbers.antt there.
  *
  * For all calls:
@@ -47,26 +47,26 @@ extern "C" {
 #endif
 
 /* Whether the file is accepted: refusals 1 to 7, or the number of its blocks and instructions.
- * Definition: `checkCall` in crates/call_check/specs/Calls.antt, over `parse` in
+ * Definition: `check_call` in crates/call_check/specs/Calls.antt, over `parse` in
  * crates/file_blocks/specs/Parse.antt. */
 uint32_t recomp_check(const uint8_t *file, size_t file_len,
                       uint64_t *at, uint64_t *blocks, uint64_t *instructions);
 
 /* The keys that block `block` (from 0) can statically go to: `*count` of them, 0 to 2, a branch's
  * target before the fall-through; `*first` and `*second` are 0 where there is none.
- * Refusals 1 to 7 and 9. Definition: `exitsCall` in crates/call_exits/specs/Calls.antt. */
+ * Refusals 1 to 7 and 9. Definition: `exits_call` in crates/call_exits/specs/Calls.antt. */
 uint32_t recomp_exits(const uint8_t *file, size_t file_len, uint64_t block,
                       uint64_t *at, uint64_t *count, uint64_t *first, uint64_t *second);
 
 /* The plan: for each of the `*blocks` blocks its group and its number in the file, both from 0, in
  * the order of emission. It needs 2 * blocks numbers.
- * Refusals 1 to 8 and 10. Definition: `planCall` in crates/call_plan/specs/Calls.antt. */
+ * Refusals 1 to 8 and 10. Definition: `plan_call` in crates/call_plan/specs/Calls.antt. */
 uint32_t recomp_plan(const uint8_t *file, size_t file_len, uint32_t *work, size_t work_len,
                      uint32_t *plan, size_t plan_len, uint64_t *at, uint64_t *blocks);
 
 /* The listing: a header, then a line for each block in file order with key, group and exits. It is
  * `*length` bytes of ASCII, with no zero byte after it.
- * Refusals 1 to 8 and 10. Definition: `listingCall` in crates/call_listing/specs/Calls.antt. */
+ * Refusals 1 to 8 and 10. Definition: `listing_call` in crates/call_listing/specs/Calls.antt. */
 uint32_t recomp_listing(const uint8_t *file, size_t file_len, uint32_t *work, size_t work_len,
                         uint8_t *text, size_t text_len, uint64_t *at, uint64_t *length);
 
@@ -84,7 +84,7 @@ uint32_t recomp_listing(const uint8_t *file, size_t file_len, uint32_t *work, si
  * once, in the order of emission: `PageClaims` in crates/call_pages/specs/Claims.antt. */
 
 /* The text of page `page`: `*length` bytes, with no zero byte after it.
- * Refusals 1 to 10; 9 for page 0 and for every page above the last. Definition: `pageCall` in
+ * Refusals 1 to 10; 9 for page 0 and for every page above the last. Definition: `page_call` in
  * crates/call_pages/specs/Calls.antt. */
 uint32_t recomp_page(const uint8_t *file, size_t file_len, uint64_t page,
                      uint32_t *work, size_t work_len, uint8_t *text, size_t text_len,
@@ -94,7 +94,7 @@ uint32_t recomp_page(const uint8_t *file, size_t file_len, uint64_t page,
  * many whole pages as fit. `*count` is how many they are, `*length` the bytes of all their texts. A
  * call with `first` + `*count` gives those after, or 9 where there are none.
  * Refusals 1 to 10; 9: there is no page `first`; 10: page `first` does not fit. Definition:
- * `pagesCall` in crates/call_pages/specs/Calls.antt. */
+ * `pages_call` in crates/call_pages/specs/Calls.antt. */
 uint32_t recomp_pages(const uint8_t *file, size_t file_len, uint64_t first,
                       uint32_t *work, size_t work_len, uint8_t *text, size_t text_len,
                       uint64_t *at, uint64_t *count, uint64_t *length);
@@ -128,7 +128,7 @@ uint32_t recomp_pages(const uint8_t *file, size_t file_len, uint64_t first,
 /* The sentence of instruction `instruction`, counted from 0 through the file: `*length` bytes, with
  * neither newline nor zero byte after it. `*length` is 0 where the instruction has none, and that
  * is never refused with 10.
- * Refusals 1 to 7, 9 and 10. Definition: `reasonCall` in crates/call_reasons/specs/Calls.antt. */
+ * Refusals 1 to 7, 9 and 10. Definition: `reason_call` in crates/call_reasons/specs/Calls.antt. */
 uint32_t recomp_reason(const uint8_t *file, size_t file_len, uint64_t instruction,
                        uint8_t *text, size_t text_len, uint64_t *at, uint64_t *length);
 
@@ -138,7 +138,7 @@ uint32_t recomp_reason(const uint8_t *file, size_t file_len, uint64_t instructio
  * whose line did not fit or, where none is left, the number of all instructions. A call with
  * `*next` as `first` gives those after, or 9 where there are none.
  * Refusals 1 to 7, 9 and 10; 9: there is no instruction `first`; 10: there are lines, and the first
- * does not fit. Definition: `reasonsCall` in crates/call_reasons/specs/Calls.antt. */
+ * does not fit. Definition: `reasons_call` in crates/call_reasons/specs/Calls.antt. */
 uint32_t recomp_reasons(const uint8_t *file, size_t file_len, uint64_t first,
                         uint8_t *text, size_t text_len,
                         uint64_t *at, uint64_t *next, uint64_t *length);
@@ -169,7 +169,7 @@ uint32_t recomp_reasons(const uint8_t *file, size_t file_len, uint64_t first,
 /* One unit is measured, then written. What is told of unit `unit` before it is written: `*number`
  * is its number, `*length` the bytes of its text, `*done` the number of blocks in it and in all
  * units before it, `*last` 1 for the last unit and 0 for the others. No text is lent. Refusals 1 to
- * 9. Definition: `measureCall` in crates/call_unit/specs/Calls.antt. Before there were these two,
+ * 9. Definition: `measure_call` in crates/call_unit/specs/Calls.antt. Before there were these two,
  * one call, recomp_unit, did both; docs/changes/CR-03.md says what its callers change. */
 uint32_t recomp_measure(const uint8_t *file, size_t file_len, uint64_t max_bytes, uint64_t unit,
                         uint32_t *work, size_t work_len, uint64_t *at, uint64_t *number,
@@ -181,12 +181,12 @@ uint32_t recomp_measure(const uint8_t *file, size_t file_len, uint64_t max_bytes
  * does; it is tested after 9 and before 10. Equal values are all that is asked: with an answer kept
  * from another file or size, whose three values are those of the unit that it names here, the unit
  * of this file and size is written.
- * Refusals 1 to 11. Definition: `writeCall` in crates/call_unit/specs/Calls.antt.
+ * Refusals 1 to 11. Definition: `write_call` in crates/call_unit/specs/Calls.antt.
  * Where recomp_measure returns 0, recomp_write with what it told, on the same file and size, leaves
  * what one call would, 8 and 10 included. Lent the same work numbers as recomp_measure, it gives 11
  * with anything else for that unit, and is refused alike where recomp_measure is refused. This is
  * proved, as a promise of both calls: `MeasureThenWrite` in crates/call_unit/specs/Claims.antt;
- * `unitCall` in Calls.antt there is that one call, as document 01 asks for the unit. */
+ * `unit_call` in Calls.antt there is that one call, as document 01 asks for the unit. */
 uint32_t recomp_write(const uint8_t *file, size_t file_len, uint64_t max_bytes, uint64_t unit,
                       uint64_t length, uint64_t done, uint64_t last, uint32_t *work,
                       size_t work_len, uint8_t *text, size_t text_len, uint64_t *at);
@@ -196,7 +196,7 @@ uint32_t recomp_write(const uint8_t *file, size_t file_len, uint64_t max_bytes, 
  * many they are, `*length` the bytes of all their texts; `*done` and `*last` are as above, of the
  * last of them. Where `*last` is 0, a call with `first` + `*count` gives those after.
  * Refusals 1 to 10; 9: there is no unit `first`; 10: unit `first` does not fit, or there is no room
- * for its length. Definition: `unitsCall` in crates/call_units/specs/Calls.antt. */
+ * for its length. Definition: `units_call` in crates/call_units/specs/Calls.antt. */
 uint32_t recomp_units(const uint8_t *file, size_t file_len, uint64_t max_bytes, uint64_t first,
                       uint32_t *work, size_t work_len, uint8_t *text, size_t text_len,
                       uint64_t *lengths, size_t lengths_len, uint64_t *at, uint64_t *count,
@@ -205,7 +205,7 @@ uint32_t recomp_units(const uint8_t *file, size_t file_len, uint64_t max_bytes, 
 /* The lengths alone, of as many units from `first` on as there is room for: what has to be lent to
  * recomp_units. There are at most as many units as blocks and one more. The numbers are those of
  * recomp_units, without the bytes of all. Refusals 1 to 10; 10: there is no room for a length.
- * Definition: `lengthsCall` in crates/call_units/specs/Calls.antt. */
+ * Definition: `lengths_call` in crates/call_units/specs/Calls.antt. */
 uint32_t recomp_lengths(const uint8_t *file, size_t file_len, uint64_t max_bytes, uint64_t first,
                         uint32_t *work, size_t work_len, uint64_t *lengths, size_t lengths_len,
                         uint64_t *at, uint64_t *count, uint64_t *done, uint64_t *last);

@@ -38,8 +38,11 @@ fn take_copy(path: &Path, copy: &Path) -> Result<(), String> {
 fn kept_or_proved(copy: &Path) -> Result<(), String> {
     let package = std::env::var("CARGO_MANIFEST_DIR").expect("set by cargo");
     let root = Path::new(&package).parent().expect("the repository");
-    for part in ["crates", "crates.txt", "lib"] {
+    for part in ["crates.txt", "lib"] {
         println!("cargo::rerun-if-changed={}", root.join(part).display());
+    }
+    for part in sources(&root.join("crates")) {
+        println!("cargo::rerun-if-changed={}", part.display());
     }
     let mut take = Command::new("sh");
     take.arg(root.join("lib/archive")).arg("take").arg(copy);
@@ -54,16 +57,31 @@ fn kept_or_proved(copy: &Path) -> Result<(), String> {
     }
 }
 
+/// What stands in the crates' folders, but for `out`, where `rt` keeps what it has proved: cargo
+/// would look at all of that, and build again after each check.
+fn sources(crates: &Path) -> Vec<PathBuf> {
+    let inside = |folder: &Path| {
+        let entries = std::fs::read_dir(folder).into_iter().flatten().flatten();
+        entries.map(|entry| entry.path()).collect::<Vec<_>>()
+    };
+    let (folders, mut out): (Vec<_>, Vec<_>) = inside(crates).into_iter().partition(|p| p.is_dir());
+    for folder in folders {
+        out.extend(inside(&folder).into_iter().filter(|p| !p.ends_with("out")));
+    }
+    out
+}
+
 fn prove(root: &Path, copy: &Path) -> Result<(), String> {
+    let library = root.join("crates/recomp");
     // Under -vv cargo shows at once what goes to standard error.
     let status = Command::new("rt")
-        .args(["staticlib", "recomp"])
-        .current_dir(root)
+        .arg("lib")
+        .current_dir(&library)
         .stdout(std::io::stderr())
         .status()
         .map_err(|error| format!("rt did not start ({error}): put the Rattle kit on the path"))?;
     if !status.success() {
-        return Err(format!("rt staticlib recomp ended with {status}"));
+        return Err(format!("rt lib in crates/recomp ended with {status}"));
     }
-    take_copy(&root.join("target/staticlib/librecomp.a"), copy)
+    take_copy(&library.join("out/librecomp.a"), copy)
 }

@@ -25,7 +25,7 @@ const RESTORE: &str =
 type Change = (&'static str, fn(&Repository));
 
 /// Each way to change what the library is made from.
-const CHANGES: [Change; 7] = [
+const CHANGES: [Change; 8] = [
     ("a file is changed", |repository| {
         repository.put("crates/base/src/lib.rt", "changed")
     }),
@@ -34,6 +34,10 @@ const CHANGES: [Change; 7] = [
     }),
     ("a hidden file is added", |repository| {
         repository.put("crates/base/.new", "")
+    }),
+    ("a file is added to a module named out", |repository| {
+        fs::create_dir(repository.path("crates/base/src/out")).expect("a folder");
+        repository.put("crates/base/src/out/new.rt", "")
     }),
     ("a file is removed", |repository| {
         fs::remove_file(repository.path("crates/base/src/lib.rt")).expect("a file")
@@ -109,6 +113,17 @@ fn changed_sources_are_never_linked_with_the_kept_archive() {
             assert_eq!(calls[1..], ["cargo links another library"], "{what}");
         }
     }
+}
+
+#[test]
+fn what_rt_keeps_is_no_source() {
+    let repository = Repository::keeping();
+    repository.without("rt");
+    fs::create_dir(repository.path("crates/base/out")).expect("a folder");
+    repository.put("crates/base/out/kept.rt", "");
+    assert_eq!(repository.run(&["--version"]).err, KEPT_IS_LINKED);
+    repository.put("crates/base/out/kept.rt", "more");
+    assert_eq!(repository.run(&["--version"]).printed(), VERSION);
 }
 
 #[test]
@@ -300,7 +315,7 @@ fn builds_by_hand_link_the_kept_archive_where_it_fits() {
             run.err
         );
         assert!(repository.calls().is_empty());
-        let file = format!("crates/{package}_is_changed");
+        let file = format!("crates/recomp/src/{package}_is_changed");
         repository.put(&file, "");
         let run = built(&repository, package);
         assert_eq!(run.status, Some(0), "{}", run.err);
@@ -309,7 +324,8 @@ fn builds_by_hand_link_the_kept_archive_where_it_fits() {
         repository.put(&file, "again");
         repository.script("rt", "#!/bin/sh\necho what rt says\nexit 1\n");
         let run = built(&repository, package);
-        let reason = format!("{OTHER_SOURCES}; rt staticlib recomp ended with exit status: 1\n");
+        let reason =
+            format!("{OTHER_SOURCES}; rt lib in crates/recomp ended with exit status: 1\n");
         assert!(run.err.contains(&reason), "{}", run.err);
         assert!(run.err.contains("what rt says\n"), "{}", run.err);
         repository.script("rt", RT);

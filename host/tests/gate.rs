@@ -77,6 +77,17 @@ fn what_fails_is_told_last() {
     assert_eq!(run.status, Some(1));
 }
 
+#[test]
+fn an_edit_that_can_no_longer_be_tried_fails_the_gate() {
+    let repository = Repository::keeping();
+    let line = "must-fail edits are bad: mend those that are named above";
+    for bad in [", 1 bad", ", 2 of them only by a limit, 10 bad"] {
+        assert_ends(&finish(gate(&repository).env("BAD", bad)), 1, line);
+    }
+    let run = finish(gate(&repository).env("BAD", ", 2 of them only by a limit"));
+    assert_ends(&run, 0, COUNT);
+}
+
 /// What the gate says of the kept archive, held against what was just proved.
 fn compared(repository: &Repository) -> Run {
     repository.archive(&["compare", &repository.0.join("archive")])

@@ -140,14 +140,15 @@ fn a_folder_that_cannot_be_written_is_named_in_one_line() {
 #[test]
 fn a_proof_that_fails_is_shown_and_nothing_is_built() {
     let repository = Repository::new();
-    let fails =
-        "echo 'error: does not hold' >&2; echo 'rt: middle NOT PROVED (exit 1, 2 s)'; exit 1";
+    let fails = "echo 'error: does not hold' >&2; \
+        echo 'rt: the library middle did not build, so nothing above it was checked'; exit 1";
     for _ in 0..2 {
         let mut command = repository.launcher(&["--version"]);
         command.env("WHILE_PROVING", fails);
         let run = finish(&mut command);
-        let shown = "logic=proved functions=7\nerror: does not hold\n\
-            rt: middle NOT PROVED (exit 1, 2 s)\n\
+        let shown = "rt: chose --jobs 2 for middle\nfn middle::same: proved\n\
+            error: does not hold\n\
+            rt: the library middle did not build, so nothing above it was checked\n\
             recomp: the library is not proved; mend what rt says above, then run again\n";
         assert_run(run, 2, "", &format!("{PROVING}{shown}"));
         assert_eq!(repository.calls(), repository.both_calls()[..1]);

@@ -42,7 +42,7 @@ impl Definitions {
             for path in files(&folder.join("specs"), "antt") {
                 let text = std::fs::read_to_string(&path)?;
                 let module = format!("{name}/specs/{}", stem(&path));
-                modules.insert(module, definitions(&text, &name));
+                modules.insert(module, definitions(&text));
             }
             let mut types = Module::default();
             for path in files(&folder.join("src"), "rt") {
@@ -60,7 +60,7 @@ impl Definitions {
             for path in files(&root.join("crates").join(name).join("src"), "rt") {
                 let text = std::fs::read_to_string(&path)?;
                 let imports = statements(&text, "ghost use ");
-                open.extend(imports.iter().flat_map(|s| imported(s, name)).map(|i| i.1));
+                open.extend(imports.iter().flat_map(|s| imported(s)).map(|i| i.1));
             }
         }
         Ok(self.follow(open))
@@ -146,11 +146,11 @@ fn statements(text: &str, begin: &str) -> Vec<String> {
 }
 
 /// The names that a `use` statement brings, and the module and name that each stands for.
-fn imported(statement: &str, own: &str) -> Vec<(String, (String, String))> {
+fn imported(statement: &str) -> Vec<(String, (String, String))> {
     let Some((path, names)) = statement.split_once(".{") else {
         return Vec::new();
     };
-    let Some(module) = module_of(path, own) else {
+    let Some(module) = module_of(path) else {
         return Vec::new();
     };
     let names = names.split('}').next().unwrap_or("");
@@ -167,22 +167,22 @@ fn imported(statement: &str, own: &str) -> Vec<(String, (String, String))> {
         .collect()
 }
 
-/// The module that a path names: `Rattle·CRATE.specs.MODULE`, or the crate's own.
-fn module_of(path: &str, own: &str) -> Option<String> {
-    let path = path.split("Rattle·").nth(1)?;
-    let parts: Vec<&str> = path.split(['.', '·']).filter(|p| *p != "specs").collect();
+/// The module that a path names: `Rattle.CRATE.specs.MODULE`, or a type's, below `specs.declared`.
+fn module_of(path: &str) -> Option<String> {
+    let path = path.split("Rattle.").nth(1)?;
+    let parts: Vec<&str> = path.split('.').collect();
     match parts[..] {
-        [name, "declared", ..] => Some(format!("{name}/src")),
-        [name, module] => Some(format!("{name}/specs/{module}")),
-        _ => Some(format!("{own}/src")),
+        [name, "specs", "declared", ..] => Some(format!("{name}/src")),
+        [name, "specs", module] => Some(format!("{name}/specs/{module}")),
+        _ => None,
     }
 }
 
 /// The definitions of a file of antt.
-fn definitions(text: &str, own: &str) -> Module {
+fn definitions(text: &str) -> Module {
     let mut out = Module::default();
     for statement in statements(text, "use ") {
-        out.imports.extend(imported(&statement, own));
+        out.imports.extend(imported(&statement));
     }
     let mut current: Option<String> = None;
     // The indent of the type that is being read, if it is one.
@@ -257,7 +257,7 @@ fn words(line: &str) -> BTreeSet<String> {
     {
         out.insert(word.trim_end_matches('.').to_string());
         out.insert(word.split('.').next().unwrap_or("").to_string());
-        out.insert(format!("_{word}_"));
+        out.insert(format!("◌{word}◌"));
     }
     out
 }
@@ -271,13 +271,18 @@ fn read_types(text: &str, own: &str, out: &mut Module) {
         let path = statement
             .trim_start_matches("pub ")
             .trim_start_matches("use ");
-        let parts: Vec<&str> = path.trim_end_matches(';').split("::").collect();
-        if let [from, .., name] = parts[..] {
-            let from = if from == "crate" { own } else { from };
-            if from != own {
-                let place = (format!("{from}/src"), name.to_string());
-                out.imports.insert(name.to_string(), place);
-            }
+        let (path, names) = match path.split_once('{') {
+            Some((path, names)) => (path, names.split('}').next().unwrap_or("")),
+            None => path.rsplit_once("::").unwrap_or((path, "")),
+        };
+        let from = path.split("::").next().unwrap_or("");
+        if from == "crate" || from == own {
+            continue;
+        }
+        let names = names.split([',', ';']).map(str::trim);
+        for name in names.filter(|n| !n.is_empty()) {
+            let place = (format!("{from}/src"), name.to_string());
+            out.imports.insert(name.to_string(), place);
         }
     }
     let mut current: Option<String> = None;

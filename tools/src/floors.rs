@@ -20,8 +20,8 @@ pub const FLOORS: [(&str, &str); 12] = [
     ("list_", "Programs"),
 ];
 
-/// Libraries of the kit, which stand on no floor.
-const KIT: [&str; 5] = ["bytes", "check", "io", "libc", "os"];
+/// Libraries of the kit that a crate may list, which stand on no floor.
+const KIT: [&str; 2] = ["bytes", "check"];
 
 /// A line of the list: a crate and the libraries that it uses.
 pub struct Listed {
@@ -34,7 +34,8 @@ pub fn listed(text: &str) -> Vec<Listed> {
     let line = |line: &str| {
         let (name, uses) = line.split('#').next()?.split_once(':')?;
         let uses = uses.split_whitespace().map(str::to_string).collect();
-        let name = name.trim().to_string();
+        // `NAME staticlib` is a static library.
+        let name = name.split_whitespace().next()?.to_string();
         Some(Listed { name, uses })
     };
     text.lines().filter_map(line).collect()
@@ -57,11 +58,14 @@ pub fn named(root: &Path, list: &[Listed]) -> std::io::Result<BTreeMap<String, B
     Ok(out)
 }
 
-/// The files of Rattle and antt below a folder.
+/// The files of Rattle and antt below a folder, without what `rt` makes in `out`.
 fn sources(folder: &Path) -> std::io::Result<Vec<PathBuf>> {
     let mut out = Vec::new();
     for entry in std::fs::read_dir(folder)? {
         let path = entry?.path();
+        if path.ends_with("out") {
+            continue;
+        }
         if path.is_dir() {
             out.extend(sources(&path)?);
         } else if path.extension().is_some_and(|e| e == "rt" || e == "antt") {
@@ -71,7 +75,7 @@ fn sources(folder: &Path) -> std::io::Result<Vec<PathBuf>> {
     Ok(out)
 }
 
-/// The words that a source names as crates: after `Rattle·` in definitions and proofs, and before
+/// The words that a source names as crates: after `Rattle.` in definitions and proofs, and before
 /// the first `::` of a path in code. Comments name none.
 fn in_source(text: &str, code: bool) -> impl Iterator<Item = String> {
     let mark = if code { "//" } else { "--" };
@@ -80,7 +84,7 @@ fn in_source(text: &str, code: bool) -> impl Iterator<Item = String> {
         .lines()
         .map(|line| line.split(mark).next().unwrap_or(""))
     {
-        for after in line.split("Rattle·").skip(1) {
+        for after in line.split("Rattle.").skip(1) {
             out.push(after.chars().take_while(|c| is_name(*c)).collect());
         }
         if code {

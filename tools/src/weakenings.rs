@@ -266,11 +266,12 @@ impl Fault {
     /// A name or a clause is missing: nothing is said of a fact, and the weakening is to be mended.
     pub fn is_of_a_name(&self) -> bool {
         let marks = [
-            "that can be named from here",
-            "has no clause for",
-            "is for an impossible case",
-            "has no implicit argument",
-            "level argument(s)",
+            "that can be named",
+            "no clause covers",
+            "can never apply",
+            "no implicit argument",
+            "level argument",
+            "is not a field of",
             "is not in scope",
         ];
         marks.iter().any(|m| self.message.contains(m))
@@ -278,30 +279,31 @@ impl Fault {
 
     /// It names a declaration that is refused itself.
     fn follows(&self) -> bool {
-        self.message.contains("was not admitted")
+        self.message.contains("was not admitted") || self.message.contains("was rejected")
     }
 }
 
-/// The refused declarations in what `rt` printed, without those that only name a refused one; those
-/// of a fact first.
-pub fn faults(printed: &str, root: &str) -> Vec<Fault> {
-    let mut out: Vec<Fault> = printed.lines().filter_map(|l| fault(l, root)).collect();
+/// The refused declarations in what `rt` printed of a crate, without those that only name a refused
+/// one; those of a fact first.
+pub fn faults(printed: &str, of: &str) -> Vec<Fault> {
+    let mut out: Vec<Fault> = printed.lines().filter_map(|l| fault(l, of)).collect();
     out.retain(|f| !f.follows());
     out.sort_by_key(Fault::is_of_a_name);
     out
 }
 
-fn fault(line: &str, root: &str) -> Option<Fault> {
+/// The fault in a line of what `rt` printed, which names files from the folder of the crate.
+fn fault(line: &str, name: &str) -> Option<Fault> {
     let (place, message) = line.split_once(": error: ")?;
     let mut parts = place.rsplitn(3, ':');
     let (_, line, file) = (parts.next()?, parts.next()?, parts.next()?);
-    let file = file.strip_prefix(root).unwrap_or(file);
+    let file = file.trim_start_matches("./");
     let (of, message) = match message.strip_prefix('`').and_then(|m| m.split_once("`: ")) {
         Some((of, message)) => (of, message),
         None => ("", message),
     };
     Some(Fault {
-        file: file.trim_start_matches('/').to_string(),
+        file: format!("crates/{name}/{file}"),
         line: line.to_string(),
         of: of.to_string(),
         message: message.to_string(),
@@ -322,14 +324,14 @@ pub fn with_used(list: &[Listed], names: &[&str]) -> BTreeSet<String> {
     out
 }
 
-/// The crate that `rt` says is the first not proved.
-pub fn refused_in(printed: &str) -> Option<&str> {
-    let said = |l: &'_ str| {
-        l.strip_prefix("rt: ")
-            .is_some_and(|l| l.contains(" NOT PROVED"))
-    };
-    let line = printed.lines().find(|l| said(l))?;
-    line.strip_prefix("rt: ")?.split(' ').next()
+/// The library below a crate that `rt check` of the crate found not proved, if that is what it says.
+pub fn refused_below(said: &str) -> Option<&str> {
+    let lines = said.lines();
+    let mut named = lines.filter_map(|l| l.strip_prefix("rt: the library "));
+    named
+        .find(|l| l.contains(" did not build"))?
+        .split(' ')
+        .next()
 }
 
 /// What a trial came to.

@@ -28,7 +28,8 @@ impl Drop for Folder {
 
 const CODE: &str = "\
 // The code.
-ghost use Rattle·upper·specs.specs.Upper.{promised};
+ghost use Rattle.std.specs.Prelude.{length};
+ghost use Rattle.upper.specs.Upper.{promised};
 
 pub struct Pair {
     // a comment
@@ -38,8 +39,8 @@ pub struct Pair {
 
 const UPPER: &str = "\
 -- Definitions.
-use Prim.Native.Nat.{ℕ}
-use Rattle·lower.specs.Lower.{first,
+use Rattle.std.specs.Prelude.{ℕ}
+use Rattle.lower.specs.Lower.{first,
   second as other}
 
 -- what is promised
@@ -54,7 +55,7 @@ unused = 0
 
 const LOWER: &str = "\
 -- Definitions.
-use Rattle·upper.specs.declared.Pair.{Pair}
+use Rattle.upper.specs.declared.Pair.{Pair}
 
 -- a type
 pub data Kind : Type 0 where
@@ -70,7 +71,7 @@ abbrev pub first : ℕ → ℕ
 first n = n -- and a comment
 
 unfoldable pub second : Same high → Pair
-second s = s .at
+second s = s.at
 ";
 
 fn lines(root: &Path, crates: &[&str]) -> Vec<(String, Vec<String>, usize)> {

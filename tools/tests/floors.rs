@@ -53,12 +53,12 @@ fn a_crate_above_what_it_uses() {
 
 #[test]
 fn floors_in_their_order() {
-    let list = listed("# A comment.\nfile_a:\nbase_b: io # of the kit\nother:\n");
+    let list = listed("# A comment.\nfile_a:\nbase_b: bytes # of the kit\nother staticlib:\n");
     let uses = |name: &str, uses: &[&str]| {
         let uses: BTreeSet<String> = uses.iter().map(|u| u.to_string()).collect();
         (name.to_string(), uses)
     };
-    let named = BTreeMap::from([uses("base_b", &["io"])]);
+    let named = BTreeMap::from([uses("base_b", &["bytes"])]);
     let expected = [
         "base_b stands after a higher floor",
         "other stands on no floor",

@@ -2,7 +2,7 @@
 //! understood, and each weakening of this repository fits its sources.
 
 use recomp_tools::floors::listed;
-use recomp_tools::weakenings::{apply, changed, edited, faults, parse, read_lists, refused_in};
+use recomp_tools::weakenings::{apply, changed, edited, faults, parse, read_lists, refused_below};
 use recomp_tools::weakenings::{table, tally, with_used, write};
 use recomp_tools::weakenings::{Change, Edit, Fault, Outcome, Weakening};
 use std::path::{Path, PathBuf};
@@ -142,18 +142,23 @@ fn a_weakening_is_applied_and_taken_back() {
 }
 
 const PRINTED: &str = "\
-rt: a proved (unchanged since it was last proved)
-/copy/crates/b/proofs/A.antt:12:41: error: module `A` has no `one` that can be named from here
-/copy/crates/b/proofs/B.antt:9:3: error: `law`: expected type `1 ≡ 2`, but this has type `1 ≡ 1`
+note: no function with a body is declared, so nothing was lowered
+./proofs/A.antt:12:41: error: module `A` has no `one` that can be named from here
+./proofs/B.antt:9:3: error: `law`: expected type `1 ≡ 2`, but this has type `1 ≡ 1`
   further on
-/copy/crates/b/proofs/B.antt:12:3: error: `next`: `law` was not admitted (it has holes), so
-rt: b NOT PROVED (exit 1, 3 s)
-rt: FAILED: b
+./proofs/B.antt:12:3: error: 1 declaration that depends on `law`, which was rejected, was not checked: next
+./proofs/B.antt:19:3: error: 1 declaration that depends on `a`, which was not admitted, was not checked: last
+logic=not-proved
+";
+
+const SAID: &str = "\
+rt: chose --jobs 1 for b
+rt: the library b did not build, so nothing above it was checked
 ";
 
 fn refused() -> Outcome {
-    let by = refused_in(PRINTED).expect("a crate").to_string();
-    let faults = faults(PRINTED, "/copy");
+    let by = refused_below(SAID).expect("a crate").to_string();
+    let faults = faults(PRINTED, &by);
     Outcome::Refused { by, faults }
 }
 
@@ -169,7 +174,7 @@ fn what_is_printed_is_read() {
     assert_eq!(faults[0].line, "9");
     assert!(!faults[0].is_of_a_name());
     assert!(faults[1].is_of_a_name());
-    assert_eq!(refused_in("rt: a proved (3 s)\n"), None);
+    assert_eq!(refused_below("rt: chose --jobs 1 for b\n"), None);
 }
 
 #[test]
@@ -185,7 +190,7 @@ fn outcomes_are_judged() {
     kept.survives = Some("for a reason".into());
     assert!(Outcome::Survived.is_expected(&kept));
     assert!(!refused().is_expected(&kept));
-    let message = "`f` has no clause for 1 case".to_string();
+    let message = "no clause covers the case `f one`".to_string();
     let (file, line, of) = ("f".to_string(), "1".to_string(), "f".to_string());
     let named = Outcome::Refused {
         by: "a".into(),

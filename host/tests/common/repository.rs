@@ -8,8 +8,8 @@ use std::path::{Path, PathBuf};
 use std::process::{Command, Stdio};
 
 /// Programs that the scripts may call besides those that they ask for.
-const TOOLS: [&str; 19] = [
-    "awk", "cat", "cmp", "cp", "cut", "date", "dirname", "find", "mkdir", "mktemp", "mv",
+const TOOLS: [&str; 20] = [
+    "awk", "cat", "cmp", "cp", "cut", "date", "dirname", "find", "grep", "mkdir", "mktemp", "mv",
     "readlink", "rm", "sed", "sleep", "sort", "tail", "tee", "touch",
 ];
 
@@ -24,32 +24,38 @@ base:
 # A comment
 beside: base
 middle: base
-recomp: middle
-above: recomp base
+recomp staticlib: middle
+above: middle base
 ";
 
 /// The library that rt proves, and so the archive that is kept until something is changed.
 pub const LIBRARY: &str = "the library";
 
-/// Two crates, of which one was proved before. What is on standard input is taken away.
+/// It proves two crates; a third was proved before, and is not spoken of. What is on standard input
+/// is taken away.
 pub const RT: &str = r#"#!/bin/sh
 if [ "$1" = version ]; then
     echo "$KIT"
     exit
 fi
 if [ "$1" = ci ]; then
+    echo "rt: ok; handles allowed: none; must-fail edits: 7 refused${BAD:-}; every proof was done"
     echo '3 passed, 0 failed'
     exit "${GATE:-0}"
 fi
 cat >/dev/null
 echo "rt $* in $PWD" >>"$CALLS"
-echo 'rt: base proved (unchanged since it was last proved)' >&2
-echo 'logic=proved functions=7' >&2
+out=$PWD/out
+cd ../..
+echo 'rt: chose --jobs 2 for middle' >&2
+echo 'fn middle::same: proved'
 [ -z "${WHILE_PROVING:-}" ] || eval "$WHILE_PROVING"
-echo 'rt: middle proved (61 s)' >&2
-mkdir -p target/staticlib
-cp "$ARCHIVE" target/staticlib/librecomp.a
-echo 'rt: target/staticlib/librecomp.a has the functions of recomp'
+echo 'crate middle: modules loaded=3 checked=7'
+echo 'logic=proved functions=7'
+echo 'crate recomp: modules loaded=3 checked=2'
+echo 'logic=proved functions=2'
+mkdir -p "$out"
+cp "$ARCHIVE" "$out/librecomp.a"
 "#;
 
 const CARGO: &str = r#"#!/bin/sh
@@ -62,8 +68,7 @@ cp "$PROGRAM" host/target/release/recomp
 "#;
 
 /// What cargo needs to build the packages, and a sample.
-const PARTS: [&str; 11] = [
-    "crates",
+const PARTS: [&str; 10] = [
     "crates.txt",
     "host/src",
     "host/build.rs",
@@ -95,11 +100,13 @@ impl Repository {
     /// It keeps no archive.
     pub fn new() -> Repository {
         let repository = Repository(Scratch::new());
-        for folder in ["bin", "crates/base/src", "crates/middle/src", "host/src"] {
+        for folder in ["bin", "host/src"] {
             fs::create_dir_all(repository.path(folder)).expect("a folder");
         }
-        for file in ["crates/base/src/lib.rt", "crates/middle/src/lib.rt"] {
-            repository.put(file, "");
+        for name in ["base", "middle", "recomp"] {
+            let folder = format!("crates/{name}/src");
+            fs::create_dir_all(repository.path(&folder)).expect("a folder");
+            repository.put(&format!("{folder}/lib.rt"), "");
         }
         for file in ["src/main.rs", "build.rs", "Cargo.toml", "Cargo.lock"] {
             repository.put(&format!("host/{file}"), "");
@@ -134,6 +141,7 @@ impl Repository {
         for folder in ["host", "crates"] {
             fs::remove_dir_all(repository.path(folder)).expect("the folder goes");
         }
+        repository.take_crates();
         for part in PARTS {
             repository.take(part);
         }
@@ -178,6 +186,21 @@ impl Repository {
         let folder = place.parent().expect("a folder");
         fs::create_dir_all(folder).expect("a folder");
         copy(&root().join(part), folder);
+    }
+
+    /// Takes its crates, without what rt has proved of them.
+    fn take_crates(&self) {
+        for folder in entries(&root().join("crates")) {
+            let name = folder.file_name().expect("a name");
+            let own = self.path("crates").join(name);
+            fs::create_dir_all(&own).expect("a folder");
+            for part in entries(&folder)
+                .iter()
+                .filter(|part| !part.ends_with("out"))
+            {
+                copy(part, &own);
+            }
+        }
     }
 
     pub fn script(&self, name: &str, text: &str) {
@@ -226,7 +249,7 @@ impl Repository {
     /// The calls of a run that proves and builds.
     pub fn both_calls(&self) -> Vec<String> {
         vec![
-            format!("rt staticlib recomp in {}", self.0.path().display()),
+            format!("rt lib in {}", self.0.join("crates/recomp")),
             format!("cargo links {LIBRARY}"),
         ]
     }
@@ -239,6 +262,14 @@ impl Repository {
             .chain(std::env::split_paths(&path));
         command.env("PATH", std::env::join_paths(places).expect("a path"));
     }
+}
+
+/// What stands in a folder.
+fn entries(folder: &Path) -> Vec<PathBuf> {
+    let entries = fs::read_dir(folder).expect("a folder");
+    entries
+        .map(|entry| entry.expect("an entry").path())
+        .collect()
 }
 
 pub fn finish(command: &mut Command) -> Run {

@@ -1,7 +1,7 @@
 //! Weakens definitions in a copy of the sources, one at a time, and says what refuses each.
 
-use recomp_tools::floors::listed;
-use recomp_tools::weakenings::{apply, edited, faults, read_lists, refused_in, table, tally};
+use recomp_tools::floors::{listed, Listed};
+use recomp_tools::weakenings::{apply, edited, faults, read_lists, refused_below, table, tally};
 use recomp_tools::weakenings::{with_used, write, Outcome, Weakening};
 use std::collections::BTreeSet;
 use std::path::{Path, PathBuf};
@@ -113,27 +113,33 @@ impl Copy {
         let tree = folder.join("tree");
         let copy = Copy { folder, tree };
         made(&copy.tree)?;
-        copied(&root.join("crates"), &copy.tree)?;
         copied(&root.join("crates.txt"), &copy.tree)?;
-        let wanted: Vec<&str> = names(chosen);
         let text = std::fs::read_to_string(root.join("crates.txt")).map_err(|e| e.to_string())?;
-        let all = with_used(&listed(&text), &wanted);
-        proved_of(&all, &root.join("target"), &copy.tree.join("target"))?;
-        let output = copy.check(&wanted, 86_400)?;
-        if !output.status.success() {
-            let printed = String::from_utf8_lossy(&output.stdout);
-            let which = refused_in(&printed).unwrap_or("a crate");
-            return Err(format!("{which} is not proved as it stands"));
+        let list = listed(&text);
+        for Listed { name, .. } in &list {
+            sources_of(name, root, &copy.tree)?;
         }
-        proved_of(&all, &copy.tree.join("target"), &copy.folder.join("kept"))?;
+        let wanted: Vec<&str> = names(chosen);
+        let all = with_used(&list, &wanted);
+        proved_of(&all, root, &copy.tree)?;
+        for name in &wanted {
+            let output = copy.check(name, 86_400)?;
+            if !output.status.success() {
+                let said = String::from_utf8_lossy(&output.stderr);
+                let which = refused_below(&said).unwrap_or(name);
+                return Err(format!("{which} is not proved as it stands"));
+            }
+        }
+        proved_of(&all, &copy.tree, &copy.folder.join("kept"))?;
         Ok(copy)
     }
 
-    fn check(&self, names: &[&str], seconds: u64) -> Result<Output, String> {
+    /// Has `rt` check a crate, with those below it.
+    fn check(&self, name: &str, seconds: u64) -> Result<Output, String> {
         let mut command = Command::new("timeout");
-        command.arg(seconds.to_string()).args(["rt", "check"]);
-        command.args(names).current_dir(&self.tree);
-        command.env("RT_JOBS", "1").env("RT_CUT", "0");
+        command.arg(seconds.to_string());
+        command.args(["rt", "check", "--jobs", "1"]);
+        command.current_dir(self.tree.join("crates").join(name));
         command.output().map_err(|e| format!("timeout, rt: {e}"))
     }
 
@@ -150,41 +156,39 @@ impl Copy {
         let began = Instant::now();
         for name in &weakening.prove {
             let left = limit.saturating_sub(began.elapsed().as_secs()).max(1);
-            let output = self.check(&[name], left)?;
-            let printed = String::from_utf8_lossy(&output.stdout);
+            let output = self.check(name, left)?;
+            let [printed, said] =
+                [&output.stdout, &output.stderr].map(|text| String::from_utf8_lossy(text));
             match output.status.code() {
                 Some(0) => {}
                 Some(1) => {
-                    let by = refused_in(&printed).unwrap_or(name).to_string();
-                    let faults = faults(&printed, &self.tree.to_string_lossy());
+                    let by = refused_below(&said).unwrap_or(name).to_string();
+                    let faults = faults(&printed, &by);
                     return Ok(Outcome::Refused { by, faults });
                 }
                 Some(124) => {
                     let proving = name.clone();
                     return Ok(Outcome::OutOfTime { proving });
                 }
-                status => return Err(format!("rt ended with {status:?}:\n{printed}")),
+                status => return Err(format!("rt ended with {status:?}:\n{printed}{said}")),
             }
         }
         Ok(Outcome::Survived)
     }
 
-    /// What was proved of changed sources gives way to what was kept.
+    /// Libraries that were built of changed sources give way to those that were kept.
     fn restore(&self) -> Result<(), String> {
-        let kept = self.folder.join("kept");
-        let target = self.tree.join("target");
-        let stamps = std::fs::read_dir(kept.join("stamp")).map_err(|e| e.to_string())?;
-        for stamp in stamps {
-            let stamp = stamp.map_err(|e| e.to_string())?;
-            let name = stamp.file_name().to_string_lossy().into_owned();
-            let now = std::fs::read(target.join("stamp").join(&name)).unwrap_or_default();
-            if now != std::fs::read(stamp.path()).map_err(|e| e.to_string())? {
-                let rlib = format!("rlib/{name}.rlib");
-                std::fs::remove_dir_all(target.join(&rlib)).ok();
-                if kept.join(&rlib).exists() {
-                    copied(&kept.join(&rlib), &target.join("rlib"))?;
+        let kept = self.folder.join("kept/crates");
+        for folder in std::fs::read_dir(&kept).map_err(|e| e.to_string())? {
+            let kept = folder.map_err(|e| e.to_string())?.path();
+            let name = kept.file_name().unwrap_or_default();
+            let now = self.tree.join("crates").join(name);
+            let stamp = |folder: &Path| std::fs::read(folder.join("out/rlib/stamp")).ok();
+            if stamp(&now) != stamp(&kept) {
+                std::fs::remove_dir_all(now.join("out")).ok();
+                if kept.join("out").exists() {
+                    copied(&kept.join("out"), &now)?;
                 }
-                copied(&stamp.path(), &target.join("stamp"))?;
             }
         }
         Ok(())
@@ -202,17 +206,27 @@ fn names<'a>(chosen: &[&'a Weakening]) -> Vec<&'a str> {
     out
 }
 
-/// Copies what is proved of some crates from one target folder to another.
-fn proved_of(crates: &BTreeSet<String>, from: &Path, into: &Path) -> Result<(), String> {
-    for part in ["rlib", "stamp"] {
-        made(&into.join(part))?;
+/// Copies the sources of a crate from one repository to another.
+fn sources_of(name: &str, from: &Path, into: &Path) -> Result<(), String> {
+    let [from, into] = [from, into].map(|root| root.join("crates").join(name));
+    made(&into)?;
+    let failed = |e: std::io::Error| format!("{}: {e}", from.display());
+    for entry in std::fs::read_dir(&from).map_err(failed)? {
+        let path = entry.map_err(failed)?.path();
+        if !path.ends_with("out") {
+            copied(&path, &into)?;
+        }
     }
+    Ok(())
+}
+
+/// Copies what is proved of some crates from one repository to another.
+fn proved_of(crates: &BTreeSet<String>, from: &Path, into: &Path) -> Result<(), String> {
     for name in crates {
-        for part in [format!("rlib/{name}.rlib"), format!("stamp/{name}")] {
-            let folder = into.join(&part);
-            if from.join(&part).exists() {
-                copied(&from.join(&part), folder.parent().unwrap_or(into))?;
-            }
+        let [from, into] = [from, into].map(|root| root.join("crates").join(name));
+        made(&into)?;
+        if from.join("out").exists() {
+            copied(&from.join("out"), &into)?;
         }
     }
     Ok(())
