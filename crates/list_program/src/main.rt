@@ -1,13 +1,14 @@
 // Prints the listing of the block file on standard input.
 #![tactic(auto)]
 
-ghost use Rattle.std.specs.Prelude.{◌≡◌, ◌+◌, ◌≤◌, length, take};
+ghost use Rattle.std.specs.Prelude.{◌≡◌, ◌+◌, ◌≤◌, length, take, IfOk};
 ghost use Rattle.base_text.specs.Wrote.{Wrote};
 ghost use Rattle.list_program.specs.Output.{longest, room, refusal_line, output};
 
 use call_listing::{ListingAnswer, listing_of};
-use libc::{STDIN_FILENO, STDOUT_FILENO};
 use plan_groups::PART_LIMIT;
+use std::io;
+use std::io::Write;
 
 // The longest file that is listed.
 const LONGEST: usize = 65536;
@@ -51,11 +52,27 @@ fn put_output(file: &[u8], out: &mut [u8]) -> usize
     put_answer(file, out)
 }
 
+// Reads until `out` is full or the input ends, and answers how many bytes that was.
+fn fill<R: io::Read>(reader: &mut R, out: &mut [u8]) -> io::Result<usize>
+    ensures within { IfOk result (λ n. n ≤ length out.new) }
+    ensures size { length out.new ≡ length out.old }
+{
+    let mut done = 0;
+    while done < out.len() {
+        let n = reader.read(&mut out[done..])?;
+        if n == 0 {
+            break;
+        }
+        done += n;
+    }
+    Ok(done)
+}
+
 // One byte more than the longest file is asked for, which tells a longer one.
-fn main() {
+fn main(rt: HostRuntime) -> io::Result<()> {
     let mut file = [0u8; LONGEST + 1];
-    let n = io::read_full(STDIN_FILENO, &mut file);
+    let n = fill(&mut rt.stdin(), &mut file)?;
     let mut out = [0u8; ROOM];
     let length = put_output(&file[..n], &mut out);
-    io::write_all(STDOUT_FILENO, &out[..length]);
+    rt.stdout().write_all(&out[..length])
 }
