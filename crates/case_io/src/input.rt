@@ -1,8 +1,9 @@
 // Numbers and files of an input, in the order in which they stand there. An error of the input is
 // handed on: what was to be filled may then have been filled in part.
-ghost use Rattle.std.specs.Prelude.{◌≡◌, ◌<◌, ◌≤◌, length, IfOk};
+ghost use Rattle.std.specs.Prelude.{◌≡◌, ◌<◌, ◌≤◌, true, length, take, IfOk};
+ghost use Rattle.std.specs.Io.KnownBytes.{Consumes, IsAtEnd};
 ghost use Rattle.file_records.specs.Bytes.{word_at};
-ghost use Rattle.case_io.specs.Input.{Within};
+ghost use Rattle.case_io.specs.Input.{Within, ReadsBytes, ReadsNumber, ReadsNumbers, ReadsFile};
 
 use std::io;
 
@@ -44,8 +45,11 @@ fn word(b: &[u8; 4]) -> u64
 
 // Reads until `out` is full or the input ends, and answers how many bytes that was.
 fn fill<R: io::Read>(reader: &mut R, out: &mut [u8]) -> io::Result<usize>
-    ensures within { IfOk result (λ n. n ≤ length out.new) }
     ensures size { length out.new ≡ length out.old }
+    ensures within { IfOk result (λ n. n ≤ length out.new) }
+    ensures bytes { IfOk result (λ n.
+        Consumes (R.remaining reader.old) (R.remaining reader.new) (take n out.new)) }
+    ensures end { IfOk result (λ n. n < length out.new → IsAtEnd (R.remaining reader.new)) }
 {
     let mut done = 0;
     while done < out.len() {
@@ -60,13 +64,17 @@ fn fill<R: io::Read>(reader: &mut R, out: &mut [u8]) -> io::Result<usize>
 
 // Fills `out` with the next bytes, and answers whether there were as many.
 pub fn bytes<R: io::Read>(reader: &mut R, out: &mut [u8]) -> io::Result<bool>
-    ensures { length out.new ≡ length out.old }
+    ensures size { length out.new ≡ length out.old }
+    ensures read { IfOk result
+        (ReadsBytes (R.remaining reader.old) (R.remaining reader.new) out.new) }
 {
     Ok(fill(reader, out)? == out.len())
 }
 
 // Reads the next number.
-pub fn number<R: io::Read>(reader: &mut R) -> io::Result<Read> {
+pub fn number<R: io::Read>(reader: &mut R) -> io::Result<Read>
+    ensures { IfOk result (ReadsNumber (R.remaining reader.old) (R.remaining reader.new)) }
+{
     let mut four = [0u8; 4];
     if !bytes(reader, &mut four)? {
         return Ok(Read::Ended);
@@ -76,7 +84,9 @@ pub fn number<R: io::Read>(reader: &mut R) -> io::Result<Read> {
 
 // Fills `out` with the next numbers, and answers whether there were as many.
 pub fn numbers<R: io::Read>(reader: &mut R, out: &mut [u64]) -> io::Result<bool>
-    ensures { length out.new ≡ length out.old }
+    ensures size { length out.new ≡ length out.old }
+    ensures read { IfOk result
+        (ReadsNumbers (R.remaining reader.old) (R.remaining reader.new) out.new) }
 {
     let mut i = 0;
     while i < out.len() {
@@ -91,8 +101,10 @@ pub fn numbers<R: io::Read>(reader: &mut R, out: &mut [u64]) -> io::Result<bool>
 
 // Reads a file: its length, and as many bytes.
 pub fn file<R: io::Read>(reader: &mut R, buffer: &mut [u8]) -> io::Result<Filled>
-    ensures within { IfOk result (Within buffer.new) }
     ensures size { length buffer.new ≡ length buffer.old }
+    ensures within { IfOk result (Within buffer.new) }
+    ensures read { IfOk result
+        (ReadsFile (R.remaining reader.old) (R.remaining reader.new) buffer.new) }
 {
     let Read::Number(n) = number(reader)? else {
         return Ok(Filled::Ended);
@@ -109,7 +121,9 @@ pub fn file<R: io::Read>(reader: &mut R, buffer: &mut [u8]) -> io::Result<Filled
 }
 
 // Whether nothing is left to read.
-pub fn at_end<R: io::Read>(reader: &mut R) -> io::Result<bool> {
+pub fn at_end<R: io::Read>(reader: &mut R) -> io::Result<bool>
+    ensures { IfOk result (λ ended. ended ≡ true → IsAtEnd (R.remaining reader.old)) }
+{
     let mut one = [0u8; 1];
     Ok(fill(reader, &mut one)? == 0)
 }
