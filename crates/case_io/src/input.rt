@@ -1,6 +1,6 @@
 // Numbers and files of an input, in the order in which they stand there. An error of the input is
 // handed on: what was to be filled may then have been filled in part.
-ghost use Rattle.std.specs.Prelude.{◌≡◌, ◌<◌, ◌≤◌, true, length, take, IfOk};
+ghost use Rattle.std.specs.Prelude.{◌≡◌, ◌<◌, ◌≤◌, ◌↔◌, [], length, take, IsTrue, IfOk, IfSome};
 ghost use Rattle.std.specs.Io.KnownBytes.{Consumes, IsAtEnd};
 ghost use Rattle.file_records.specs.Bytes.{word_at};
 ghost use Rattle.case_io.specs.Input.{Within, ReadsBytes, ReadsNumber, ReadsNumbers, ReadsFile};
@@ -122,7 +122,8 @@ pub fn file<R: io::Read>(reader: &mut R, buffer: &mut [u8]) -> io::Result<Filled
 
 // Whether nothing is left to read.
 pub fn at_end<R: io::Read>(reader: &mut R) -> io::Result<bool>
-    ensures { IfOk result (λ ended. ended ≡ true → IsAtEnd (R.remaining reader.old)) }
+    ensures { IfOk result (λ ended. IfSome (R.remaining reader.old)
+        (λ left. IsTrue ended ↔ (left ≡ []))) }
 {
     let mut one = [0u8; 1];
     Ok(fill(reader, &mut one)? == 0)
