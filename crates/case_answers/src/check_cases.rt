@@ -1,5 +1,5 @@
 // The section of the check: block files, each with the numbers that the check must answer.
-ghost use Rattle.std.specs.Prelude.{◌≡◌};
+ghost use Rattle.std.specs.Prelude.{◌≡◌, IfOk};
 ghost use Rattle.file_blocks.specs.Parse.{parse};
 ghost use Rattle.case_io.specs.Same.{same_numbers};
 ghost use Rattle.call_check.specs.Calls.{check_call, check_numbers};
@@ -8,6 +8,7 @@ use call_check::check_numbers;
 use case_io::input::Filled;
 use case_io::verdict::{Section, Verdict};
 use case_io::{compare, input, report, verdict};
+use std::io;
 
 // The longest file that a vector may hold.
 const LONGEST: usize = 4096;
@@ -24,34 +25,38 @@ fn answer(file: &[u8]) -> [u64; 4]
 }
 
 // Whether the check answers all the expected numbers. Where it does not, both answers are printed.
-fn is_right(k: u64, expected: &[u64; 4], file: &[u8]) -> bool
-    ensures { result ≡ same_numbers expected.now
-        (check_numbers (check_call (parse file.now))) }
+fn is_right<W: io::Write>(out: &mut W, k: u64, expected: &[u64; 4], file: &[u8]) -> io::Result<bool>
+    ensures { IfOk result (λ same. same ≡ same_numbers expected.now
+        (check_numbers (check_call (parse file.now)))) }
 {
     let got = answer(file);
     if compare::same(expected, &got) {
-        return true;
+        return Ok(true);
     }
-    report::mismatch(Section::Check, k, expected, &got);
-    false
+    report::mismatch(out, Section::Check, k, expected, &got)?;
+    Ok(false)
 }
 
 // Reads vector `k` and tries it. The check is lent the file's bytes and not the rest of the buffer.
-pub fn replay_one(k: u64) -> Verdict {
+pub fn replay_one<R: io::Read, W: io::Write>(
+    reader: &mut R,
+    out: &mut W,
+    k: u64,
+) -> io::Result<Verdict> {
     let mut expected = [0u64; 4];
-    if !input::numbers(&mut expected) {
-        return verdict::ended(k);
+    if !input::numbers(reader, &mut expected)? {
+        return verdict::ended(out, k);
     }
     let mut buffer = [0u8; LONGEST];
-    match input::file(&mut buffer) {
+    match input::file(reader, &mut buffer)? {
         Filled::To(n) => {
-            if is_right(k, &expected, &buffer[..n]) {
-                Verdict::Right
+            if is_right(out, k, &expected, &buffer[..n])? {
+                Ok(Verdict::Right)
             } else {
-                Verdict::Wrong
+                Ok(Verdict::Wrong)
             }
         }
-        Filled::Ended => verdict::ended(k),
-        Filled::TooLong => verdict::too_long(k),
+        Filled::Ended => verdict::ended(out, k),
+        Filled::TooLong => verdict::too_long(out, k),
     }
 }

@@ -1,6 +1,6 @@
 // The section of the exits: block files, each with the number of a block and the numbers that the
 // call for its exits must answer.
-ghost use Rattle.std.specs.Prelude.{◌≡◌};
+ghost use Rattle.std.specs.Prelude.{◌≡◌, IfOk};
 ghost use Rattle.file_blocks.specs.Parse.{parse};
 ghost use Rattle.call_exits.specs.Calls.{exits_call, exits_numbers};
 ghost use Rattle.case_io.specs.Same.{same_numbers};
@@ -9,6 +9,7 @@ use call_exits::exits_numbers;
 use case_io::input::{Filled, Read};
 use case_io::verdict::{Section, Verdict};
 use case_io::{compare, input, report, verdict};
+use std::io;
 
 // The longest file that a vector may hold.
 const LONGEST: usize = 4096;
@@ -26,43 +27,59 @@ fn answer(file: &[u8], block: u64) -> [u64; 5]
 }
 
 // Whether the call answers all the expected numbers. Where it does not, both answers are printed.
-fn is_right(k: u64, expected: &[u64; 5], file: &[u8], block: u64) -> bool
-    ensures { result ≡ same_numbers expected.now
-        (exits_numbers (exits_call block (parse file.now))) }
+fn is_right<W: io::Write>(
+    out: &mut W,
+    k: u64,
+    expected: &[u64; 5],
+    file: &[u8],
+    block: u64,
+) -> io::Result<bool>
+    ensures { IfOk result (λ same. same ≡ same_numbers expected.now
+        (exits_numbers (exits_call block (parse file.now)))) }
 {
     let got = answer(file, block);
     if compare::same(expected, &got) {
-        return true;
+        return Ok(true);
     }
-    report::mismatch(Section::Exits, k, expected, &got);
-    false
+    report::mismatch(out, Section::Exits, k, expected, &got)?;
+    Ok(false)
 }
 
 // Reads the file of vector `k` and tries it. The call is lent the file's bytes and not the rest of
 // the buffer.
-fn replay_file(k: u64, expected: &[u64; 5], block: u64) -> Verdict {
+fn replay_file<R: io::Read, W: io::Write>(
+    reader: &mut R,
+    out: &mut W,
+    k: u64,
+    expected: &[u64; 5],
+    block: u64,
+) -> io::Result<Verdict> {
     let mut buffer = [0u8; LONGEST];
-    match input::file(&mut buffer) {
+    match input::file(reader, &mut buffer)? {
         Filled::To(n) => {
-            if is_right(k, expected, &buffer[..n], block) {
-                Verdict::Right
+            if is_right(out, k, expected, &buffer[..n], block)? {
+                Ok(Verdict::Right)
             } else {
-                Verdict::Wrong
+                Ok(Verdict::Wrong)
             }
         }
-        Filled::Ended => verdict::ended(k),
-        Filled::TooLong => verdict::too_long(k),
+        Filled::Ended => verdict::ended(out, k),
+        Filled::TooLong => verdict::too_long(out, k),
     }
 }
 
 // Reads vector `k` and tries it.
-pub fn replay_one(k: u64) -> Verdict {
-    let Read::Number(block) = input::number() else {
-        return verdict::ended(k);
+pub fn replay_one<R: io::Read, W: io::Write>(
+    reader: &mut R,
+    out: &mut W,
+    k: u64,
+) -> io::Result<Verdict> {
+    let Read::Number(block) = input::number(reader)? else {
+        return verdict::ended(out, k);
     };
     let mut expected = [0u64; 5];
-    if !input::numbers(&mut expected) {
-        return verdict::ended(k);
+    if !input::numbers(reader, &mut expected)? {
+        return verdict::ended(out, k);
     }
-    replay_file(k, &expected, block)
+    replay_file(reader, out, k, &expected, block)
 }

@@ -1,7 +1,7 @@
 -- What the comparisons of a vector say of a call: of its answer, of the work numbers and of what
 -- else it was lent.
 use Prim.Native.Nat.{ℕ}
-use mathlib.Core.Path.{◌≡◌, refl, ap, ◌∙◌}
+use mathlib.Core.Path.{◌≡◌, ap, ◌∙◌}
 use mathlib.Core.Bool.{Bool, ◌&&◌}
 use mathlib.Core.List.{List, [], ◌∷◌, ◌++◌}
 use Rattle.call_frame.specs.Numbers.{Handed}

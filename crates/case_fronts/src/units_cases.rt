@@ -1,5 +1,5 @@
 // The section of the units from one on.
-ghost use Rattle.std.specs.Prelude.{◌≡◌, ◌∷◌, [], ◌≤◌};
+ghost use Rattle.std.specs.Prelude.{◌≡◌, ◌∷◌, [], ◌≤◌, IfOk};
 ghost use Rattle.file_blocks.specs.Parse.{parse};
 ghost use Rattle.plan_groups.specs.Limit.{part_limit};
 ghost use Rattle.call_units.specs.Calls.{units_call, units_numbers};
@@ -15,6 +15,7 @@ use case_lent::{
     work_numbers,
 };
 use plan_groups::PART_LIMIT;
+use std::io;
 
 // The refusal's number or 0, its i, how many units there are, their bytes in all, the blocks done,
 // and 1 for the last unit.
@@ -63,7 +64,8 @@ fn answer(
 
 // Whether the call answers all the expected numbers and leaves what is expected. The first of these
 // that is not so is printed.
-fn is_right(
+fn is_right<W: io::Write>(
+    out: &mut W,
     k: u64,
     asked: Asked,
     file: &[u8],
@@ -74,10 +76,11 @@ fn is_right(
     mut work: [u32; WORK],
     mut text: [u8; TEXT],
     mut lengths: [u64; LENGTHS],
-) -> bool
+) -> io::Result<bool>
     requires { (asked.work ≤ 576) × (asked.text ≤ 65600) × (asked.lengths ≤ 32) }
-    ensures { result ≡ same_front expected.now expected_work expected_text expected_lengths
-        (units_call_leaves asked file.now work text lengths) }
+    ensures { IfOk result (λ same. same
+        ≡ same_front expected.now expected_work expected_text expected_lengths
+        (units_call_leaves asked file.now work text lengths)) }
 {
     let work_length = asked.work;
     let text_length = asked.text;
@@ -91,43 +94,52 @@ fn is_right(
         &mut lengths[..places],
     );
     if !compare::same(expected, &got) {
-        report::mismatch(Section::Fronts, k, expected, &got);
-        return false;
+        report::mismatch(out, Section::Fronts, k, expected, &got)?;
+        return Ok(false);
     }
-    if !same_work(Section::Fronts, k, &expected_work, &work) {
-        return false;
+    if !same_work(out, Section::Fronts, k, &expected_work, &work)? {
+        return Ok(false);
     }
-    if !same_text(Section::Fronts, k, &expected_text, &text) {
-        return false;
+    if !same_text(out, Section::Fronts, k, &expected_text, &text)? {
+        return Ok(false);
     }
-    same_lengths(Section::Fronts, k, &expected_lengths, &lengths)
+    same_lengths(out, Section::Fronts, k, &expected_lengths, &lengths)
 }
 
 // Reads the expected text and the expected lengths of vector `k` and tries the vector.
-fn replay_text(k: u64, asked: Asked, cleared: usize, expected: &[u64; 6], file: &[u8]) -> Verdict
+fn replay_text<R: io::Read, W: io::Write>(
+    reader: &mut R,
+    out: &mut W,
+    k: u64,
+    asked: Asked,
+    cleared: usize,
+    expected: &[u64; 6],
+    file: &[u8],
+) -> io::Result<Verdict>
     requires { (asked.work ≤ 576) × (asked.text ≤ 65600) × (asked.lengths ≤ 32) }
 {
     let count = expected[2] as usize;
     let length = expected[3] as usize;
     if TEXT < length {
-        return verdict::too_long(k);
+        return verdict::too_long(out, k);
     }
     if LENGTHS < count {
-        return verdict::too_long(k);
+        return verdict::too_long(out, k);
     }
     let mut expected_text = no_text();
-    if !input::bytes(&mut expected_text[..length]) {
-        return verdict::ended(k);
+    if !input::bytes(reader, &mut expected_text[..length])? {
+        return verdict::ended(out, k);
     }
     let mut expected_lengths = no_lengths();
-    if !input::numbers(&mut expected_lengths[..count]) {
-        return verdict::ended(k);
+    if !input::numbers(reader, &mut expected_lengths[..count])? {
+        return verdict::ended(out, k);
     }
     let expected_work = work_numbers(cleared);
     let work = work_numbers(0);
     let text = no_text();
     let lengths = no_lengths();
     if is_right(
+        out,
         k,
         asked,
         file,
@@ -138,47 +150,57 @@ fn replay_text(k: u64, asked: Asked, cleared: usize, expected: &[u64; 6], file: 
         work,
         text,
         lengths,
-    ) {
-        Verdict::Right
+    )? {
+        Ok(Verdict::Right)
     } else {
-        Verdict::Wrong
+        Ok(Verdict::Wrong)
     }
 }
 
 // Reads the answer and the file of vector `k`, and tries it.
-fn replay_file(k: u64, asked: Asked, cleared: usize) -> Verdict
+fn replay_file<R: io::Read, W: io::Write>(
+    reader: &mut R,
+    out: &mut W,
+    k: u64,
+    asked: Asked,
+    cleared: usize,
+) -> io::Result<Verdict>
     requires { (asked.work ≤ 576) × (asked.text ≤ 65600) × (asked.lengths ≤ 32) }
 {
     let mut expected = [0u64; 6];
-    if !input::numbers(&mut expected) {
-        return verdict::ended(k);
+    if !input::numbers(reader, &mut expected)? {
+        return verdict::ended(out, k);
     }
     let mut buffer = [0u8; LONGEST];
-    match input::file(&mut buffer) {
-        Filled::To(n) => replay_text(k, asked, cleared, &expected, &buffer[..n]),
-        Filled::Ended => verdict::ended(k),
-        Filled::TooLong => verdict::too_long(k),
+    match input::file(reader, &mut buffer)? {
+        Filled::To(n) => replay_text(reader, out, k, asked, cleared, &expected, &buffer[..n]),
+        Filled::Ended => verdict::ended(out, k),
+        Filled::TooLong => verdict::too_long(out, k),
     }
 }
 
 // Reads vector `k` and tries it.
-pub fn replay_one(k: u64) -> Verdict {
+pub fn replay_one<R: io::Read, W: io::Write>(
+    reader: &mut R,
+    out: &mut W,
+    k: u64,
+) -> io::Result<Verdict> {
     let mut numbers = [0u64; 8];
-    if !input::numbers(&mut numbers) {
-        return verdict::ended(k);
+    if !input::numbers(reader, &mut numbers)? {
+        return verdict::ended(out, k);
     }
     let work = numbers[4] as usize;
     let text = numbers[5] as usize;
     let lengths = numbers[6] as usize;
     let cleared = numbers[7] as usize;
     if WORK <= work {
-        return verdict::too_long(k);
+        return verdict::too_long(out, k);
     }
     if TEXT <= text {
-        return verdict::too_long(k);
+        return verdict::too_long(out, k);
     }
     if LENGTHS <= lengths {
-        return verdict::too_long(k);
+        return verdict::too_long(out, k);
     }
     let size = whole(numbers[0], numbers[1]);
     let first = whole(numbers[2], numbers[3]);
@@ -189,5 +211,5 @@ pub fn replay_one(k: u64) -> Verdict {
         text,
         lengths,
     };
-    replay_file(k, asked, cleared)
+    replay_file(reader, out, k, asked, cleared)
 }

@@ -1,2 +1,4 @@
 -- The laws that proofs cite.
+mod Filled
 pub mod Same
+mod Words

@@ -1,136 +1,137 @@
 // The lines that the program prints. `k` is the index of a vector in its section.
 use crate::verdict::Section;
-use libc::STDOUT_FILENO;
+use std::io;
+use std::io::Write;
 
 // Prints bytes as they are.
-fn text(bytes: &[u8]) {
-    io::write_all(STDOUT_FILENO, bytes);
+fn text<W: Write>(out: &mut W, bytes: &[u8]) -> io::Result<()> {
+    out.write_all(bytes)
 }
 
 // Prints a number in decimal.
-fn number(n: u64) {
-    io::print_decimal(STDOUT_FILENO, n);
+fn number<W: Write>(out: &mut W, n: u64) -> io::Result<()> {
+    write!(out, "{n}")
 }
 
 // Prints the name of a section.
-fn name(section: Section) {
+fn name<W: Write>(out: &mut W, section: Section) -> io::Result<()> {
     match section {
-        Section::Check => {
-            text(b"check");
-        }
-        Section::Exits => {
-            text(b"exits");
-        }
-        Section::Plan => {
-            text(b"plan");
-        }
-        Section::Measure => {
-            text(b"measure");
-        }
-        Section::Write => {
-            text(b"write");
-        }
-        Section::Fronts => {
-            text(b"fronts");
-        }
-        Section::Lengths => {
-            text(b"lengths");
-        }
-        Section::Page => {
-            text(b"page");
-        }
-        Section::Pages => {
-            text(b"pages");
-        }
-        Section::Reason => {
-            text(b"reason");
-        }
-        Section::Reasons => {
-            text(b"reasons");
-        }
-        Section::Decimal => {
-            text(b"decimal");
-        }
+        Section::Check => text(out, b"check"),
+        Section::Exits => text(out, b"exits"),
+        Section::Plan => text(out, b"plan"),
+        Section::Measure => text(out, b"measure"),
+        Section::Write => text(out, b"write"),
+        Section::Fronts => text(out, b"fronts"),
+        Section::Lengths => text(out, b"lengths"),
+        Section::Page => text(out, b"page"),
+        Section::Pages => text(out, b"pages"),
+        Section::Reason => text(out, b"reason"),
+        Section::Reasons => text(out, b"reasons"),
+        Section::Decimal => text(out, b"decimal"),
     }
 }
 
 // Each number with a space in front.
-fn numbers(list: &[u64]) {
-    let mut i = 0;
-    while i < list.len() {
-        text(b" ");
-        number(list[i]);
-        i += 1;
+fn numbers<W: Write>(out: &mut W, list: &[u64]) -> io::Result<()> {
+    for n in list {
+        text(out, b" ")?;
+        number(out, *n)?;
     }
+    Ok(())
 }
 
 // The start of a line on a vector.
-fn vector(section: Section, k: u64) {
-    name(section);
-    text(b" ");
-    number(k);
-    text(b": ");
+fn vector<W: Write>(out: &mut W, section: Section, k: u64) -> io::Result<()> {
+    name(out, section)?;
+    text(out, b" ")?;
+    number(out, k)?;
+    text(out, b": ")
 }
 
 // The line on a vector with other numbers than expected.
-pub fn mismatch(section: Section, k: u64, expected: &[u64], got: &[u64]) {
-    vector(section, k);
-    text(b"expected");
-    numbers(expected);
-    text(b", got");
-    numbers(got);
-    text(b"\n");
+pub fn mismatch<W: Write>(
+    out: &mut W,
+    section: Section,
+    k: u64,
+    expected: &[u64],
+    got: &[u64],
+) -> io::Result<()> {
+    vector(out, section, k)?;
+    text(out, b"expected")?;
+    numbers(out, expected)?;
+    text(out, b", got")?;
+    numbers(out, got)?;
+    text(out, b"\n")
 }
 
 // A place at which a vector expects another number than stands there.
-fn place_differs(i: u64, expected: u64, got: u64) {
-    number(i);
-    text(b": expected ");
-    number(expected);
-    text(b", got ");
-    number(got);
-    text(b"\n");
+fn place_differs<W: Write>(out: &mut W, i: u64, expected: u64, got: u64) -> io::Result<()> {
+    number(out, i)?;
+    text(out, b": expected ")?;
+    number(out, expected)?;
+    text(out, b", got ")?;
+    number(out, got)?;
+    text(out, b"\n")
 }
 
 // The line on a vector: work number `i` is not the expected one.
-pub fn work_differs(section: Section, k: u64, i: u64, expected: u32, got: u32) {
-    vector(section, k);
-    text(b"work number ");
-    place_differs(i, expected as u64, got as u64);
+pub fn work_differs<W: Write>(
+    out: &mut W,
+    section: Section,
+    k: u64,
+    i: u64,
+    expected: u32,
+    got: u32,
+) -> io::Result<()> {
+    vector(out, section, k)?;
+    text(out, b"work number ")?;
+    place_differs(out, i, expected as u64, got as u64)
 }
 
 // The line on a vector: byte `i` of the text is not the expected one.
-pub fn text_differs(section: Section, k: u64, i: u64, expected: u8, got: u8) {
-    vector(section, k);
-    text(b"byte ");
-    place_differs(i, expected as u64, got as u64);
+pub fn text_differs<W: Write>(
+    out: &mut W,
+    section: Section,
+    k: u64,
+    i: u64,
+    expected: u8,
+    got: u8,
+) -> io::Result<()> {
+    vector(out, section, k)?;
+    text(out, b"byte ")?;
+    place_differs(out, i, expected as u64, got as u64)
 }
 
 // The line on a section: how many cases it has, and how many mismatches.
-pub fn total(section: Section, cases: u64, mismatches: u64) {
-    name(section);
-    text(b": ");
-    number(cases);
-    text(b" cases, ");
-    number(mismatches);
-    text(b" mismatches\n");
+pub fn total<W: Write>(
+    out: &mut W,
+    section: Section,
+    cases: u64,
+    mismatches: u64,
+) -> io::Result<()> {
+    name(out, section)?;
+    text(out, b": ")?;
+    number(out, cases)?;
+    text(out, b" cases, ")?;
+    number(out, mismatches)?;
+    text(out, b" mismatches\n")
 }
 
 // The line on an input that ends in vector `k`; `k` is 0 where it ends in the count of a section.
-pub fn ends_early(k: u64) {
-    text(b"input ends early at ");
-    number(k);
-    text(b"\n");
+pub fn ends_early<W: Write>(out: &mut W, k: u64) -> io::Result<()> {
+    text(out, b"input ends early at ")?;
+    number(out, k)?;
+    text(out, b"\n")
 }
 
 // The line on a vector that the buffers do not hold.
-pub fn too_long(k: u64) {
-    text(b"vector ");
-    number(k);
-    text(b" is too long\n");
+pub fn too_long<W: Write>(out: &mut W, k: u64) -> io::Result<()> {
+    text(out, b"vector ")?;
+    number(out, k)?;
+    text(out, b" is too long\n")
 }
 
 // The line on an input that does not end after the last section.
-pub fn goes_on() {
-    text(b"input goes on after the last section\n");
+pub fn goes_on<W: Write>(out: &mut W) -> io::Result<()> {
+    text(out, b"input goes on after the last section\n")
 }

@@ -1,5 +1,9 @@
 // The sections of the input, and what becomes of a vector.
+ghost use Rattle.std.specs.Prelude.{◌≡◌, IfOk};
+ghost use Rattle.case_io.specs.declared.verdict.Verdict.TheVariants.{Broken};
+
 use crate::report;
+use std::io;
 
 // The sections, in the order in which they stand in the input.
 #[derive(Clone, Copy)]
@@ -28,13 +32,17 @@ pub enum Verdict {
 }
 
 // The verdict of a vector in which the input ends.
-pub fn ended(k: u64) -> Verdict {
-    report::ends_early(k);
-    Verdict::Broken
+pub fn ended<W: io::Write>(out: &mut W, k: u64) -> io::Result<Verdict>
+    ensures { IfOk result (λ v. v ≡ Broken) }
+{
+    report::ends_early(out, k)?;
+    Ok(Verdict::Broken)
 }
 
 // The verdict of a vector that the buffers do not hold.
-pub fn too_long(k: u64) -> Verdict {
-    report::too_long(k);
-    Verdict::Broken
+pub fn too_long<W: io::Write>(out: &mut W, k: u64) -> io::Result<Verdict>
+    ensures { IfOk result (λ v. v ≡ Broken) }
+{
+    report::too_long(out, k)?;
+    Ok(Verdict::Broken)
 }

@@ -2,11 +2,12 @@
 // the comparison of what stands in all of them afterwards.
 #![tactic(auto)]
 
-ghost use Rattle.std.specs.Prelude.{◌≡◌, length};
+ghost use Rattle.std.specs.Prelude.{◌≡◌, length, IfOk};
 ghost use Rattle.case_io.specs.Same.{same_numbers};
 
 use case_io::verdict::Section;
 use case_io::{compare, report};
+use std::io;
 
 // The longest file that a vector may hold.
 pub const LONGEST: usize = 4096;
@@ -22,51 +23,64 @@ pub const TEXT: usize = 65600;
 pub const LENGTHS: usize = 32;
 
 // Whether the work numbers are the expected ones. The first that is not is printed.
-pub fn same_work(section: Section, k: u64, expected: &[u32], got: &[u32]) -> bool
+pub fn same_work<W: io::Write>(
+    out: &mut W,
+    section: Section,
+    k: u64,
+    expected: &[u32],
+    got: &[u32],
+) -> io::Result<bool>
     requires { length expected.now ≡ length got.now }
-    ensures { result ≡ same_numbers expected.now got.now }
+    ensures { IfOk result (λ same. same ≡ same_numbers expected.now got.now) }
 {
     let mut i = 0;
     while i < expected.len() {
         if expected[i] != got[i] {
-            report::work_differs(section, k, i as u64, expected[i], got[i]);
-            return false;
+            report::work_differs(out, section, k, i as u64, expected[i], got[i])?;
+            return Ok(false);
         }
         i += 1;
     }
-    true
+    Ok(true)
 }
 
 // Whether the bytes of text are the expected ones. The first that is not is printed.
-pub fn same_text(section: Section, k: u64, expected: &[u8], got: &[u8]) -> bool
+pub fn same_text<W: io::Write>(
+    out: &mut W,
+    section: Section,
+    k: u64,
+    expected: &[u8],
+    got: &[u8],
+) -> io::Result<bool>
     requires { length expected.now ≡ length got.now }
-    ensures { result ≡ same_numbers expected.now got.now }
+    ensures { IfOk result (λ same. same ≡ same_numbers expected.now got.now) }
 {
     let mut i = 0;
     while i < expected.len() {
         if expected[i] != got[i] {
-            report::text_differs(section, k, i as u64, expected[i], got[i]);
-            return false;
+            report::text_differs(out, section, k, i as u64, expected[i], got[i])?;
+            return Ok(false);
         }
         i += 1;
     }
-    true
+    Ok(true)
 }
 
 // Whether the lengths are the expected ones. All of them are printed if not.
-pub fn same_lengths(
+pub fn same_lengths<W: io::Write>(
+    out: &mut W,
     section: Section,
     k: u64,
     expected: &[u64; LENGTHS],
     got: &[u64; LENGTHS],
-) -> bool
-    ensures { result ≡ same_numbers expected.now got.now }
+) -> io::Result<bool>
+    ensures { IfOk result (λ same. same ≡ same_numbers expected.now got.now) }
 {
     if compare::same(expected, got) {
-        return true;
+        return Ok(true);
     }
-    report::mismatch(section, k, expected, got);
-    false
+    report::mismatch(out, section, k, expected, got)?;
+    Ok(false)
 }
 
 // So many times 0, and then numbers that no call writes, each another one.

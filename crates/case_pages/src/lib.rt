@@ -2,7 +2,7 @@
 // page asked for and how much to lend, and what the call must answer and leave in what it was lent.
 #![tactic(auto)]
 
-ghost use Rattle.std.specs.Prelude.{◌≡◌, ◌∷◌, [], ◌≤◌};
+ghost use Rattle.std.specs.Prelude.{◌≡◌, ◌∷◌, [], ◌≤◌, IfOk};
 ghost use Rattle.file_blocks.specs.Parse.{parse};
 ghost use Rattle.case_lent.specs.Left.{same_left};
 ghost use Rattle.case_pages.specs.PageCases.{hands_over, page_call_leaves};
@@ -13,6 +13,7 @@ use case_io::verdict::{Section, Verdict};
 use case_io::{compare, input, report, verdict};
 use case_lent::{LONGEST, TEXT, WORK, no_text, same_text, same_work, whole, work_numbers};
 use plan_groups::PART_LIMIT;
+use std::io;
 
 // What a vector asks for, and how much it lends.
 #[derive(Clone, Copy)]
@@ -60,7 +61,8 @@ fn answer(file: &[u8], many: bool, page: u64, work: &mut [u32], text: &mut [u8])
 
 // Whether the call answers all the expected numbers and leaves what is expected. The first of these
 // that is not so is printed.
-fn is_right(
+fn is_right<W: io::Write>(
+    out: &mut W,
     k: u64,
     asked: Asked,
     file: &[u8],
@@ -69,10 +71,10 @@ fn is_right(
     expected_text: [u8; TEXT],
     mut work: [u32; WORK],
     mut text: [u8; TEXT],
-) -> bool
+) -> io::Result<bool>
     requires { (asked.work ≤ 576) × (asked.text ≤ 65600) }
-    ensures { result ≡ same_left expected.now expected_work expected_text
-        (page_call_leaves asked file.now work text) }
+    ensures { IfOk result (λ same. same ≡ same_left expected.now expected_work expected_text
+        (page_call_leaves asked file.now work text)) }
 {
     let section = section_of(asked.many);
     let work_length = asked.work;
@@ -85,31 +87,40 @@ fn is_right(
         &mut text[..text_length],
     );
     if !compare::same(expected, &got) {
-        report::mismatch(section, k, expected, &got);
-        return false;
+        report::mismatch(out, section, k, expected, &got)?;
+        return Ok(false);
     }
-    if !same_work(section, k, &expected_work, &work) {
-        return false;
+    if !same_work(out, section, k, &expected_work, &work)? {
+        return Ok(false);
     }
-    same_text(section, k, &expected_text, &text)
+    same_text(out, section, k, &expected_text, &text)
 }
 
 // Reads the expected text of vector `k` and tries the vector.
-fn replay_text(k: u64, asked: Asked, cleared: usize, expected: &[u64; 4], file: &[u8]) -> Verdict
+fn replay_text<R: io::Read, W: io::Write>(
+    reader: &mut R,
+    out: &mut W,
+    k: u64,
+    asked: Asked,
+    cleared: usize,
+    expected: &[u64; 4],
+    file: &[u8],
+) -> io::Result<Verdict>
     requires { (asked.work ≤ 576) × (asked.text ≤ 65600) }
 {
     let length = expected[3] as usize;
     if TEXT < length {
-        return verdict::too_long(k);
+        return verdict::too_long(out, k);
     }
     let mut expected_text = no_text();
-    if !input::bytes(&mut expected_text[..length]) {
-        return verdict::ended(k);
+    if !input::bytes(reader, &mut expected_text[..length])? {
+        return verdict::ended(out, k);
     }
     let expected_work = work_numbers(cleared);
     let work = work_numbers(0);
     let text = no_text();
     if is_right(
+        out,
         k,
         asked,
         file,
@@ -118,44 +129,55 @@ fn replay_text(k: u64, asked: Asked, cleared: usize, expected: &[u64; 4], file: 
         expected_text,
         work,
         text,
-    ) {
-        Verdict::Right
+    )? {
+        Ok(Verdict::Right)
     } else {
-        Verdict::Wrong
+        Ok(Verdict::Wrong)
     }
 }
 
 // Reads the answer and the file of vector `k`, and tries it.
-fn replay_file(k: u64, asked: Asked, cleared: usize) -> Verdict
+fn replay_file<R: io::Read, W: io::Write>(
+    reader: &mut R,
+    out: &mut W,
+    k: u64,
+    asked: Asked,
+    cleared: usize,
+) -> io::Result<Verdict>
     requires { (asked.work ≤ 576) × (asked.text ≤ 65600) }
 {
     let mut expected = [0u64; 4];
-    if !input::numbers(&mut expected) {
-        return verdict::ended(k);
+    if !input::numbers(reader, &mut expected)? {
+        return verdict::ended(out, k);
     }
     let mut buffer = [0u8; LONGEST];
-    match input::file(&mut buffer) {
-        Filled::To(n) => replay_text(k, asked, cleared, &expected, &buffer[..n]),
-        Filled::Ended => verdict::ended(k),
-        Filled::TooLong => verdict::too_long(k),
+    match input::file(reader, &mut buffer)? {
+        Filled::To(n) => replay_text(reader, out, k, asked, cleared, &expected, &buffer[..n]),
+        Filled::Ended => verdict::ended(out, k),
+        Filled::TooLong => verdict::too_long(out, k),
     }
 }
 
 // Reads vector `k` of the call for the pages from one on, or for one page, and tries it.
-pub fn replay_one(k: u64, many: bool) -> Verdict {
+pub fn replay_one<R: io::Read, W: io::Write>(
+    reader: &mut R,
+    out: &mut W,
+    k: u64,
+    many: bool,
+) -> io::Result<Verdict> {
     let mut numbers = [0u64; 5];
-    if !input::numbers(&mut numbers) {
-        return verdict::ended(k);
+    if !input::numbers(reader, &mut numbers)? {
+        return verdict::ended(out, k);
     }
     let page = whole(numbers[0], numbers[1]);
     let work = numbers[2] as usize;
     let text = numbers[3] as usize;
     let cleared = numbers[4] as usize;
     if WORK <= work {
-        return verdict::too_long(k);
+        return verdict::too_long(out, k);
     }
     if TEXT <= text {
-        return verdict::too_long(k);
+        return verdict::too_long(out, k);
     }
     let asked = Asked {
         many,
@@ -163,5 +185,5 @@ pub fn replay_one(k: u64, many: bool) -> Verdict {
         work,
         text,
     };
-    replay_file(k, asked, cleared)
+    replay_file(reader, out, k, asked, cleared)
 }

@@ -2,7 +2,7 @@
 // the call for its plan must answer and leave in what it was lent.
 #![tactic(auto)]
 
-ghost use Rattle.std.specs.Prelude.{◌≡◌, ◌∷◌, [], ◌+◌, ◌≤◌, length};
+ghost use Rattle.std.specs.Prelude.{◌≡◌, ◌∷◌, [], ◌+◌, ◌≤◌, length, IfOk};
 ghost use Rattle.std.proofs.Math.Seq.{paste};
 ghost use Rattle.file_blocks.specs.Parse.{parse};
 ghost use Rattle.plan_groups.specs.Limit.{part_limit};
@@ -15,6 +15,7 @@ use case_io::input::Filled;
 use case_io::verdict::{Section, Verdict};
 use case_io::{compare, input, report, verdict};
 use plan_groups::PART_LIMIT;
+use std::io;
 
 // The longest file that a vector may hold.
 const LONGEST: usize = 4096;
@@ -78,27 +79,28 @@ fn answer(got: &mut [u64], file: &[u8], work: &mut [u32], res: &mut [u32])
 
 // Whether the call answers and leaves all the expected numbers. Where it does not, both names are
 // printed.
-fn is_right(
+fn is_right<W: io::Write>(
+    out: &mut W,
     k: u64,
     expected: &[u64],
     got: &mut [u64],
     file: &[u8],
     work: &mut [u32],
     res: &mut [u32],
-) -> bool
+) -> io::Result<bool>
     requires { length got.old ≡ 3 + (length work.old + length res.old) }
-    ensures { result ≡ same_numbers expected.now
+    ensures { IfOk result (λ same. same ≡ same_numbers expected.now
         (in_order
         (plan_numbers
         (plan_call part_limit (parse file.now) work.old
-        res.old))) }
+        res.old)))) }
 {
     answer(got, file, work, res);
     if compare::same(expected, got) {
-        return true;
+        return Ok(true);
     }
-    report::mismatch(Section::Plan, k, expected, got);
-    false
+    report::mismatch(out, Section::Plan, k, expected, got)?;
+    Ok(false)
 }
 
 // Numbers that no plan has, each another one.
@@ -132,85 +134,95 @@ fn clear(list: &mut [u64]) {
 
 // Reads the expected plan of vector `k` into the front of the expected result, and tries the
 // vector.
-fn replay_plan(
+fn replay_plan<R: io::Read, W: io::Write>(
+    reader: &mut R,
+    out: &mut W,
     k: u64,
     expected: &mut [u64],
     file: &[u8],
     work: &mut [u32],
     res: &mut [u32],
-) -> Verdict
+) -> io::Result<Verdict>
     requires { (length expected.old ≡ 3 + (length work.old + length res.old))
         × (length expected.old ≤ 771) }
 {
     let n = expected.len();
     let blocks = expected[2] as usize;
     if res.len() / 2 < blocks {
-        return verdict::too_long(k);
+        return verdict::too_long(out, k);
     }
     let start = 3 + work.len();
     let end = start + 2 * blocks;
-    if !input::numbers(&mut expected[start..end]) {
-        return verdict::ended(k);
+    if !input::numbers(reader, &mut expected[start..end])? {
+        return verdict::ended(out, k);
     }
     let mut got = [0u64; MOST];
-    if is_right(k, expected, &mut got[..n], file, work, res) {
-        Verdict::Right
+    if is_right(out, k, expected, &mut got[..n], file, work, res)? {
+        Ok(Verdict::Right)
     } else {
-        Verdict::Wrong
+        Ok(Verdict::Wrong)
     }
 }
 
 // Reads the answer and the file of vector `k`. Expected at first is what is lent; of the work
 // numbers as many as the vector says become 0.
-fn replay_file(
+fn replay_file<R: io::Read, W: io::Write>(
+    reader: &mut R,
+    out: &mut W,
     k: u64,
     expected: &mut [u64],
     work: &mut [u32],
     res: &mut [u32],
     cleared: usize,
-) -> Verdict
+) -> io::Result<Verdict>
     requires { (length expected.old ≡ 3 + (length work.old + length res.old))
         × (length expected.old ≤ 771) × (cleared ≤ length work.old) }
 {
     fill(expected);
     lend(work, expected, 3);
     lend(res, expected, 3 + work.len());
-    if !input::numbers(&mut expected[..3]) {
-        return verdict::ended(k);
+    if !input::numbers(reader, &mut expected[..3])? {
+        return verdict::ended(out, k);
     }
     let end = 3 + cleared;
     clear(&mut expected[3..end]);
     let mut buffer = [0u8; LONGEST];
-    match input::file(&mut buffer) {
-        Filled::To(n) => replay_plan(k, expected, &buffer[..n], work, res),
-        Filled::Ended => verdict::ended(k),
-        Filled::TooLong => verdict::too_long(k),
+    match input::file(reader, &mut buffer)? {
+        Filled::To(n) => replay_plan(reader, out, k, expected, &buffer[..n], work, res),
+        Filled::Ended => verdict::ended(out, k),
+        Filled::TooLong => verdict::too_long(out, k),
     }
 }
 
 // Reads vector `k` and tries it.
-pub fn replay_one(k: u64) -> Verdict {
+pub fn replay_one<R: io::Read, W: io::Write>(
+    reader: &mut R,
+    out: &mut W,
+    k: u64,
+) -> io::Result<Verdict> {
     let mut lent = [0u64; 3];
-    if !input::numbers(&mut lent) {
-        return verdict::ended(k);
+    if !input::numbers(reader, &mut lent)? {
+        return verdict::ended(out, k);
     }
     let work_length = lent[0] as usize;
     let result_length = lent[1] as usize;
     let cleared = lent[2] as usize;
     if MOST_WORK < work_length {
-        return verdict::too_long(k);
+        return verdict::too_long(out, k);
     }
     if MOST_RESULT < result_length {
-        return verdict::too_long(k);
+        return verdict::too_long(out, k);
     }
     if work_length < cleared {
-        return verdict::too_long(k);
+        return verdict::too_long(out, k);
     }
     let mut expected = [0u64; MOST];
     let mut work = [0u32; MOST_WORK];
     let mut result = [0u32; MOST_RESULT];
     let n = 3 + work_length + result_length;
     replay_file(
+        reader,
+        out,
         k,
         &mut expected[..n],
         &mut work[..work_length],

@@ -3,7 +3,7 @@
 // it was lent.
 #![tactic(auto)]
 
-ghost use Rattle.std.specs.Prelude.{◌≡◌, ◌∷◌, [], ◌≤◌};
+ghost use Rattle.std.specs.Prelude.{◌≡◌, ◌∷◌, [], ◌≤◌, IfOk};
 ghost use Rattle.file_blocks.specs.Parse.{parse};
 ghost use Rattle.case_lent.specs.Left.{same_left};
 ghost use Rattle.case_reasons.specs.ReasonCases.{hands_over, reason_call_leaves};
@@ -13,6 +13,7 @@ use case_io::input::Filled;
 use case_io::verdict::{Section, Verdict};
 use case_io::{compare, input, report, verdict};
 use case_lent::{LONGEST, TEXT, no_text, same_text, whole};
+use std::io;
 
 // What a vector asks for, and how much it lends.
 #[derive(Clone, Copy)]
@@ -53,17 +54,18 @@ fn answer(file: &[u8], many: bool, k: u64, text: &mut [u8]) -> [u64; 4]
 
 // Whether the call answers all the expected numbers and leaves what is expected. The first of these
 // that is not so is printed.
-fn is_right(
+fn is_right<W: io::Write>(
+    out: &mut W,
     k: u64,
     asked: Asked,
     file: &[u8],
     expected: &[u64; 4],
     expected_text: [u8; TEXT],
     mut text: [u8; TEXT],
-) -> bool
+) -> io::Result<bool>
     requires { asked.text ≤ 65600 }
-    ensures { result ≡ same_left expected.now [] expected_text
-        (reason_call_leaves asked file.now text) }
+    ensures { IfOk result (λ same. same ≡ same_left expected.now [] expected_text
+        (reason_call_leaves asked file.now text)) }
 {
     let section = section_of(asked.many);
     let text_length = asked.text;
@@ -74,63 +76,80 @@ fn is_right(
         &mut text[..text_length],
     );
     if !compare::same(expected, &got) {
-        report::mismatch(section, k, expected, &got);
-        return false;
+        report::mismatch(out, section, k, expected, &got)?;
+        return Ok(false);
     }
-    same_text(section, k, &expected_text, &text)
+    same_text(out, section, k, &expected_text, &text)
 }
 
 // Reads the expected text of vector `k` and tries the vector.
-fn replay_text(k: u64, asked: Asked, expected: &[u64; 4], file: &[u8]) -> Verdict
+fn replay_text<R: io::Read, W: io::Write>(
+    reader: &mut R,
+    out: &mut W,
+    k: u64,
+    asked: Asked,
+    expected: &[u64; 4],
+    file: &[u8],
+) -> io::Result<Verdict>
     requires { asked.text ≤ 65600 }
 {
     let length = expected[3] as usize;
     if TEXT < length {
-        return verdict::too_long(k);
+        return verdict::too_long(out, k);
     }
     let mut expected_text = no_text();
-    if !input::bytes(&mut expected_text[..length]) {
-        return verdict::ended(k);
+    if !input::bytes(reader, &mut expected_text[..length])? {
+        return verdict::ended(out, k);
     }
     let text = no_text();
-    if is_right(k, asked, file, expected, expected_text, text) {
-        Verdict::Right
+    if is_right(out, k, asked, file, expected, expected_text, text)? {
+        Ok(Verdict::Right)
     } else {
-        Verdict::Wrong
+        Ok(Verdict::Wrong)
     }
 }
 
 // Reads the answer and the file of vector `k`, and tries it.
-fn replay_file(k: u64, asked: Asked) -> Verdict
+fn replay_file<R: io::Read, W: io::Write>(
+    reader: &mut R,
+    out: &mut W,
+    k: u64,
+    asked: Asked,
+) -> io::Result<Verdict>
     requires { asked.text ≤ 65600 }
 {
     let mut expected = [0u64; 4];
-    if !input::numbers(&mut expected) {
-        return verdict::ended(k);
+    if !input::numbers(reader, &mut expected)? {
+        return verdict::ended(out, k);
     }
     let mut buffer = [0u8; LONGEST];
-    match input::file(&mut buffer) {
-        Filled::To(n) => replay_text(k, asked, &expected, &buffer[..n]),
-        Filled::Ended => verdict::ended(k),
-        Filled::TooLong => verdict::too_long(k),
+    match input::file(reader, &mut buffer)? {
+        Filled::To(n) => replay_text(reader, out, k, asked, &expected, &buffer[..n]),
+        Filled::Ended => verdict::ended(out, k),
+        Filled::TooLong => verdict::too_long(out, k),
     }
 }
 
 // Reads vector `k` of the call for the sentences from an instruction on, or for one, and tries it.
-pub fn replay_one(k: u64, many: bool) -> Verdict {
+pub fn replay_one<R: io::Read, W: io::Write>(
+    reader: &mut R,
+    out: &mut W,
+    k: u64,
+    many: bool,
+) -> io::Result<Verdict> {
     let mut numbers = [0u64; 3];
-    if !input::numbers(&mut numbers) {
-        return verdict::ended(k);
+    if !input::numbers(reader, &mut numbers)? {
+        return verdict::ended(out, k);
     }
     let instruction = whole(numbers[0], numbers[1]);
     let text = numbers[2] as usize;
     if TEXT <= text {
-        return verdict::too_long(k);
+        return verdict::too_long(out, k);
     }
     let asked = Asked {
         many,
         instruction,
         text,
     };
-    replay_file(k, asked)
+    replay_file(reader, out, k, asked)
 }

@@ -1,5 +1,5 @@
 // The section of a unit that is written.
-ghost use Rattle.std.specs.Prelude.{◌≡◌, ◌∷◌, [], ◌≤◌};
+ghost use Rattle.std.specs.Prelude.{◌≡◌, ◌∷◌, [], ◌≤◌, IfOk};
 ghost use Rattle.file_blocks.specs.Parse.{parse};
 ghost use Rattle.plan_groups.specs.Limit.{part_limit};
 ghost use Rattle.call_unit.specs.Calls.{write_call, write_numbers};
@@ -13,6 +13,7 @@ use case_io::verdict::{Section, Verdict};
 use case_io::{compare, input, report, verdict};
 use case_lent::{LONGEST, TEXT, WORK, no_text, same_text, same_work, whole, work_numbers};
 use plan_groups::PART_LIMIT;
+use std::io;
 
 // What a vector asks for, and how much it lends.
 #[derive(Clone, Copy)]
@@ -41,7 +42,8 @@ fn answer(file: &[u8], max: u64, given: Told, work: &mut [u32], text: &mut [u8])
 
 // Whether the call answers the expected numbers and leaves what is expected. The first of these
 // that is not so is printed.
-fn is_right(
+fn is_right<W: io::Write>(
+    out: &mut W,
     k: u64,
     asked: Asked,
     file: &[u8],
@@ -50,11 +52,11 @@ fn is_right(
     expected_text: [u8; TEXT],
     mut work: [u32; WORK],
     mut text: [u8; TEXT],
-) -> bool
+) -> io::Result<bool>
     requires { (asked.work ≤ 576) × (asked.text ≤ 65600) }
-    ensures { result ≡ same_left expected.now expected_work expected_text
+    ensures { IfOk result (λ same. same ≡ same_left expected.now expected_work expected_text
         (write_call_leaves asked.size asked.given asked.work asked.text
-        file.now work text) }
+        file.now work text)) }
 {
     let work_length = asked.work;
     let text_length = asked.text;
@@ -66,32 +68,41 @@ fn is_right(
         &mut text[..text_length],
     );
     if !compare::same(expected, &got) {
-        report::mismatch(Section::Write, k, expected, &got);
-        return false;
+        report::mismatch(out, Section::Write, k, expected, &got)?;
+        return Ok(false);
     }
-    if !same_work(Section::Write, k, &expected_work, &work) {
-        return false;
+    if !same_work(out, Section::Write, k, &expected_work, &work)? {
+        return Ok(false);
     }
-    same_text(Section::Write, k, &expected_text, &text)
+    same_text(out, Section::Write, k, &expected_text, &text)
 }
 
 // Reads the expected text of vector `k` and tries the vector.
-fn replay_text(k: u64, asked: Asked, cleared: usize, read: &[u64; 3], file: &[u8]) -> Verdict
+fn replay_text<R: io::Read, W: io::Write>(
+    reader: &mut R,
+    out: &mut W,
+    k: u64,
+    asked: Asked,
+    cleared: usize,
+    read: &[u64; 3],
+    file: &[u8],
+) -> io::Result<Verdict>
     requires { (asked.work ≤ 576) × (asked.text ≤ 65600) }
 {
     let length = read[2] as usize;
     if TEXT < length {
-        return verdict::too_long(k);
+        return verdict::too_long(out, k);
     }
     let mut expected_text = no_text();
-    if !input::bytes(&mut expected_text[..length]) {
-        return verdict::ended(k);
+    if !input::bytes(reader, &mut expected_text[..length])? {
+        return verdict::ended(out, k);
     }
     let expected = [read[0], read[1]];
     let expected_work = work_numbers(cleared);
     let work = work_numbers(0);
     let text = no_text();
     if is_right(
+        out,
         k,
         asked,
         file,
@@ -100,35 +111,45 @@ fn replay_text(k: u64, asked: Asked, cleared: usize, read: &[u64; 3], file: &[u8
         expected_text,
         work,
         text,
-    ) {
-        Verdict::Right
+    )? {
+        Ok(Verdict::Right)
     } else {
-        Verdict::Wrong
+        Ok(Verdict::Wrong)
     }
 }
 
 // Reads the answer and the file of vector `k`, and tries it. After the answer it is said how many
 // bytes of text are expected.
-fn replay_file(k: u64, asked: Asked, cleared: usize) -> Verdict
+fn replay_file<R: io::Read, W: io::Write>(
+    reader: &mut R,
+    out: &mut W,
+    k: u64,
+    asked: Asked,
+    cleared: usize,
+) -> io::Result<Verdict>
     requires { (asked.work ≤ 576) × (asked.text ≤ 65600) }
 {
     let mut read = [0u64; 3];
-    if !input::numbers(&mut read) {
-        return verdict::ended(k);
+    if !input::numbers(reader, &mut read)? {
+        return verdict::ended(out, k);
     }
     let mut buffer = [0u8; LONGEST];
-    match input::file(&mut buffer) {
-        Filled::To(n) => replay_text(k, asked, cleared, &read, &buffer[..n]),
-        Filled::Ended => verdict::ended(k),
-        Filled::TooLong => verdict::too_long(k),
+    match input::file(reader, &mut buffer)? {
+        Filled::To(n) => replay_text(reader, out, k, asked, cleared, &read, &buffer[..n]),
+        Filled::Ended => verdict::ended(out, k),
+        Filled::TooLong => verdict::too_long(out, k),
     }
 }
 
 // Reads vector `k` and tries it.
-pub fn replay_one(k: u64) -> Verdict {
+pub fn replay_one<R: io::Read, W: io::Write>(
+    reader: &mut R,
+    out: &mut W,
+    k: u64,
+) -> io::Result<Verdict> {
     let mut numbers = [0u64; 13];
-    if !input::numbers(&mut numbers) {
-        return verdict::ended(k);
+    if !input::numbers(reader, &mut numbers)? {
+        return verdict::ended(out, k);
     }
     let size = whole(numbers[0], numbers[1]);
     let given = Told {
@@ -141,10 +162,10 @@ pub fn replay_one(k: u64) -> Verdict {
     let text = numbers[11] as usize;
     let cleared = numbers[12] as usize;
     if WORK <= work {
-        return verdict::too_long(k);
+        return verdict::too_long(out, k);
     }
     if TEXT <= text {
-        return verdict::too_long(k);
+        return verdict::too_long(out, k);
     }
     let asked = Asked {
         size,
@@ -152,5 +173,5 @@ pub fn replay_one(k: u64) -> Verdict {
         work,
         text,
     };
-    replay_file(k, asked, cleared)
+    replay_file(reader, out, k, asked, cleared)
 }

@@ -5,46 +5,56 @@ use case_io::input::Read;
 use case_io::verdict::{Section, Verdict};
 use case_io::{input, report};
 use case_unit::{measure_cases, write_cases};
+use std::io;
 
 // Reads vector `k` of a section and tries it.
-fn replay_one(section: Section, k: u64) -> Verdict {
+fn replay_one<R: io::Read, W: io::Write>(
+    reader: &mut R,
+    out: &mut W,
+    section: Section,
+    k: u64,
+) -> io::Result<Verdict> {
     match section {
-        Section::Check => check_cases::replay_one(k),
-        Section::Exits => exits_cases::replay_one(k),
-        Section::Plan => case_plan::replay_one(k),
-        Section::Measure => measure_cases::replay_one(k),
-        Section::Write => write_cases::replay_one(k),
-        Section::Fronts => units_cases::replay_one(k),
-        Section::Lengths => lengths_cases::replay_one(k),
-        Section::Page => case_pages::replay_one(k, false),
-        Section::Pages => case_pages::replay_one(k, true),
-        Section::Reason => case_reasons::replay_one(k, false),
-        Section::Reasons => case_reasons::replay_one(k, true),
-        Section::Decimal => case_decimal::replay_one(k),
+        Section::Check => check_cases::replay_one(reader, out, k),
+        Section::Exits => exits_cases::replay_one(reader, out, k),
+        Section::Plan => case_plan::replay_one(reader, out, k),
+        Section::Measure => measure_cases::replay_one(reader, out, k),
+        Section::Write => write_cases::replay_one(reader, out, k),
+        Section::Fronts => units_cases::replay_one(reader, out, k),
+        Section::Lengths => lengths_cases::replay_one(reader, out, k),
+        Section::Page => case_pages::replay_one(reader, out, k, false),
+        Section::Pages => case_pages::replay_one(reader, out, k, true),
+        Section::Reason => case_reasons::replay_one(reader, out, k, false),
+        Section::Reasons => case_reasons::replay_one(reader, out, k, true),
+        Section::Decimal => case_decimal::replay_one(reader, out, k),
     }
 }
 
 // Replays as many vectors as the section counts, at most what 32 bits hold, and answers whether all
 // could be read.
-pub(crate) fn replay(section: Section) -> bool {
-    let Read::Number(count) = input::number() else {
-        report::ends_early(0);
-        return false;
+pub(crate) fn replay<R: io::Read, W: io::Write>(
+    reader: &mut R,
+    out: &mut W,
+    section: Section,
+) -> io::Result<bool> {
+    let Read::Number(count) = input::number(reader)? else {
+        report::ends_early(out, 0)?;
+        return Ok(false);
     };
     let mut mismatches: u64 = 0;
     let mut k: u64 = 0;
     while k < count {
-        match replay_one(section, k) {
+        match replay_one(reader, out, section, k)? {
             Verdict::Right => {}
             Verdict::Wrong => {
                 mismatches += 1;
             }
             Verdict::Broken => {
-                return false;
+                return Ok(false);
             }
         }
         k += 1;
     }
-    report::total(section, count, mismatches);
-    true
+    report::total(out, section, count, mismatches)?;
+    Ok(true)
 }

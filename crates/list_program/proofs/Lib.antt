@@ -1,2 +1,4 @@
 -- The laws that the functions' proofs share.
+mod Filled
+mod Read
 mod Room

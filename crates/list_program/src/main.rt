@@ -1,13 +1,14 @@
 // Prints the listing of the block file on standard input.
 #![tactic(auto)]
 
-ghost use Rattle.std.specs.Prelude.{◌≡◌, ◌+◌, ◌≤◌, length, take};
+ghost use Rattle.std.specs.Prelude.{◌≡◌, ◌+◌, ◌≤◌, ◌<◌, length, take, IfOk, OnOk, IfSome};
+ghost use Rattle.std.specs.Io.KnownBytes.{Appends, Consumes, IsAtEnd};
 ghost use Rattle.base_text.specs.Wrote.{Wrote};
 ghost use Rattle.list_program.specs.Output.{longest, room, refusal_line, output};
 
 use call_listing::{ListingAnswer, listing_of};
-use libc::{STDIN_FILENO, STDOUT_FILENO};
 use plan_groups::PART_LIMIT;
+use std::io;
 
 // The longest file that is listed.
 const LONGEST: usize = 65536;
@@ -51,11 +52,38 @@ fn put_output(file: &[u8], out: &mut [u8]) -> usize
     put_answer(file, out)
 }
 
-// One byte more than the longest file is asked for, which tells a longer one.
-fn main() {
+// Reads until `buffer` is full or the input ends, and answers how many bytes that was.
+fn fill<R: io::Read>(reader: &mut R, buffer: &mut [u8]) -> io::Result<usize>
+    ensures size { length buffer.new ≡ length buffer.old }
+    ensures within { IfOk result (λ n. n ≤ length buffer.new) }
+    ensures bytes { IfOk result (λ n.
+        Consumes (R.remaining reader.old) (R.remaining reader.new) (take n buffer.new)) }
+    ensures end { IfOk result (λ n. n < length buffer.new → IsAtEnd (R.remaining reader.new)) }
+{
+    let mut done = 0;
+    while done < buffer.len() {
+        let n = reader.read(&mut buffer[done..])?;
+        if n == 0 {
+            break;
+        }
+        done += n;
+    }
+    Ok(done)
+}
+
+// Prints the listing of the file that is left to read. One byte more than the longest file is asked
+// for, which tells a longer one.
+fn list<R: io::Read, W: io::Write>(reader: &mut R, out: &mut W) -> io::Result<()>
+    ensures { OnOk result (IfSome (R.remaining reader.old) (λ file.
+        Appends (W.contents out.old) (W.contents out.new) (output file))) }
+{
     let mut file = [0u8; LONGEST + 1];
-    let n = io::read_full(STDIN_FILENO, &mut file);
-    let mut out = [0u8; ROOM];
-    let length = put_output(&file[..n], &mut out);
-    io::write_all(STDOUT_FILENO, &out[..length]);
+    let n = fill(reader, &mut file)?;
+    let mut text = [0u8; ROOM];
+    let length = put_output(&file[..n], &mut text);
+    out.write_all(&text[..length])
+}
+
+fn main(rt: HostRuntime) -> io::Result<()> {
+    list(&mut rt.stdin(), &mut rt.stdout())
 }
