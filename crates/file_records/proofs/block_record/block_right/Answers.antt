@@ -26,4 +26,3 @@ returns c =
     ∙ rules.right_but_code _ _ (omega arith) (omega arith) (omega arith)
     (sym c.aligned.ensures
     ∙ c.if-not-aligned.false) (omega arith)
-

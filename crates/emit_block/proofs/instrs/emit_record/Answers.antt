@@ -1,0 +1,34 @@
+-- `emit_record` reads a record, and writes it alone or with the one that it makes a pair with.
+-- Assumes nothing.
+use Rattle.std.proofs.Common.{ℕ, ◌∷◌, sym, refl, ap, ◌∙◌, subst, arith, rules}
+use Rattle.c_tree.specs.Stmt.{end}
+use Rattle.lower_forms.specs.Forms.{Form}
+use Rattle.lower_forms.specs.Block.{emit_pair}
+use Rattle.lower_units.specs.Block.{code_from}
+use Rattle.base_lists.specs.Lists.{among}
+use Rattle.file_blocks.proofs.ReadInstrs.{not_missing}
+use Rattle.emit_instr.specs.Onward.{Onward}
+use Rattle.file_blocks.proofs.ReadNext.{here_read}
+use Rattle.emit_block.proofs.Recording.{pair_sum, pair_recorded}
+use Rattle.emit_block.proofs.instrs.emit_record.Goals as goal
+
+pub returns-in_default : goal.returns-in_default
+returns-in_default c =
+    λ ks b here few. absurd
+    (not_missing here.is _ _ c.requires.1
+    c.instr_of.ensures c.in_default.is)
+
+pub is_inside-inside-requires : goal.is_inside-inside-requires
+is_inside-inside-requires c =
+    c.requires.0
+
+pub returns-in-Alone : goal.returns-in-Alone
+returns-in-Alone c =
+    let v = c.args in
+    λ ks b here few.
+    c.emit_alone.ensures v.file.now ks b v.m.first here.body
+    (c.branch_inside-inside.ensures ks here.stands)
+    (here_read here.is v.j c.requires.1 _ _ c.instr_of.ensures
+    c.in-At.is)
+    (sym (c.next_of.ensures _ here.is) ∙ c.in-Alone.is)
+    (omega (arith, c.struct_known-1.given)) few

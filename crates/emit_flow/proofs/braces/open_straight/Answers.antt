@@ -1,0 +1,9 @@
+-- `emit_flow::braces::open_straight` meets its contract: what its calls write, one after another.
+-- Assumes nothing.
+use mathlib.Core.Path.{refl}
+use Rattle.base_text.proofs.Laws.{wrote_as}
+use Rattle.emit_flow.proofs.braces.open_straight.Goals as goal
+
+pub returns : goal.returns
+returns c =
+    wrote_as c.put.ensures refl

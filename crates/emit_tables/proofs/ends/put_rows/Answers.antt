@@ -1,0 +1,30 @@
+use Prim.Native.Nat.{ℕ}
+use borrow.Author.Rules.{rules}
+use mathlib.Core.List.{[]}
+use mathlib.Core.Path.{ap}
+use native.Mathlib.Omega.{arith}
+use Rattle.c_tree.specs.Print.{row_text}
+use Rattle.base_text.proofs.Laws.{none, wrote_as, each_more, each_all}
+use Rattle.base_text.specs.Flat.{flat}
+use Rattle.file_keys.specs.Order.{block_keys}
+use Rattle.file_keys.proofs.Reading.{length_keys}
+use Rattle.emit_tables.proofs.ends.put_rows.Goals as goal
+
+pub loop-i-init : goal.loop-i-init
+loop-i-init c = (omega arith, none (search rules) (search rules))
+
+pub loop-i-preserved : goal.loop-i-preserved
+loop-i-preserved c =
+    let f = c.args.file.now in (
+      omega arith,
+      each_more row_text (block_keys f) 0 _ (omega (arith, c.requires.0, length_keys f))
+          c.loop-i.invariant.1
+          (wrote_as c.put_row-p.ensures
+          (ap (λ (k : ℕ). flat (row_text k) []) (c.block_key.ensures c.requires.1))),
+    )
+
+pub returns : goal.returns
+returns c =
+    let f = c.args.file.now in
+    each_all row_text (block_keys f) c.loop-i.i (omega (arith, c.requires.0, length_keys f))
+    c.loop-i.invariant.1

@@ -1,0 +1,21 @@
+-- `put_forwarders` writes the functions of a group's members. The loop's invariant: those of the
+-- first k are written. Assumes nothing.
+use Prim.Native.Nat.{ℕ, ◌-◌, ◌≤◌}
+use lib.ListN.{length, take}
+use mathlib.Core.Path.{◌≡◌}
+use Rattle.plan_members.specs.Members.{group_keys}
+use Rattle.base_text.specs.Wrote.{Wrote}
+use Rattle.emit_tables.proofs.Around.{numbered, entry}
+use Rattle.plan_members.specs.GroupRows.{IsGroup}
+use Rattle.emit_tables.proofs.entries.put_forwarders.Given as goal
+
+abbrev pub invariant-loop-k : goal.invariant-loop-k
+invariant-loop-k l =
+    (l.k ≤ l.size)
+    × (length l.out ≡ length l.initial.out)
+    × ((limit g : ℕ) → IsGroup l.file limit l.work g l.rows
+    → Wrote l.initial.out l.at (numbered (entry l.group) 0 (take l.k (group_keys limit l.file g)))
+    l.out l.q)
+
+abbrev pub decreases-loop-k : goal.decreases-loop-k
+decreases-loop-k l = l.size - l.k
