@@ -1,10 +1,10 @@
 -- How long groups and units are at most, by the instructions of their blocks.
 -- Assumes nothing.
-use Prim.Native.Nat.{ℕ, zero, suc, ◌+◌, ◌*◌, ◌≤◌, ◌<◌, min}
+use Prim.Native.Nat.{ℕ, suc, ◌+◌, ◌*◌, ◌≤◌, ◌<◌, min}
 use mathlib.Core.Path.{◌≡◌, refl, sym, ap, ◌∙◌, subst}
 use mathlib.Core.Bool.{false}
 use mathlib.Core.Option.{none}
-use mathlib.Core.List.{List, [], ◌∷◌, ◌++◌, map, Memᴰ}
+use mathlib.Core.List.{List, [], ◌∷◌, ◌++◌, map}
 use native.Mathlib.Omega.{arith}
 use native.Mathlib.Decide.{dec_lt}
 use lib.ListN.{length, get_or, take, length-map}
@@ -27,8 +27,8 @@ use Rattle.plan_members.proofs.Places.{start_next, start_inside, group_left, gro
 use Rattle.plan_members.proofs.Places.{row_member, row_block_inside, blocks_all}
 use Rattle.lower_forms.specs.Forms.{Body}
 use Rattle.lower_forms.specs.Block.{body_of}
-use Rattle.lower_units.specs.Units.{TranslationUnit, emit_group, text_of, default_body, bodies_of}
-use Rattle.lower_units.specs.Units.{units_by, units}
+use Rattle.lower_units.specs.Units.{emit_group, text_of, default_body, bodies_of}
+use Rattle.lower_units.specs.Units.{units_by}
 use Rattle.lower_units.proofs.Lengths.{members_most, group_within, units_within, units_short}
 use Rattle.plan_members.specs.declared.group_rows.Rows.{Rows}
 use Rattle.plan_members.specs.GroupRows.{IsGroup}

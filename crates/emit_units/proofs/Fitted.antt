@@ -1,7 +1,7 @@
 -- The units that are written one after another, as long as they fit.
 -- Assumes nothing.
-use Prim.Native.Nat.{ℕ, suc, ◌+◌, ◌-◌, ◌≤◌, ◌<◌}
-use mathlib.Core.Path.{◌≡◌, refl, sym, ap, ap₂, ◌∙◌, subst}
+use Prim.Native.Nat.{ℕ, ◌+◌, ◌-◌, ◌≤◌, ◌<◌}
+use mathlib.Core.Path.{◌≡◌, refl, sym, ap, ◌∙◌, subst}
 use mathlib.Core.Bool.{Bool, true, false, cond}
 use mathlib.Core.List.{List, [], ◌∷◌, ◌++◌, map, flatten, append-nil, append_assoc}
 use native.Mathlib.Omega.{arith}
@@ -13,14 +13,12 @@ use Rattle.base_fitting.specs.Steps.{total, FitSoFar, HasFront}
 use Rattle.base_fitting.proofs.Laws.{fit_none, fit_more, fit_full, fit_over, fit_all, front_none}
 use Rattle.base_fitting.proofs.Laws.{front_more, front_set}
 use Rattle.base_hash.specs.Fnv.{hash_multiplier}
-use Rattle.base_text.specs.Wrote.{Wrote}
 use Rattle.base_text.proofs.Laws.{whole}
 use Rattle.file_blocks.specs.Parse.{blocks_of, Accepted}
 use Rattle.lower_units.specs.Units.{TranslationUnit, text_of, units}
 use Rattle.emit_units.specs.declared.extents.Extent.{Extent}
-use Rattle.emit_units.specs.declared.fronts.Front.{Front}
 use Rattle.emit_units.specs.Texts.{unit_length, texts_of, done_with, ends_file}
-use Rattle.emit_units.specs.Units.{unit_tree, units_from, FirstUnit, MadeUnit, StartsAt}
+use Rattle.emit_units.specs.Units.{units_from, FirstUnit, MadeUnit, StartsAt}
 use Rattle.emit_units.specs.Bounds.{Bounds}
 use Rattle.emit_units.specs.Fronts.{FitUnit, PutUnits, PutLengths}
 use Rattle.emit_units.proofs.Cuts.{unit_of, starts_next, found_in, unit_found, unit_bytes}

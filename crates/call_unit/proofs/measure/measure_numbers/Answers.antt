@@ -1,0 +1,9 @@
+-- The numbers of the answer are handed over, and what else the call leaves stands as it was left.
+-- Assumes nothing.
+use borrow.Author.Rules.{rules}
+use Rattle.call_unit.proofs.Answers.{measure_numbers_lem}
+use Rattle.call_unit.proofs.measure.measure_numbers.Goals as goal
+
+pub returns : goal.returns
+returns c =
+    (rw (← c.measure_of-answer.ensures.answer, c.measure_numbers_of.ensures, measure_numbers_lem), c.measure_of-answer.ensures.measured)

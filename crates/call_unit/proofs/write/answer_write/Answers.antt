@@ -1,0 +1,73 @@
+-- One law for each sort of answer.
+-- Assumes nothing.
+use Prim.Native.Nat.{◌≤◌}
+use borrow.Author.Rules.{rules}
+use lib.ListN.{length}
+use mathlib.Core.Path.{subst}
+use native.Mathlib.Omega.{arith}
+use Rattle.file_blocks.proofs.Accepted.{few_blocks}
+use Rattle.base_text.proofs.Laws.{whole}
+use Rattle.plan_members.proofs.Places.{start_inside}
+use Rattle.lower_units.specs.Units.{text_of}
+use Rattle.emit_units.specs.Units.{IsUnit, IsFoundUnit}
+use Rattle.call_unit.proofs.Answers.{write_none, write_refused, write_fits, write_made}
+use Rattle.call_unit.proofs.write.answer_write.Goals as goal
+
+pub find_unit-requires : goal.find_unit-requires
+find_unit-requires c = (
+  (c.requires.room, omega (arith, few_blocks _ _ c.requires.accepted, c.requires.all), c.requires.all),
+  c.requires.accepted,
+)
+
+pub returns-in_default : goal.returns-in_default
+unfolding IsFoundUnit
+returns-in_default c =
+    record {
+      answer = let a = c.args in
+          write_none a.file.now a.limit a.max a.given _
+          (subst (IsFoundUnit a.file.now a.limit a.max a.given.unit)
+          c.in_default.is
+          (c.find_unit.ensures a.limit c.requires));
+    }
+
+pub returns-in_default-decided : goal.returns-in_default-decided
+unfolding IsFoundUnit
+returns-in_default-decided c =
+    record {
+      answer = let a = c.args in
+          let is : IsUnit a.file.now a.limit a.max a.given.unit _ =
+          subst (IsFoundUnit a.file.now a.limit a.max a.given.unit) c.in-At.is
+          (c.find_unit.ensures a.limit c.requires) in
+          write_refused a.file.now a.limit a.max a.given _ is _
+          c.told_of-found.ensures _ c.answer_in-decided.ensures _ _ c.in_default-decided.is;
+    }
+
+pub write_unit-requires : goal.write_unit-requires
+unfolding IsFoundUnit
+write_unit-requires c =
+    let a = c.args in
+    let is : IsUnit a.file.now a.limit a.max a.given.unit _ =
+    subst (IsFoundUnit a.file.now a.limit a.max a.given.unit) c.in-At.is
+    (c.find_unit.ensures a.limit c.requires) in (
+      (
+        (c.requires.room, omega (arith, few_blocks _ _ c.requires.accepted, c.requires.all), c.requires.all),
+        omega (arith, is.at.here, start_inside c.requires is.at.group),
+      ),
+      c.requires.accepted,
+    )
+
+pub returns : goal.returns
+unfolding IsFoundUnit text_of
+returns c =
+    record {
+      answer = let a = c.args in
+          let is : IsUnit a.file.now a.limit a.max a.given.unit _ =
+          subst (IsFoundUnit a.file.now a.limit a.max a.given.unit) c.in-At.is
+          (c.find_unit.ensures a.limit c.requires) in
+          let fits : length (text_of is.unit.tree) ≤ length a.text.now =
+          write_fits a.file.now a.limit a.max a.given a.text.now is _
+          c.told_of-found.ensures _ c.answer_in-decided.ensures c.in-Written.is in
+          write_made a.file.now a.limit a.max a.given _ is _
+          c.told_of-found.ensures _ c.answer_in-decided.ensures c.in-Written.is _
+          (whole (c.write_unit.ensures a.limit a.given.unit c.requires is) fits).0;
+    }

@@ -1,0 +1,9 @@
+-- The numbers of the answer are handed over, and what else the call leaves stands as it was left.
+-- Assumes nothing.
+use borrow.Author.Rules.{rules}
+use Rattle.call_unit.proofs.Answers.{write_numbers_lem}
+use Rattle.call_unit.proofs.write.write_numbers.Goals as goal
+
+pub returns : goal.returns
+returns c =
+    (rw (← c.write_of-answer.ensures.answer, c.write_numbers_of.ensures, write_numbers_lem), (c.write_of-answer.ensures.measured, c.write_of-answer.ensures.claims))
