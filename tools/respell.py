@@ -32,7 +32,8 @@ LOCAL = {
     "crates/call_unit/proofs/Claims.antt": {"as_before": "as_before_lem"},
 }
 # names that two files declare each for itself
-APART = {"left_in", "has_code", "go_on", "set_word"}
+APART = {"left_in", "has_code", "go_on", "set_word", "base_back", "count_at", "too_short"}
+APART |= {"as_before", "with_root", "in_order"}
 
 
 def snake(name):

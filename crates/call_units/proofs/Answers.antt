@@ -1,7 +1,7 @@
 -- The answers of the calls for units and for lengths.
 -- Assumes nothing.
-use Prim.Native.Nat.{ℕ, suc, ◌≤◌, ◌<◌}
-use mathlib.Core.Path.{◌≡◌, refl, sym, ap, ap₂, ◌∙◌, subst}
+use Prim.Native.Nat.{ℕ, ◌<◌}
+use mathlib.Core.Path.{◌≡◌, refl, sym, ap, ap₂, ◌∙◌}
 use mathlib.Core.Bool.{Bool, true, false, cond, ◌||◌}
 use mathlib.Core.List.{List, [], ◌∷◌, ◌++◌, map, flatten}
 use native.Mathlib.Omega.{arith}
@@ -11,9 +11,8 @@ use mir.Val.{bool_byte}
 use Rattle.base_fitting.specs.Fitting.{fitting}
 use Rattle.base_fitting.specs.Steps.{total}
 use Rattle.base_fitting.proofs.Laws.{fit_room, fit_places, fit_nothing}
-use Rattle.base_hash.specs.Fnv.{hash_multiplier}
 use Rattle.file_blocks.specs.Parse.{blocks_of}
-use Rattle.lower_units.specs.Units.{TranslationUnit, units}
+use Rattle.lower_units.specs.Units.{TranslationUnit}
 use Rattle.emit_units.specs.declared.fronts.Front.{Front}
 use Rattle.emit_units.specs.declared.fronts.Lengths.{Lengths}
 use Rattle.emit_units.specs.Texts.{unit_length, texts_of, done_with, ends_file}

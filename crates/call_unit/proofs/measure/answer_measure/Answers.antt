@@ -9,10 +9,7 @@ use Rattle.call_unit.proofs.Answers.{measure_none, measure_told}
 use Rattle.call_unit.proofs.measure.answer_measure.Goals as goal
 
 pub find_unit-requires : goal.find_unit-requires
-find_unit-requires c = (
-  (c.requires.room, omega (arith, few_blocks _ _ c.requires.accepted, c.requires.all), c.requires.all),
-  c.requires.accepted,
-)
+find_unit-requires c = record { has_room = (c.requires.room, omega (arith, few_blocks _ _ c.requires.accepted, c.requires.all), c.requires.all); accepted = c.requires.accepted }
 
 pub returns-in_default : goal.returns-in_default
 unfolding IsFoundUnit

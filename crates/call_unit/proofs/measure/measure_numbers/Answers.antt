@@ -6,4 +6,4 @@ use Rattle.call_unit.proofs.measure.measure_numbers.Goals as goal
 
 pub returns : goal.returns
 returns c =
-    (rw (← c.measure_of-answer.ensures.answer, c.measure_numbers_of.ensures, measure_numbers_lem), c.measure_of-answer.ensures.measured)
+    record { answer = rw (← c.measure_of-answer.ensures.answer, c.measure_numbers_of.ensures, measure_numbers_lem); measured = c.measure_of-answer.ensures.measured }

@@ -12,12 +12,12 @@ measure_open-requires c =
     is_open _ _ _ _ _ c.open_file.ensures _ _ c.in-Blocks.is
 
 pub returns-in-Blocks : goal.returns-in-Blocks
-returns-in-Blocks c = (c.measure_open.ensures.answer, measure_then_write _ _ _)
+returns-in-Blocks c = record { answer = c.measure_open.ensures.answer; measured = measure_then_write _ _ _ }
 
 pub returns-in-Refused : goal.returns-in-Refused
 unfolding measure_answer
-returns-in-Refused c = (
-  refused_call (asks_of_unit (measures _) _ _ _) _ [] _ _
-      c.open_file.ensures _ _ c.in-Refused.is,
-  measure_then_write _ _ _,
-)
+returns-in-Refused c = record {
+  answer = refused_call (asks_of_unit (measures _) _ _ _) _ [] _ _
+      c.open_file.ensures _ _ c.in-Refused.is;
+  measured = measure_then_write _ _ _;
+}

@@ -14,10 +14,7 @@ use Rattle.call_unit.proofs.Answers.{write_none, write_refused, write_fits, writ
 use Rattle.call_unit.proofs.write.answer_write.Goals as goal
 
 pub find_unit-requires : goal.find_unit-requires
-find_unit-requires c = (
-  (c.requires.room, omega (arith, few_blocks _ _ c.requires.accepted, c.requires.all), c.requires.all),
-  c.requires.accepted,
-)
+find_unit-requires c = record { has_room = (c.requires.room, omega (arith, few_blocks _ _ c.requires.accepted, c.requires.all), c.requires.all); accepted = c.requires.accepted }
 
 pub returns-in_default : goal.returns-in_default
 unfolding IsFoundUnit
@@ -48,13 +45,13 @@ write_unit-requires c =
     let a = c.args in
     let is : IsUnit a.file.now a.limit a.max a.given.unit _ =
     subst (IsFoundUnit a.file.now a.limit a.max a.given.unit) c.in-At.is
-    (c.find_unit.ensures a.limit c.requires) in (
-      (
+    (c.find_unit.ensures a.limit c.requires) in record {
+      has_room = (
         (c.requires.room, omega (arith, few_blocks _ _ c.requires.accepted, c.requires.all), c.requires.all),
         omega (arith, is.at.here, start_inside c.requires is.at.group),
-      ),
-      c.requires.accepted,
-    )
+      );
+      accepted = c.requires.accepted;
+    }
 
 pub returns : goal.returns
 unfolding IsFoundUnit text_of

@@ -6,4 +6,4 @@ use Rattle.call_unit.proofs.write.write_numbers.Goals as goal
 
 pub returns : goal.returns
 returns c =
-    (rw (← c.write_of-answer.ensures.answer, c.write_numbers_of.ensures, write_numbers_lem), (c.write_of-answer.ensures.measured, c.write_of-answer.ensures.claims))
+    record { answer = rw (← c.write_of-answer.ensures.answer, c.write_numbers_of.ensures, write_numbers_lem); measured = c.write_of-answer.ensures.measured; claims = c.write_of-answer.ensures.claims }

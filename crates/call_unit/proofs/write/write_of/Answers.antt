@@ -13,16 +13,14 @@ write_open-requires c =
     is_open _ _ _ _ _ c.open_file.ensures _ _ c.in-Blocks.is
 
 pub returns-in-Blocks : goal.returns-in-Blocks
-returns-in-Blocks c = (
-  c.write_open.ensures.answer,
-  (measure_then_write _ _ _, unit_claims _ _ _ _),
-)
+returns-in-Blocks c = record { answer = c.write_open.ensures.answer; measured = measure_then_write _ _ _; claims = unit_claims _ _ _ _ }
 
 pub returns-in-Refused : goal.returns-in-Refused
 unfolding write_answer
 returns-in-Refused c =
-    let a = c.args in (
-      refused_call (asks_of_unit (writes a.given) a.limit a.max a.given.unit) _ (_ ∷ [])
-          _ _ c.open_file.ensures _ _ c.in-Refused.is,
-      (measure_then_write _ _ _, unit_claims _ _ _ _),
-    )
+    let a = c.args in record {
+      answer = refused_call (asks_of_unit (writes a.given) a.limit a.max a.given.unit) _ (_ ∷ [])
+          _ _ c.open_file.ensures _ _ c.in-Refused.is;
+      measured = measure_then_write _ _ _;
+      claims = unit_claims _ _ _ _;
+    }

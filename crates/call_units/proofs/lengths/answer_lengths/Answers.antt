@@ -1,7 +1,5 @@
 -- One law for each of the three answers.
 -- Assumes nothing.
-use Prim.Native.Nat.{◌≤◌}
-use borrow.Author.Rules.{rules}
 use mathlib.Core.Path.{subst}
 use native.Mathlib.Omega.{arith}
 use Rattle.file_blocks.proofs.Accepted.{few_blocks}
@@ -10,10 +8,7 @@ use Rattle.call_units.proofs.Answers.{lengths_9, lengths_10, lengths_made}
 use Rattle.call_units.proofs.lengths.answer_lengths.Goals as goal
 
 pub find_start-requires : goal.find_start-requires
-find_start-requires c = (
-  (c.requires.room, omega (arith, few_blocks _ _ c.requires.accepted, c.requires.all), c.requires.all),
-  c.requires.accepted,
-)
+find_start-requires c = record { has_room = (c.requires.room, omega (arith, few_blocks _ _ c.requires.accepted, c.requires.all), c.requires.all); accepted = c.requires.accepted }
 
 pub returns-in_default : goal.returns-in_default
 unfolding IsFoundStart
@@ -28,13 +23,13 @@ returns-in_default c =
 
 pub put_lengths-front-requires : goal.put_lengths-front-requires
 unfolding StartWithin
-put_lengths-front-requires c = (
-  (
+put_lengths-front-requires c = record {
+  has_room = (
     (c.requires.room, omega (arith, few_blocks _ _ c.requires.accepted, c.requires.all), c.requires.all),
     subst (StartWithin c.args.n) c.in-Row.is c.find_start.ensures.within,
-  ),
-  c.requires.accepted,
-)
+  );
+  accepted = c.requires.accepted;
+}
 
 pub returns-then-front-eq0 : goal.returns-then-front-eq0
 unfolding IsFoundStart

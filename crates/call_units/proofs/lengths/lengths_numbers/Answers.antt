@@ -1,6 +1,5 @@
 -- Each case hands over the numbers of its answer.
 -- Assumes nothing.
-use borrow.Author.Rules.{rules}
 use Rattle.call_units.specs.Calls.{lengths_answer}
 use Rattle.call_units.proofs.Answers.{bool_byte_lem}
 use Rattle.call_units.proofs.lengths.lengths_numbers.Goals as goal

@@ -1,7 +1,6 @@
 -- By what opening tells of the file.
 -- Assumes nothing.
 use mathlib.Core.List.{[], ◌∷◌}
-use borrow.Author.Rules.{rules}
 use Rattle.call_frame.proofs.Opening.{is_open, refused_call}
 use Rattle.call_units.specs.Calls.{lengths_answer, asks_lengths}
 use Rattle.call_units.proofs.lengths.lengths_of.Goals as goal

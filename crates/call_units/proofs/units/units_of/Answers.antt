@@ -1,7 +1,6 @@
 -- By what opening tells of the file; the claims hold of every file.
 -- Assumes nothing.
 use mathlib.Core.List.{[], ◌∷◌}
-use borrow.Author.Rules.{rules}
 use Rattle.claim_units.proofs.Claims.{unit_claims}
 use Rattle.call_frame.proofs.Opening.{is_open, refused_call}
 use Rattle.call_units.specs.Calls.{units_answer, asks_units}
@@ -13,12 +12,12 @@ emit_units-requires c =
 
 pub returns-in-Blocks : goal.returns-in-Blocks
 returns-in-Blocks c =
-    (c.emit_units.ensures.answer, unit_claims _ _ _ _)
+    record { answer = c.emit_units.ensures.answer; claims = unit_claims _ _ _ _ }
 
 pub returns-in-Refused : goal.returns-in-Refused
 unfolding units_answer
-returns-in-Refused c = (
-  refused_call (asks_units c.args.asked) _ (_ ∷ _ ∷ []) _ _ c.open_file.ensures
-      _ _ c.in-Refused.is,
-  unit_claims _ _ _ _,
-)
+returns-in-Refused c = record {
+  answer = refused_call (asks_units c.args.asked) _ (_ ∷ _ ∷ []) _ _ c.open_file.ensures
+      _ _ c.in-Refused.is;
+  claims = unit_claims _ _ _ _;
+}
