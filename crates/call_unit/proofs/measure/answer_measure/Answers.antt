@@ -1,6 +1,5 @@
 -- One law for each of the two answers.
 -- Assumes nothing.
-use borrow.Author.Rules.{rules}
 use mathlib.Core.Path.{subst}
 use native.Mathlib.Omega.{arith}
 use Rattle.file_blocks.proofs.Accepted.{few_blocks}

@@ -1,7 +1,6 @@
 -- By what opening tells of the file; the claims hold of every file.
 -- Assumes nothing.
 use mathlib.Core.List.{[]}
-use borrow.Author.Rules.{rules}
 use Rattle.call_frame.proofs.Opening.{is_open, refused_call}
 use Rattle.call_unit.specs.Calls.{measure_answer, asks_of_unit, measures}
 use Rattle.call_unit.proofs.Claims.{measure_then_write}

@@ -1,6 +1,5 @@
 -- The numbers of the answer are handed over, and what else the call leaves stands as it was left.
 -- Assumes nothing.
-use borrow.Author.Rules.{rules}
 use Rattle.call_unit.proofs.Answers.{write_numbers_lem}
 use Rattle.call_unit.proofs.write.write_numbers.Goals as goal
 

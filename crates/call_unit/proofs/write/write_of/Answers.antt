@@ -1,7 +1,6 @@
 -- By what opening tells of the file; the claims hold of every file.
 -- Assumes nothing.
 use mathlib.Core.List.{[], ◌∷◌}
-use borrow.Author.Rules.{rules}
 use Rattle.claim_units.proofs.Claims.{unit_claims}
 use Rattle.call_frame.proofs.Opening.{is_open, refused_call}
 use Rattle.call_unit.specs.Calls.{write_answer, asks_of_unit, writes}

@@ -1,7 +1,6 @@
 -- The work numbers are filled, read and cleared.
 -- Assumes nothing.
 use mathlib.Core.Path.{◌∙◌}
-use borrow.Author.Rules.{rules}
 use Rattle.call_frame.proofs.Opening.{settled_call}
 use Rattle.call_frame.proofs.Settling.{cleared_same}
 use Rattle.call_unit.specs.Calls.{asks_of_unit, writes}
