@@ -1,4 +1,5 @@
 -- The laws that proofs cite.
 mod Filled
+mod Printed
 pub mod Same
 mod Words

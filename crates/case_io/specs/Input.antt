@@ -1,5 +1,6 @@
 -- Steps: what the reading of numbers and files promises, where the bytes of the input are known.
-use Rattle.std.specs.Prelude.{ℕ, zero, suc, ◌*◌, ◌≡◌, ◌≤◌, ◌<◌, ◌+◌, Bool, true, false, Option, IfSome, List, [], ◌∷◌, ◌++◌, length, take, drop}
+use Rattle.std.specs.Prelude.{ℕ, zero, suc, ◌*◌, ◌≡◌, ◌≤◌, ◌<◌, ◌+◌, Bool, true, false, Option}
+use Rattle.std.specs.Prelude.{IfSome, List, [], ◌∷◌, ◌++◌, length, take, drop}
 use Rattle.std.specs.Io.KnownBytes.{Consumes, IsAtEnd}
 use Rattle.file_records.specs.Bytes.{word_at}
 use Rattle.case_io.specs.declared.input.Read.{Read}

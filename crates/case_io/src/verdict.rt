@@ -1,5 +1,7 @@
 // The sections of the input, and what becomes of a vector.
-ghost use Rattle.std.specs.Prelude.{◌≡◌, IfOk};
+ghost use Rattle.std.specs.Prelude.{◌≡◌, IfOk, OnOk};
+ghost use Rattle.std.specs.Io.KnownBytes.{Appends};
+ghost use Rattle.case_io.specs.Lines.{early_line, long_line};
 ghost use Rattle.case_io.specs.declared.verdict.Verdict.TheVariants.{Broken};
 
 use crate::report;
@@ -33,7 +35,9 @@ pub enum Verdict {
 
 // The verdict of a vector in which the input ends.
 pub fn ended<W: io::Write>(out: &mut W, k: u64) -> io::Result<Verdict>
-    ensures { IfOk result (λ v. v ≡ Broken) }
+    ensures broken { IfOk result (λ v. v ≡ Broken) }
+    ensures printed { OnOk result
+        (Appends (W.contents out.old) (W.contents out.new) (early_line k)) }
 {
     report::ends_early(out, k)?;
     Ok(Verdict::Broken)
@@ -41,7 +45,9 @@ pub fn ended<W: io::Write>(out: &mut W, k: u64) -> io::Result<Verdict>
 
 // The verdict of a vector that the buffers do not hold.
 pub fn too_long<W: io::Write>(out: &mut W, k: u64) -> io::Result<Verdict>
-    ensures { IfOk result (λ v. v ≡ Broken) }
+    ensures broken { IfOk result (λ v. v ≡ Broken) }
+    ensures printed { OnOk result
+        (Appends (W.contents out.old) (W.contents out.new) (long_line k)) }
 {
     report::too_long(out, k)?;
     Ok(Verdict::Broken)

@@ -1,2 +1,3 @@
 -- The definitions that promises on vectors name.
 pub mod Left
+pub mod Told

@@ -3,7 +3,9 @@
 #![tactic(auto)]
 
 ghost use Rattle.std.specs.Prelude.{◌≡◌, length, IfOk};
+ghost use Rattle.case_io.specs.Lines.{mismatch_line, work_line, text_line};
 ghost use Rattle.case_io.specs.Same.{same_numbers};
+ghost use Rattle.case_lent.specs.Told.{TellsFirst, Tells};
 
 use case_io::verdict::Section;
 use case_io::{compare, report};
@@ -31,7 +33,10 @@ pub fn same_work<W: io::Write>(
     got: &[u32],
 ) -> io::Result<bool>
     requires { length expected.now ≡ length got.now }
-    ensures { IfOk result (λ same. same ≡ same_numbers expected.now got.now) }
+    ensures same { IfOk result (λ same. same ≡ same_numbers expected.now got.now) }
+    ensures told { IfOk result
+        (TellsFirst (work_line section k) expected.now got.now
+        (W.contents out.old) (W.contents out.new)) }
 {
     let mut i = 0;
     while i < expected.len() {
@@ -53,7 +58,10 @@ pub fn same_text<W: io::Write>(
     got: &[u8],
 ) -> io::Result<bool>
     requires { length expected.now ≡ length got.now }
-    ensures { IfOk result (λ same. same ≡ same_numbers expected.now got.now) }
+    ensures same { IfOk result (λ same. same ≡ same_numbers expected.now got.now) }
+    ensures told { IfOk result
+        (TellsFirst (text_line section k) expected.now got.now
+        (W.contents out.old) (W.contents out.new)) }
 {
     let mut i = 0;
     while i < expected.len() {
@@ -74,7 +82,10 @@ pub fn same_lengths<W: io::Write>(
     expected: &[u64; LENGTHS],
     got: &[u64; LENGTHS],
 ) -> io::Result<bool>
-    ensures { IfOk result (λ same. same ≡ same_numbers expected.now got.now) }
+    ensures same { IfOk result (λ same. same ≡ same_numbers expected.now got.now) }
+    ensures told { IfOk result
+        (Tells (mismatch_line section k expected.now got.now)
+        (W.contents out.old) (W.contents out.new)) }
 {
     if compare::same(expected, got) {
         return Ok(true);

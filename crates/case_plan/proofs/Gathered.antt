@@ -54,7 +54,8 @@ three_and_lent h = get_or h.numbers 0 0 ∷ get_or h.numbers 1 0 ∷ get_or h.nu
     ∷ (h.work ++ the_result h.results)
 
 by_answer : (a : Answer ℕ) (l : List ℕ)
-    → get_or (numbers_of 1 (λ (n : ℕ). n ∷ []) a) 0 0 ∷ get_or (numbers_of 1 (λ (n : ℕ). n ∷ []) a) 1 0
+    → get_or (numbers_of 1 (λ (n : ℕ). n ∷ []) a) 0 0
+    ∷ get_or (numbers_of 1 (λ (n : ℕ). n ∷ []) a) 1 0
     ∷ get_or (numbers_of 1 (λ (n : ℕ). n ∷ []) a) 2 0 ∷ l
     ≡ numbers_of 1 (λ (n : ℕ). n ∷ []) a ++ l
 by_answer (refusal n i) l = refl

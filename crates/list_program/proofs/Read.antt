@@ -1,5 +1,6 @@
 -- What is printed for a part of what can be read, as for all of it.
-use Rattle.std.proofs.Common.{◌≡◌, ℕ, ◌+◌, ◌≤◌, ◌<◌, List, [], ◌++◌, length, take, sym, ap, ◌∙◌, arith, refl, Bool, true, false, append-nil, length-append, subst}
+use Rattle.std.proofs.Common.{◌≡◌, ℕ, ◌≤◌, ◌<◌, List, [], ◌++◌, length, sym, ap, ◌∙◌}
+use Rattle.std.proofs.Common.{arith, refl, Bool, true, false, append-nil, length-append, subst}
 use Rattle.std.specs.Prelude.{Option, None, Some, Result, Ok, Err, OnOk, IfSome}
 use Rattle.std.specs.Io.KnownBytes.{Appends, Consumes, IsAtEnd}
 use lib.Dec.{ltb}
@@ -13,11 +14,9 @@ by_length : (f front rest : List ℕ) → f ≡ front ++ rest
     → output front ≡ output f
 unfolding output
 by_length f front rest is ends true long =
-    rw (
-      long,
-      lt-ltb longest (length f)
-          (omega (arith, ap length is, length-append front rest, ltb-true longest (length front) long)),
-    )
+    let part : longest < length front = ltb-true longest (length front) long in
+    let all : longest < length f = omega (arith, ap length is, length-append front rest, part) in
+    rw (long, lt-ltb longest (length f) all)
 by_length f front rest is ends false short =
     ap output (sym (append-nil front)
     ∙ ap (λ l. front ++ l) (sym (ends (ltb-false longest (length front) short))) ∙ sym is)

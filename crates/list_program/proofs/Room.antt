@@ -1,6 +1,6 @@
 -- For a file of at most 65,536 bytes the lent buffers suffice: the listing's call refuses only what
 -- the file's rules refuse. Assumes nothing.
-use Prim.Native.Nat.{ℕ, ◌+◌, ◌*◌, ◌≤◌, ◌<◌}
+use Prim.Native.Nat.{ℕ, ◌*◌, ◌≤◌, ◌<◌}
 use mathlib.Core.Path.{◌≡◌, refl, sym, ap, ap₂, ◌∙◌}
 use mathlib.Core.List.{List, [], ◌∷◌, ◌++◌}
 use native.Mathlib.Omega.{arith}
@@ -63,7 +63,8 @@ line_shown {out₁} {out₂} {r} {d} w h =
 module _ (f : List ℕ) (short : length f ≤ longest) where
   few : (bs : List Block) → parse f ≡ Parsed.accepted bs → 16 * length bs ≤ 65504
   few bs is =
-      omega (arith, length_of_lem f bs is, (sections_of f bs is).touch, (sections_of f bs is).instrs)
+      let sections = sections_of f bs is in
+      omega (arith, length_of_lem f bs is, sections.touch, sections.instrs)
 
   call_is : (work out : List ℕ) → 16384 ≤ length work → room ≤ length out → (p : Parsed)
       → parse f ≡ p → listing_call part_limit p work out ≡ listed p work out

@@ -1,5 +1,6 @@
 -- To be believed: what the program prints.
-use Rattle.std.specs.Prelude.{ℕ, ◌≡◌, refl, cond, List, [], ◌∷◌, ltb, length, take, get_or, replicate}
+use Rattle.std.specs.Prelude.{ℕ, ◌≡◌, refl, cond, List, [], ◌∷◌, ltb, length, take, get_or}
+use Rattle.std.specs.Prelude.{replicate}
 use Rattle.base_text.specs.Digits.{numeral, last_digits}
 use Rattle.base_text.specs.Doc.{Doc, text, dec, decimal, ◌▸◌, print}
 use Rattle.file_blocks.specs.Parse.{parse}

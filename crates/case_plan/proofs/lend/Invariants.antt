@@ -7,7 +7,9 @@ use Rattle.case_plan.proofs.lend.Given as goal
 
 abbrev pub invariant-loop-i : goal.invariant-loop-i
 invariant-loop-i l =
-    (l.i ≤ length l.initial.lent) × (length l.lent ≡ length l.initial.lent) × (l.at + length l.initial.lent ≤ length l.list)
+    (l.i ≤ length l.initial.lent)
+    × (length l.lent ≡ length l.initial.lent)
+    × (l.at + length l.initial.lent ≤ length l.list)
 
 abbrev pub decreases-loop-i : goal.decreases-loop-i
 decreases-loop-i l = length l.initial.lent - l.i

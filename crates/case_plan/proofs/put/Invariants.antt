@@ -8,7 +8,9 @@ use Rattle.case_plan.proofs.put.Given as goal
 
 abbrev pub invariant-loop-i : goal.invariant-loop-i
 invariant-loop-i l =
-    (l.i ≤ length l.lent) × (l.at + length l.lent ≤ length l.initial.list) × (length l.list ≡ length l.initial.list)
+    (l.i ≤ length l.lent)
+    × (l.at + length l.lent ≤ length l.initial.list)
+    × (length l.list ≡ length l.initial.list)
     × (l.list ≡ paste l.initial.list l.at l.lent l.i)
 
 abbrev pub decreases-loop-i : goal.decreases-loop-i

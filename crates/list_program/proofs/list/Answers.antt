@@ -1,4 +1,4 @@
-use Rattle.std.proofs.Common.{rules, length, take, length-take-le, arith}
+use Rattle.std.proofs.Common.{take, length-take-le, arith}
 use Rattle.list_program.proofs.Read.{printed}
 use Rattle.list_program.proofs.list.Goals as goal
 

@@ -1,0 +1,11 @@
+-- The pieces of the line, one after the other.
+use Rattle.case_io.proofs.Printed.{and_then}
+use Rattle.case_io.proofs.report.place_differs.Goals as goal
+
+pub returns : goal.returns
+returns g c =
+    and_then _ _ _ _ _ _ c.in_ok-number.ensures
+    (and_then _ _ _ _ _ _ c.in_ok-text.ensures
+    (and_then _ _ _ _ _ _ c.in_ok-number-2.ensures
+    (and_then _ _ _ _ _ _ c.in_ok-text-2.ensures
+    (and_then _ _ _ _ _ _ c.in_ok-number-3.ensures c.text-3.ensures))))
