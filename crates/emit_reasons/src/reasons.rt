@@ -161,6 +161,7 @@ pub(crate) fn pops_pc(
 }
 
 // The reason of a BlockMem that is not that pop.
+#[tactic(auto, using(crate::proofs::ListOrder::in_order))]
 fn list_reason(load: bool, rn: u8, rlist: u16, s_bit: bool) -> Why
     ensures { why_of result ≡ cond s_bit (some UserRegisters) (cond (eqb rlist 0) (some EmptyList) (cond
         (eqb rn 15) (some PcBase) (cond (load && is_listed rlist 15) (some PcLoaded) none))) }
