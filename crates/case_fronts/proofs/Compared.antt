@@ -21,7 +21,7 @@ pub compared_units : (answer work text lengths w t l moreWork moreText more got 
 compared_units answer work text lengths w t l moreWork moreText more got h is one two three four =
     (λ i. one i && (two i && (three i && four i)))
     ∙ ap (λ (k : Handed).
-      same_front answer work text lengths (with_rest k moreWork moreText more)) is
+    same_front answer work text lengths (with_rest k moreWork moreText more)) is
 
 -- what three come to, where got, w and l are what the call for lengths answered and left
 pub compared_lengths : (answer work lengths w l moreWork more got : List ℕ) (h : Handed)
