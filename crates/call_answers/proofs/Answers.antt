@@ -33,3 +33,8 @@ module _ (given found : Told) (room : ℕ) where
           (WriteAnswer.Refused 11 0))
       go true same = by_room (ltb room found.length) refl same
       go false other = differs other
+
+-- another value that is given is refused, whatever the room
+pub differs_first : (given found : Told) (room : ℕ) → same_values given found ≡ false
+    → WriteAnswer.Refused 11 0 ≡ answer_in given found room
+differs_first given found room e = rw e refl

@@ -63,6 +63,7 @@ pub fn same_values(given: Told, found: Told) -> bool
 
 // The answer for a unit that is to be written by what is given for it, where there is room for so
 // many bytes.
+#[tactic(auto, using(crate::proofs::Answers::differs_first))]
 pub fn answer_in(given: Told, found: Told, room: usize) -> WriteAnswer
     ensures { result ≡ answer_in given found room }
 {
