@@ -33,7 +33,7 @@ LOCAL = {
 }
 # names that two files declare each for itself
 APART = {"left_in", "has_code", "go_on", "set_word", "base_back", "count_at", "too_short"}
-APART |= {"as_before", "with_root", "in_order"}
+APART |= {"as_before", "with_root", "in_order", "keys_from"}
 
 
 def snake(name):
