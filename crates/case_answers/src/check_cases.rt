@@ -1,4 +1,6 @@
 // The section of the check: block files, each with the numbers that the check must answer.
+// An error of the input or of the output is handed on: the input may then have been read, and a
+// line printed, in part.
 ghost use Rattle.std.specs.Prelude.{◌≡◌, IfOk};
 ghost use Rattle.file_blocks.specs.Parse.{parse};
 ghost use Rattle.case_io.specs.Same.{same_numbers};

@@ -1,5 +1,7 @@
 // The section of the exits: block files, each with the number of a block and the numbers that the
 // call for its exits must answer.
+// An error of the input or of the output is handed on: the input may then have been read, and a
+// line printed, in part.
 ghost use Rattle.std.specs.Prelude.{◌≡◌, IfOk};
 ghost use Rattle.file_blocks.specs.Parse.{parse};
 ghost use Rattle.call_exits.specs.Calls.{exits_call, exits_numbers};

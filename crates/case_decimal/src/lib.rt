@@ -1,5 +1,7 @@
 // The section of the decimal printer: numbers, each with an index and how much to lend, and what
 // the printer must answer and leave in what it was lent.
+// An error of the input or of the output is handed on: the input may then have been read, and a
+// line printed, in part.
 #![tactic(auto)]
 
 ghost use Rattle.std.specs.Prelude.{◌≡◌, ◌∷◌, [], ◌≤◌, IfOk};

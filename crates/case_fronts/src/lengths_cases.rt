@@ -1,4 +1,6 @@
 // The section of the lengths of the units from one on.
+// An error of the input or of the output is handed on: the input may then have been read, and a
+// line printed, in part.
 ghost use Rattle.std.specs.Prelude.{◌≡◌, ◌∷◌, [], ◌≤◌, IfOk};
 ghost use Rattle.file_blocks.specs.Parse.{parse};
 ghost use Rattle.plan_groups.specs.Limit.{part_limit};

@@ -1,4 +1,5 @@
 // The sections of the input, and what becomes of a vector.
+// An error of the output is handed on: a part of the line may then have been printed.
 ghost use Rattle.std.specs.Prelude.{◌≡◌, IfOk, OnOk};
 ghost use Rattle.std.specs.Io.KnownBytes.{Appends};
 ghost use Rattle.case_io.specs.Lines.{early_line, long_line};

@@ -1,5 +1,6 @@
 // What vectors lend: numbers and bytes that no call writes, of which each vector lends a front, and
 // the comparison of what stands in all of them afterwards.
+// An error of the output is handed on: a part of the line may then have been printed.
 #![tactic(auto)]
 
 ghost use Rattle.std.specs.Prelude.{◌≡◌, length, IfOk};

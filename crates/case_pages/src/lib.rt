@@ -1,5 +1,7 @@
 // The sections of one page of the plan and of the pages from one on: block files, each with the
 // page asked for and how much to lend, and what the call must answer and leave in what it was lent.
+// An error of the input or of the output is handed on: the input may then have been read, and a
+// line printed, in part.
 #![tactic(auto)]
 
 ghost use Rattle.std.specs.Prelude.{◌≡◌, ◌∷◌, [], ◌≤◌, IfOk};

@@ -1,5 +1,7 @@
 // The section of the plan: block files, each with how many numbers to lend, and the numbers that
 // the call for its plan must answer and leave in what it was lent.
+// An error of the input or of the output is handed on: the input may then have been read, and a
+// line printed, in part.
 #![tactic(auto)]
 
 ghost use Rattle.std.specs.Prelude.{◌≡◌, ◌∷◌, [], ◌+◌, ◌≤◌, length, IfOk};

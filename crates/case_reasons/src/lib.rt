@@ -1,6 +1,8 @@
 // The sections of the sentence of one instruction and of those from one on: block files, each with
 // the instruction asked for and how much to lend, and what the call must answer and leave in what
 // it was lent.
+// An error of the input or of the output is handed on: the input may then have been read, and a
+// line printed, in part.
 #![tactic(auto)]
 
 ghost use Rattle.std.specs.Prelude.{◌≡◌, ◌∷◌, [], ◌≤◌, IfOk};

@@ -1,4 +1,6 @@
 // Replays the stored vectors of standard input, section by section, and prints what differs.
+// An error of the input or of the output is handed on: the input may then have been read, and a
+// line printed, in part.
 #![tactic(auto)]
 
 mod sections;

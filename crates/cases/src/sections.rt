@@ -1,4 +1,6 @@
 // The sections of the input: a count of vectors, and the vectors.
+// An error of the input or of the output is handed on: the input may then have been read, and a
+// line printed, in part.
 use case_answers::{check_cases, exits_cases};
 use case_fronts::{lengths_cases, units_cases};
 use case_io::input::Read;

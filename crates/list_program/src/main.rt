@@ -1,4 +1,6 @@
 // Prints the listing of the block file on standard input.
+// An error of the input or of the output is handed on: the input may then have been read, and a
+// line printed, in part.
 #![tactic(auto)]
 
 ghost use Rattle.std.specs.Prelude.{◌≡◌, ◌+◌, ◌≤◌, ◌<◌, length, take, IfOk, OnOk, IfSome};
