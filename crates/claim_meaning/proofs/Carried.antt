@@ -11,8 +11,6 @@ use borrow.Author.Tests.{eqb-true, eqb-false}
 use lib.Dec.{eqb, lit<}
 use Rattle.armv4t.specs.Bit0.{clear_bit0}
 use Rattle.armv4t.specs.Instr.{size_of}
-use Rattle.armv4t.specs.declared.Fused.{Fused}
-use Rattle.armv4t.specs.declared.Fused.TheVariants.{Pair, Nothing}
 use Rattle.armv4t.specs.Fused.{fuse}
 use Rattle.file_instrs.specs.declared.decode.TimedInstr.{TimedInstr}
 use Rattle.file_blocks.specs.Parse.{Block}
@@ -566,7 +564,7 @@ module _ (multiplier : ℕ) (ks : List ℕ) (b : Block) (step : ℕ → ℕ → 
       go : ((i cycles before : ℕ) (z : State) (m : Machine) → AtRecord step before z m
           → Done step before multiplier ks b (y ∷ ys) m i
           (emit_instrs b.thumb (region b.addr) cycles (y ∷ ys)).0 z)
-          → (f : Fused) → fuse x.instr y.instr ≡ f
+          → (f : Option (ℕ × ℕ)) → fuse x.instr y.instr ≡ f
           → Done step before multiplier ks b (x ∷ y ∷ ys) m i
           (fused_or f (cons_form s.0 fs)
           (λ target ret. cons_form (Form.native (emit_pair (cycles + (x.cost + y.cost)) target ret))

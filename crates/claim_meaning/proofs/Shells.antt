@@ -10,8 +10,6 @@ use Rattle.armv4t.specs.declared.Op.TheVariants.{Alu, Mul, MulLong, Swap, Bx, Br
 use Rattle.armv4t.specs.declared.Op.TheVariants.{ThumbBlLow, Mem, BlockMem, Mrs, MsrReg, MsrImm}
 use Rattle.armv4t.specs.declared.Op.TheVariants.{Swi, Undefined}
 use Rattle.armv4t.specs.declared.Instr.{Instr}
-use Rattle.armv4t.specs.declared.Fused.{Fused}
-use Rattle.armv4t.specs.declared.Fused.TheVariants.{Pair, Nothing}
 use Rattle.armv4t.specs.Fused.{fuse, fuse_low, fuse_ops}
 use Rattle.file_instrs.specs.declared.decode.TimedInstr.{TimedInstr}
 use Rattle.c_tree.specs.Expr.{u32, x-pc}
@@ -96,7 +94,7 @@ unfolding emit_instrs
 some_form thumb region cycles x [] = (_, _, refl)
 some_form thumb region cycles x (y ∷ ys) = go (fuse x.instr y.instr)
   where
-    go : (f : Fused) → (r : Form) × (rs : List Form)
+    go : (f : Option (ℕ × ℕ)) → (r : Form) × (rs : List Form)
         × ((fused_or f
         (cons_form (emit_instr thumb region cycles x).0
         (emit_instrs thumb region (emit_instr thumb region cycles x).1 (y ∷ ys)))

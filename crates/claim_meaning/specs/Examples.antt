@@ -6,7 +6,6 @@ use Rattle.std.proofs.Math.Option.{some}
 use Rattle.armv4t.specs.declared.Cond.TheVariants.{Al}
 use Rattle.armv4t.specs.declared.Op.{Op}
 use Rattle.armv4t.specs.declared.Op.TheVariants.{ThumbBlHigh, ThumbBlLow, BlockMem}
-use Rattle.armv4t.specs.declared.Fused.TheVariants.{Pair}
 use Rattle.armv4t.specs.Fused.{fuse}
 use Rattle.file_instrs.specs.declared.decode.TimedInstr.{TimedInstr}
 use Rattle.c_tree.specs.Stmt.{common, end}

@@ -12,8 +12,6 @@ use borrow.Author.Tests.{eq-eqb, ne_eqb}
 use lib.Dec.{eqb}
 use lib.ListN.{length, get_or}
 use Rattle.base_lists.specs.Lists.{is_some}
-use Rattle.armv4t.specs.declared.Fused.{Fused}
-use Rattle.armv4t.specs.declared.Fused.TheVariants.{Pair, Nothing}
 use Rattle.armv4t.specs.Fused.{fuse}
 use Rattle.file_instrs.specs.declared.decode.TimedInstr.{TimedInstr}
 use Rattle.file_blocks.specs.Parse.{Block}
@@ -118,7 +116,7 @@ module _ (thumb : Bool) (area cycles p : ℕ) (x : TimedInstr) (rs : List Form) 
 
 module _ (thumb : Bool) (area cycles p : ℕ) (x y : TimedInstr) (rest : List TimedInstr) where
   -- what the loop makes of two instructions and the rest, by whether the two fuse
-  abbrev loop : Fused → List Form
+  abbrev loop : Option (ℕ × ℕ) → List Form
   loop f =
       (fused_or f
       (cons_form (emit_instr thumb area cycles x).0
@@ -128,21 +126,21 @@ module _ (thumb : Bool) (area cycles p : ℕ) (x y : TimedInstr) (rest : List Ti
       ).0
 
   -- what is said of them
-  abbrev said : Fused → List (Option Said)
+  abbrev said : Option (ℕ × ℕ) → List (Option Said)
   said f =
       cond (is_pair f)
       (nothing_of (x ∷ y ∷ rest))
       (said_of area x.instr
       ∷ cond (drops_rest area x.instr) (nothing_of (y ∷ rest)) (said_each area (y ∷ rest)))
 
-  by_first : (f : Fused) → shell_from (p + 0) p (loop f) ≡ is_some (get_or (said f) 0 none)
+  by_first : (f : Option (ℕ × ℕ)) → shell_from (p + 0) p (loop f) ≡ is_some (get_or (said f) 0 none)
   unfolding shell_from
   by_first Nothing =
       here thumb area cycles p x
       (emit_instrs thumb area (emit_instr thumb area cycles x).1 (y ∷ rest)).0
   by_first (Pair target ret) = refl
 
-  by_later : (f : Fused) (j : ℕ)
+  by_later : (f : Option (ℕ × ℕ)) (j : ℕ)
       → shell_from (p + 1 + j) (p + 1)
       (emit_instrs thumb area (emit_instr thumb area cycles x).1 (y ∷ rest)).0
       ≡ is_some (get_or (said_each area (y ∷ rest)) j none)

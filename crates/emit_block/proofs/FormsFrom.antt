@@ -2,7 +2,6 @@
 -- after it. Assumes nothing.
 use Rattle.std.proofs.Common.{◌≡◌, ℕ, suc, ◌+◌, ◌<◌, Bool, true, false, eqb, List, [], ◌∷◌, drop, sym, refl, ap, ◌∙◌, arith, eqb-true}
 use borrow.Author.Tests.{eqb-false}
-use Rattle.armv4t.specs.declared.Fused.{Fused}
 use Rattle.armv4t.specs.Fused.{fuse}
 use Rattle.file_instrs.specs.declared.decode.TimedInstr.{TimedInstr}
 use Rattle.file_blocks.specs.Parse.{instrs_from}
@@ -23,7 +22,7 @@ module _ (thumb : Bool) (region cycles : ℕ) (x : TimedInstr) where
   instrs_alone [] e = refl
   instrs_alone (y ∷ ys) e = by (fuse x.instr y.instr) e
     where
-      by : (o : Fused) → fused_next o y.cost ≡ Next.Alone
+      by : (o : Option (ℕ × ℕ)) → fused_next o y.cost ≡ Next.Alone
           → fused_or o
           (cons_form (emit_instr thumb region cycles x).0
           (emit_instrs thumb region (emit_instr thumb region cycles x).1 (y ∷ ys)))
@@ -31,8 +30,8 @@ module _ (thumb : Bool) (region cycles : ℕ) (x : TimedInstr) where
           (emit_instrs thumb region 0 ys))
           ≡ cons_form (emit_instr thumb region cycles x).0
           (emit_instrs thumb region (emit_instr thumb region cycles x).1 (y ∷ ys))
-      by Fused.Nothing e = refl
-      by (Fused.Pair target ret) e = absurd (let z : ◌≡◌ {A = ℕ} 0 1 = cc in omega arith)
+      by None e = refl
+      by (PAIR target ret) e = absurd (let z : ◌≡◌ {A = ℕ} 0 1 = cc in omega arith)
 
   -- a fused pair, whatever stands after it
   pub instrs_pair : (ys : List TimedInstr) (target ret cost : ℕ)
@@ -44,7 +43,7 @@ module _ (thumb : Bool) (region cycles : ℕ) (x : TimedInstr) where
   instrs_pair [] target ret cost e = absurd (let z : ◌≡◌ {A = ℕ} 0 1 = cc in omega arith)
   instrs_pair (y ∷ ys) target ret cost e = by (fuse x.instr y.instr) e
     where
-      by : (o : Fused) → fused_next o y.cost ≡ Next.Pair target ret cost
+      by : (o : Option (ℕ × ℕ)) → fused_next o y.cost ≡ Next.Pair target ret cost
           → (fs : List Form)
           × ((fused_or o
           (cons_form (emit_instr thumb region cycles x).0
@@ -52,8 +51,8 @@ module _ (thumb : Bool) (region cycles : ℕ) (x : TimedInstr) where
           (λ target ret. cons_form (Form.native (emit_pair (cycles + (x.cost + y.cost)) target ret))
           (emit_instrs thumb region 0 ys))).0
           ≡ Form.native (emit_pair (cycles + (x.cost + cost)) target ret) ∷ fs)
-      by Fused.Nothing e = absurd (let z : ◌≡◌ {A = ℕ} 0 1 = cc in omega arith)
-      by (Fused.Pair t r) e = ((emit_instrs thumb region 0 ys).0, cc)
+      by None e = absurd (let z : ◌≡◌ {A = ℕ} 0 1 = cc in omega arith)
+      by (PAIR t r) e = ((emit_instrs thumb region 0 ys).0, cc)
 
 -- there are forms exactly if there are instructions
 pub empty_forms : (thumb : Bool) (region cycles : ℕ) (x : TimedInstr) (ys : List TimedInstr)
@@ -62,15 +61,15 @@ unfolding emit_instrs
 empty_forms thumb region cycles x [] = refl
 empty_forms thumb region cycles x (y ∷ ys) = by (fuse x.instr y.instr)
   where
-    by : (o : Fused)
+    by : (o : Option (ℕ × ℕ))
         → is_empty
         (fused_or o
         (cons_form (emit_instr thumb region cycles x).0
         (emit_instrs thumb region (emit_instr thumb region cycles x).1 (y ∷ ys)))
         (λ target ret. cons_form (Form.native (emit_pair (cycles + (x.cost + y.cost)) target ret))
         (emit_instrs thumb region 0 ys))).0 ≡ false
-    by Fused.Nothing = refl
-    by (Fused.Pair t r) = refl
+    by None = refl
+    by (PAIR t r) = refl
 
 -- an instruction is the last exactly if there is no form after it
 pub empty_after : (f : List ℕ) (thumb : Bool) (n k addr j region cycles : ℕ) → j < n

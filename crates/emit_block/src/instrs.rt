@@ -19,7 +19,7 @@ use armv4t::{Op, set_bit0};
 use emit_flow::emit_pair;
 use emit_instr::{Setting, Step, emit_instr};
 use file_blocks::{
-    BlockRecord, FoundInstr, Next, TimedInstr, instr_of, key_of, next_of, region_of,
+    BlockRecord, Next, TimedInstr, instr_of, key_of, next_of, region_of,
 };
 
 // Whether a branch goes to a block of the same group; the answer for other operations is of no use.
@@ -99,7 +99,7 @@ pub(crate) fn emit_record(
         out.new result }
 {
     let block = m.block;
-    let FoundInstr::At(x) = instr_of(file, block, m.first, j) else {
+    let Some(x) = instr_of(file, block, m.first, j) else {
         return Step {
             at,
             cycles,

@@ -7,7 +7,6 @@ use mathlib.Core.List.{List, [], ◌∷◌}
 use mathlib.Core.Option.{Option, none}
 use native.Mathlib.Omega.{arith}
 use lib.ListN.{drop, get_or}
-use Rattle.armv4t.specs.declared.Fused.{Fused}
 use Rattle.armv4t.specs.declared.Instr.{Instr}
 use Rattle.armv4t.specs.Fused.{fuse}
 use Rattle.file_instrs.specs.declared.decode.TimedInstr.{TimedInstr}
@@ -27,9 +26,9 @@ pairs_next : (x : Instr) (ys : List TimedInstr) → pairs x ys ≡ is_pair_next 
 pairs_next x [] = refl
 pairs_next x (y ∷ ys) = by (fuse x y.instr)
   where
-    by : (f : Fused) → is_pair f ≡ is_pair_next (fused_next f y.cost)
-    by Fused.Nothing = refl
-    by (Fused.Pair target ret) = refl
+    by : (f : Option (ℕ × ℕ)) → is_pair f ≡ is_pair_next (fused_next f y.cost)
+    by None = refl
+    by (PAIR target ret) = refl
 
 -- so what was told of it
 pub pairs_told : (x : Instr) (ys : List TimedInstr) {n m : Next} → n ≡ next_of x ys → n ≡ m

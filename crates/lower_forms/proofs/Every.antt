@@ -7,8 +7,6 @@ use Rattle.armv4t.specs.declared.Op.TheVariants.{Alu, Mul, MulLong, Swap, Bx, Br
 use Rattle.armv4t.specs.declared.Op.TheVariants.{ThumbBlLow, Mem, BlockMem, Mrs, MsrReg, MsrImm}
 use Rattle.armv4t.specs.declared.Op.TheVariants.{Swi, Undefined}
 use Rattle.armv4t.specs.declared.Instr.{Instr}
-use Rattle.armv4t.specs.declared.Fused.{Fused}
-use Rattle.armv4t.specs.declared.Fused.TheVariants.{Pair, Nothing}
 use Rattle.armv4t.specs.Fused.{fuse}
 use Rattle.file_instrs.specs.declared.decode.TimedInstr.{TimedInstr}
 use Rattle.file_blocks.specs.Parse.{Block}
@@ -23,7 +21,7 @@ use Rattle.base_lists.proofs.Each.{Each}
 use Rattle.base_lists.proofs.Bools.{either}
 
 -- what holds of both is held by a fused pair or not
-pub fused_or_lem : {A : Type 0} (P : A → Type 0) (f : Fused) {x : A} {g : ℕ → ℕ → A} → P x
+pub fused_or_lem : {A : Type 0} (P : A → Type 0) (f : Option (ℕ × ℕ)) {x : A} {g : ℕ → ℕ → A} → P x
     → ((t r : ℕ) → P (g t r)) → P (fused_or f x g)
 fused_or_lem P Nothing p q = p
 fused_or_lem P (Pair t r) p q = q t r

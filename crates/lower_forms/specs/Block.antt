@@ -7,8 +7,6 @@ use Rattle.armv4t.specs.declared.Op.TheVariants.{Alu, Mul, MulLong, Swap, Bx, Br
 use Rattle.armv4t.specs.declared.Op.TheVariants.{ThumbBlLow, Mem, BlockMem, Mrs, MsrReg, MsrImm}
 use Rattle.armv4t.specs.declared.Op.TheVariants.{Swi, Undefined}
 use Rattle.armv4t.specs.declared.Instr.{Instr}
-use Rattle.armv4t.specs.declared.Fused.{Fused}
-use Rattle.armv4t.specs.declared.Fused.TheVariants.{Pair, Nothing}
 use Rattle.armv4t.specs.Bit0.{clear_bit0, set_bit0}
 use Rattle.armv4t.specs.Fused.{fuse}
 use Rattle.file_instrs.specs.declared.decode.TimedInstr.{TimedInstr}
@@ -130,7 +128,7 @@ unfoldable pub emit_instr : Bool → ℕ → ℕ → TimedInstr → Form × ℕ
 emit_instr thumb region cycles x = emit_op thumb region cycles x x.instr.op
 
 -- `unfused` where nothing fused, else f of target and return address
-abbrev pub fused_or : {A : Type 0} → Fused → A → (ℕ → ℕ → A) → A
+abbrev pub fused_or : {A : Type 0} → Option (ℕ × ℕ) → A → (ℕ → ℕ → A) → A
 fused_or Nothing unfused f = unfused
 fused_or (Pair target ret) unfused f = f target ret
 

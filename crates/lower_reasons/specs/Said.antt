@@ -7,8 +7,6 @@ use Rattle.base_lists.specs.Lists.{is_some}
 use Rattle.armv4t.specs.declared.Cond.{Cond}
 use Rattle.armv4t.specs.declared.Op.{Op}
 use Rattle.armv4t.specs.declared.Instr.{Instr}
-use Rattle.armv4t.specs.declared.Fused.{Fused}
-use Rattle.armv4t.specs.declared.Fused.TheVariants.{Pair, Nothing}
 use Rattle.armv4t.specs.Cond.{is_al}
 use Rattle.armv4t.specs.Fused.{fuse}
 use Rattle.file_instrs.specs.declared.decode.TimedInstr.{TimedInstr}
@@ -30,7 +28,7 @@ abbrev pub has_code : Block → Bool
 has_code b = not (outside_rom_bios b.addr) || is_some b.code
 
 -- whether two halves make a pair
-abbrev pub is_pair : Fused → Bool
+abbrev pub is_pair : Option (ℕ × ℕ) → Bool
 is_pair (Pair target ret) = true
 is_pair Nothing = false
 

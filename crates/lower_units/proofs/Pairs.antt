@@ -13,8 +13,6 @@ use Rattle.armv4t.specs.declared.Op.TheVariants.{Alu, Mul, MulLong, Swap, Bx, Br
 use Rattle.armv4t.specs.declared.Op.TheVariants.{ThumbBlLow, Mem, BlockMem, Mrs, MsrReg, MsrImm}
 use Rattle.armv4t.specs.declared.Op.TheVariants.{Swi, Undefined}
 use Rattle.armv4t.specs.declared.Instr.{Instr}
-use Rattle.armv4t.specs.declared.Fused.{Fused}
-use Rattle.armv4t.specs.declared.Fused.TheVariants.{Pair, Nothing}
 use Rattle.armv4t.specs.Bit0.{clear_bit0, set_bit0}
 use Rattle.armv4t.specs.Instr.{size_of}
 use Rattle.armv4t.specs.Cond.{is_al}
@@ -39,18 +37,18 @@ use Rattle.lower_units.proofs.Aligned.{twos, two_lt}
 pub not_pair : {target ret : ℕ} → Nothing ≡ Pair target ret → ⊥
 not_pair e = let z : ◌≡◌ {A = ℕ} 0 1 = cc in omega arith
 
-from_pair : Fused → ℕ × ℕ
+from_pair : Option (ℕ × ℕ) → ℕ × ℕ
 from_pair Nothing = (0, 0)
 from_pair (Pair target ret) = (target, ret)
 
 module _ {t r target ret : ℕ} (e : Pair t r ≡ Pair target ret) where
   target_of_lem : t ≡ target
   unfolding from_pair
-  target_of_lem = ap (λ (f : Fused). (from_pair f).0) e
+  target_of_lem = ap (λ (f : Option (ℕ × ℕ)). (from_pair f).0) e
 
   ret_of : r ≡ ret
   unfolding from_pair
-  ret_of = ap (λ (f : Fused). (from_pair f).1) e
+  ret_of = ap (λ (f : Option (ℕ × ℕ)). (from_pair f).1) e
 
 -- what fuses with a first half
 record Low (lr : ℕ) (op : Op) (addr target ret : ℕ) : Type 0 where

@@ -8,8 +8,6 @@ use Rattle.armv4t.specs.declared.Op.{Op}
 use Rattle.armv4t.specs.declared.Op.TheVariants.{Alu, Mul, MulLong, Swap, Bx, Branch, ThumbBlHigh}
 use Rattle.armv4t.specs.declared.Op.TheVariants.{ThumbBlLow, Mem, BlockMem, Mrs, MsrReg, MsrImm}
 use Rattle.armv4t.specs.declared.Op.TheVariants.{Swi, Undefined}
-use Rattle.armv4t.specs.declared.Fused.{Fused}
-use Rattle.armv4t.specs.declared.Fused.TheVariants.{Pair, Nothing}
 use Rattle.armv4t.specs.Bit0.{set_bit0}
 use Rattle.armv4t.specs.Cond.{is_al}
 use Rattle.armv4t.specs.Fused.{fuse, fuse_ops, fuse_low}
@@ -71,7 +69,7 @@ op_words (Swi imm) c thumb fall r h = tt
 op_words (Undefined raw) c thumb fall r h = tt
 
 -- the target of a pair is a word
-abbrev PairWord : Fused → Type 0
+abbrev PairWord : Option (ℕ × ℕ) → Type 0
 PairWord (Pair target ret) = target < 4294967296
 PairWord Nothing = Unit {0}
 
@@ -109,7 +107,7 @@ high_word (MsrImm _ _ _) low addr = tt
 high_word (Swi _) low addr = tt
 high_word (Undefined _) low addr = tt
 
-closing_words : (fused : Fused) (alone : List ℕ) → PairWord fused → Words alone
+closing_words : (fused : Option (ℕ × ℕ)) (alone : List ℕ) → PairWord fused → Words alone
     → Words (closing_exits fused alone)
 closing_words (Pair target ret) alone pair h = (set_word target pair, tt)
 closing_words Nothing alone pair h = h

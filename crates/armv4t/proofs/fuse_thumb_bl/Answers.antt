@@ -1,6 +1,6 @@
 -- `armv4t::fuse_thumb_bl` meets its contract. The arms of both halves are given which operations
 -- these are; each `_` answers for each of its variants. Assumes nothing.
-use Rattle.std.proofs.Common.{◌≡◌, ℕ, Option, None, refl}
+use Rattle.std.proofs.Common.{◌≡◌, ℕ, None, refl}
 use Rattle.armv4t.specs.declared.Op.{Op}
 use Rattle.armv4t.specs.declared.Op.TheVariants.{ThumbBlHigh, ThumbBlLow}
 use Rattle.armv4t.specs.Fused.{fuse, fuse_ops, fuse_low}
