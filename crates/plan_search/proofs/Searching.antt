@@ -16,6 +16,7 @@ use Rattle.base_lists.specs.Lists.{range, first_of}
 use Rattle.base_lists.proofs.Bools.{left_true, right_true}
 use Rattle.file_records.specs.Trailer.{block_count, block_start}
 use Rattle.file_records.specs.BlockRecord.{key_plus, key_at}
+use Rattle.std.proofs.Common.{Option, Some, None}
 use Rattle.file_blocks.specs.declared.read.BlockRecord.{BlockRecord}
 use Rattle.file_blocks.specs.Parse.{Block, block_key, block_at, blocks_of, Accepted}
 use Rattle.file_blocks.specs.Read.{record_at, found_block}
