@@ -1,6 +1,6 @@
 -- The keys of a block's exits have 32 bits, where the fields of its instructions are in range.
 -- Assumes nothing.
-use Rattle.std.proofs.Common.{◌≡◌, ℕ, ◌+◌, ◌*◌, ◌%◌, ◌^◌, ◌<◌, Bool, true, false, cond, ◌&&◌, eqb, ◌⊎◌, List, [], ◌∷◌, refl, inl, inr, mod-lt, arith}
+use Rattle.std.proofs.Common.{◌≡◌, ℕ, ◌+◌, ◌*◌, ◌%◌, ◌^◌, ◌<◌, Bool, true, false, cond, ◌&&◌, eqb, ◌⊎◌, List, [], ◌∷◌, refl, inl, inr, mod-lt, arith, Option, Some, None}
 use mathlib.Core.List.Memᴰ
 use mathlib.Core.List.{Memᴰ}
 use Rattle.armv4t.specs.declared.Cond.{Cond}
@@ -70,8 +70,8 @@ op_words (Undefined raw) c thumb fall r h = tt
 
 -- the target of a pair is a word
 abbrev PairWord : Option (ℕ × ℕ) → Type 0
-PairWord (Pair target ret) = target < 4294967296
-PairWord Nothing = Unit {0}
+PairWord (Some (target, ret)) = target < 4294967296
+PairWord None = Unit {0}
 
 low_word : (lr : ℕ) (op : Op) (addr : ℕ) → PairWord (fuse_low lr op addr)
 low_word lr (Alu _ _ _ _ _) addr = tt
@@ -109,8 +109,8 @@ high_word (Undefined _) low addr = tt
 
 closing_words : (fused : Option (ℕ × ℕ)) (alone : List ℕ) → PairWord fused → Words alone
     → Words (closing_exits fused alone)
-closing_words (Pair target ret) alone pair h = (set_word target pair, tt)
-closing_words Nothing alone pair h = h
+closing_words (Some (target, ret)) alone pair h = (set_word target pair, tt)
+closing_words None alone pair h = h
 
 -- the fields of some instructions are in range
 abbrev Ranges : List TimedInstr → Type 0
