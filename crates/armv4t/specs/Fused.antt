@@ -8,8 +8,12 @@ use Rattle.armv4t.specs.declared.Op.TheVariants.{ThumbBlHigh, ThumbBlLow, Mem, B
 use Rattle.armv4t.specs.declared.Op.TheVariants.{MsrReg, MsrImm, Swi, Undefined}
 use Rattle.armv4t.specs.Bit0.{set_bit0}
 
+-- where a pair goes and its return address, or that there is no pair
+abbrev pub Fused : Type 0
+Fused = Option (ℕ × ℕ)
+
 -- what a first half with the partial address lr makes with an operation at addr
-abbrev pub fuse_low : ℕ → Op → ℕ → Option (ℕ × ℕ)
+abbrev pub fuse_low : ℕ → Op → ℕ → Fused
 fuse_low lr (Alu _ _ _ _ _) addr = None
 fuse_low lr (Mul _ _ _ _ _ _) addr = None
 fuse_low lr (MulLong _ _ _ _ _ _ _) addr = None
@@ -28,7 +32,7 @@ fuse_low lr (Swi _) addr = None
 fuse_low lr (Undefined _) addr = None
 
 -- what two operations make, the second at addr
-abbrev pub fuse_ops : Op → Op → ℕ → Option (ℕ × ℕ)
+abbrev pub fuse_ops : Op → Op → ℕ → Fused
 fuse_ops (Alu _ _ _ _ _) low addr = None
 fuse_ops (Mul _ _ _ _ _ _) low addr = None
 fuse_ops (MulLong _ _ _ _ _ _ _) low addr = None
@@ -46,7 +50,7 @@ fuse_ops (Swi _) low addr = None
 fuse_ops (Undefined _) low addr = None
 
 -- what two instructions make
-unfoldable pub fuse : Instr → Instr → Option (ℕ × ℕ)
+unfoldable pub fuse : Instr → Instr → Fused
 fuse high low = fuse_ops high.op low.op low.addr
 
 -- the target is twice the offset from the partial address; the return address is the one after the

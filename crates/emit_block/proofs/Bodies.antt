@@ -1,6 +1,6 @@
 -- The body of a block of an accepted file, by its record, and its code by what stands before its
 -- records. Assumes nothing.
-use Rattle.std.proofs.Common.{◌≡◌, ℕ, Bool, true, false, cond, List, [], map, get_or, sym, refl, ap, ◌∙◌, subst}
+use Rattle.std.proofs.Common.{◌≡◌, ℕ, Bool, true, false, cond, List, [], map, get_or, sym, refl, ap, ◌∙◌, subst, Option, Some}
 use mathlib.Core.Option
 use mathlib.Core.Option.{Option, none, some}
 use package.native.Mathlib.Omega.{arith}

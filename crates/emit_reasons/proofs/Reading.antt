@@ -1,5 +1,6 @@
 -- What the walk over a block's records reads, and what it says of the instructions.
 -- Assumes nothing.
+use Rattle.std.proofs.Common.{Some, None}
 use Prim.Native.Nat.{ℕ, zero, suc, ◌+◌, ◌-◌, ◌≤◌, ◌<◌}
 use mathlib.Core.Path.{◌≡◌, refl, sym, ap, ◌∙◌}
 use mathlib.Core.Bool.{Bool, true, false, not, cond, ◌&&◌, ◌||◌}
@@ -8,7 +9,7 @@ use mathlib.Core.Option.{Option, none}
 use native.Mathlib.Omega.{arith}
 use lib.ListN.{drop, get_or}
 use Rattle.armv4t.specs.declared.Instr.{Instr}
-use Rattle.armv4t.specs.Fused.{fuse}
+use Rattle.armv4t.specs.Fused.{Fused, fuse}
 use Rattle.file_instrs.specs.declared.decode.TimedInstr.{TimedInstr}
 use Rattle.file_blocks.specs.declared.next.Next.{Next}
 use Rattle.file_blocks.specs.declared.read.BlockRecord.{BlockRecord}
@@ -26,9 +27,9 @@ pairs_next : (x : Instr) (ys : List TimedInstr) → pairs x ys ≡ is_pair_next 
 pairs_next x [] = refl
 pairs_next x (y ∷ ys) = by (fuse x y.instr)
   where
-    by : (f : Option (ℕ × ℕ)) → is_pair f ≡ is_pair_next (fused_next f y.cost)
+    by : (f : Fused) → is_pair f ≡ is_pair_next (fused_next f y.cost)
     by None = refl
-    by (PAIR target ret) = refl
+    by (Some (target, ret)) = refl
 
 -- so what was told of it
 pub pairs_told : (x : Instr) (ys : List TimedInstr) {n m : Next} → n ≡ next_of x ys → n ≡ m

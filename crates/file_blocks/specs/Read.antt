@@ -4,7 +4,7 @@
 -- lie inside it, are the empty list.
 use Rattle.std.specs.Prelude.{◌≡◌, ℕ, ◌+◌, ◌*◌, ◌%◌, ◌^◌, Bool, cond, ◌&&◌, List, [], ◌∷◌, length, nat_le, nat_lt, Option, Some, None}
 use Rattle.armv4t.specs.declared.Instr.{Instr}
-use Rattle.armv4t.specs.Fused.{fuse}
+use Rattle.armv4t.specs.Fused.{Fused, fuse}
 use Rattle.armv4t.specs.Instr.{size_of}
 use Rattle.file_blocks.specs.declared.next.FusedPair.{FusedPair}
 use Rattle.file_blocks.specs.declared.read.BlockRecord.{BlockRecord}
@@ -51,7 +51,7 @@ abbrev pub instrs_of : List ℕ → BlockRecord → ℕ → List TimedInstr
 instrs_of f r first = instrs_from f r.count first r.addr r.thumb
 
 -- what two instructions make, the second with a cost
-abbrev pub fused_next : Option (ℕ × ℕ) → ℕ → Option FusedPair
+abbrev pub fused_next : Fused → ℕ → Option FusedPair
 fused_next None cost = None
 fused_next (Some (target, ret)) cost = Some (record { target = target; ret = ret; cost = cost })
 

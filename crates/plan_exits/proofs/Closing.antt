@@ -6,7 +6,7 @@ use lib.ListN.{get_elem?}
 use Rattle.base_lists.proofs.Places.{map_found, map_past}
 use Rattle.armv4t.specs.Instr.{size_of}
 use Rattle.armv4t.specs.declared.Instr.{Instr}
-use Rattle.armv4t.specs.Fused.{fuse}
+use Rattle.armv4t.specs.Fused.{Fused, fuse}
 use Rattle.file_instrs.specs.declared.decode.TimedInstr.{TimedInstr}
 use Rattle.file_blocks.specs.declared.read.BlockRecord.{BlockRecord}
 use Rattle.file_records.specs.Trailer.{block_count, block_start}
@@ -91,7 +91,7 @@ module _ {f : List ℕ} {i : ℕ} {b : BlockRecord} {first : ℕ} (is : IsBlock 
       → last_exits b.thumb y.instr ≡ exits (block_at f (block_start f i) first)
   exits_unpaired q y more alone e g =
       let x = instr_at f first b.addr b.thumb (b.count - 2) in
-      ap (λ (z : Option (ℕ × ℕ)). closing_exits z (last_exits b.thumb y.instr)) (sym (alone x.instr))
+      ap (λ (z : Fused). closing_exits z (last_exits b.thumb y.instr)) (sym (alone x.instr))
       ∙ exits_paired (read_instr f b first (b.count - 2)) q x y more refl
       (instr_there is (b.count - 2) (omega (arith, some_instr is))) e g
 

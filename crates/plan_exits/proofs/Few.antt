@@ -8,7 +8,7 @@ use Rattle.armv4t.specs.declared.Op.{Op}
 use Rattle.armv4t.specs.declared.Op.TheVariants.{Alu, Mul, MulLong, Swap, Bx, Branch, ThumbBlHigh}
 use Rattle.armv4t.specs.declared.Op.TheVariants.{ThumbBlLow, Mem, BlockMem, Mrs, MsrReg, MsrImm}
 use Rattle.armv4t.specs.declared.Op.TheVariants.{Swi, Undefined}
-use Rattle.armv4t.specs.Fused.{fuse}
+use Rattle.armv4t.specs.Fused.{Fused, fuse}
 use Rattle.file_instrs.specs.declared.decode.TimedInstr.{TimedInstr}
 use Rattle.file_blocks.specs.Parse.{Block}
 use Rattle.armv4t.specs.RegisterList.{is_listed}
@@ -57,7 +57,7 @@ op_few (MsrImm spsr fields value) c thumb fall = omega arith
 op_few (Swi imm) c thumb fall = omega arith
 op_few (Undefined raw) c thumb fall = omega arith
 
-closing_few : (fused : Option (ℕ × ℕ)) (alone : List ℕ) → length alone ≤ 2
+closing_few : (fused : Fused) (alone : List ℕ) → length alone ≤ 2
     → length (closing_exits fused alone) ≤ 2
 closing_few (Some (target, ret)) alone h = omega arith
 closing_few None alone h = h

@@ -10,7 +10,7 @@ use Rattle.armv4t.specs.declared.Op.TheVariants.{ThumbBlLow, Mem, BlockMem, Mrs,
 use Rattle.armv4t.specs.declared.Op.TheVariants.{Swi, Undefined}
 use Rattle.armv4t.specs.Bit0.{set_bit0}
 use Rattle.armv4t.specs.Cond.{is_al}
-use Rattle.armv4t.specs.Fused.{fuse, fuse_ops, fuse_low}
+use Rattle.armv4t.specs.Fused.{Fused, fuse, fuse_ops, fuse_low}
 use Rattle.armv4t.specs.InRange.{InRange}
 use Rattle.armv4t.specs.RegisterList.{is_listed}
 use Rattle.file_instrs.specs.declared.decode.TimedInstr.{TimedInstr}
@@ -69,7 +69,7 @@ op_words (Swi imm) c thumb fall r h = tt
 op_words (Undefined raw) c thumb fall r h = tt
 
 -- the target of a pair is a word
-abbrev PairWord : Option (ℕ × ℕ) → Type 0
+abbrev PairWord : Fused → Type 0
 PairWord (Some (target, ret)) = target < 4294967296
 PairWord None = Unit {0}
 
@@ -107,7 +107,7 @@ high_word (MsrImm _ _ _) low addr = tt
 high_word (Swi _) low addr = tt
 high_word (Undefined _) low addr = tt
 
-closing_words : (fused : Option (ℕ × ℕ)) (alone : List ℕ) → PairWord fused → Words alone
+closing_words : (fused : Fused) (alone : List ℕ) → PairWord fused → Words alone
     → Words (closing_exits fused alone)
 closing_words (Some (target, ret)) alone pair h = (set_word target pair, tt)
 closing_words None alone pair h = h

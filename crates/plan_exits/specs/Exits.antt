@@ -10,7 +10,7 @@ use Rattle.armv4t.specs.declared.Instr.{Instr}
 use Rattle.armv4t.specs.Bit0.{set_bit0}
 use Rattle.armv4t.specs.Cond.{is_al}
 use Rattle.armv4t.specs.RegisterList.{is_listed}
-use Rattle.armv4t.specs.Fused.{fuse}
+use Rattle.armv4t.specs.Fused.{Fused, fuse}
 use Rattle.file_instrs.specs.declared.decode.TimedInstr.{TimedInstr}
 use Rattle.file_blocks.specs.Parse.{Block}
 use Rattle.file_blocks.specs.Address.{key_of, fall_through}
@@ -47,7 +47,7 @@ abbrev pub last_exits : Bool → Instr → List ℕ
 last_exits thumb i = op_exits i.op i.cond thumb (fall_through thumb i)
 
 -- a closing fused pair goes to its target in Thumb; otherwise the last instruction decides
-abbrev pub closing_exits : Option (ℕ × ℕ) → List ℕ → List ℕ
+abbrev pub closing_exits : Fused → List ℕ → List ℕ
 closing_exits (Some (target, ret)) alone = set_bit0 target ∷ []
 closing_exits None alone = alone
 

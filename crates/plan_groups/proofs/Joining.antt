@@ -1,5 +1,6 @@
 -- Edges in the work numbers: one, those of a block, and those of all blocks.
 -- Assumes nothing.
+use Rattle.std.proofs.Common.{Option, Some, None}
 use mathlib.Core.Path.{◌≡◌, refl, sym, ap, ◌∙◌, subst}
 use mathlib.Core.Bool.{true, false}
 use mathlib.Core.List.{List}
@@ -18,7 +19,8 @@ use Rattle.plan_exits.specs.declared.exits.Exits.{Exits}
 use Rattle.plan_exits.specs.Exits.{keys_of, exits}
 use Rattle.plan_search.specs.Target.{target, joinable, on_page8}
 use Rattle.plan_groups.specs.Plan.{join_to, join_exits}
-use Rattle.plan_search.specs.Search.{target_of, TargetInside}
+use Rattle.file_keys.specs.Answers.{number_of}
+use Rattle.plan_search.specs.Search.{TargetInside}
 use Rattle.plan_groups.specs.Groups.{quarter1, HasOrder, Joined, join_record}
 use Rattle.file_blocks.proofs.IsBlock.{missing, found_record}
 use Rattle.plan_groups.proofs.Lending.{take_kept, quarter_length, back_length, back_quarter}
@@ -26,7 +28,7 @@ use Rattle.plan_groups.proofs.Lending.{back_before, back_after}
 use Rattle.base_forest.proofs.Roots.{deeper, same_deeper}
 
 module _ (f w : List ℕ) (n i key : ℕ) (found : Option ℕ)
-    (says : target_of found ≡ target key (blocks_of f) 0) where
+    (says : number_of found ≡ target key (blocks_of f) 0) where
   abbrev joins : List ℕ → List ℕ
   joins q = join_to i q (target key (blocks_of f) 0)
 
@@ -41,7 +43,7 @@ module _ (f w : List ℕ) (n i key : ℕ) (found : Option ℕ)
         depth = λ d g. deeper g (d + 1) (omega arith);
         roots = λ d q room g.
             subst (SameRoots (d + 1) (quarter1 n w))
-            (ap (join_to i q) (sym (ap target_of e) ∙ says))
+            (ap (join_to i q) (sym (ap number_of e) ∙ says))
             (same_deeper g (d + 1) (omega arith));
       }
 
@@ -59,7 +61,7 @@ module _ (f w : List ℕ) (n i key : ℕ) (found : Option ℕ)
         depth = λ d g. subst (Forest (d + 1)) (sym part-is) (h.depth d g);
         roots = λ d q few g.
             subst (λ (l : List ℕ). SameRoots (d + 1) l (joins q)) (sym part-is)
-            (subst (SameRoots (d + 1) p') (ap (join_to i q) (sym (ap target_of e) ∙ says))
+            (subst (SameRoots (d + 1) p') (ap (join_to i q) (sym (ap number_of e) ∙ says))
             (h.roots d q (omega (arith, quarter_length n w room)) g));
       }
 

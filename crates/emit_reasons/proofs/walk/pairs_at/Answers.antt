@@ -9,14 +9,14 @@ use Rattle.emit_reasons.proofs.walk.pairs_at.Goals as goal
 pub next_of-requires : goal.next_of-requires
 next_of-requires c = c.requires.1
 
-pub returns-in-Pair : goal.returns-in-Pair
-returns-in-Pair c =
+pub returns-in-Some : goal.returns-in-Some
+returns-in-Some c =
     let a = c.args in
     pairs_told a.x (drop (suc a.j) (instrs_of a.file.now a.block a.first))
-    (c.next_of.ensures c.requires.0.0 c.requires.0.1) c.in-Pair.is
+    (c.next_of.ensures c.requires.0.0 c.requires.0.1) c.in-Some.is
 
-pub returns-in-Alone : goal.returns-in-Alone
-returns-in-Alone c =
+pub returns-in-None : goal.returns-in-None
+returns-in-None c =
     let a = c.args in
     pairs_told a.x (drop (suc a.j) (instrs_of a.file.now a.block a.first))
-    (c.next_of.ensures c.requires.0.0 c.requires.0.1) c.in-Alone.is
+    (c.next_of.ensures c.requires.0.0 c.requires.0.1) c.in-None.is

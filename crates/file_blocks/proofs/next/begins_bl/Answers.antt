@@ -4,7 +4,7 @@ use Rattle.std.proofs.Common.{◌≡◌, ℕ, List, [], ◌∷◌, Option, None,
 use Rattle.armv4t.specs.declared.Instr.{Instr}
 use Rattle.armv4t.specs.declared.Op.{Op}
 use Rattle.armv4t.specs.declared.Op.TheVariants.{ThumbBlHigh}
-use Rattle.armv4t.specs.Fused.{fuse, fuse_ops}
+use Rattle.armv4t.specs.Fused.{Fused, fuse, fuse_ops}
 use Rattle.file_instrs.specs.declared.decode.TimedInstr.{TimedInstr}
 use Rattle.file_blocks.specs.Read.{fused_next, next_of}
 use Rattle.file_blocks.proofs.next.begins_bl.Goals as goal
@@ -20,7 +20,7 @@ alone : (x : Instr) (ys : List TimedInstr) → ((z : ℕ) → x.op ≡ ThumbBlHi
 unfolding fuse
 alone x [] o = refl
 alone x (y ∷ ys) o =
-    ap (λ (z : Option (ℕ × ℕ)). fused_next z y.cost) (alone_op x.op y.instr.op y.instr.addr o)
+    ap (λ (z : Fused). fused_next z y.cost) (alone_op x.op y.instr.op y.instr.addr o)
 
 pub returns-in_default : goal.returns-in_default
 returns-in_default c = λ _ ys. alone c.args.x ys c.in_default.not-ThumbBlHigh
