@@ -4,7 +4,7 @@ ghost use Rattle.file_records.specs.Trailer.{block_count};
 ghost use Rattle.file_blocks.specs.Parse.{Accepted};
 ghost use Rattle.call_reasons.specs.Steps.{IsFoundPlace};
 
-use file_blocks::{block_at};
+use file_blocks::block_at;
 
 // Where an instruction stands.
 #[derive(Clone, Copy)]

@@ -7,7 +7,7 @@ ghost use Rattle.emit_reasons.specs.Steps.{Put};
 ghost use Rattle.call_reasons.specs.Steps.{StandsIn};
 
 use emit_reasons::{Progress, put_block};
-use file_blocks::{block_at};
+use file_blocks::block_at;
 
 // The lines from instruction first + index on, where block i of n begins with instruction `first`
 // and has that one: as many as fit, one after another in the front of `text`.

@@ -11,7 +11,7 @@ use crate::find::{FoundPlace, find_instr};
 use call_frame::{Early, Opened, open_file};
 use emit_reasons::said_at;
 use emit_sentences::{Sentence, put_said};
-use file_blocks::{block_at};
+use file_blocks::block_at;
 
 // The answer of the call for one sentence.
 #[derive(Clone, Copy)]

@@ -34,23 +34,22 @@ module _ (thumb : Bool) (region cycles : ℕ) (x : TimedInstr) where
       by (Some (target, ret)) e = absurd (let z : ◌≡◌ {A = ℕ} 0 1 = cc in omega arith)
 
   -- a fused pair, whatever stands after it
-  pub instrs_pair : (ys : List TimedInstr) (target ret cost : ℕ)
-      → next_of x.instr ys ≡ Next.Pair target ret cost
+  pub instrs_pair : (ys : List TimedInstr) (p : FusedPair) → next_of x.instr ys ≡ Some p
       → (fs : List Form)
       × ((emit_instrs thumb region cycles (x ∷ ys)).0
-      ≡ Form.native (emit_pair (cycles + (x.cost + cost)) target ret) ∷ fs)
+      ≡ Form.native (emit_pair (cycles + (x.cost + p.cost)) p.target p.ret) ∷ fs)
   unfolding emit_instrs
-  instrs_pair [] target ret cost e = absurd (let z : ◌≡◌ {A = ℕ} 0 1 = cc in omega arith)
-  instrs_pair (y ∷ ys) target ret cost e = by (fuse x.instr y.instr) e
+  instrs_pair [] p e = absurd (let z : ◌≡◌ {A = ℕ} 0 1 = cc in omega arith)
+  instrs_pair (y ∷ ys) p e = by (fuse x.instr y.instr) e
     where
-      by : (o : Fused) → fused_next o y.cost ≡ Next.Pair target ret cost
+      by : (o : Fused) → fused_next o y.cost ≡ Some p
           → (fs : List Form)
           × ((fused_or o
           (cons_form (emit_instr thumb region cycles x).0
           (emit_instrs thumb region (emit_instr thumb region cycles x).1 (y ∷ ys)))
           (λ target ret. cons_form (Form.native (emit_pair (cycles + (x.cost + y.cost)) target ret))
           (emit_instrs thumb region 0 ys))).0
-          ≡ Form.native (emit_pair (cycles + (x.cost + cost)) target ret) ∷ fs)
+          ≡ Form.native (emit_pair (cycles + (x.cost + p.cost)) p.target p.ret) ∷ fs)
       by None e = absurd (let z : ◌≡◌ {A = ℕ} 0 1 = cc in omega arith)
       by (Some (t, r)) e = ((emit_instrs thumb region 0 ys).0, cc)
 

@@ -11,7 +11,7 @@ ghost use Rattle.emit_reasons.specs.Steps.{said_in_record};
 use crate::said::{drops_rest, said_of};
 use armv4t::Instr;
 use emit_sentences::Sentence;
-use file_blocks::{BlockRecord, Next, instr_of, is_guarded, next_of, region_of};
+use file_blocks::{BlockRecord, instr_of, is_guarded, next_of, region_of};
 
 // Whether a block's text has the code of its records.
 pub(crate) fn has_code(block: BlockRecord) -> bool
@@ -28,10 +28,7 @@ pub(crate) fn pairs_at(file: &[u8], block: BlockRecord, first: usize, j: u32, x:
     requires { HasBlock file.now block first × (j < block.count) }
     ensures { result ≡ pairs x (drop (suc j) (instrs_of file.now block first)) }
 {
-    match next_of(file, block, first, j, x) {
-        Next::Pair { .. } => true,
-        Next::Alone => false,
-    }
+    next_of(file, block, first, j, x).is_some()
 }
 
 // Whether the walk ends with instruction j of a block: it makes a pair, or drops the rest.

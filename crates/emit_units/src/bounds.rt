@@ -10,7 +10,7 @@ ghost use Rattle.plan_members.specs.GroupRows.{HasRows, IsGroup};
 ghost use Rattle.emit_group.specs.Groups.{file_bodies};
 ghost use Rattle.emit_units.specs.Bounds.{IsBlockBound, Bounds};
 
-use file_blocks::{block_at};
+use file_blocks::block_at;
 use plan_members::{Rows, group_end, row_block};
 
 // What a block adds to the text of its group at most: 700 bytes, and 2,600 for each instruction.

@@ -28,7 +28,7 @@ ghost use Rattle.plan_groups.specs.Groups.{FirstsInQuarter3, Rooted, AllRooted, 
 use crate::links::{as_index, link_members};
 use crate::order::{count_of, place_blocks};
 use base_forest::{find, hang_under, own_roots};
-use file_blocks::{block_at};
+use file_blocks::block_at;
 use file_keys::order_blocks;
 use plan_exits::{Exits, exits_at};
 use plan_search::{find_target, on_page_8};

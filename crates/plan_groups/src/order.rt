@@ -8,7 +8,7 @@ ghost use Rattle.plan_groups.specs.Groups.{HasRoom};
 ghost use Rattle.plan_groups.specs.Links.{AllOnce, Linked};
 ghost use Rattle.plan_groups.specs.Order.{part_with, Placed};
 
-use file_blocks::{block_at};
+use file_blocks::block_at;
 
 // The part of a component that is being filled: the number of its group, and its instructions.
 #[derive(Clone, Copy)]
