@@ -12,7 +12,7 @@ use Rattle.armv4t.specs.declared.Op.{Op}
 use Rattle.armv4t.specs.declared.Op.TheVariants.{Alu, Mul, MulLong, Swap, Bx, Branch, ThumbBlHigh}
 use Rattle.armv4t.specs.declared.Op.TheVariants.{ThumbBlLow, Mem, BlockMem, Mrs, MsrReg, MsrImm}
 use Rattle.armv4t.specs.declared.Op.TheVariants.{Swi, Undefined}
-use Rattle.armv4t.specs.Fused.{fuse_ops, fuse}
+use Rattle.armv4t.specs.Fused.{Fused, fuse_ops, fuse}
 use Rattle.armv4t.specs.declared.Instr.{Instr}
 use Rattle.armv4t.specs.InRange.{InRange}
 use Rattle.file_instrs.specs.declared.decode.TimedInstr.{TimedInstr}
@@ -32,7 +32,7 @@ pub record OfSet (thumb : Bool) (x : TimedInstr) : Type 0 where
   pub even : x.instr.addr % 2 ≡ 0
   pub ranges : InRange x.instr.op
 
-no_pair : {target ret : ℕ} → None ≡ Some (target, ret) → ⊥
+no_pair : {target ret : ℕ} → ◌≡◌ {A = Fused} None (Some (target, ret)) → ⊥
 no_pair e = let z : ◌≡◌ {A = ℕ} 0 1 = cc in omega arith
 
 -- the first half of a pair only leads on

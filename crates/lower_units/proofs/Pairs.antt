@@ -35,14 +35,14 @@ use Rattle.lower_units.proofs.Outcome.{outcome, always}
 use Rattle.lower_units.proofs.Aligned.{twos, two_lt}
 
 -- what fused is not nothing
-pub not_pair : {target ret : ℕ} → None ≡ Some (target, ret) → ⊥
+pub not_pair : {target ret : ℕ} → ◌≡◌ {A = Fused} None (Some (target, ret)) → ⊥
 not_pair e = let z : ◌≡◌ {A = ℕ} 0 1 = cc in omega arith
 
 from_pair : Fused → ℕ × ℕ
 from_pair None = (0, 0)
 from_pair (Some (target, ret)) = (target, ret)
 
-module _ {t r target ret : ℕ} (e : Some (t, r) ≡ Some (target, ret)) where
+module _ {t r target ret : ℕ} (e : ◌≡◌ {A = Fused} (Some (t, r)) (Some (target, ret))) where
   target_of_lem : t ≡ target
   unfolding from_pair
   target_of_lem = ap (λ (f : Fused). (from_pair f).0) e
