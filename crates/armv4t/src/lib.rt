@@ -20,7 +20,7 @@ pub const PC: Reg = 15;
 pub fn is_listed(rlist: u16, r: Reg) -> bool
     ensures { result ≡ is_listed rlist r }
 {
-    if r < 16 { (rlist >> r) % 2 == 1 } else { false }
+    r < 16 && (rlist >> r) % 2 == 1
 }
 
 // Condition codes, in encoding order. Nv (0b1111) is never valid on ARMv4.
@@ -75,10 +75,7 @@ impl Cond {
     pub fn is_al(self) -> bool
         ensures { result ≡ is_al self }
     {
-        match self {
-            Cond::Al => true,
-            _ => false,
-        }
+        matches!(self, Cond::Al)
     }
 }
 
@@ -134,10 +131,7 @@ impl AluOp {
     pub fn is_compare(self) -> bool
         ensures { result ≡ is_compare self }
     {
-        match self {
-            AluOp::Tst | AluOp::Teq | AluOp::Cmp | AluOp::Cmn => true,
-            _ => false,
-        }
+        matches!(self, AluOp::Tst | AluOp::Teq | AluOp::Cmp | AluOp::Cmn)
     }
 }
 
