@@ -22,11 +22,7 @@ pub fn section_start(file: &[u8], k: usize) -> usize
     ensures { result ≡ length file.now - trailer_word file.now k }
 {
     let back = trailer_word(file, k) as usize;
-    if file.len() < back {
-        0
-    } else {
-        file.len() - back
-    }
+    file.len().saturating_sub(back)
 }
 
 // The rule of refusal 2: B and I are within their limits.
