@@ -63,10 +63,8 @@ fn put(all: &mut [u8], from: usize, part: &[u8])
     ensures { all.new
         ≡ paste all.old from part.now (length part.now) }
 {
-    let mut k = 0;
-    while k < part.len() {
+    for k in 0..part.len() {
         all[from + k] = part[k];
-        k += 1;
     }
 }
 
@@ -79,13 +77,11 @@ pub fn all_limits() -> [u8; 480]
 {
     let head = [14, 15, 255, 255];
     let mut all = [0; 480];
-    let mut number: u8 = 0;
-    while number < 30 {
+    for number in 0..30u8 {
         let from = 16 * number as usize;
         let fields = limits(number);
         put(&mut all[..], from, &head[..]);
         put(&mut all[..], from + 4, &fields[..]);
-        number += 1;
     }
     all
 }
@@ -104,10 +100,8 @@ fn within(file: &[u8], at: usize, limits: &[u8], from: usize) -> bool
     ensures { result ≡ limits-within file.now at (take 16 (drop from limits.now)) }
 {
     let mut ok = true;
-    let mut k = 0;
-    while k < 16 {
-        ok = ok & (file[at + k] <= limits[from + k]);
-        k += 1;
+    for k in 0..16 {
+        ok &= file[at + k] <= limits[from + k];
     }
     ok
 }

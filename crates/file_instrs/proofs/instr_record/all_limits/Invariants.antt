@@ -9,6 +9,3 @@ use Rattle.file_instrs.proofs.instr_record.all_limits.Given as goal
 abbrev pub invariant-loop-number : goal.invariant-loop-number
 invariant-loop-number l =
     (l.number ≤ 30) × (length l.all ≡ 480) × (take (16 * l.number) l.all ≡ limits_to l.number)
-
-abbrev pub decreases-loop-number : goal.decreases-loop-number
-decreases-loop-number l = 30 - l.number

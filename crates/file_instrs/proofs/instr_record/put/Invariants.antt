@@ -10,6 +10,3 @@ abbrev pub invariant-loop-k : goal.invariant-loop-k
 invariant-loop-k l =
     (l.k ≤ length l.part) × (l.from + length l.part ≤ length l.initial.all) × (length l.all ≡ length l.initial.all)
     × (l.all ≡ paste l.initial.all l.from l.part l.k)
-
-abbrev pub decreases-loop-k : goal.decreases-loop-k
-decreases-loop-k l = length l.part - l.k

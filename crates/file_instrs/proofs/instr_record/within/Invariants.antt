@@ -10,6 +10,3 @@ abbrev pub invariant-loop-k : goal.invariant-loop-k
 invariant-loop-k l =
     (l.k ≤ 16) × (l.at + 16 ≤ length l.file) × (l.from + 16 ≤ length l.limits)
     × (l.ok ≡ limits-within l.file l.at (take l.k (take 16 (drop l.from l.limits))))
-
-abbrev pub decreases-loop-k : goal.decreases-loop-k
-decreases-loop-k l = 16 - l.k
