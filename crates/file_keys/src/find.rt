@@ -41,18 +41,12 @@ pub fn first_repeated(file: &[u8], order: &[u32]) -> Option<u32>
     }
     let mut best = n as u32;
     let mut last = order[0];
-    let mut p = 1;
-    while p < n {
+    for p in 1..n {
         let i = order[p];
         best = least(file, records, best, last, i);
         last = i;
-        p += 1;
     }
-    if best == n as u32 {
-        None
-    } else {
-        Some(best)
-    }
+    if best == n as u32 { None } else { Some(best) }
 }
 
 // Where the search for a key goes on, by the keys at place p of the order and sixteen places from

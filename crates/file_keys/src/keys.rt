@@ -52,14 +52,12 @@ pub(crate) fn rises(file: &[u8], records: Records) -> bool
     ensures { result ≡ rising (block_keys file.now) }
 {
     let mut last = key_at(file, records, 0);
-    let mut i = 1;
-    while i < records.count {
+    for i in 1..records.count {
         let next = key_at(file, records, i);
         if next <= last {
             return false;
         }
         last = next;
-        i += 1;
     }
     true
 }

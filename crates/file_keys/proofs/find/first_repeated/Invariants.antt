@@ -12,6 +12,3 @@ use Rattle.file_keys.proofs.find.first_repeated.Given as goal
 abbrev pub invariant-loop-p : goal.invariant-loop-p
 invariant-loop-p l = (l.p ≤ l.n)
     × (least_repeat (block_keys l.file) l.best l.last (drop l.p l.order) ≡ laws.scanned (block_keys l.file) l.order)
-
-abbrev pub decreases-loop-p : goal.decreases-loop-p
-decreases-loop-p l = l.n - l.p

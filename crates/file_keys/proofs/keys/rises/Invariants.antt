@@ -10,6 +10,3 @@ use Rattle.file_keys.proofs.keys.rises.Given as goal
 abbrev pub invariant-loop-i : goal.invariant-loop-i
 invariant-loop-i l = rising (block_keys l.file) ≡ rises_from l.last
     (drop l.i (block_keys l.file))
-
-abbrev pub decreases-loop-i : goal.decreases-loop-i
-decreases-loop-i l = l.records.count - l.i
