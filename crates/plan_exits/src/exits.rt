@@ -104,11 +104,9 @@ pub fn block_exits(file: &[u8], i: usize) -> Option<Exits>
     ensures { AreFoundExits file.now i result }
 {
     let mut first: usize = 0;
-    let mut k = 0;
-    while k < i {
+    for k in 0..i {
         let earlier = block_at(file, k)?;
         first = std::num::wrapping_add_usize(first, earlier.count as usize);
-        k += 1;
     }
     let block = block_at(file, i)?;
     Some(exits_at(file, block, first))

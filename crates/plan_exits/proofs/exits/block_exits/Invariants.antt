@@ -7,6 +7,3 @@ use Rattle.plan_exits.proofs.exits.block_exits.Given as goal
 
 abbrev pub invariant-loop-k : goal.invariant-loop-k
 invariant-loop-k l = (l.k ≤ l.i) × (Accepted l.file → l.first ≡ count_sum l.file l.k)
-
-abbrev pub decreases-loop-k : goal.decreases-loop-k
-decreases-loop-k l = l.i - l.k
