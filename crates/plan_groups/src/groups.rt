@@ -94,10 +94,8 @@ fn join_blocks(file: &[u8], work: &mut [u32], n: usize)
 {
     let end = 2 * n;
     own_roots(&mut work[n..end]);
-    let mut i = 0;
-    while i < n {
+    for i in 0..n {
         join_block(file, work, n, i);
-        i += 1;
     }
 }
 
@@ -108,11 +106,9 @@ pub fn first_instrs(file: &[u8], work: &mut [u32], n: usize)
 {
     let start = 3 * n;
     let mut sum: u64 = 0;
-    let mut i = 0;
-    while i < n {
+    for i in 0..n {
         work[start + i] = sum as u32;
         sum += count_of(file, i);
-        i += 1;
     }
 }
 
@@ -133,10 +129,8 @@ fn put_roots(work: &mut [u32], n: usize)
     requires forest { Forest (2 * n) (quarter1 n work.old) }
     ensures { AllRooted n n work.old work.new }
 {
-    let mut i = 0;
-    while i < n {
+    for i in 0..n {
         put_root(work, n, i);
-        i += 1;
     }
 }
 

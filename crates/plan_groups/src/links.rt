@@ -11,10 +11,8 @@ fn no_members(work: &mut [u32], n: u32)
     ensures { Filled n n work.old work.new }
 {
     let start = 3 * n as usize;
-    let mut r = 0;
-    while r < n as usize {
+    for r in 0..n as usize {
         work[start + r] = n;
-        r += 1;
     }
 }
 
@@ -45,10 +43,8 @@ pub(crate) fn link_members(work: &mut [u32], n: u32)
     ensures links { AllLinked n work.old work.new }
 {
     no_members(work, n);
-    let mut left = n;
-    while 0 < left {
-        left = left - 1;
-        let i = work[left as usize];
+    for left in (0..n as usize).rev() {
+        let i = work[left];
         link_one(work, n, i);
     }
 }

@@ -6,6 +6,3 @@ use Rattle.plan_groups.proofs.groups.first_instrs.Given as goal
 
 abbrev pub invariant-loop-i : goal.invariant-loop-i
 invariant-loop-i l = grouping.Counting l.file l.n l.initial.work l.sum l.i l.work
-
-abbrev pub decreases-loop-i : goal.decreases-loop-i
-decreases-loop-i l = l.n - l.i

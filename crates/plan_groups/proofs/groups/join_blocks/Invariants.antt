@@ -6,6 +6,3 @@ use Rattle.plan_groups.proofs.groups.join_blocks.Given as goal
 
 abbrev pub invariant-loop-i : goal.invariant-loop-i
 invariant-loop-i l = grouping.Edges l.file l.n l.i l.initial.work l.work
-
-abbrev pub decreases-loop-i : goal.decreases-loop-i
-decreases-loop-i l = l.n - l.i

@@ -9,6 +9,3 @@ use Rattle.plan_groups.proofs.groups.put_roots.Given as goal
 abbrev pub invariant-loop-i : goal.invariant-loop-i
 invariant-loop-i l = (l.i ≤ l.n) × (4 * l.n ≤ length l.initial.work) × (l.n ≤ 65536)
     × Forest (2 * l.n) (quarter1 l.n l.initial.work) × AllRooted l.n l.i l.initial.work l.work
-
-abbrev pub decreases-loop-i : goal.decreases-loop-i
-decreases-loop-i l = l.n - l.i

@@ -5,6 +5,3 @@ use Rattle.plan_groups.proofs.links.link_members.Given as goal
 
 abbrev pub invariant-loop-left : goal.invariant-loop-left
 invariant-loop-left l = linking.Linking l.initial.work l.n l.left l.work
-
-abbrev pub decreases-loop-left : goal.decreases-loop-left
-decreases-loop-left l = l.left

@@ -6,6 +6,3 @@ use Rattle.plan_groups.proofs.links.no_members.Given as goal
 
 abbrev pub invariant-loop-r : goal.invariant-loop-r
 invariant-loop-r l = (l.r ≤ l.n) × Filled l.n l.r l.initial.work l.work
-
-abbrev pub decreases-loop-r : goal.decreases-loop-r
-decreases-loop-r l = l.n - l.r
