@@ -8,10 +8,8 @@ fn no_groups(work: &mut [u32], n: usize)
     requires { (4 * n ≤ length work.old) × (n ≤ 65536) }
     ensures { GroupsFrom n n work.old work.new }
 {
-    let mut i = 0;
-    while i < n {
+    for i in 0..n {
         work[n + i] = 0;
-        i += 1;
     }
 }
 
@@ -32,9 +30,7 @@ pub fn put_groups(work: &mut [u32], n: usize)
     ensures { GroupsFrom n 0 work.old work.new }
 {
     no_groups(work, n);
-    let mut p = n;
-    while 0 < p {
-        p -= 1;
+    for p in (0..n).rev() {
         put_group(work, n, p);
     }
 }

@@ -37,12 +37,10 @@ pub fn group_end(work: &[u32], n: usize, p: usize) -> usize
     ensures planned { IsGroupEnd work.now n p result }
 {
     let group = work[2 * n + p];
-    let mut end = p + 1;
-    while end < n {
+    for end in p + 1..n {
         if work[2 * n + end] != group {
             return end;
         }
-        end += 1;
     }
-    end
+    n
 }

@@ -7,6 +7,3 @@ use Rattle.plan_members.proofs.group_numbers.no_groups.Given as goal
 
 abbrev pub invariant-loop-i : goal.invariant-loop-i
 invariant-loop-i l = (l.i ≤ l.n) × (4 * l.n ≤ length l.initial.work) × (l.n ≤ 65536) × Zeroed l.n l.i l.initial.work l.work
-
-abbrev pub decreases-loop-i : goal.decreases-loop-i
-decreases-loop-i l = l.n - l.i

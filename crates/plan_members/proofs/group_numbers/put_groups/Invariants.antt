@@ -9,6 +9,3 @@ use Rattle.plan_members.proofs.group_numbers.put_groups.Given as goal
 abbrev pub invariant-loop-p : goal.invariant-loop-p
 invariant-loop-p l = (l.p ≤ l.n) × (4 * l.n ≤ length l.work) × (l.n ≤ 65536)
     × ((w : List ℕ) → GroupsFrom l.n l.n w l.initial.work → GroupsFrom l.n l.p w l.work)
-
-abbrev pub decreases-loop-p : goal.decreases-loop-p
-decreases-loop-p l = l.p

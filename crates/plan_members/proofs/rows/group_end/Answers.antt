@@ -1,7 +1,7 @@
 use Prim.Native.Nat.{ℕ, ◌+◌, ◌*◌, ◌≤◌, ◌<◌}
 use lib.ListN.{get_or}
 use mathlib.Core.List.{List}
-use mathlib.Core.Path.{◌≡◌, ap, ◌∙◌}
+use mathlib.Core.Path.{◌≡◌, sym, ap, ◌∙◌}
 use native.Mathlib.Decide.{ℕ_discrete}
 use native.Mathlib.Omega.{arith}
 use Rattle.plan_members.proofs.Places.{end_next}
@@ -47,8 +47,10 @@ loop-end-preserved c =
     )
 
 pub returns : goal.returns
-returns c = let inv = c.loop-end.invariant in record {
-  inside = (inv.0, inv.1);
-  planned = λ f limit g ready is. end_next ready _ g _ is inv.0 inv.1 inv.3
-      (λ h. absurd (omega arith));
-}
+returns c =
+    let inv = c.loop-end.invariant in
+    let done : c.loop-end.end ≡ c.args.n = omega arith in record {
+      inside = (omega arith, omega arith);
+      planned = λ f limit g ready is. sym done ∙ end_next ready _ g _ is inv.0 inv.1 inv.3
+          (λ h. absurd (omega arith));
+    }

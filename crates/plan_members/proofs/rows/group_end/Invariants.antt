@@ -8,6 +8,3 @@ use Rattle.plan_members.proofs.rows.group_end.Given as goal
 abbrev pub invariant-loop-end : goal.invariant-loop-end
 invariant-loop-end l = (l.p < l.end) × (l.end ≤ l.n) × (4 * l.n ≤ length l.work)
     × ((q : ℕ) → l.p ≤ q → q < l.end → get_or l.work (2 * l.n + q) 0 ≡ get_or l.work (2 * l.n + l.p) 0)
-
-abbrev pub decreases-loop-end : goal.decreases-loop-end
-decreases-loop-end l = l.n - l.end
