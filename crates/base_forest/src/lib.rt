@@ -11,8 +11,8 @@ pub fn own_roots(p: &mut [u32])
     requires { length p.old ≤ 2 ^ 32 }
     ensures { p.new ≡ range (length p.old) 0 }
 {
-    for i in 0..p.len() {
-        p[i] = i as u32;
+    for (i, parent) in p.iter_mut().enumerate() {
+        *parent = i as u32;
     }
 }
 

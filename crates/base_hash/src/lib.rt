@@ -25,10 +25,8 @@ pub fn hash(bytes: &[u8], multiplier: u64) -> u64
     ensures { result ≡ fnv64 multiplier bytes.now }
 {
     let mut h: u64 = 14695981039346656037;
-    let mut i = 0;
-    while i < bytes.len() {
-        h = wrapping_mul(h ^ (bytes[i] as u64), multiplier);
-        i += 1;
+    for b in bytes {
+        h = wrapping_mul(h ^ u64::from(*b), multiplier);
     }
     h
 }

@@ -22,10 +22,6 @@ pub none_below : (d k : ℕ) → NoneBelow d k → k ≤ d
 none_below d zero h = zero-le
 none_below d (suc k) h = omega (arith, none_below d k h.0, h.1)
 
--- a decimal digit
-pub glyph_ten : (d : ℕ) → d < 10 → 48 + d ≡ glyph d
-glyph_ten d h = rw (lt-ltb d 10 h)
-
 -- a number below the base is one digit
 pub numeral_one : (b most n : ℕ) → n < b → numeral b (suc most) n ≡ glyph n ∷ []
 unfolding numeral

@@ -16,14 +16,10 @@ use Rattle.base_text.proofs.Overlay.{overlay_past, overlay_part, overlay_stop, o
 use Rattle.base_text.proofs.Numerals.{length_fixed, numeral_fixed}
 use Rattle.base_text.proofs.Lengths.{numeral_short}
 
--- a loop that copies: a turn, and the end
+-- a turn of a loop that copies
 pub copy_more : (o d s : List ℕ) (i : ℕ) → i < length s → d ≡ overlay o 0 (take i s)
     → set d i (get_or s i 0) ≡ overlay o 0 (take (i + 1) s)
 copy_more o d s i h e = rw (e, add-one) (rw zero-add at (overlay_more o 0 s i h))
-
-pub copy_end : (o d s : List ℕ) (i : ℕ) → length s ≤ i → d ≡ overlay o 0 (take i s)
-    → d ≡ overlay o 0 s
-copy_end o d s i h e = e ∙ ap (overlay o 0) (take_all i s h)
 
 -- s was copied
 pub copied : {o o' s : List ℕ} → o' ≡ overlay o 0 s → Printed o (raw s) o' (length s)

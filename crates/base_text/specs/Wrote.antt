@@ -21,6 +21,10 @@ pub record Printed (part : List ℕ) (d : Doc) (part' : List ℕ) (n : ℕ) : Ty
   pub bytes : part' ≡ overlay part 0 (print d)
   pub size : n ≡ length (print d)
 
+-- a printer, by what a call of it may answer and leave of a part, prints d to the front of any part
+abbrev pub Prints : (List ℕ → ℕ → List ℕ → Type 0) → Doc → Type 0
+Prints calls d = (part part' : List ℕ) (n : ℕ) → calls part n part' → Printed part d part' n
+
 -- the index after a text at index `at`, or the largest `usize` where that is less
 abbrev pub index_after : ℕ → Doc → ℕ
 index_after at d = min (at + length (print d)) max_usize

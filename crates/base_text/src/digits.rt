@@ -29,7 +29,7 @@ pub fn glyph(d: u64) -> u8
     }
 }
 
-// 10 to the power k.
+// 10 to the power k. The compiler makes a table of such a match, where `pow` multiplies.
 pub fn power(k: usize) -> u64
     requires { k < 20 }
     ensures { result ≡ 10 ^ k }
@@ -75,11 +75,12 @@ pub fn decimal_length(n: u64) -> usize
     if n < 100 {
         return length_below_hundred(n);
     }
-    let mut k = 3;
-    while k < 20 && power(k) <= n {
-        k += 1;
+    for k in 3..20 {
+        if n < power(k) {
+            return k;
+        }
     }
-    k
+    20
 }
 
 // How often a power of ten has been subtracted from a number, and what is left of it.
@@ -130,7 +131,7 @@ pub fn first(n: u64, i: usize) -> Digit
     subtract(d2, p, 1)
 }
 
-// How many digits n has in hexadecimal.
+// How many digits n has in hexadecimal: no index is counted, but the digits that are cut off.
 pub fn hexadecimal_length(n: u64) -> usize
     ensures { result ≡ length (hexadecimal n) }
 {

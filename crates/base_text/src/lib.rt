@@ -6,36 +6,9 @@ mod digits;
 
 ghost use Rattle.std.specs.Prelude.{◌≡◌, ◌+◌, ◌-◌, ◌/◌, ◌%◌, ◌^◌, ◌≤◌, ◌<◌, min, length, set};
 ghost use Rattle.base_text.specs.Digits.{glyph, last_digits};
-ghost use Rattle.base_text.specs.Doc.{raw, dec, hex, hex8, hex16, ◌▸◌};
-ghost use Rattle.base_text.specs.Wrote.{max_usize, overlay, Printed, Wrote};
-
-// The largest usize.
-const MAX_USIZE: usize = 0xffff_ffff_ffff_ffff;
-
-// `at + n`, or the largest `usize` where that is less.
-fn after(at: usize, n: usize) -> usize
-    ensures { result ≡ min (at + n) max_usize }
-{
-    if n <= MAX_USIZE - at {
-        at + n
-    } else {
-        MAX_USIZE
-    }
-}
-
-// The smaller of two numbers.
-fn least(a: usize, b: usize) -> usize
-    ensures { result ≡ min a b }
-{
-    if a < b { a } else { b }
-}
-
-// `a - b`, or 0 where b is more.
-fn monus(a: usize, b: usize) -> usize
-    ensures { result ≡ a - b }
-{
-    if b < a { a - b } else { 0 }
-}
+ghost use Rattle.std.specs.Fn.{FnOnceReturnsAtMut};
+ghost use Rattle.base_text.specs.Doc.{Doc, raw, dec, hex, hex8, hex16, ◌▸◌};
+ghost use Rattle.base_text.specs.Wrote.{max_usize, overlay, Printed, Prints, Wrote};
 
 // Stores b at index `at` of part, if part has that index.
 fn store(part: &mut [u8], at: usize, b: u8)
@@ -55,15 +28,13 @@ fn store_digit(part: &mut [u8], at: usize, d: u64)
 }
 
 // Copies s to the front of part. The compiler turns the loop into one copy, of a known size where s
-// is a literal.
+// is a literal; with copy_from_slice it tests before each copy whether the two overlap.
 fn copy(part: &mut [u8], s: &[u8])
     requires { length s.now ≤ length part.old }
     ensures { part.new ≡ overlay part.old 0 s.now }
 {
-    let mut i = 0;
-    while i < s.len() {
-        part[i] = s[i];
-        i += 1;
+    for (i, b) in s.iter().enumerate() {
+        part[i] = *b;
     }
 }
 
@@ -72,10 +43,8 @@ fn copy(part: &mut [u8], s: &[u8])
 fn clip(part: &mut [u8], s: &[u8])
     ensures { part.new ≡ overlay part.old 0 s.now }
 {
-    let mut i = 0;
-    while i < s.len() {
-        store(part, i, s[i]);
-        i += 1;
+    for (i, b) in s.iter().enumerate() {
+        store(part, i, *b);
     }
 }
 
@@ -94,9 +63,7 @@ fn last_digits(part: &mut [u8], n: u64, k: usize)
     ensures { part.new ≡ overlay part.old 0 (last_digits 16 k n) }
 {
     let mut rest = n;
-    let mut at = k;
-    while 0 < at {
-        at -= 1;
+    for at in (0..k).rev() {
         rest = digit(part, at, rest);
     }
 }
@@ -114,12 +81,13 @@ fn place(part: &mut [u8], k: usize, i: usize, n: u64) -> u64
     ensures less { result ≤ n }
 {
     let d = digits::first(n, i);
-    store_digit(part, monus(k, i), d.digit);
+    store_digit(part, k.saturating_sub(i), d.digit);
     d.rest
 }
 
 // Stores the last two of the k decimal digits of n, or the only one. It and those for more digits
-// have no loop: in one the compiler would put a branch for each subtraction.
+// have no loop: in one the compiler would put a branch for each subtraction. They are no one
+// function with a const parameter, since each would call the one for a computed const.
 fn last_two(part: &mut [u8], k: usize, n: u64)
     requires one { 0 < k }
     requires two { n < 10 ^ 2 }
@@ -307,44 +275,47 @@ pub fn dec(part: &mut [u8], n: u64) -> usize
     k
 }
 
-// The same at index `at` of a buffer: each lends a printer the part from there, an empty one where
-// `at` is past the end, and answers the index after the piece, or the largest `usize` where that is
-// less.
+// The same at index `at` of a buffer: each lends a printer the part from there, and answers the
+// index after the piece.
+
+// Lends a printer the part of a buffer from index `at` on, an empty one where `at` is past the end,
+// and answers the index after what it prints, or the largest `usize` where that is less.
+fn lend<F: FnOnce(&mut [u8]) -> usize>(out: &mut [u8], at: usize, print: F) -> usize
+    requires { F.IsAlwaysCallable print }
+    ensures { (d : Doc) → Prints (FnOnceReturnsAtMut F.FnOnce print) d
+        → Wrote out.old at d out.new result }
+{
+    let from = at.min(out.len());
+    let k = print(&mut out[from..]);
+    at.saturating_add(k)
+}
 
 // The bytes of s.
 pub fn put(out: &mut [u8], at: usize, s: &[u8]) -> usize
     ensures { Wrote out.old at (raw s.now) out.new result }
 {
-    let from = least(at, out.len());
-    let k = raw(&mut out[from..], s);
-    after(at, k)
+    lend(out, at, |part| raw(part, s))
 }
 
 // n with 8 hexadecimal digits.
 pub fn put_hex8(out: &mut [u8], at: usize, n: u32) -> usize
     ensures { Wrote out.old at (hex8 n) out.new result }
 {
-    let from = least(at, out.len());
-    let k = hex8(&mut out[from..], n);
-    after(at, k)
+    lend(out, at, |part| hex8(part, n))
 }
 
 // n with 16 hexadecimal digits.
 pub fn put_hex16(out: &mut [u8], at: usize, n: u64) -> usize
     ensures { Wrote out.old at (hex16 n) out.new result }
 {
-    let from = least(at, out.len());
-    let k = hex16(&mut out[from..], n);
-    after(at, k)
+    lend(out, at, |part| hex16(part, n))
 }
 
 // n in hexadecimal, with no zeros in front.
 pub fn put_hex(out: &mut [u8], at: usize, n: u64) -> usize
     ensures { Wrote out.old at (hex n) out.new result }
 {
-    let from = least(at, out.len());
-    let k = hex(&mut out[from..], n);
-    after(at, k)
+    lend(out, at, |part| hex(part, n))
 }
 
 // n in decimal, below 20. Most decimal numbers of a text are registers. These are printed in line
@@ -354,18 +325,14 @@ fn put_short(out: &mut [u8], at: usize, n: u64) -> usize
     requires { n < 20 }
     ensures { Wrote out.old at (dec n) out.new result }
 {
-    let from = least(at, out.len());
-    let k = short(&mut out[from..], n);
-    after(at, k)
+    lend(out, at, |part| short(part, n))
 }
 
 // n in decimal, any number; called from 20 on.
 fn put_long(out: &mut [u8], at: usize, n: u64) -> usize
     ensures { Wrote out.old at (dec n) out.new result }
 {
-    let from = least(at, out.len());
-    let k = dec(&mut out[from..], n);
-    after(at, k)
+    lend(out, at, |part| dec(part, n))
 }
 
 // n in decimal, with no zeros in front.
@@ -390,7 +357,8 @@ pub fn put_then_dec(out: &mut [u8], at: usize, s: &[u8], n: u64) -> usize
     put_long(out, p, n)
 }
 
-// s and then n with 8 hexadecimal digits.
+// s and then n with 8 hexadecimal digits. It shares no generic function with `put_then_dec`, of whose
+// three lines one is this call and the others are the test.
 pub fn put_then_hex8(out: &mut [u8], at: usize, s: &[u8], n: u32) -> usize
     ensures { Wrote out.old at (raw s.now ▸ hex8 n) out.new result }
 {

@@ -25,7 +25,7 @@ pub enum ReasonAnswer {
 // What is said of instruction k.
 #[derive(Clone, Copy)]
 pub(crate) enum FoundSaid {
-    At(Sentence),
+    At(Option<Sentence>),
     // There is no such instruction.
     Nothing,
 }

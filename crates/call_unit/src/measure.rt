@@ -10,7 +10,7 @@ ghost use Rattle.call_unit.specs.Steps.{AnswersMeasure};
 
 use call_answers::{MeasureAnswer, measure_numbers_of, told_of};
 use call_frame::{Early, Opened, clear, open_file};
-use emit_units::{FoundUnit, find_unit};
+use emit_units::find_unit;
 use plan_members::prepare;
 
 // What is told of unit k of an accepted file with n blocks, by the plan at a limit in the work
@@ -26,7 +26,7 @@ fn answer_measure(
     requires { HoldsPlan file.now n limit work.now }
     ensures answer { AnswersMeasure limit max k file.now result }
 {
-    let FoundUnit::At(e) = find_unit(file, work, n, max, k) else {
+    let Some(e) = find_unit(file, work, n, max, k) else {
         return MeasureAnswer::Refused { number: 9, at: 0 };
     };
     MeasureAnswer::Told(told_of(k, e.length, e.end, e.last))

@@ -13,7 +13,7 @@ ghost use Rattle.call_unit.specs.Steps.{AnswersWrite};
 
 use call_answers::{Told, WriteAnswer, answer_in, told_of, write_numbers_of};
 use call_frame::{Early, Opened, clear, open_file};
-use emit_units::{FoundUnit, find_unit, write_unit};
+use emit_units::{find_unit, write_unit};
 use plan_members::prepare;
 
 // Writes the unit that is given, of an accepted file with n blocks, by the plan at a limit in the
@@ -31,7 +31,7 @@ fn answer_write(
     requires { HoldsPlan file.now n limit work.now }
     ensures answer { AnswersWrite limit max given file.now result text.old text.new }
 {
-    let FoundUnit::At(e) = find_unit(file, work, n, max, given.unit) else {
+    let Some(e) = find_unit(file, work, n, max, given.unit) else {
         return WriteAnswer::Refused { number: 9, at: 0 };
     };
     let found = told_of(given.unit, e.length, e.end, e.last);

@@ -10,7 +10,7 @@ ghost use Rattle.call_units.specs.Steps.{AnswersLengths};
 
 use crate::units::Asked;
 use call_frame::{Early, Opened, clear, open_file};
-use emit_units::{FoundStart, find_start, put_lengths};
+use emit_units::{find_start, put_lengths};
 use plan_members::prepare;
 
 // The answer of the call for lengths.
@@ -35,7 +35,7 @@ fn answer_lengths(
     requires { HoldsPlan file.now n asked.limit work.now }
     ensures answer { AnswersLengths asked file.now result lengths.old lengths.new }
 {
-    let FoundStart::Row(p) = find_start(file, work, n, asked.max, asked.first) else {
+    let Some(p) = find_start(file, work, n, asked.max, asked.first) else {
         return LengthsAnswer::Refused { number: 9, at: 0 };
     };
     let front = put_lengths(lengths, file, work, n, asked.max, p);

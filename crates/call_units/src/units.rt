@@ -11,7 +11,7 @@ ghost use Rattle.call_units.specs.Calls.{units_answer, units_call, units_numbers
 ghost use Rattle.call_units.specs.Steps.{AnswersUnits};
 
 use call_frame::{Early, Opened, clear, open_file};
-use emit_units::{FoundStart, find_start, put_units};
+use emit_units::{find_start, put_units};
 use plan_members::prepare;
 
 // Which units are asked for: the limit by which the blocks are grouped, the wished size, and the
@@ -54,7 +54,7 @@ fn answer_units(
     ensures answer { AnswersUnits asked file.now result text.old lengths.old
         text.new lengths.new }
 {
-    let FoundStart::Row(p) = find_start(file, work, n, asked.max, asked.first) else {
+    let Some(p) = find_start(file, work, n, asked.max, asked.first) else {
         return UnitsAnswer::Refused { number: 9, at: 0 };
     };
     let front = put_units(text, lengths, file, work, n, asked.max, p);

@@ -55,16 +55,14 @@ pub(crate) fn emit_records(
         result }
 {
     let mut p = at;
-    let mut cycles: u64 = 0;
-    let mut j: u32 = 0;
-    while j < m.block.count {
+    let mut cycles = 0;
+    for j in 0..m.block.count {
         let step = emit_record(out, p, file, work, m, cycles, j);
         if step.done {
             return step.at;
         }
         p = step.at;
         cycles = step.cycles;
-        j += 1;
     }
     emit_end(out, p, file, work, m, cycles)
 }

@@ -109,10 +109,8 @@ fn put_members(
 {
     let size = rows.end - rows.first;
     let mut q = at;
-    let mut k = 0;
-    while k < size {
+    for k in 0..size {
         q = put_member(out, q, file, work, rows, k, hashing);
-        k += 1;
     }
     q
 }

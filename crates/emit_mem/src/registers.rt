@@ -9,13 +9,11 @@ pub(crate) fn bytes_listed(rlist: u16, limit: u8) -> u32
     ensures bytes { result ≡ length (listed rlist limit) * 4 }
     ensures small { result ≤ limit * 4 }
 {
-    let mut n: u32 = 0;
-    let mut r = 0;
-    while r < limit {
+    let mut n = 0;
+    for r in 0..limit {
         if is_listed(rlist, r) {
             n += 4;
         }
-        r += 1;
     }
     n
 }
@@ -24,12 +22,10 @@ pub(crate) fn bytes_listed(rlist: u16, limit: u8) -> u32
 pub(crate) fn lowest_listed(rlist: u16) -> u8
     ensures { result ≡ slice_index_or (listed rlist 16) 0 16 }
 {
-    let mut r = 0;
-    while r < 16 {
+    for r in 0..16 {
         if is_listed(rlist, r) {
             return r;
         }
-        r += 1;
     }
     16
 }

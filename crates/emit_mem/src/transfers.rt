@@ -56,10 +56,8 @@ pub(crate) fn put_loads(out: &mut [u8], at: usize, pop: bool, rlist: u16, limit:
         out.new result }
 {
     let mut p = at;
-    let mut r = 0;
-    while r < limit {
+    for r in 0..limit {
         p = put_listed_load(out, p, pop, rlist, r);
-        r += 1;
     }
     p
 }
@@ -152,10 +150,8 @@ pub(crate) fn put_stores(out: &mut [u8], at: usize, s: Stored, rlist: u16) -> us
         out.new result }
 {
     let mut p = at;
-    let mut r = 0;
-    while r < 16 {
+    for r in 0..16 {
         p = put_listed_store(out, p, s, rlist, r);
-        r += 1;
     }
     p
 }

@@ -1,6 +1,7 @@
 -- Steps: what the code tells of an instruction, and of the lines that it writes.
 use Rattle.std.specs.Prelude.{ℕ, zero, suc, ◌≤◌, ◌≡◌, Bool, true, not, cond, ◌&&◌, ◌||◌, List, [], ◌∷◌, ◌++◌, length}
-use Rattle.std.proofs.Math.Option.{Option, none, some}
+use Rattle.std.specs.Prelude.{Option, None, Some}
+use Rattle.std.proofs.Math.Option.{Option as Option·math, none, some}
 use Rattle.base_fitting.specs.Fitting.{fitting}
 use Rattle.base_fitting.specs.Steps.{FitSoFar}
 use Rattle.base_text.specs.Doc.{print, each}
@@ -13,12 +14,11 @@ use Rattle.lower_reasons.specs.declared.types.Reason.{Reason}
 use Rattle.lower_reasons.specs.Lines.{Line, line_text, line_length, number_or}
 use Rattle.lower_reasons.specs.Said.{Said, pairs, drops_rest, said_of, nothing_of, said_each}
 use Rattle.emit_reasons.specs.declared.lines.Progress.{Progress}
-use Rattle.emit_reasons.specs.declared.reasons.Why.{Why}
 
--- what the cases of Why stand for
-abbrev pub why_of : Why → Option Reason
-why_of (Why.Shell r) = some r
-why_of Why.Native = none
+-- the reason, if there is one
+abbrev pub why_of : Option Reason → Option·math Reason
+why_of (Some r) = some r
+why_of None = none
 
 -- a record is that of a block of an accepted file, whose first instruction has this number
 abbrev pub HasBlock : List ℕ → BlockRecord → ℕ → Type 0
@@ -32,12 +32,12 @@ reached area (x ∷ xs) (suc n) =
     not (pairs x.instr xs || drops_rest area x.instr) && reached area xs n
 
 -- what is said of the first of some instructions, to which a walk has come
-unfoldable pub said_first : ℕ → List TimedInstr → Option Said
+unfoldable pub said_first : ℕ → List TimedInstr → Option·math Said
 said_first area [] = none
 said_first area (x ∷ xs) = cond (pairs x.instr xs) none (said_of area x.instr)
 
 -- what is said of the instructions of a block, by its record
-unfoldable pub said_in_record : List ℕ → BlockRecord → ℕ → List (Option Said)
+unfoldable pub said_in_record : List ℕ → BlockRecord → ℕ → List (Option·math Said)
 said_in_record f r first =
     cond (not (outside_rom_bios r.addr) || r.present)
     (said_each (region r.addr) (instrs_of f r first))

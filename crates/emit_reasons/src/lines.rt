@@ -40,8 +40,7 @@ fn put_rest(
 {
     let end = first + block.count as usize;
     let mut length = at;
-    let mut j = index;
-    while j < block.count {
+    for j in index..block.count {
         let Some(x) = instr_of(file, block, first, j) else {
             return Progress { next: end, length };
         };
@@ -60,7 +59,6 @@ fn put_rest(
         if drops_rest(region, i) {
             return Progress { next: end, length };
         }
-        j += 1;
     }
     Progress { next: end, length }
 }

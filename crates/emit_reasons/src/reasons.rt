@@ -1,4 +1,4 @@
-// The reason for an instruction's shell, by its kind.
+// The reason for an instruction's shell, by its kind. There is none where it becomes native code.
 ghost use Rattle.std.specs.Prelude.{◌≡◌, Bool, not, cond, ◌&&◌, ℕ, eqb};
 ghost use Rattle.std.proofs.Math.Option.{none, some};
 ghost use Rattle.armv4t.specs.Cond.{is_al};
@@ -19,103 +19,96 @@ ghost use Rattle.emit_reasons.specs.Steps.{why_of};
 use armv4t::{Cond, Instr, MemOffset, Op, Operand2, PC, Shift, ShiftKind, is_listed};
 use lower_reasons::Reason;
 
-// What becomes of an instruction: a shell with its reason, or native code.
-#[derive(Clone, Copy)]
-pub(crate) enum Why {
-    Shell(Reason),
-    Native,
-}
-
 // The reason of an operand: it is shifted by a register.
-fn operand_reason(op2: Operand2) -> Why
+fn operand_reason(op2: Operand2) -> Option<Reason>
     ensures { why_of result ≡ cond (passes by_register (operand_shift op2)) (some RegisterShift) none }
 {
     match op2 {
-        Operand2::Imm { .. } => Why::Native,
+        Operand2::Imm { .. } => None,
         Operand2::Reg { rm, shift } => match shift {
-            Shift::Imm { .. } => Why::Native,
-            Shift::Reg { .. } => Why::Shell(Reason::RegisterShift),
+            Shift::Imm { .. } => None,
+            Shift::Reg { .. } => Some(Reason::RegisterShift),
         },
     }
 }
 
 // The reason of an Alu.
-fn alu_reason(rd: u8, op2: Operand2) -> Why
+fn alu_reason(rd: u8, op2: Operand2) -> Option<Reason>
     ensures { (region : ℕ) (c : Cond) (op : AluOp) (s : Bool) (rn : ℕ) → why_of result ≡ reason_by region c
         (Alu op s rd rn op2) }
 {
     if rd == PC {
-        return Why::Shell(Reason::PcResult);
+        return Some(Reason::PcResult);
     }
     operand_reason(op2)
 }
 
 // The reason of a Mul.
-fn mul_reason(rd: u8) -> Why
+fn mul_reason(rd: u8) -> Option<Reason>
     ensures { (region : ℕ) (c : Cond) (acc s : Bool) (rn rs rm : ℕ) → why_of result ≡ reason_by region c
         (Mul acc s rd rn rs rm) }
 {
     if rd == PC {
-        return Why::Shell(Reason::PcResult);
+        return Some(Reason::PcResult);
     }
-    Why::Native
+    None
 }
 
 // The reason of an offset shifted by an amount: a rotate with extend, which is Ror by 0.
-fn extend_reason(kind: ShiftKind, amount: u8) -> Why
+fn extend_reason(kind: ShiftKind, amount: u8) -> Option<Reason>
     ensures { why_of result ≡ cond (by_extend (Shift.Imm kind amount)) (some ExtendOffset) none }
 {
     match kind {
-        ShiftKind::Lsl => Why::Native,
-        ShiftKind::Lsr => Why::Native,
-        ShiftKind::Asr => Why::Native,
+        ShiftKind::Lsl => None,
+        ShiftKind::Lsr => None,
+        ShiftKind::Asr => None,
         ShiftKind::Ror => {
             if amount == 0 {
-                Why::Shell(Reason::ExtendOffset)
+                Some(Reason::ExtendOffset)
             } else {
-                Why::Native
+                None
             }
         }
     }
 }
 
 // The reason of an offset: it is shifted by a register, or by a rotate with extend.
-fn offset_reason(offset: MemOffset) -> Why
+fn offset_reason(offset: MemOffset) -> Option<Reason>
     ensures { why_of result ≡ cond (passes by_register (offset_shift offset)) (some RegisterShift) (cond
         (passes by_extend (offset_shift offset)) (some ExtendOffset) none) }
 {
     match offset {
-        MemOffset::Imm(value) => Why::Native,
+        MemOffset::Imm(value) => None,
         MemOffset::Reg { rm, shift } => match shift {
             Shift::Imm { kind, amount } => extend_reason(kind, amount),
-            Shift::Reg { .. } => Why::Shell(Reason::RegisterShift),
+            Shift::Reg { .. } => Some(Reason::RegisterShift),
         },
     }
 }
 
 // The reason of a Mem.
-fn mem_reason(rd: u8, offset: MemOffset) -> Why
+fn mem_reason(rd: u8, offset: MemOffset) -> Option<Reason>
     ensures { (region : ℕ) (c : Cond) (load : Bool) (width : MemWidth) (signed : Bool) (rn : ℕ)
         (pre up writeback : Bool) → why_of result ≡ reason_by region c
         (Mem load width signed rd rn offset pre up writeback) }
 {
     if rd == PC {
-        return Why::Shell(Reason::PcResult);
+        return Some(Reason::PcResult);
     }
     offset_reason(offset)
 }
 
 // The reason of an exit, by whether its condition is Al.
-fn exit_reason(region: u32, al: bool) -> Why
+fn exit_reason(region: u32, al: bool) -> Option<Reason>
     ensures { why_of result ≡ cond (not al) (some ConditionalExit) (cond (eqb region 0) (some BiosExit) none) }
 {
     if !al {
-        return Why::Shell(Reason::ConditionalExit);
+        return Some(Reason::ConditionalExit);
     }
     if region == 0 {
-        return Why::Shell(Reason::BiosExit);
+        return Some(Reason::BiosExit);
     }
-    Why::Native
+    None
 }
 
 // Whether a BlockMem is the pop of PC.
@@ -162,26 +155,26 @@ pub(crate) fn pops_pc(
 
 // The reason of a BlockMem that is not that pop.
 #[tactic(auto, using(crate::proofs::ListOrder::in_order))]
-fn list_reason(load: bool, rn: u8, rlist: u16, s_bit: bool) -> Why
+fn list_reason(load: bool, rn: u8, rlist: u16, s_bit: bool) -> Option<Reason>
     ensures { why_of result ≡ cond s_bit (some UserRegisters) (cond (eqb rlist 0) (some EmptyList) (cond
         (eqb rn 15) (some PcBase) (cond (load && is_listed rlist 15) (some PcLoaded) none))) }
 {
     if s_bit {
-        return Why::Shell(Reason::UserRegisters);
+        return Some(Reason::UserRegisters);
     }
     if rlist == 0 {
-        return Why::Shell(Reason::EmptyList);
+        return Some(Reason::EmptyList);
     }
     if rn == PC {
-        return Why::Shell(Reason::PcBase);
+        return Some(Reason::PcBase);
     }
     if !load {
-        return Why::Native;
+        return None;
     }
     if is_listed(rlist, PC) {
-        return Why::Shell(Reason::PcLoaded);
+        return Some(Reason::PcLoaded);
     }
-    Why::Native
+    None
 }
 
 // The reason of a BlockMem, by whether its condition is Al.
@@ -195,7 +188,7 @@ fn block_mem_reason(
     up: bool,
     s_bit: bool,
     writeback: bool,
-) -> Why
+) -> Option<Reason>
     ensures { (c : Cond) → al ≡ is_al c → why_of result ≡ reason_by region c
         (BlockMem load rn rlist pre up s_bit writeback) }
 {
@@ -206,7 +199,7 @@ fn block_mem_reason(
 }
 
 // The reason for the shell of an instruction that is not fused, in a block of a region.
-pub(crate) fn reason_of(region: u32, i: Instr) -> Why
+pub(crate) fn reason_of(region: u32, i: Instr) -> Option<Reason>
     ensures { why_of result ≡ reason_of region i }
 {
     let op = i.op;
@@ -215,11 +208,11 @@ pub(crate) fn reason_of(region: u32, i: Instr) -> Why
     match op {
         Op::Alu { rd, op2, .. } => alu_reason(rd, op2),
         Op::Mul { rd, .. } => mul_reason(rd),
-        Op::MulLong { .. } => Why::Native,
+        Op::MulLong { .. } => None,
         Op::Bx { .. } => exit_reason(region, al),
-        Op::Branch { .. } => Why::Native,
-        Op::ThumbBlHigh { .. } => Why::Shell(Reason::UnpairedHalf),
-        Op::ThumbBlLow { .. } => Why::Shell(Reason::UnpairedHalf),
+        Op::Branch { .. } => None,
+        Op::ThumbBlHigh { .. } => Some(Reason::UnpairedHalf),
+        Op::ThumbBlLow { .. } => Some(Reason::UnpairedHalf),
         Op::Mem { rd, offset, .. } => mem_reason(rd, offset),
         Op::BlockMem {
             load,
@@ -230,6 +223,6 @@ pub(crate) fn reason_of(region: u32, i: Instr) -> Why
             s_bit,
             writeback,
         } => block_mem_reason(region, al, load, rn, rlist, pre, up, s_bit, writeback),
-        _ => Why::Shell(Reason::NoNativeForm),
+        _ => Some(Reason::NoNativeForm),
     }
 }

@@ -4,7 +4,7 @@ ghost use Rattle.lower_reasons.specs.Reasons.{kind_of};
 ghost use Rattle.lower_reasons.specs.Said.{drops_rest, said_of};
 ghost use Rattle.emit_sentences.specs.Steps.{said_by};
 
-use crate::reasons::{Why, pops_pc, reason_of};
+use crate::reasons::{pops_pc, reason_of};
 use armv4t::{Instr, Op};
 use emit_sentences::Sentence;
 use lower_reasons::Kind;
@@ -33,19 +33,17 @@ fn kind_of(op: Op) -> Kind
 }
 
 // What is said of an instruction that is not fused.
-pub(crate) fn said_of(region: u32, i: Instr) -> Sentence
+pub(crate) fn said_of(region: u32, i: Instr) -> Option<Sentence>
     ensures { said_by result ≡ said_of region i }
 {
     let op = i.op;
     let kind = kind_of(op);
-    match reason_of(region, i) {
-        Why::Shell(reason) => Sentence::Of {
-            addr: i.addr,
-            kind,
-            reason,
-        },
-        Why::Native => Sentence::Nothing,
-    }
+    let reason = reason_of(region, i)?;
+    Some(Sentence {
+        addr: i.addr,
+        kind,
+        reason,
+    })
 }
 
 // Whether an instruction that is not fused is an unconditional native exit.

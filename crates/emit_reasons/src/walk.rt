@@ -54,47 +54,51 @@ pub(crate) fn reaches(
     requires { HasBlock file.now block first × (index ≤ block.count) }
     ensures { result ≡ reached region (instrs_of file.now block first) index }
 {
-    let mut j: u32 = 0;
-    while j < index {
+    for j in 0..index {
         let Some(x) = instr_of(file, block, first, j) else {
             return false;
         };
         if ends_at(file, block, first, region, j, x.instr) {
             return false;
         }
-        j += 1;
     }
     true
 }
 
 // What is said of an instruction of a block that the walk comes to.
-fn said_here(file: &[u8], block: BlockRecord, first: usize, region: u32, index: u32) -> Sentence
+fn said_here(
+    file: &[u8],
+    block: BlockRecord,
+    first: usize,
+    region: u32,
+    index: u32,
+) -> Option<Sentence>
     requires { HasBlock file.now block first × (index < block.count) }
     ensures { said_by result
         ≡ said_first region (drop index (instrs_of file.now block first)) }
 {
     let Some(x) = instr_of(file, block, first, index) else {
-        return Sentence::Nothing;
+        return None;
     };
     let i = x.instr;
     if pairs_at(file, block, first, index, i) {
-        return Sentence::Nothing;
+        return None;
     }
     said_of(region, i)
 }
 
 // What is said of the instruction with an index of a block, by the block's record and the number of
 // its first instruction.
-pub fn said_at(file: &[u8], block: BlockRecord, first: usize, index: u32) -> Sentence
+pub fn said_at(file: &[u8], block: BlockRecord, first: usize, index: u32) -> Option<Sentence>
     requires { HasBlock file.now block first × (index < block.count) }
     ensures { said_by result ≡ get_or (said_in_record file.now block first) index none }
 {
     if !has_code(block) {
-        return Sentence::Nothing;
+        return None;
     }
     let region = region_of(block.addr);
     if !reaches(file, block, first, region, index) {
-        return Sentence::Nothing;
+        return None;
     }
     said_here(file, block, first, region, index)
 }

@@ -5,19 +5,16 @@ ghost use Rattle.std.specs.Prelude.{◌≡◌, length};
 ghost use Rattle.base_text.specs.Doc.{text, ◌▸◌, print};
 ghost use Rattle.base_text.specs.Wrote.{Wrote};
 ghost use Rattle.lower_reasons.specs.Sentence.{kind_name, reason_words, sentence, sentence_text};
-ghost use Rattle.emit_sentences.specs.Steps.{said_by, line_if};
+ghost use Rattle.emit_sentences.specs.Steps.{said_of, said_by, line_if};
 
 use lower_reasons::{Kind, Reason};
 
-// What is said of an instruction: nothing, or the parts of its sentence.
+// What is said of an instruction: the parts of its sentence.
 #[derive(Clone, Copy)]
-pub enum Sentence {
-    Nothing,
-    Of {
-        addr: u32,
-        kind: Kind,
-        reason: Reason,
-    },
+pub struct Sentence {
+    pub addr: u32,
+    pub kind: Kind,
+    pub reason: Reason,
 }
 
 // The name of a kind, with a space before it and one after it.
@@ -63,43 +60,41 @@ fn put_reason(out: &mut [u8], at: usize, reason: Reason) -> usize
 }
 
 // A sentence: address, kind and reason.
-fn put_sentence(out: &mut [u8], at: usize, addr: u32, kind: Kind, reason: Reason) -> usize
-    ensures { Wrote out.old at (sentence (record {
-      addr = addr;
-      kind = kind;
-      reason = reason;
-    })) out.new result }
+fn put_sentence(out: &mut [u8], at: usize, s: Sentence) -> usize
+    ensures { Wrote out.old at (sentence (said_of s)) out.new result }
 {
-    let p = base_text::put_hex8(out, at, addr);
+    let kind = s.kind;
+    let reason = s.reason;
+    let p = base_text::put_hex8(out, at, s.addr);
     let q = put_kind(out, p, kind);
     put_reason(out, q, reason)
 }
 
 // A sentence, or no text where nothing is said.
-pub fn put_said(out: &mut [u8], at: usize, said: Sentence) -> usize
+pub fn put_said(out: &mut [u8], at: usize, said: Option<Sentence>) -> usize
     ensures { Wrote out.old at (sentence_text (said_by said)) out.new result }
 {
     match said {
-        Sentence::Nothing => at,
-        Sentence::Of { addr, kind, reason } => put_sentence(out, at, addr, kind, reason),
+        None => at,
+        Some(s) => put_sentence(out, at, s),
     }
 }
 
 // A sentence and a newline, or no text where nothing is said.
-pub fn put_line(out: &mut [u8], at: usize, said: Sentence) -> usize
+pub fn put_line(out: &mut [u8], at: usize, said: Option<Sentence>) -> usize
     ensures { Wrote out.old at (line_if (said_by said)) out.new result }
 {
     match said {
-        Sentence::Nothing => at,
-        Sentence::Of { addr, kind, reason } => {
-            let p = put_sentence(out, at, addr, kind, reason);
+        None => at,
+        Some(s) => {
+            let p = put_sentence(out, at, s);
             base_text::put(out, p, b"\n")
         }
     }
 }
 
 // How long that is.
-pub fn line_length(said: Sentence) -> usize
+pub fn line_length(said: Option<Sentence>) -> usize
     ensures { result ≡ length (print (line_if (said_by said))) }
 {
     let mut nothing = [0u8; 0];

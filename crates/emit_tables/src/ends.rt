@@ -22,10 +22,8 @@ fn put_externs(out: &mut [u8], at: usize, file: &[u8], n: usize) -> usize
         result }
 {
     let mut p = at;
-    let mut i = 0;
-    while i < n {
+    for i in 0..n {
         p = put_extern(out, p, block_key(file, i));
-        i += 1;
     }
     p
 }
@@ -37,10 +35,8 @@ fn put_rows(out: &mut [u8], at: usize, file: &[u8], n: usize) -> usize
         result }
 {
     let mut p = at;
-    let mut i = 0;
-    while i < n {
+    for i in 0..n {
         p = put_row(out, p, block_key(file, i));
-        i += 1;
     }
     p
 }

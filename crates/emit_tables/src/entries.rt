@@ -21,10 +21,8 @@ pub fn put_cases(out: &mut [u8], at: usize, file: &[u8], work: &[u32], rows: Row
 {
     let size = rows.end - rows.first;
     let mut q = at;
-    let mut k = 0;
-    while k < size {
+    for k in 0..size {
         q = put_case(out, q, k as u64, row_key(file, work, rows.first + k));
-        k += 1;
     }
     q
 }
@@ -41,10 +39,8 @@ pub fn put_forwarders(out: &mut [u8], at: usize, file: &[u8], work: &[u32], rows
     let group = row_key(file, work, rows.first);
     let size = rows.end - rows.first;
     let mut q = at;
-    let mut k = 0;
-    while k < size {
+    for k in 0..size {
         q = put_forwarder(out, q, row_key(file, work, rows.first + k), group, k as u64);
-        k += 1;
     }
     base_text::put(out, q, b"\n")
 }

@@ -1,5 +1,6 @@
 -- Steps: the units of a file, by the groups and the rows that each takes.
 use Rattle.std.specs.Prelude.{ℕ, ◌+◌, ◌≤◌, min, ◌≡◌, Bool, cond, List, [], ◌∷◌, ◌++◌, map, length, take, drop}
+use Rattle.std.specs.Prelude.{Option, None, Some}
 use Rattle.std.proofs.Math.Option.{none, some}
 use Rattle.std.proofs.Math.ListN.{get_elem?}
 use Rattle.base_text.specs.Doc.{Doc, nothing, ◌▸◌, each}
@@ -14,8 +15,6 @@ use Rattle.lower_forms.specs.Forms.{Body}
 use Rattle.lower_units.specs.Units.{TranslationUnit, emit_group, unit_head, last_unit_end, text_of, cut}
 use Rattle.lower_units.specs.Units.{bodies_of, units}
 use Rattle.emit_units.specs.declared.extents.Extent.{Extent}
-use Rattle.emit_units.specs.declared.finding.FoundStart.{FoundStart}
-use Rattle.emit_units.specs.declared.finding.FoundUnit.{FoundUnit}
 use Rattle.emit_group.specs.Groups.{file_bodies, group_text}
 
 -- the length of at bytes and the text of a tree, or the largest `usize` where that is less
@@ -84,15 +83,15 @@ pub record StartsAt (f : List ℕ) (limit max k p : ℕ) : Type 0 where
   pub units : drop k (units hash_multiplier limit max (blocks_of f)) ≡ units_from f limit max group
 
 -- the row found is that of unit k, or there is no such unit
-unfoldable pub IsFoundStart : List ℕ → ℕ → ℕ → ℕ → FoundStart → Type 0
-IsFoundStart f limit max k FoundStart.Nothing =
+unfoldable pub IsFoundStart : List ℕ → ℕ → ℕ → ℕ → Option ℕ → Type 0
+IsFoundStart f limit max k None =
     drop k (units hash_multiplier limit max (blocks_of f)) ≡ []
-IsFoundStart f limit max k (FoundStart.Row p) = StartsAt f limit max k p
+IsFoundStart f limit max k (Some p) = StartsAt f limit max k p
 
 -- a row found is a row of n, or the one after
-unfoldable pub StartWithin : ℕ → FoundStart → Type 0
-StartWithin n FoundStart.Nothing = Unit {0}
-StartWithin n (FoundStart.Row p) = p ≤ n
+unfoldable pub StartWithin : ℕ → Option ℕ → Type 0
+StartWithin n None = Unit {0}
+StartWithin n (Some p) = p ≤ n
 
 -- an extent is that of unit k
 pub record IsUnit (f : List ℕ) (limit max k : ℕ) (e : Extent) : Type 0 where
@@ -106,7 +105,7 @@ pub record IsUnit (f : List ℕ) (limit max k : ℕ) (e : Extent) : Type 0 where
   pub tree : unit.tree ≡ unit_tree f limit at.group first.size e.last
 
 -- what is found is unit k, or there is none
-unfoldable pub IsFoundUnit : List ℕ → ℕ → ℕ → ℕ → FoundUnit → Type 0
-IsFoundUnit f limit max k FoundUnit.Nothing =
+unfoldable pub IsFoundUnit : List ℕ → ℕ → ℕ → ℕ → Option Extent → Type 0
+IsFoundUnit f limit max k None =
     get_elem? (units hash_multiplier limit max (blocks_of f)) k ≡ none
-IsFoundUnit f limit max k (FoundUnit.At e) = IsUnit f limit max k e
+IsFoundUnit f limit max k (Some e) = IsUnit f limit max k e

@@ -35,10 +35,8 @@ fn group_bound(file: &[u8], work: &[u32], rows: Rows) -> usize
 {
     let size = rows.end - rows.first;
     let mut bound = 0;
-    let mut k = 0;
-    while k < size {
+    for k in 0..size {
         bound += block_bound(file, row_block(work, rows.first + k));
-        k += 1;
     }
     bound
 }
@@ -63,6 +61,7 @@ pub(crate) fn unit_bound(file: &[u8], work: &[u32], n: usize, max: u64) -> usize
 {
     let mut most = 0;
     let mut p = 0;
+    // No index loop: the next group begins where `group_end` says.
     while p < n {
         let rows = Rows {
             blocks: n,

@@ -42,6 +42,7 @@ pub(crate) fn put_unit(
 {
     let mut at = put_preamble(out, 0);
     let mut q = p;
+    // No index loop: the next group begins where `group_end` says.
     while q < n {
         let rows = Rows {
             blocks: n,

@@ -9,22 +9,8 @@ ghost use Rattle.plan_groups.specs.Groups.{HasRoom};
 
 use crate::extents::{Extent, measure_unit, put_unit};
 
-// The row where the unit with a number begins, if there is one.
-#[derive(Clone, Copy)]
-pub enum FoundStart {
-    Nothing,
-    Row(usize),
-}
-
-// The unit with a number, if there is one.
-#[derive(Clone, Copy)]
-pub enum FoundUnit {
-    Nothing,
-    At(Extent),
-}
-
-// The row where unit k begins at a wished size, in an accepted file with n blocks.
-pub fn find_start(file: &[u8], work: &[u32], n: usize, max: u64, k: u64) -> FoundStart
+// The row where unit k begins at a wished size, in an accepted file with n blocks, if there is one.
+pub fn find_start(file: &[u8], work: &[u32], n: usize, max: u64, k: u64) -> Option<usize>
     requires has_room { HasRoom file.now work.now n }
     requires accepted { Accepted file.now }
     ensures within { StartWithin n result }
@@ -32,29 +18,25 @@ pub fn find_start(file: &[u8], work: &[u32], n: usize, max: u64, k: u64) -> Foun
         → IsFoundStart file.now limit max k result }
 {
     let mut p = 0;
-    let mut i = 0;
-    while i < k {
+    for _ in 0..k {
         let unit = measure_unit(file, work, n, max, p);
         if unit.last {
-            return FoundStart::Nothing;
+            return None;
         }
         p = unit.end;
-        i += 1;
     }
-    FoundStart::Row(p)
+    Some(p)
 }
 
-// Unit k at a wished size, of an accepted file with n blocks.
-pub fn find_unit(file: &[u8], work: &[u32], n: usize, max: u64, k: u64) -> FoundUnit
+// Unit k at a wished size, of an accepted file with n blocks, if there is one.
+pub fn find_unit(file: &[u8], work: &[u32], n: usize, max: u64, k: u64) -> Option<Extent>
     requires has_room { HasRoom file.now work.now n }
     requires accepted { Accepted file.now }
     ensures { (limit : ℕ) → HoldsPlan file.now n limit work.now
         → IsFoundUnit file.now limit max k result }
 {
-    let FoundStart::Row(p) = find_start(file, work, n, max, k) else {
-        return FoundUnit::Nothing;
-    };
-    FoundUnit::At(measure_unit(file, work, n, max, p))
+    let p = find_start(file, work, n, max, k)?;
+    Some(measure_unit(file, work, n, max, p))
 }
 
 // The unit of an extent, with its hashes, from the front of `out` on.

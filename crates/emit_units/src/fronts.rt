@@ -78,10 +78,9 @@ pub fn put_units(
         text.new lengths.new result }
 {
     let bound = unit_bound(file, work, n, max);
-    let mut count = 0;
     let mut length = 0;
     let mut end = p;
-    while count < lengths.len() {
+    for count in 0..lengths.len() {
         let e = fit_unit(&mut text[length..], file, work, n, max, end, bound);
         if text.len() - length < e.length {
             return Front {
@@ -92,12 +91,11 @@ pub fn put_units(
             };
         }
         lengths[count] = e.length as u64;
-        count += 1;
         length += e.length;
         end = e.end;
         if e.last {
             return Front {
-                count,
+                count: count + 1,
                 length,
                 end,
                 last: true,
@@ -105,7 +103,7 @@ pub fn put_units(
         }
     }
     Front {
-        count,
+        count: lengths.len(),
         length,
         end,
         last: false,
@@ -129,23 +127,21 @@ pub fn put_lengths(
         → PutLengths file.now limit max k p lengths.old
         lengths.new result }
 {
-    let mut told = 0;
     let mut end = p;
-    while told < lengths.len() {
+    for (count, told) in lengths.iter_mut().enumerate() {
         let e = measure_unit(file, work, n, max, end);
-        lengths[told] = e.length as u64;
-        told += 1;
+        *told = e.length as u64;
         end = e.end;
         if e.last {
             return Lengths {
-                count: told,
+                count: count + 1,
                 end,
                 last: true,
             };
         }
     }
     Lengths {
-        count: told,
+        count: lengths.len(),
         end,
         last: false,
     }

@@ -8,5 +8,5 @@ mod finding;
 mod fronts;
 
 pub use extents::Extent;
-pub use finding::{FoundStart, FoundUnit, find_start, find_unit, write_unit};
+pub use finding::{find_start, find_unit, write_unit};
 pub use fronts::{Front, Lengths, put_lengths, put_units};

@@ -2,12 +2,10 @@ use Prim.Native.Nat.{ℕ, ◌*◌, ◌<◌}
 use mathlib.Core.Path.{◌≡◌, refl, sym, ◌∙◌}
 use mathlib.Core.List.{List}
 use native.Mathlib.Nat.{le_refl}
-use native.Mathlib.Omega.{arith}
 use lib.ListN.{length, length-set}
-use mir.Facts.{Fits-32_64}
 use Rattle.base_forest.specs.Forest.{Forest, RootFound}
 use Rattle.base_forest.specs.Roots.{parent}
-use Rattle.base_forest.proofs.Ways.{start_inside, parent_inside, above, way, forest}
+use Rattle.base_forest.proofs.Ways.{start_inside, above, way, forest}
 use Rattle.base_forest.proofs.Ways.{ended, halved, halve, nearer}
 use Rattle.base_forest.proofs.Roots.{root_of}
 use Rattle.base_forest.proofs.find.Invariants.{Reached}
@@ -42,32 +40,11 @@ module _ {p₀ : List ℕ} {i : ℕ} {p : List ℕ} {at : ℕ} (here : Reached p
 pub loop-at-init : goal.loop-at-init
 loop-at-init c = starts c.requires.forest c.args.i c.requires.i_in_bounds
 
-pub bounds-p-at : goal.bounds-p-at
-bounds-p-at c = c.loop-at.invariant.inside
-
-pub overflow_cast-up : goal.overflow_cast-up
-overflow_cast-up c = Fits-32_64 (c.slice_known-1.given _)
-
-pub offset_bounds-p-up : goal.offset_bounds-p-up
-offset_bounds-p-up c = omega (arith, parent_inside c.loop-at.invariant.left)
-
-pub bounds-p-up : goal.bounds-p-up
-bounds-p-up c = omega (arith, parent_inside c.loop-at.invariant.left)
-
-pub bounds-p-at-in-loop-at : goal.bounds-p-at-in-loop-at
-bounds-p-at-in-loop-at c = c.loop-at.invariant.inside
-
-pub overflow_cast-at : goal.overflow_cast-at
-overflow_cast-at c = Fits-32_64 (c.slice_known-in-loop-at-1.given _)
-
 pub loop-at-smaller : goal.loop-at-smaller
 loop-at-smaller c = nearer _ c.loop-at.invariant.left c.if-up-at.false
 
 pub loop-at-preserved : goal.loop-at-preserved
 loop-at-preserved c = goes_on c.loop-at.invariant
-
-pub shape_of-p : goal.shape_of-p
-shape_of-p c = c.loop-at.invariant.lengths
 
 pub returns : goal.returns
 returns c = ends c.loop-at.invariant c.requires.forest c.if-up-at.true

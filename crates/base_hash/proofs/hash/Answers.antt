@@ -1,35 +1,22 @@
-use Rattle.std.proofs.Common.{◌≡◌, ℕ, ◌≤◌, List, [], length, drop, sym, refl, ap, ◌∙◌, ap₂, zero-le, add-one, arith, drop_of_length-le, drop-cons}
+use Rattle.std.proofs.Common.{◌≡◌, drop, refl, add-one, arith, drop_of_length-le, drop-cons}
+use Rattle.std.proofs.Common.{◌≤◌, length}
 use Rattle.base_hash.specs.Fnv.{fnv_from, fnv64}
 use Rattle.base_hash.proofs.hash.Goals as goal
 
-pub loop-i-init : goal.loop-i-init
+pub loop-b-init : goal.loop-b-init
 unfolding fnv64
-loop-i-init c = (zero-le, refl)
+loop-b-init c = refl
 
-pub overflow_cast-bytes : goal.overflow_cast-bytes
-overflow_cast-bytes c = omega (arith, c.shared_slice_known-in-loop-i-1.given c.loop-i.i)
-
-pub loop-i-preserved : goal.loop-i-preserved
+-- the bytes from the index on are the byte at the index and those after it
+pub loop-b-preserved : goal.loop-b-preserved
 unfolding fnv_from
-loop-i-preserved c =
-    let i = c.loop-i.i in
-    let bytes = c.args.bytes.now in
-    let inv = c.loop-i.invariant in (
-      omega arith,
-      ap₂
-          (λ (h : ℕ) (l : List ℕ). fnv_from
-          c.args.multiplier h l)
-          c.wrapping_mul-h.ensures (ap (λ (k : ℕ). drop k bytes) (add-one i))
-          ∙ sym (ap
-          (fnv_from c.args.multiplier
-          c.loop-i.h) (drop-cons bytes i 0 (omega arith))) ∙ inv.1,
-    )
+loop-b-preserved c =
+    let i = c.loop-b.b-index in
+    let first : drop i c.args.bytes.now ≡ _ = drop-cons c.args.bytes.now i 0 (omega arith) in
+    rw (c.wrapping_mul-h.ensures, c.from.ensures, add-one i) (rw first at c.loop-b.invariant)
 
 pub returns : goal.returns
 unfolding fnv_from
-returns c = let end : drop c.loop-i.i c.args.bytes.now
-    ≡ [] =
-    (let past : length c.args.bytes.now ≤ c.loop-i.i =
-    omega arith in drop_of_length-le c.args.bytes.now past) in
-    ap (fnv_from c.args.multiplier c.loop-i.h) (sym end)
-    ∙ c.loop-i.invariant.1
+returns c =
+    let past : length c.args.bytes.now ≤ c.loop-b.b-index = omega arith in
+    rw drop_of_length-le at c.loop-b.invariant

@@ -30,10 +30,6 @@ stored_two n d r o {o₁} {o₂} {k} h e hk s l p q =
     (refl, (omega arith, rw e (numeral_holds 10 20 n (lit< tt) t))) in
     last_stored n 1 (omega arith) e (q ∙ place_last 10 k r _ hk l w)
 
-pub overflow_sub-k : goal.overflow_sub-k
-overflow_sub-k c =
-    c.length_below_hundred-k.ensures.one
-
 pub returns : goal.returns
 returns c =
     stored_two c.args.n c.subtract-d.result.digit c.subtract-d.result.rest _ c.requires

@@ -28,20 +28,6 @@ digit_of_lem i n {p} {d} {r} hi h e s l =
     let q = quotient n p d r s l in
     rw (← e) (q.0, (q.1, rw (q.0, e) (first_below 10 i n (lit< tt) hi h)))
 
-pub subtract-requires : goal.subtract-requires
-subtract-requires c =
-    let e : c.args.i ≡ 20 = c.if-i-eq20.true in
-    let p : c.power-p.result ≡ 10000000000000000000 = rw e at c.power-p.ensures in
-    record { many = lit< tt; left = omega (arith, c.ranges.n.fits); fits = omega arith }
-
-pub returns-then-i-eq20 : goal.returns-then-i-eq20
-returns-then-i-eq20 c =
-    let p : c.power-p.result ≡ 10 ^ (c.args.i - 1) =
-    c.power-p.ensures in
-    let all = digit_of_lem c.args.i c.args.n c.requires.one
-    c.requires.holds p (omega (arith, c.subtract.ensures.same)) (omega (arith, c.subtract.ensures.left)) in
-    record { digit = all.0; rest = all.1.0; below = all.1.1 }
-
 pub subtract-d8-requires : goal.subtract-d8-requires
 subtract-d8-requires c =
     let i = c.args.i in

@@ -1,13 +1,9 @@
 use mathlib.Core.Path.{sym, ◌∙◌}
-use native.Mathlib.Nat.{zero-add}
 use native.Mathlib.Omega.{arith}
 use lib.Dec.{lit<}
 use Rattle.base_text.specs.Doc.{hexadecimal}
 use Rattle.base_text.proofs.Numerals.{count_more, count_end}
 use Rattle.base_text.proofs.digits.hexadecimal_length.Goals as goal
-
-pub loop-rest-init : goal.loop-rest-init
-loop-rest-init c = (lit< tt, c.ranges.n.fits, sym (zero-add _))
 
 pub loop-rest-preserved : goal.loop-rest-preserved
 loop-rest-preserved c =

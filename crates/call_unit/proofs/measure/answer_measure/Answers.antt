@@ -26,7 +26,7 @@ returns c =
     record {
       answer = let a = c.args in
           let is : IsUnit a.file.now a.limit a.max a.k _ =
-          subst (IsFoundUnit a.file.now a.limit a.max a.k) c.in-At.is
+          subst (IsFoundUnit a.file.now a.limit a.max a.k) c.in-Some.is
           (c.find_unit.ensures a.limit c.requires) in
           measure_told a.file.now a.limit a.max a.k is _ c.told_of.ensures;
     }

@@ -32,7 +32,7 @@ returns-in_default-decided c =
     record {
       answer = let a = c.args in
           let is : IsUnit a.file.now a.limit a.max a.given.unit _ =
-          subst (IsFoundUnit a.file.now a.limit a.max a.given.unit) c.in-At.is
+          subst (IsFoundUnit a.file.now a.limit a.max a.given.unit) c.in-Some.is
           (c.find_unit.ensures a.limit c.requires) in
           write_refused a.file.now a.limit a.max a.given _ is _
           c.told_of-found.ensures _ c.answer_in-decided.ensures _ _ c.in_default-decided.is;
@@ -43,7 +43,7 @@ unfolding IsFoundUnit
 write_unit-requires c =
     let a = c.args in
     let is : IsUnit a.file.now a.limit a.max a.given.unit _ =
-    subst (IsFoundUnit a.file.now a.limit a.max a.given.unit) c.in-At.is
+    subst (IsFoundUnit a.file.now a.limit a.max a.given.unit) c.in-Some.is
     (c.find_unit.ensures a.limit c.requires) in record {
       has_room = (
         (c.requires.room, omega (arith, few_blocks _ _ c.requires.accepted, c.requires.all), c.requires.all),
@@ -58,7 +58,7 @@ returns c =
     record {
       answer = let a = c.args in
           let is : IsUnit a.file.now a.limit a.max a.given.unit _ =
-          subst (IsFoundUnit a.file.now a.limit a.max a.given.unit) c.in-At.is
+          subst (IsFoundUnit a.file.now a.limit a.max a.given.unit) c.in-Some.is
           (c.find_unit.ensures a.limit c.requires) in
           let fits : length (text_of is.unit.tree) ≤ length a.text.now =
           write_fits a.file.now a.limit a.max a.given a.text.now is _

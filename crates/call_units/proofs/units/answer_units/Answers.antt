@@ -26,7 +26,7 @@ unfolding StartWithin
 put_units-front-requires c = record {
   has_room = (
     (c.requires.room, omega (arith, few_blocks _ _ c.requires.accepted, c.requires.all), c.requires.all),
-    subst (StartWithin c.args.n) c.in-Row.is c.find_start.ensures.within,
+    subst (StartWithin c.args.n) c.in-Some.is c.find_start.ensures.within,
   );
   accepted = c.requires.accepted;
 }
@@ -38,7 +38,7 @@ returns-then-front-eq0 c =
       answer = let a = c.args in
           let s : StartsAt a.file.now a.asked.limit a.asked.max a.asked.first _ =
           subst (IsFoundStart a.file.now a.asked.limit a.asked.max a.asked.first)
-          c.in-Row.is (c.find_start.ensures.start a.asked.limit c.requires) in
+          c.in-Some.is (c.find_start.ensures.start a.asked.limit c.requires) in
           units-10 a.asked a.file.now _ _ s
           (c.put_units-front.ensures a.asked.limit a.asked.first c.requires s) (omega arith);
     }
@@ -50,7 +50,7 @@ returns c =
       answer = let a = c.args in
           let s : StartsAt a.file.now a.asked.limit a.asked.max a.asked.first _ =
           subst (IsFoundStart a.file.now a.asked.limit a.asked.max a.asked.first)
-          c.in-Row.is (c.find_start.ensures.start a.asked.limit c.requires) in
+          c.in-Some.is (c.find_start.ensures.start a.asked.limit c.requires) in
           units-made a.asked a.file.now _ _ s
           (c.put_units-front.ensures a.asked.limit a.asked.first c.requires s) (omega arith);
     }

@@ -6,10 +6,6 @@ use Rattle.emit_block.specs.Walk.{IsMemberBlock, Walked}
 use Rattle.emit_block.proofs.walk.emit_records.Given as goal
 
 abbrev pub invariant-loop-j : goal.invariant-loop-j
-invariant-loop-j l = (l.j ≤ l.m.block.count)
-    × (length l.out ≡ length l.initial.out)
-    × ((ks : List ℕ) (b : Body) → IsMemberBlock l.file l.work l.m ks b
+invariant-loop-j l =
+    ((ks : List ℕ) (b : Body) → IsMemberBlock l.file l.work l.m ks b
     → Walked l.file l.m.block l.m.first ks b l.initial.out l.at l.j l.cycles l.out l.p)
-
-abbrev pub decreases-loop-j : goal.decreases-loop-j
-decreases-loop-j l = l.m.block.count - l.j

@@ -13,25 +13,18 @@ use Rattle.emit_group.proofs.Functions.{members_each}
 use Rattle.emit_group.proofs.groups.put_members.Goals as goal
 
 pub loop-k-init : goal.loop-k-init
-loop-k-init c = (omega arith, refl, λ limit g is. none (search rules) (search rules))
+loop-k-init c = λ limit g is. none (search rules) (search rules)
 
 pub loop-k-preserved : goal.loop-k-preserved
 loop-k-preserved c =
     let k = c.loop-k.k in
     let a = c.args in
     let f = a.file.now in
-    let inv = c.loop-k.invariant in (
-      omega arith,
-      c.put_member-q.auto.out ∙ inv.1,
-      λ limit g is.
-          let inside : k < length (members_of limit (blocks_of f) g) = omega (arith, group_size is) in
-          each_more (labelled_text a.hashing f (group_keys limit f g))
-          (members_of limit (blocks_of f) g) 0 k inside (inv.2 limit g is)
-          (c.put_member-q.ensures limit g is),
-    )
-
-pub shape_of-out : goal.shape_of-out
-shape_of-out c = c.loop-k.invariant.1
+    λ limit g is.
+    let inside : k < length (members_of limit (blocks_of f) g) = omega (arith, group_size is) in
+    each_more (labelled_text a.hashing f (group_keys limit f g))
+    (members_of limit (blocks_of f) g) 0 k inside (c.loop-k.invariant limit g is)
+    (c.put_member-q.ensures limit g is)
 
 pub returns : goal.returns
 returns c = λ limit g is.
@@ -39,5 +32,5 @@ returns c = λ limit g is.
     let f = a.file.now in
     let ms = members_of limit (blocks_of f) g in
     wrote_as (each_all (labelled_text a.hashing f (group_keys limit f g)) ms c.loop-k.k
-    (omega (arith, group_size is)) (c.loop-k.invariant.2 limit g is))
+    (omega (arith, group_size is)) (c.loop-k.invariant limit g is))
     (members_each a.hashing f (group_keys limit f g) ms [])

@@ -13,12 +13,7 @@ use Rattle.emit_group.proofs.groups.put_members.Given as goal
 
 abbrev pub invariant-loop-k : goal.invariant-loop-k
 invariant-loop-k l =
-    (l.k ≤ l.size)
-    × (length l.out ≡ length l.initial.out)
-    × ((limit g : ℕ) → IsGroup l.file limit l.work g l.rows
+    ((limit g : ℕ) → IsGroup l.file limit l.work g l.rows
     → Wrote l.initial.out l.at
     (each (labelled_text l.hashing l.file (group_keys limit l.file g))
     (take l.k (members_of limit (blocks_of l.file) g))) l.out l.q)
-
-abbrev pub decreases-loop-k : goal.decreases-loop-k
-decreases-loop-k l = l.size - l.k

@@ -6,25 +6,23 @@ use Rattle.emit_mem.proofs.registers.bytes_listed.Goals.{then-is_listed, else-is
 
 pub loop-r-init : goal.loop-r-init
 unfolding listed
-loop-r-init c = (omega arith, omega arith, refl)
+loop-r-init c = (omega arith, refl)
 
 pub returns : goal.returns
 returns c =
     let e : c.loop-r.r ≡ c.args.limit = omega arith in
-    rw (sym e) record { bytes = c.loop-r.invariant.2; small = c.loop-r.invariant.1 }
+    rw (sym e) record { bytes = c.loop-r.invariant.1; small = c.loop-r.invariant.0 }
 
 pub loop-r-preserved : goal.loop-r-preserved
 loop-r-preserved c =
     let inv = c.loop-r.invariant in
     elim c.if-is_listed.branch [
       | then-is_listed w ↦ (
-        omega arith,
         omega (arith, w.n-is),
-        w.n-is ∙ bytes_more _ _ _ (sym c.is_listed.ensures ∙ w.if-is_listed.true) inv.2,
+        w.n-is ∙ bytes_more _ _ _ (sym c.is_listed.ensures ∙ w.if-is_listed.true) inv.1,
       )
       | else-is_listed w ↦ (
-        omega arith,
         omega (arith, w.n-is),
-        w.n-is ∙ bytes_same _ _ _ (sym c.is_listed.ensures ∙ w.if-is_listed.false) inv.2,
+        w.n-is ∙ bytes_same _ _ _ (sym c.is_listed.ensures ∙ w.if-is_listed.false) inv.1,
       )
     ]

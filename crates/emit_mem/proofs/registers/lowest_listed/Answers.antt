@@ -5,19 +5,16 @@ use Rattle.emit_mem.proofs.registers.lowest_listed.Goals as goal
 
 pub loop-r-init : goal.loop-r-init
 unfolding listed
-loop-r-init c = (omega arith, refl)
+loop-r-init c = refl
 
 pub returns-then-is_listed : goal.returns-then-is_listed
 returns-then-is_listed c =
     lowest_is _ _ c.loop-r-test.true
-    (sym c.is_listed.ensures ∙ c.if-is_listed.true) c.loop-r.invariant.1
+    (sym c.is_listed.ensures ∙ c.if-is_listed.true) c.loop-r.invariant
 
 pub loop-r-preserved : goal.loop-r-preserved
-loop-r-preserved c = (
-  omega arith,
-  listed_not _ _ (sym c.is_listed.ensures ∙ c.if-is_listed.false)
-      c.loop-r.invariant.1,
-)
+loop-r-preserved c =
+    listed_not _ _ (sym c.is_listed.ensures ∙ c.if-is_listed.false) c.loop-r.invariant
 
 pub returns : goal.returns
-returns c = lowest_none _ _ (omega arith) c.loop-r.invariant.1
+returns c = lowest_none _ _ (omega arith) c.loop-r.invariant

@@ -6,12 +6,12 @@ use Rattle.emit_mem.proofs.transfers.put_loads.Goals as goal
 
 pub loop-r-init : goal.loop-r-init
 unfolding listed
-loop-r-init c = (omega arith, none (search rules) (search rules))
+loop-r-init c = none (search rules) (search rules)
 
 pub loop-r-preserved : goal.loop-r-preserved
 loop-r-preserved c =
-    (omega arith, wrote_as (seq c.loop-r.invariant.1 c.put_listed_load-p.ensures) (loads_more _ _ _))
+    wrote_as (seq c.loop-r.invariant c.put_listed_load-p.ensures) (loads_more _ _ _)
 
 pub returns : goal.returns
 returns c = let e : c.loop-r.r ≡ c.args.limit = omega arith in
-    rw (sym e) c.loop-r.invariant.1
+    rw (sym e) c.loop-r.invariant

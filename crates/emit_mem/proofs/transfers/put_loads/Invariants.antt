@@ -9,8 +9,5 @@ use Rattle.base_text.specs.Wrote.{Wrote}
 use Rattle.emit_mem.proofs.transfers.put_loads.Given as goal
 
 abbrev pub invariant-loop-r : goal.invariant-loop-r
-invariant-loop-r l = (l.r ≤ l.limit)
-    × Wrote l.initial.out l.at (code_text (lines common (cond l.pop 6 8) (loads (listed l.rlist l.r)) end)) l.out l.p
-
-abbrev pub decreases-loop-r : goal.decreases-loop-r
-decreases-loop-r l = l.limit - l.r
+invariant-loop-r l =
+    Wrote l.initial.out l.at (code_text (lines common (cond l.pop 6 8) (loads (listed l.rlist l.r)) end)) l.out l.p

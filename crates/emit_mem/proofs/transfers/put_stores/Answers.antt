@@ -6,14 +6,11 @@ use Rattle.emit_mem.proofs.transfers.put_stores.Goals as goal
 
 pub loop-r-init : goal.loop-r-init
 unfolding listed
-loop-r-init c = (omega arith, none (search rules) (search rules))
+loop-r-init c = none (search rules) (search rules)
 
 pub loop-r-preserved : goal.loop-r-preserved
-loop-r-preserved c = (
-  omega arith,
-  wrote_as (seq c.loop-r.invariant.1 c.put_listed_store-p.ensures)
-      (stores_more _ _ _ _),
-)
+loop-r-preserved c =
+    wrote_as (seq c.loop-r.invariant c.put_listed_store-p.ensures) (stores_more _ _ _ _)
 
 pub returns : goal.returns
-returns c = let e : c.loop-r.r ≡ 16 = omega arith in rw (sym e) c.loop-r.invariant.1
+returns c = let e : c.loop-r.r ≡ 16 = omega arith in rw (sym e) c.loop-r.invariant

@@ -8,8 +8,5 @@ use Rattle.base_text.specs.Wrote.{Wrote}
 use Rattle.emit_mem.proofs.transfers.put_stores.Given as goal
 
 abbrev pub invariant-loop-r : goal.invariant-loop-r
-invariant-loop-r l = (l.r ≤ 16)
-    × Wrote l.initial.out l.at (lines_text 8 (stores (stored_of l.s) (listed l.rlist l.r))) l.out l.p
-
-abbrev pub decreases-loop-r : goal.decreases-loop-r
-decreases-loop-r l = 16 - l.r
+invariant-loop-r l =
+    Wrote l.initial.out l.at (lines_text 8 (stores (stored_of l.s) (listed l.rlist l.r))) l.out l.p

@@ -23,7 +23,7 @@ overflow_add-end c =
 
 pub loop-j-init : goal.loop-j-init
 loop-j-init c =
-    (refl, c.requires.2, c.requires.1, λ whole all after put. put)
+    (c.requires.2, λ whole all after put. put)
 
 pub returns-in_default : goal.returns-in_default
 returns-in_default c =
@@ -37,24 +37,24 @@ pairs_at-requires c =
 
 pub shape_of-text-then-pairs_at : goal.shape_of-text-then-pairs_at
 shape_of-text-then-pairs_at c =
-    c.loop-j.invariant.0
+    c.loop-j.auto.text
 
 -- no line comes after a pair
 pub returns-then-pairs_at : goal.returns-then-pairs_at
 returns-then-pairs_at c = record {
-  within = omega (arith, c.loop-j.invariant.1);
+  within = omega (arith, c.loop-j.invariant.0);
   lines = λ whole all after put.
       progress_on
       (putting_as
       (rest_pair c.args.region
       (here_read c.requires.0.1 _ (omega arith) _ _ c.instr_of.ensures
       c.in-Some.is) _ after (sym c.pairs_at.ensures ∙ c.if-pairs_at.true))
-      (c.loop-j.invariant.3 whole all after put));
+      (c.loop-j.invariant.1 whole all after put));
 }
 
 pub overflow_sub-text : goal.overflow_sub-text
 overflow_sub-text c =
-    omega (arith, c.loop-j.invariant.0, c.loop-j.invariant.1)
+    omega (arith, c.loop-j.auto.text, c.loop-j.invariant.0)
 
 pub overflow_add-next : goal.overflow_add-next
 overflow_add-next c =
@@ -63,18 +63,18 @@ overflow_add-next c =
 
 pub shape_of-text-then-text-length : goal.shape_of-text-then-text-length
 shape_of-text-then-text-length c =
-    c.loop-j.invariant.0
+    c.loop-j.auto.text
 
 -- the next line does not fit
 pub returns-then-text-length : goal.returns-then-text-length
 returns-then-text-length c = record {
-  within = omega (arith, c.loop-j.invariant.1);
+  within = omega (arith, c.loop-j.invariant.0);
   lines = λ whole all after put.
       alone-over c.args.region
       (here_read c.requires.0.1 _ (omega arith) _ _ c.instr_of.ensures
       c.in-Some.is) _ after
       (sym c.pairs_at.ensures ∙ c.if-pairs_at.false)
-      (c.loop-j.invariant.3 whole all after put) c.said_of-said.ensures
+      (c.loop-j.invariant.1 whole all after put) c.said_of-said.ensures
       c.line_length-size.ensures
       (omega arith) (omega arith);
 }
@@ -82,19 +82,19 @@ returns-then-text-length c = record {
 pub overflow_add-length : goal.overflow_add-length
 overflow_add-length c =
     let small : size c.args.text.now ≤ 18446744073709551615 = search rules in
-    omega (arith, c.loop-j.invariant.0, c.loop-j.invariant.1)
+    omega (arith, c.loop-j.auto.text, c.loop-j.invariant.0)
 
 -- no line comes after an exit that drops the rest
 pub returns-then-drops_rest : goal.returns-then-drops_rest
 returns-then-drops_rest c = record {
-  within = omega (arith, c.loop-j.invariant.0, c.loop-j.invariant.1);
+  within = omega (arith, c.loop-j.auto.text, c.loop-j.invariant.0);
   lines = λ whole all after put.
       progress_on
       (alone-drops c.args.region
       (here_read c.requires.0.1 _ (omega arith) _ _ c.instr_of.ensures
       c.in-Some.is) _ after
       (sym c.pairs_at.ensures ∙ c.if-pairs_at.false)
-      (c.loop-j.invariant.3 whole all after put) c.said_of-said.ensures
+      (c.loop-j.invariant.1 whole all after put) c.said_of-said.ensures
       c.line_length-size.ensures
       (omega arith) c.put_line.ensures (sym c.drops_rest.ensures
       ∙ c.if-drops_rest.true));
@@ -105,23 +105,21 @@ pub returns : goal.returns
 returns c =
     let a = c.args in
     let b = a.block in
-    let all_read : c.loop-j.j ≡ b.count = omega (arith, c.loop-j.invariant.2) in record {
-      within = c.loop-j.invariant.1;
+    let all_read : c.loop-j.j ≡ b.count = omega arith in record {
+      within = c.loop-j.invariant.0;
       lines = λ whole all after put.
           progress_on
           (putting_as
           (rest_end a.region
           (ap (λ (n : ℕ). drop n (instrs_of a.file.now b a.first)) all_read
           ∙ drop_all a.file.now b.thumb b.count a.first b.addr) _ after)
-          (c.loop-j.invariant.3 whole all after put));
+          (c.loop-j.invariant.1 whole all after put));
     }
 
 pub loop-j-preserved : goal.loop-j-preserved
 loop-j-preserved c =
     let a = c.args in (
-      c.put_line.auto.out ∙ c.loop-j.invariant.0,
-      omega (arith, c.loop-j.invariant.0, c.loop-j.invariant.1),
-      omega arith,
+      omega (arith, c.loop-j.auto.text, c.loop-j.invariant.0),
       λ whole all after put.
           putting_as
           (ap (λ (n : ℕ). lines_of n
@@ -137,7 +135,7 @@ loop-j-preserved c =
           (here_read c.requires.0.1 _ (omega arith) _ _ c.instr_of.ensures
           c.in-Some.is) _ after
           (sym c.pairs_at.ensures ∙ c.if-pairs_at.false)
-          (c.loop-j.invariant.3 whole all after put) c.said_of-said.ensures
+          (c.loop-j.invariant.1 whole all after put) c.said_of-said.ensures
           c.line_length-size.ensures
           (omega arith) c.put_line.ensures (sym c.drops_rest.ensures
           ∙ c.if-drops_rest.false)),
@@ -146,4 +144,4 @@ loop-j-preserved c =
 pub shape_of-text-then-drops_rest : goal.shape_of-text-then-drops_rest
 shape_of-text-then-drops_rest c =
     c.put_line.auto.out
-    ∙ c.loop-j.invariant.0
+    ∙ c.loop-j.auto.text

@@ -13,7 +13,7 @@ use Rattle.emit_reasons.proofs.lines.put_rest.Given as goal
 
 abbrev pub invariant-loop-j : goal.invariant-loop-j
 invariant-loop-j l =
-    (size l.text ≡ size l.initial.text) × (l.length ≤ size l.initial.text) × (l.j ≤ l.block.count)
+    (l.length ≤ size l.initial.text)
     × ((whole : List ℕ) (all after : List Line)
     → Putting whole all
     (lines_of (l.first + l.index) (said_each l.region (drop l.index (instrs_of l.file l.block l.first))) ++ after)
@@ -21,6 +21,3 @@ invariant-loop-j l =
     → Putting whole all
     (lines_of (l.first + l.j) (said_each l.region (drop l.j (instrs_of l.file l.block l.first))) ++ after) l.text
     l.length)
-
-abbrev pub decreases-loop-j : goal.decreases-loop-j
-decreases-loop-j l = l.block.count - l.j

@@ -7,7 +7,7 @@ use Rattle.emit_reasons.proofs.Reading.{coming_there}
 use Rattle.emit_reasons.proofs.walk.reaches.Goals as goal
 
 pub loop-j-init : goal.loop-j-init
-loop-j-init c = (omega arith, coming_none _ _ _)
+loop-j-init c = coming_none _ _ _
 
 pub returns-in_default : goal.returns-in_default
 returns-in_default c =
@@ -21,18 +21,16 @@ ends_at-requires c =
 
 pub returns-then-ends_at : goal.returns-then-ends_at
 returns-then-ends_at c =
-    coming_ends c.loop-j.invariant.1 _
+    coming_ends c.loop-j.invariant _
     (here_read c.requires.0.1 _ (omega (arith, c.requires.1)) _ _ c.instr_of.ensures
     c.in-Some.is) (omega arith) (sym c.ends_at.ensures ∙ c.if-ends_at.true)
 
 pub loop-j-preserved : goal.loop-j-preserved
-loop-j-preserved c = (
-  omega arith,
-  coming_on c.loop-j.invariant.1 _
-      (here_read c.requires.0.1 _ (omega (arith, c.requires.1)) _ _
-      c.instr_of.ensures c.in-Some.is) (omega arith)
-      (sym c.ends_at.ensures ∙ c.if-ends_at.false),
-)
+loop-j-preserved c =
+    coming_on c.loop-j.invariant _
+    (here_read c.requires.0.1 _ (omega (arith, c.requires.1)) _ _
+    c.instr_of.ensures c.in-Some.is) (omega arith)
+    (sym c.ends_at.ensures ∙ c.if-ends_at.false)
 
 pub returns : goal.returns
-returns c = coming_there c.loop-j.invariant.1 (omega arith)
+returns c = coming_there c.loop-j.invariant (omega arith)

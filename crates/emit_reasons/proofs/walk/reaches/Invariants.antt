@@ -7,7 +7,4 @@ use Rattle.emit_reasons.proofs.walk.reaches.Given as goal
 
 abbrev pub invariant-loop-j : goal.invariant-loop-j
 invariant-loop-j l =
-    (l.j ≤ l.index) × Coming l.region (instrs_of l.file l.block l.first) l.index l.j
-
-abbrev pub decreases-loop-j : goal.decreases-loop-j
-decreases-loop-j l = l.index - l.j
+    Coming l.region (instrs_of l.file l.block l.first) l.index l.j

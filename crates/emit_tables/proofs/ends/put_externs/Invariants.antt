@@ -11,7 +11,4 @@ use Rattle.emit_tables.proofs.ends.put_externs.Given as goal
 
 abbrev pub invariant-loop-i : goal.invariant-loop-i
 invariant-loop-i l =
-    (l.i ≤ l.n) × Wrote l.initial.out l.at (each (λ (k : ℕ). top_text (extern k)) (take l.i (block_keys l.file))) l.out l.p
-
-abbrev pub decreases-loop-i : goal.decreases-loop-i
-decreases-loop-i l = l.n - l.i
+    Wrote l.initial.out l.at (each (λ (k : ℕ). top_text (extern k)) (take l.i (block_keys l.file))) l.out l.p

@@ -11,11 +11,6 @@ use Rattle.emit_tables.proofs.entries.put_forwarders.Given as goal
 
 abbrev pub invariant-loop-k : goal.invariant-loop-k
 invariant-loop-k l =
-    (l.k ≤ l.size)
-    × (length l.out ≡ length l.initial.out)
-    × ((limit g : ℕ) → IsGroup l.file limit l.work g l.rows
+    (limit g : ℕ) → IsGroup l.file limit l.work g l.rows
     → Wrote l.initial.out l.at (numbered (entry l.group) 0 (take l.k (group_keys limit l.file g)))
-    l.out l.q)
-
-abbrev pub decreases-loop-k : goal.decreases-loop-k
-decreases-loop-k l = l.size - l.k
+    l.out l.q

@@ -8,9 +8,5 @@ use Rattle.emit_units.proofs.bounds.group_bound.Given as goal
 
 abbrev pub invariant-loop-k : goal.invariant-loop-k
 invariant-loop-k l =
-    (l.k ≤ l.size)
-    × (l.bound ≤ l.k * 2 ^ 44)
+    (l.bound ≤ l.k * 2 ^ 44)
     × ((limit g : ℕ) → IsGroup l.file limit l.work g l.rows → BoundTo l.file limit g l.k l.bound)
-
-abbrev pub decreases-loop-k : goal.decreases-loop-k
-decreases-loop-k l = l.size - l.k

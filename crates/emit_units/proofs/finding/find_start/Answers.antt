@@ -5,27 +5,26 @@ use Rattle.emit_units.specs.Units.{StartsAt, StartWithin, IsFoundStart}
 use Rattle.emit_units.proofs.Cuts.{starts_first, starts_next, starts_past}
 use Rattle.emit_units.proofs.finding.find_start.Goals as goal
 
-pub loop-i-init : goal.loop-i-init
-loop-i-init c = (omega arith, omega arith, λ limit ready. starts_first _ limit _)
+pub loop-init : goal.loop-init
+loop-init c = (omega arith, λ limit ready. starts_first _ limit _)
 
 pub returns-then-unit : goal.returns-then-unit
 unfolding IsFoundStart StartWithin
 returns-then-unit c = record {
   within = tt;
   start = λ limit ready.
-      let s = c.loop-i.invariant.2 limit ready in
+      let s = c.loop.invariant.1 limit ready in
       starts_past s
       (c.measure_unit-unit.ensures.unit limit s.group ready s.within s.here)
       c.if-unit.true c.args.k (omega arith);
 }
 
-pub loop-i-preserved : goal.loop-i-preserved
-loop-i-preserved c =
-    let inv = c.loop-i.invariant in (
+pub loop-preserved : goal.loop-preserved
+loop-preserved c =
+    let inv = c.loop.invariant in (
       c.measure_unit-unit.ensures.within,
-      omega arith,
       λ limit ready.
-          let s = inv.2 limit ready in
+          let s = inv.1 limit ready in
           starts_next s
           (c.measure_unit-unit.ensures.unit limit s.group ready s.within s.here)
           c.if-unit.false,
@@ -34,11 +33,11 @@ loop-i-preserved c =
 pub returns : goal.returns
 unfolding IsFoundStart StartWithin
 returns c =
-    let inv = c.loop-i.invariant in
+    let inv = c.loop.invariant in
     let a = c.args in
-    let all : c.loop-i.i ≡ a.k = omega arith in record {
+    let all : c.loop.counter ≡ a.k = omega arith in record {
       within = inv.0;
       start = λ limit ready.
-          subst (λ (j : ℕ). StartsAt a.file.now limit a.max j c.loop-i.p) all
-          (inv.2 limit ready);
+          subst (λ (j : ℕ). StartsAt a.file.now limit a.max j c.loop.p) all
+          (inv.1 limit ready);
     }

@@ -9,12 +9,8 @@ use Rattle.emit_units.specs.Units.{StartsAt}
 use Rattle.emit_units.proofs.Fitted.{Going}
 use Rattle.emit_units.proofs.fronts.put_lengths.Given as goal
 
-abbrev pub invariant-loop-told : goal.invariant-loop-told
-invariant-loop-told l =
+abbrev pub invariant-loop-count : goal.invariant-loop-count
+invariant-loop-count l =
     (l.end ≤ l.n)
-    × (length l.lengths ≡ length l.initial.lengths)
     × ((limit k : ℕ) → HoldsPlan l.file l.n limit l.work → StartsAt l.file limit l.max k l.p
-    → Going (λ (u : TranslationUnit). 0) 0 l.file limit l.max k l.p l.initial.lengths l.lengths l.told l.end)
-
-abbrev pub decreases-loop-told : goal.decreases-loop-told
-decreases-loop-told l = length l.initial.lengths - l.told
+    → Going (λ (u : TranslationUnit). 0) 0 l.file limit l.max k l.p l.initial.lengths l.lengths l.count l.end)

@@ -12,11 +12,5 @@ abbrev pub invariant-loop-count : goal.invariant-loop-count
 invariant-loop-count l =
     (l.end ≤ l.n)
     × (l.length ≤ length l.text)
-    × (length l.text ≡ length l.initial.text)
-    × (length l.lengths ≡ length l.initial.lengths)
     × ((limit k : ℕ) → HoldsPlan l.file l.n limit l.work → StartsAt l.file limit l.max k l.p
     → Putting l.file limit l.max k l.p l.initial.text l.initial.lengths l.text l.lengths l.count l.length l.end)
-
-abbrev pub decreases-loop-count : goal.decreases-loop-count
-decreases-loop-count l =
-    length l.initial.lengths - l.count
