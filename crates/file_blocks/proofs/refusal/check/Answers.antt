@@ -5,7 +5,7 @@ use Rattle.std.proofs.lemmas.Result.{err_from_is_err_and}
 use Rattle.file_blocks.proofs.Whole as whole
 use Rattle.file_blocks.proofs.refusal.check.Goals as goal
 
-pub returns-then-file-lt-TRAILER : goal.returns-then-file-lt32
+pub returns-then-file-lt-TRAILER : goal.returns-then-file-lt-TRAILER
 returns-then-file-lt-TRAILER c = whole.too_short _ c.if-file-lt-TRAILER.true
 
 pub returns-then-not-within_limits : goal.returns-then-not-within_limits
