@@ -8,7 +8,8 @@ use borrow.Author.Tests.{lt-ltb, le-ltb}
 use lib.ListN.{length}
 use Rattle.file_records.specs.Trailer.{block_count}
 use Rattle.file_blocks.specs.Parse.{Parsed, parse, blocks_of, Accepted}
-use Rattle.std.specs.Prelude.{Err}
+use Rattle.std.specs.Prelude.{Result, Err, IsErrAnd}
+use Rattle.std.proofs.lemmas.Result.{err_from_is_err_and}
 use Rattle.file_blocks.proofs.Accepted.{length_of_lem}
 use Rattle.call_frame.specs.declared.refusal.Refusal as code
 use Rattle.call_frame.specs.Frame.{Refusal, Call, Outcome, refused_with, cleared, settle}
@@ -51,6 +52,16 @@ module _ {A : Type 0} (call : Call A) (work : List ℕ) (results : List (List �
       → record { answer = answer_of (Err r); work = work; results = results }
       ≡ call_frame call (parse f) work results
   refused_call f r told = first_refused (parse f) (refusal_of r) told
+
+  -- so it is where a question mark hands it on
+  pub refused_on : (f : List ℕ) (r : code.Refusal)
+      → opening call.early call.per_block (length work) (parse f) ≡ some (refusal_of r)
+      → (q : Result A code.Refusal) → IsErrAnd q (λ (e : code.Refusal). e ≡ r)
+      → record { answer = answer_of q; work = work; results = results }
+      ≡ call_frame call (parse f) work results
+  refused_on f r told q on =
+      let p = err_from_is_err_and q on in
+      rw (p.1, p.2) (refused_call f r told)
 
   -- a call on a file that is open leaves what it decides
   pub open_call : (f : List ℕ) (n : ℕ)

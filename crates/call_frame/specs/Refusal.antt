@@ -22,7 +22,12 @@ place Refusal.NotFound = 0
 place Refusal.ShortResult = 0
 place Refusal.Differs = 0
 
--- the answer that a result of the code stands for
+-- the answer that a result of the code stands for, by what its values stand for
+abbrev pub answer_by : {A B : Type 0} → (A → B) → Result A Refusal → Answer B
+answer_by f (Ok v) = value (f v)
+answer_by f (Err r) = refusal (number r) (place r)
+
+-- the same where they stand for themselves
 abbrev pub answer_of : {A : Type 0} → Result A Refusal → Answer A
 answer_of (Ok v) = value v
 answer_of (Err r) = refusal (number r) (place r)
