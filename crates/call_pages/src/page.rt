@@ -58,7 +58,13 @@ fn make_page(
 
 // Page k of a file, its blocks grouped by a limit: its text in the front of `text`. What
 // `PageClaims` says holds of all pages of the file.
-pub fn page_of(file: &[u8], limit: u64, k: u64, work: &mut [u32], text: &mut [u8]) -> Result<u64, Refusal>
+pub fn page_of(
+    file: &[u8],
+    limit: u64,
+    k: u64,
+    work: &mut [u32],
+    text: &mut [u8],
+) -> Result<u64, Refusal>
     ensures answer { record {
       answer = answer_of result;
       work = work.new;

@@ -25,7 +25,13 @@ pub struct PagesValues {
 }
 
 // The pages from page k on of an accepted file with n blocks, by the plan in the work numbers.
-fn answer_pages(file: &[u8], k: u64, work: &[u32], text: &mut [u8], n: usize) -> Result<PagesValues, Refusal>
+fn answer_pages(
+    file: &[u8],
+    k: u64,
+    work: &[u32],
+    text: &mut [u8],
+    n: usize,
+) -> Result<PagesValues, Refusal>
     requires { HasRoom file.now work.now n }
     ensures answer { (limit : ℕ) → HoldsPlan file.now n limit work.now
         → AnswersPages limit k file.now result text.old text.new }
@@ -68,7 +74,13 @@ fn make_pages(
 
 // The pages from page k on of a file, its blocks grouped by a limit: as many whole ones as fit, one
 // after another in the front of `text`. What `PageClaims` says holds of all pages of the file.
-pub fn pages_of(file: &[u8], limit: u64, k: u64, work: &mut [u32], text: &mut [u8]) -> Result<PagesValues, Refusal>
+pub fn pages_of(
+    file: &[u8],
+    limit: u64,
+    k: u64,
+    work: &mut [u32],
+    text: &mut [u8],
+) -> Result<PagesValues, Refusal>
     ensures answer { record {
       answer = answer_of result;
       work = work.new;

@@ -22,7 +22,13 @@ pub struct ReasonsValues {
 }
 
 // The lines from instruction k on of a file that is open, with n blocks and `total` instructions.
-fn make_reasons(file: &[u8], k: u64, text: &mut [u8], n: u32, total: u64) -> Result<ReasonsValues, Refusal>
+fn make_reasons(
+    file: &[u8],
+    k: u64,
+    text: &mut [u8],
+    n: u32,
+    total: u64,
+) -> Result<ReasonsValues, Refusal>
     requires { IsOpen file.now none 0 0 n × (total ≡ instr_total (blocks_of file.now)) }
     ensures answer { record { answer = answer_of result; work = []; results = text.new ∷ [] }
         ≡ reasons_call k (parse file.now) text.old }

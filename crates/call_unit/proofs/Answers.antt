@@ -20,7 +20,7 @@ use Rattle.call_answers.specs.declared.Told.{Told}
 use Rattle.call_answers.specs.Answers.{answer_in}
 use Rattle.call_answers.specs.Values.{told_of, same_values}
 use Rattle.call_answers.proofs.Answers.{Why, differs, short, fits, why}
-use Rattle.call_unit.specs.Calls.{answer_of, told_of_unit, measures, writes}
+use Rattle.call_unit.specs.Calls.{told_of_unit, measures, writes}
 use Rattle.call_unit.specs.Steps.{AnswersMeasure, AnswersWrite}
 
 -- what is told of an extent is what is told of its unit
@@ -62,20 +62,20 @@ module _ (f : List ℕ) (limit max : ℕ) (given : Told) (text : List ℕ) where
       by_why : Why given found (length text) r
       by_why = subst (Why given found (length text)) (sym answered) (why given found (length text))
 
-      refused : {a : Result Unit Refusal} → Why given found (length text) a → (no : Refusal)
-          → a ≡ Err no → AnswersWrite limit max given f a text text
-      refused (differs other) no known = λ work.
+      refused : {a : Result Unit Refusal} → Why given found (length text) a → (stop : Refusal)
+          → a ≡ Err stop → AnswersWrite limit max given f a text text
+      refused (differs other) stop known = λ work.
           refused_own (numbered 11)
           (ap (if_found (writes given)) is.found ∙ rw (decided false other)) work (text ∷ [])
-      refused (short same long) no known = λ work.
+      refused (short same long) stop known = λ work.
           refused_10 tt (text_of is.unit.tree)
           (ap (if_found (writes given)) is.found ∙ rw (decided true same)) work text
           (omega (arith, long, ap (λ (t : Told). t.length) told, is.bytes))
-      refused (fits same enough) no known =
+      refused (fits same enough) stop known =
           absurd (let z : ◌≡◌ {A = ℕ} 0 1 = cc in omega arith)
 
       -- a value differs, or its text is too long
-      pub write_refused : (no : Refusal) → r ≡ Err no
+      pub write_refused : (stop : Refusal) → r ≡ Err stop
           → AnswersWrite limit max given f r text text
       write_refused = refused by_why
 

@@ -56,7 +56,13 @@ fn measure_open(
 // What is told of unit k of a file, whose blocks are grouped by a limit and whose units are handed
 // on once they have max bytes. With what is told of a unit it is written, where enough is lent, and
 // with nothing else.
-pub fn measure_of(file: &[u8], limit: u64, max: u64, k: u64, work: &mut [u32]) -> Result<Told, Refusal>
+pub fn measure_of(
+    file: &[u8],
+    limit: u64,
+    max: u64,
+    k: u64,
+    work: &mut [u32],
+) -> Result<Told, Refusal>
     ensures answer { record { answer = answer_of result; work = work.new; results = [] }
         ≡ measure_call limit max k (parse file.now) work.old }
     ensures measured { MeasureThenWrite limit max file.now }

@@ -75,7 +75,12 @@ fn measure_units(
 
 // The lengths of the units from a given one on of a file, as many as have a place, in the front of
 // `lengths`.
-pub fn lengths_of(file: &[u8], asked: Asked, work: &mut [u32], lengths: &mut [u64]) -> Result<LengthsValues, Refusal>
+pub fn lengths_of(
+    file: &[u8],
+    asked: Asked,
+    work: &mut [u32],
+    lengths: &mut [u64],
+) -> Result<LengthsValues, Refusal>
     ensures answer { record {
       answer = answer_of result;
       work = work.new;

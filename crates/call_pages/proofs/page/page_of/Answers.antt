@@ -9,8 +9,9 @@ use Rattle.call_pages.proofs.page.page_of.Goals as goal
 pub returns-in_err-open : goal.returns-in_err-open
 returns-in_err-open c =
     let a = c.args in record {
-      answer = refused_on (asks_page a.limit a.k) _ (_ ∷ []) _ _ c.in_err-open.ensures.refused _ c.from_residual.ensures.1; claims = page_claims _ _;
+      answer = refused_on (asks_page a.limit a.k) _ (_ ∷ []) _ _ c.in_err-open.ensures.refused _ c.from_residual.ensures.1;
+      claims = page_claims _ _;
     }
 
 pub returns : goal.returns
-returns c = record { answer = c.make_page.ensures.answer; claims = page_claims _ _; }
+returns c = record { answer = c.make_page.ensures.answer; claims = page_claims _ _ }

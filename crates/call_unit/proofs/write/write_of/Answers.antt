@@ -10,8 +10,10 @@ use Rattle.call_unit.proofs.write.write_of.Goals as goal
 pub returns-in_err-open : goal.returns-in_err-open
 returns-in_err-open c =
     let a = c.args in record {
-      answer = refused_on (asks_of_unit (writes a.given) a.limit a.max a.given.unit) _ (_ ∷ []) _ _ c.in_err-open.ensures.refused _ c.from_residual.ensures.1; measured = measure_then_write _ _ _; claims = unit_claims _ _ _ _;
+      answer = refused_on (asks_of_unit (writes a.given) a.limit a.max a.given.unit) _ (_ ∷ []) _ _ c.in_err-open.ensures.refused _ c.from_residual.ensures.1;
+      measured = measure_then_write _ _ _;
+      claims = unit_claims _ _ _ _;
     }
 
 pub returns : goal.returns
-returns c = record { answer = c.write_open.ensures.answer; measured = measure_then_write _ _ _; claims = unit_claims _ _ _ _; }
+returns c = record { answer = c.write_open.ensures.answer; measured = measure_then_write _ _ _; claims = unit_claims _ _ _ _ }

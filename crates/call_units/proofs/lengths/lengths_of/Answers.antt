@@ -12,4 +12,4 @@ returns-in_err-open c =
     }
 
 pub returns : goal.returns
-returns c = record { answer = c.measure_units.ensures.answer; }
+returns c = record { answer = c.measure_units.ensures.answer }
