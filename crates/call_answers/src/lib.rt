@@ -6,6 +6,8 @@ ghost use Rattle.std.specs.Prelude.{◌≡◌, ◌∷◌, []};
 ghost use Rattle.call_answers.specs.Values.{told_of, same_values};
 ghost use Rattle.call_answers.specs.Answers.{answer_in, measure_numbers_of, write_numbers_of};
 
+use call_frame::Refusal;
+
 // What measuring tells of a unit, and writing it takes back.
 #[derive(Clone, Copy)]
 pub struct Told {
@@ -17,22 +19,6 @@ pub struct Told {
     pub done: u64,
     // 1 for the last unit, else 0.
     pub last: u64,
-}
-
-// The answer of the call that measures a unit.
-#[derive(Clone, Copy)]
-pub enum MeasureAnswer {
-    Told(Told),
-    // The number of the refusal, and i or 0.
-    Refused { number: u32, at: u64 },
-}
-
-// The answer of the call that writes a unit.
-#[derive(Clone, Copy)]
-pub enum WriteAnswer {
-    Written,
-    // The number of the refusal, and i or 0.
-    Refused { number: u32, at: u64 },
 }
 
 // What is told of a unit whose text has `length` bytes.
@@ -61,27 +47,27 @@ pub fn same_values(given: Told, found: Told) -> bool
     given.last == found.last
 }
 
-// The answer for a unit that is to be written by what is given for it, where there is room for so
-// many bytes.
+// Whether a unit is to be written by what is given for it, where there is room for
+// so many bytes, or what refuses it.
 #[tactic(auto, using(crate::proofs::Answers::differs_first))]
-pub fn answer_in(given: Told, found: Told, room: usize) -> WriteAnswer
+pub fn answer_in(given: Told, found: Told, room: usize) -> Result<(), Refusal>
     ensures { result ≡ answer_in given found room }
 {
     let same = same_values(given, found);
     let fits = found.length <= room as u64;
     if !same {
-        return WriteAnswer::Refused { number: 11, at: 0 };
+        return Err(Refusal::Differs);
     }
     if !fits {
-        return WriteAnswer::Refused { number: 10, at: 0 };
+        return Err(Refusal::ShortResult);
     }
-    WriteAnswer::Written
+    Ok(())
 }
 
 // The numbers of an answer of the call that measures, of which 0 or the number of the refusal is
 // returned.
 pub fn measure_numbers_of(
-    answer: MeasureAnswer,
+    answer: Result<Told, Refusal>,
     at: &mut u64,
     unit: &mut u64,
     length: &mut u64,
@@ -93,7 +79,7 @@ pub fn measure_numbers_of(
         ≡ measure_numbers_of answer }
 {
     match answer {
-        MeasureAnswer::Told(told) => {
+        Ok(told) => {
             *at = 0;
             *unit = told.unit;
             *length = told.length;
@@ -101,29 +87,29 @@ pub fn measure_numbers_of(
             *last = told.last;
             0
         }
-        MeasureAnswer::Refused { number, at: i } => {
-            *at = i;
+        Err(refusal) => {
+            *at = refusal.place();
             *unit = 0;
             *length = 0;
             *done = 0;
             *last = 0;
-            number
+            refusal.number()
         }
     }
 }
 
 // The numbers of an answer of the call that writes, likewise.
-pub fn write_numbers_of(answer: WriteAnswer, at: &mut u64) -> u32
+pub fn write_numbers_of(answer: Result<(), Refusal>, at: &mut u64) -> u32
     ensures { result ∷ at.new ∷ [] ≡ write_numbers_of answer }
 {
     match answer {
-        WriteAnswer::Written => {
+        Ok(()) => {
             *at = 0;
             0
         }
-        WriteAnswer::Refused { number, at: place } => {
-            *at = place;
-            number
+        Err(refused) => {
+            *at = refused.place();
+            refused.number()
         }
     }
 }

@@ -9,7 +9,8 @@ use borrow.Author.Tests.{le-ltb}
 use lib.ListN.{length}
 use Rattle.call_frame.specs.Answer.{refusal, value}
 use Rattle.file_blocks.specs.Parse.{Block, Parsed, parse, instr_total}
-use Rattle.file_blocks.specs.Refusal.{Rule, number, place, Applies}
+use Rattle.file_blocks.specs.declared.rule.Rule.{Rule}
+use Rattle.file_blocks.specs.Refusal.{number, place, Applies}
 use Rattle.file_blocks.proofs.Exactly.{refused_exactly}
 use Rattle.call_frame.specs.Frame.{call_on_blocks, call_frame}
 use Rattle.call_check.specs.Calls.{check_call}

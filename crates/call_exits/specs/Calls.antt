@@ -2,17 +2,11 @@
 use Rattle.std.specs.Prelude.{ℕ, List, [], ◌∷◌, map, length, get_or}
 use Rattle.std.proofs.Math.Option.{none}
 use Rattle.std.proofs.Math.ListN.{get_elem?}
-use Rattle.call_frame.specs.Answer.{Answer, refusal, value}
+use Rattle.call_frame.specs.Answer.{Answer}
 use Rattle.file_blocks.specs.Parse.{Block, Parsed}
-use Rattle.plan_exits.specs.Exits.{exits, keys_of}
+use Rattle.plan_exits.specs.Exits.{exits}
 use Rattle.call_frame.specs.Frame.{Call, makes, if_found, call_frame}
 use Rattle.call_frame.specs.Numbers.{numbers_of}
-use Rattle.call_exits.specs.declared.calls.ExitsAnswer.{ExitsAnswer}
-
--- what the cases of ExitsAnswer stand for: the keys of the exits, or a refusal
-unfoldable pub exits_answer : ExitsAnswer → Answer (List ℕ)
-exits_answer (ExitsAnswer.Exits e) = value (keys_of e)
-exits_answer (ExitsAnswer.Refused n i) = refusal n i
 
 -- what it makes: the keys of block k, or 9 where there is no such block
 abbrev pub asks_exits : ℕ → Call (List ℕ)

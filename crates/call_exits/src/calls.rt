@@ -1,31 +1,22 @@
 // The public call for the exits of a block. It checks its file itself.
 ghost use Rattle.std.specs.Prelude.{◌≡◌, ◌∷◌, []};
 ghost use Rattle.call_frame.specs.Answer.{value};
+ghost use Rattle.call_frame.specs.Refusal.{answer_by};
 ghost use Rattle.file_blocks.specs.Parse.{parse};
 ghost use Rattle.plan_exits.specs.Exits.{keys_of};
-ghost use Rattle.call_exits.specs.Calls.{exits_answer, exits_call, exits_numbers};
+ghost use Rattle.call_exits.specs.Calls.{exits_call, exits_numbers};
 
-use call_frame::{Early, Opened, open_file};
+use call_frame::{Refusal, open_file};
 use plan_exits::{Exits, block_exits};
 
-// The answer of the call for the exits of a block.
-#[derive(Clone, Copy)]
-pub enum ExitsAnswer {
-    Exits(Exits),
-    // The number of the refusal, and i or 0.
-    Refused { number: u32, at: u64 },
-}
-
 // The exits of a block by its number, or refusal 9 where there is no such block.
-pub fn exits_of(file: &[u8], block: u64) -> ExitsAnswer
-    ensures answer { exits_answer result ≡ exits_call block (parse file.now) }
+pub fn exits_of(file: &[u8], block: u64) -> Result<Exits, Refusal>
+    ensures answer { answer_by keys_of result ≡ exits_call block (parse file.now) }
 {
-    match open_file(file, Early::Nothing, 0, 0) {
-        Opened::Refused { number, at } => ExitsAnswer::Refused { number, at },
-        Opened::Blocks { .. } => match block_exits(file, block as usize) {
-            Some(e) => ExitsAnswer::Exits(e),
-            None => ExitsAnswer::Refused { number: 9, at: 0 },
-        },
+    open_file(file, None, 0, 0)?;
+    match block_exits(file, block as usize) {
+        Some(exits) => Ok(exits),
+        None => Err(Refusal::NotFound),
     }
 }
 
@@ -66,17 +57,17 @@ pub fn exits_numbers(
         ≡ exits_numbers (exits_call block (parse file.now)) }
 {
     match exits_of(file, block) {
-        ExitsAnswer::Exits(exits) => {
+        Ok(exits) => {
             *at = 0;
             put_exits(exits, count, first, second);
             0
         }
-        ExitsAnswer::Refused { number, at: i } => {
-            *at = i;
+        Err(refusal) => {
+            *at = refusal.place();
             *count = 0;
             *first = 0;
             *second = 0;
-            number
+            refusal.number()
         }
     }
 }

@@ -3,4 +3,4 @@
 
 mod calls;
 
-pub use calls::{ExitsAnswer, exits_numbers, exits_of};
+pub use calls::{exits_numbers, exits_of};

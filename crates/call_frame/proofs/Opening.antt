@@ -1,18 +1,21 @@
 -- A file that is opened: what that tells of it, and what a call on it leaves.
 -- Assumes nothing.
 use Prim.Native.Nat.{ℕ, ◌*◌, ◌<◌}
-use mathlib.Core.Path.{◌≡◌, sym, ap, ◌∙◌, subst}
+use mathlib.Core.Path.{◌≡◌, sym, ap, ◌∙◌}
 use mathlib.Core.List.{List, map}
 use mathlib.Core.Option.{Option, none, some}
 use borrow.Author.Tests.{lt-ltb, le-ltb}
 use lib.ListN.{length}
 use Rattle.file_records.specs.Trailer.{block_count}
-use Rattle.file_blocks.specs.Parse.{Parsed, parse, blocks_of, instr_total, Accepted}
+use Rattle.file_blocks.specs.Parse.{Parsed, parse, blocks_of, Accepted}
+use Rattle.std.specs.Prelude.{Result, Err, IsErrAnd}
+use Rattle.std.proofs.lemmas.Result.{err_from_is_err_and}
 use Rattle.file_blocks.proofs.Accepted.{length_of_lem}
-use Rattle.call_frame.specs.declared.open.Opened.{Opened}
+use Rattle.call_frame.specs.declared.refusal.Refusal as code
 use Rattle.call_frame.specs.Frame.{Refusal, Call, Outcome, refused_with, cleared, settle}
 use Rattle.call_frame.specs.Frame.{numbered, call_on_blocks, call_frame}
-use Rattle.call_frame.specs.Open.{opening, IsOpen, IsOpened}
+use Rattle.call_frame.specs.Open.{opening, IsOpen}
+use Rattle.call_frame.specs.Refusal.{answer_of, refusal_of}
 
 -- what opening finds in an accepted file: the early refusal, or 8
 module _ (f : List ℕ) (ok : Accepted f) (early : Option Refusal) (per_block lent : ℕ) where
@@ -27,22 +30,6 @@ module _ (f : List ℕ) (ok : Accepted f) (early : Option Refusal) (per_block le
   opening_8 n all is few =
       let size : length (blocks_of f) ≡ n = length_of_lem f (blocks_of f) ok ∙ sym all in
       rw (ok, is, size, lt-ltb _ _ few)
-
--- what opening tells, by its cases
-module _ (f : List ℕ) (early : Option Refusal) (per_block lent : ℕ) (r : Opened)
-    (told : IsOpened f early per_block lent r) where
-  pub is_open : (n k : ℕ) → r ≡ Opened.Blocks n k → IsOpen f early per_block lent n
-  unfolding IsOpened
-  is_open n k is = (subst (IsOpened f early per_block lent) is told).0
-
-  pub instr_number : (n k : ℕ) → r ≡ Opened.Blocks n k → k ≡ instr_total (blocks_of f)
-  unfolding IsOpened
-  instr_number n k is = (subst (IsOpened f early per_block lent) is told).1
-
-  is_refused : (n i : ℕ) → r ≡ Opened.Refused n i
-      → opening early per_block lent (parse f) ≡ some (record { number = n; place = i })
-  unfolding IsOpened
-  is_refused n i is = subst (IsOpened f early per_block lent) is told
 
 -- so many blocks are those of the file
 pub block_number : (f : List ℕ) (early : Option Refusal) (per_block lent n : ℕ)
@@ -60,12 +47,21 @@ module _ {A : Type 0} (call : Call A) (work : List ℕ) (results : List (List �
   first_refused (Parsed.accepted bs) r e = rw e
 
   -- what opening refuses the call refuses, with nothing written
-  pub refused_call : (f : List ℕ) (r : Opened)
-      → IsOpened f call.early call.per_block (length work) r → (n i : ℕ)
-      → r ≡ Opened.Refused n i
-      → refused_with (record { number = n; place = i }) work results
+  pub refused_call : (f : List ℕ) (r : code.Refusal)
+      → opening call.early call.per_block (length work) (parse f) ≡ some (refusal_of r)
+      → record { answer = answer_of (Err r); work = work; results = results }
       ≡ call_frame call (parse f) work results
-  refused_call f r told n i is = first_refused (parse f) _ (is_refused f _ _ _ r told n i is)
+  refused_call f r told = first_refused (parse f) (refusal_of r) told
+
+  -- so it is where a question mark hands it on
+  pub refused_on : (f : List ℕ) (r : code.Refusal)
+      → opening call.early call.per_block (length work) (parse f) ≡ some (refusal_of r)
+      → (q : Result A code.Refusal) → IsErrAnd q (λ (e : code.Refusal). e ≡ r)
+      → record { answer = answer_of q; work = work; results = results }
+      ≡ call_frame call (parse f) work results
+  refused_on f r told q on =
+      let p = err_from_is_err_and q on in
+      rw (p.1, p.2) (refused_call f r told)
 
   -- a call on a file that is open leaves what it decides
   pub open_call : (f : List ℕ) (n : ℕ)

@@ -2,15 +2,8 @@
 use Rattle.std.specs.Prelude.{ℕ, ◌*◌, ◌≤◌, ◌≡◌, List, length}
 use Rattle.std.proofs.Math.Option.{Option, none, some}
 use Rattle.file_records.specs.Trailer.{block_count}
-use Rattle.file_blocks.specs.Parse.{Parsed, parse, blocks_of, instr_total, Accepted}
-use Rattle.call_frame.specs.declared.open.Early.{Early}
-use Rattle.call_frame.specs.declared.open.Opened.{Opened}
+use Rattle.file_blocks.specs.Parse.{Parsed, Accepted}
 use Rattle.call_frame.specs.Frame.{Refusal, before_blocks}
-
--- what the cases of Early stand for
-abbrev pub early_of : Early → Option Refusal
-early_of Early.Nothing = none
-early_of (Early.Refused n i) = some (record { number = n; place = i })
 
 -- the refusal of a file before its blocks are looked at
 unfoldable pub opening : Option Refusal → ℕ → ℕ → Parsed → Option Refusal
@@ -25,10 +18,3 @@ pub record IsOpen (f : List ℕ) (early : Option Refusal) (per_block lent n : �
   pub few : n ≤ 65536
   pub nothing : early ≡ none
   pub room : per_block * n ≤ lent
-
--- the file is open, with so many blocks and instructions, or refused for what is told
-unfoldable pub IsOpened : List ℕ → Option Refusal → ℕ → ℕ → Opened → Type 0
-IsOpened f early per_block lent (Opened.Blocks n k) =
-    IsOpen f early per_block lent n × (k ≡ instr_total (blocks_of f))
-IsOpened f early per_block lent (Opened.Refused n i) =
-    opening early per_block lent (parse f) ≡ some (record { number = n; place = i })

@@ -7,9 +7,5 @@ pub fn clear(work: &mut [u32], m: usize)
     requires { m ≤ length work.old }
     ensures { work.new ≡ cleared m work.old }
 {
-    let mut i = 0;
-    while i < m {
-        work[i] = 0;
-        i += 1;
-    }
+    work[..m].fill(0);
 }

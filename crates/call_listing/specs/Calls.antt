@@ -1,18 +1,11 @@
 -- To be believed: the public call for the listing of a file. It is lent work numbers and a text.
 use Rattle.std.specs.Prelude.{ℕ, List, [], ◌∷◌, length}
 use Rattle.std.proofs.Math.Option.{none}
-use Rattle.call_frame.specs.Answer.{Answer, refusal, value}
 use Rattle.file_blocks.specs.Parse.{Block, Parsed}
 use Rattle.base_text.specs.Doc.{print}
 use Rattle.call_frame.specs.Frame.{Call, Outcome, makes, call_frame}
 use Rattle.call_frame.specs.Numbers.{Handed, handed}
-use Rattle.call_listing.specs.declared.calls.ListingAnswer.{ListingAnswer}
 use Rattle.call_listing.specs.Listing.{listing}
-
--- what the cases of ListingAnswer stand for: the length of the text, or a refusal
-unfoldable pub listing_answer : ListingAnswer → Answer ℕ
-listing_answer (ListingAnswer.Length n) = value n
-listing_answer (ListingAnswer.Refused n i) = refusal n i
 
 -- what it makes at a group limit: the length of the text, and the text
 abbrev pub asks_listing : ℕ → Call ℕ

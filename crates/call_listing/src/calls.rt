@@ -4,23 +4,15 @@ ghost use Rattle.std.proofs.Math.Option.{none};
 ghost use Rattle.file_blocks.specs.Parse.{parse, blocks_of};
 ghost use Rattle.base_text.specs.Doc.{print};
 ghost use Rattle.call_frame.specs.Open.{IsOpen};
+ghost use Rattle.call_frame.specs.Refusal.{answer_of};
 ghost use Rattle.call_listing.specs.Listing.{listing};
 ghost use Rattle.call_listing.specs.Steps.{HoldsGroups};
-ghost use Rattle.call_listing.specs.Calls.{listing_answer, listing_call, listing_numbers};
+ghost use Rattle.call_listing.specs.Calls.{listing_call, listing_numbers};
 
 use crate::lines::put_listing;
-use call_frame::{Early, Opened, clear, open_file};
+use call_frame::{Refusal, clear, open_file};
 use plan_groups::group_blocks;
 use plan_members::put_groups;
-
-// The answer of the call for the listing.
-#[derive(Clone, Copy)]
-pub enum ListingAnswer {
-    // How many bytes the text has.
-    Length(u64),
-    // The number of the refusal, and i or 0.
-    Refused { number: u32, at: u64 },
-}
 
 // The length of the listing: it is written to no bytes at all.
 fn listing_length(file: &[u8], work: &[u32], n: usize) -> usize
@@ -32,11 +24,17 @@ fn listing_length(file: &[u8], work: &[u32], n: usize) -> usize
     put_listing(file, work, n, &mut nothing)
 }
 
-// The listing of a file that is open, with n blocks.
-fn list_blocks(file: &[u8], limit: u64, work: &mut [u32], text: &mut [u8], n: u32) -> ListingAnswer
+// The listing of a file that is open, with n blocks: how many bytes its text has.
+fn list_blocks(
+    file: &[u8],
+    limit: u64,
+    work: &mut [u32],
+    text: &mut [u8],
+    n: u32,
+) -> Result<u64, Refusal>
     requires { IsOpen file.now none 4 (length work.old) n }
     ensures answer { record {
-      answer = listing_answer result;
+      answer = answer_of result;
       work = work.new;
       results = text.new ∷ [];
     }
@@ -48,26 +46,30 @@ fn list_blocks(file: &[u8], limit: u64, work: &mut [u32], text: &mut [u8], n: u3
     let length = listing_length(file, work, size);
     if text.len() < length {
         clear(work, 4 * size);
-        return ListingAnswer::Refused { number: 10, at: 0 };
+        return Err(Refusal::ShortResult);
     }
     put_listing(file, work, size, text);
     clear(work, 4 * size);
-    ListingAnswer::Length(length as u64)
+    Ok(length as u64)
 }
 
-// The listing of a file, its blocks grouped by a limit: its text in the front of `text`.
-pub fn listing_of(file: &[u8], limit: u64, work: &mut [u32], text: &mut [u8]) -> ListingAnswer
+// The listing of a file, its blocks grouped by a limit: its text in the front of `text`, and how
+// many bytes it has.
+pub fn listing_of(
+    file: &[u8],
+    limit: u64,
+    work: &mut [u32],
+    text: &mut [u8],
+) -> Result<u64, Refusal>
     ensures answer { record {
-      answer = listing_answer result;
+      answer = answer_of result;
       work = work.new;
       results = text.new ∷ [];
     }
         ≡ listing_call limit (parse file.now) work.old text.old }
 {
-    match open_file(file, Early::Nothing, 4, work.len()) {
-        Opened::Blocks { blocks, .. } => list_blocks(file, limit, work, text, blocks),
-        Opened::Refused { number, at } => ListingAnswer::Refused { number, at },
-    }
+    let open = open_file(file, None, 4, work.len())?;
+    list_blocks(file, limit, work, text, open.blocks)
 }
 
 // The listing of a file, and the numbers of the answer, of which 0 or the number of the refusal is
@@ -89,15 +91,15 @@ pub fn listing_numbers(
         (listing_call limit (parse file.now) work.old text.old) }
 {
     match listing_of(file, limit, work, text) {
-        ListingAnswer::Length(n) => {
+        Ok(n) => {
             *at = 0;
             *length = n;
             0
         }
-        ListingAnswer::Refused { number, at: i } => {
-            *at = i;
+        Err(refusal) => {
+            *at = refusal.place();
             *length = 0;
-            number
+            refusal.number()
         }
     }
 }

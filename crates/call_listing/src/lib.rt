@@ -4,4 +4,4 @@
 mod calls;
 mod lines;
 
-pub use calls::{ListingAnswer, listing_numbers, listing_of};
+pub use calls::{listing_numbers, listing_of};

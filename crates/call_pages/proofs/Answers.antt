@@ -20,10 +20,11 @@ use Rattle.call_frame.proofs.Pieces.{Some, none_of, some_of, decided_9, decided_
 use Rattle.call_frame.proofs.Pieces.{decided_front}
 use Rattle.call_frame.proofs.Settling.{refused_own, refused_10, handed_over}
 use Rattle.call_pages.specs.declared.text.Front.{Front}
-use Rattle.call_pages.specs.declared.page.PageAnswer.{PageAnswer}
-use Rattle.call_pages.specs.declared.pages.PagesAnswer.{PagesAnswer}
+use Rattle.call_frame.specs.declared.refusal.Refusal.{Refusal}
+use Rattle.std.specs.Prelude.{Result, Ok, Err}
 use Rattle.call_pages.specs.Page.{rows_of, Page, per_page, pages_from, page_text, page_length}
-use Rattle.call_pages.specs.Calls.{PagesValues, page_answer, pages_answer, made_page, made_pages}
+use Rattle.call_pages.specs.declared.pages.PagesValues.{PagesValues}
+use Rattle.call_pages.specs.Calls.{made_page, made_pages}
 use Rattle.call_pages.specs.Steps.{page_on, Begins, pages_asked, PutPages, AnswersPage}
 use Rattle.call_pages.specs.Steps.{AnswersPages}
 use Rattle.call_pages.proofs.Fitted.{page_size, total_texts}
@@ -48,15 +49,13 @@ module _ {f : List ℕ} {n limit : ℕ} {work : List ℕ} (ready : HoldsPlan f n
 
   module _ (past : 1 ≤ k → n ≤ per_page * (k - 1)) where
     -- there is no such page
-    pub page_9 : AnswersPage limit k f (PageAnswer.Refused 9 0) text text
-    unfolding page_answer
+    pub page_9 : AnswersPage limit k f (Err Refusal.NotFound) text text
     page_9 = λ work.
         refused_own _
         (ap (λ (ps : List Page). if_found (made_page bs) (get_elem? ps 0)) (asked_none ready k past))
         work (text ∷ [])
 
-    pub pages_9 : AnswersPages limit k f (PagesAnswer.Refused 9 0) text text
-    unfolding pages_answer
+    pub pages_9 : AnswersPages limit k f (Err Refusal.NotFound) text text
     pages_9 = λ work.
         refused_own _ (decided_9 (made_pages bs) fit asked (asked_none ready k past)) work
         (text ∷ [])
@@ -91,16 +90,14 @@ module _ {f : List ℕ} {n limit : ℕ} {work : List ℕ} (ready : HoldsPlan f n
 
     -- it does not fit
     pub page_10 : length text < 65 * (1 + min per_page (n - p))
-        → AnswersPage limit k f (PageAnswer.Refused 10 0) text text
-    unfolding page_answer
+        → AnswersPage limit k f (Err Refusal.ShortResult) text text
     page_10 over = λ work.
         refused_10 _ _ found work text (omega (arith, page_size ready k p))
 
     -- it is in the front of the text
     pub page_made : {m : ℕ} → m ≡ 65 * (1 + min per_page (n - p)) → m ≤ length text
         → {text' : List ℕ} {r : ℕ} → Wrote text 0 (page_text bs on) text' r
-        → AnswersPage limit k f (PageAnswer.Length m) text text'
-    unfolding page_answer
+        → AnswersPage limit k f (Ok m) text text'
     page_made {m} is fits w = λ work.
         let size : m ≡ page_length bs on = is ∙ sym (page_size ready k p) in
         handed_over _ _ found work text _ _ size (omega arith) (whole w (omega arith)).0
@@ -121,8 +118,8 @@ module _ {f : List ℕ} {n limit : ℕ} {work : List ℕ} (ready : HoldsPlan f n
 
     module _ {text' : List ℕ} {r : Front} (put : PutPages f limit k text text' r) where
       -- not one fits
-      pub pages_10 : r.count ≡ 0 → AnswersPages limit k f (PagesAnswer.Refused 10 0) text text'
-      unfolding pages_answer print
+      pub pages_10 : r.count ≡ 0 → AnswersPages limit k f (Err Refusal.ShortResult) text text'
+      unfolding print
       pages_10 zero = λ work.
           let made : put.made ≡ [] = none_of put.made (omega (arith, put.count)) in
           let nothing : fit asked ≡ [] = put.fits ∙ made in
@@ -136,8 +133,7 @@ module _ {f : List ℕ} {n limit : ℕ} {work : List ℕ} (ready : HoldsPlan f n
 
       -- some are in the front
       pub pages_made : 0 < r.count
-          → AnswersPages limit k f (PagesAnswer.Pages r.count r.length) text text'
-      unfolding pages_answer
+          → AnswersPages limit k f (Ok (values_of r.count r.length)) text text'
       pages_made any = λ work.
           let m = some_of put.made (λ e. omega (arith, put.count, ap length e)) in
           handed_over _ _

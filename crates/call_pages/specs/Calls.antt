@@ -6,28 +6,11 @@ use Rattle.std.proofs.Math.ListN.{get_elem?}
 use Rattle.base_fitting.specs.Fitting.{fitting}
 use Rattle.base_text.specs.Doc.{print, each}
 use Rattle.file_blocks.specs.Parse.{Block, Parsed}
-use Rattle.call_frame.specs.Answer.{Answer, refusal, value}
 use Rattle.call_frame.specs.Frame.{Decision, Call, Outcome, makes, if_found, call_frame}
 use Rattle.call_frame.specs.Numbers.{Handed, handed}
 use Rattle.call_frame.specs.Pieces.{of_those_that_fit}
-use Rattle.call_pages.specs.declared.page.PageAnswer.{PageAnswer}
-use Rattle.call_pages.specs.declared.pages.PagesAnswer.{PagesAnswer}
+use Rattle.call_pages.specs.declared.pages.PagesValues.{PagesValues}
 use Rattle.call_pages.specs.Page.{Page, pages, page_text, page_length}
-
--- what is answered of some pages: how many they are, and how long their texts are in all
-pub record PagesValues : Type 0 where
-  pub count : ℕ
-  pub length : ℕ
-
--- what the cases of PageAnswer stand for: the length of the text, or a refusal
-unfoldable pub page_answer : PageAnswer → Answer ℕ
-page_answer (PageAnswer.Length n) = value n
-page_answer (PageAnswer.Refused n i) = refusal n i
-
--- what the cases of PagesAnswer stand for
-unfoldable pub pages_answer : PagesAnswer → Answer PagesValues
-pages_answer (PagesAnswer.Pages c n) = value (record { count = c; length = n })
-pages_answer (PagesAnswer.Refused n i) = refusal n i
 
 -- the pages from page k on; they are counted from 1, and there is no page 0
 abbrev pub from_page : ℕ → List Page → List Page

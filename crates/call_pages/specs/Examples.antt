@@ -25,7 +25,8 @@ use Rattle.call_pages.specs.Page.{right_in, page_line, block_line, Row, rows_of,
 use Rattle.call_pages.specs.Page.{Page, pages_from, pages, head_line, page_text}
 use Rattle.call_pages.specs.Claims.{IsLine, columns, AtRight, AtLeft, Words, FieldsWhole}
 use Rattle.call_pages.specs.Claims.{RowWhole, HeadWhole, PagesHold}
-use Rattle.call_pages.specs.Calls.{PagesValues, from_page, fitting_pages, page_call}
+use Rattle.call_pages.specs.declared.pages.PagesValues.{PagesValues}
+use Rattle.call_pages.specs.Calls.{from_page, fitting_pages, page_call}
 use Rattle.call_pages.specs.Calls.{pages_call, page_numbers, pages_numbers}
 
 -- the lines of three blocks

@@ -1,18 +1,19 @@
 -- Steps: the rows and pages that the steps of the code name, and what they answer once the work
 -- numbers hold the plan.
-use Rattle.std.specs.Prelude.{ℕ, ◌*◌, ◌-◌, ◌≤◌, ◌<◌, ◌≡◌, List, [], ◌∷◌, length, get_or, take, drop}
+use Rattle.std.specs.Prelude.{ℕ, ◌*◌, ◌-◌, ◌≤◌, ◌<◌, ◌≡◌, List, [], ◌∷◌, length, get_or, take, drop, Result}
 use Rattle.base_fitting.specs.Fitting.{fitting}
 use Rattle.base_fitting.specs.Steps.{HasFront}
 use Rattle.base_text.specs.Doc.{print, each}
 use Rattle.file_blocks.specs.Parse.{Block, blocks_of}
 use Rattle.plan_groups.specs.Plan.{plan}
 use Rattle.call_frame.specs.Frame.{settle}
+use Rattle.call_frame.specs.declared.refusal.Refusal.{Refusal}
+use Rattle.call_frame.specs.Refusal.{answer_of}
 use Rattle.call_pages.specs.declared.text.FoundPage.{FoundPage}
 use Rattle.call_pages.specs.declared.text.Front.{Front}
-use Rattle.call_pages.specs.declared.page.PageAnswer.{PageAnswer}
-use Rattle.call_pages.specs.declared.pages.PagesAnswer.{PagesAnswer}
+use Rattle.call_pages.specs.declared.pages.PagesValues.{PagesValues}
 use Rattle.call_pages.specs.Page.{Row, rows_of, Page, per_page, pages, page_text, page_length}
-use Rattle.call_pages.specs.Calls.{page_answer, pages_answer, from_page, asks_page, asks_pages}
+use Rattle.call_pages.specs.Calls.{from_page, asks_page, asks_pages}
 
 -- row p of a plan; a row of zeros where it has none
 abbrev pub row_at : ℕ → List Block → ℕ → Row
@@ -49,13 +50,13 @@ pub record PutPages (f : List ℕ) (limit k : ℕ) (text text' : List ℕ) (r : 
 
 -- an answer, and the text that it leaves, are those of the call for page k, whatever becomes of the
 -- work numbers
-abbrev pub AnswersPage : ℕ → ℕ → List ℕ → PageAnswer → List ℕ → List ℕ → Type 0
+abbrev pub AnswersPage : ℕ → ℕ → List ℕ → Result ℕ Refusal → List ℕ → List ℕ → Type 0
 AnswersPage limit k f r text text' = (work : List ℕ)
-    → record { answer = page_answer r; work = work; results = text' ∷ [] }
+    → record { answer = answer_of r; work = work; results = text' ∷ [] }
     ≡ settle ((asks_page limit k).own (blocks_of f) (length text ∷ [])) work (text ∷ [])
 
 -- the same of the call for pages
-abbrev pub AnswersPages : ℕ → ℕ → List ℕ → PagesAnswer → List ℕ → List ℕ → Type 0
+abbrev pub AnswersPages : ℕ → ℕ → List ℕ → Result PagesValues Refusal → List ℕ → List ℕ → Type 0
 AnswersPages limit k f r text text' = (work : List ℕ)
-    → record { answer = pages_answer r; work = work; results = text' ∷ [] }
+    → record { answer = answer_of r; work = work; results = text' ∷ [] }
     ≡ settle ((asks_pages limit k).own (blocks_of f) (length text ∷ [])) work (text ∷ [])

@@ -6,5 +6,5 @@ mod page;
 mod pages;
 mod text;
 
-pub use page::{PageAnswer, page_numbers, page_of};
-pub use pages::{PagesAnswer, pages_numbers, pages_of};
+pub use page::{page_numbers, page_of};
+pub use pages::{PagesValues, pages_numbers, pages_of};

@@ -5,38 +5,31 @@ ghost use Rattle.file_blocks.specs.Parse.{parse};
 ghost use Rattle.plan_groups.specs.Groups.{HasRoom};
 ghost use Rattle.plan_members.specs.Prepared.{HoldsPlan};
 ghost use Rattle.call_frame.specs.Open.{IsOpen};
-ghost use Rattle.call_pages.specs.Calls.{page_answer, page_call, page_numbers};
+ghost use Rattle.call_frame.specs.Refusal.{answer_of};
+ghost use Rattle.call_pages.specs.Calls.{page_call, page_numbers};
 ghost use Rattle.call_pages.specs.Claims.{PageClaims};
 ghost use Rattle.call_pages.specs.Steps.{AnswersPage};
 
 use crate::text::{FoundPage, find_page, page_length, put_page};
-use call_frame::{Early, Opened, clear, open_file};
+use call_frame::{Refusal, clear, open_file};
 use plan_members::prepare;
 
-// The answer of the call for one page.
-#[derive(Clone, Copy)]
-pub enum PageAnswer {
-    // How many bytes the text has.
-    Length(u64),
-    // The number of the refusal, and i or 0.
-    Refused { number: u32, at: u64 },
-}
-
-// Page k of an accepted file with n blocks, by the plan in the work numbers.
-fn answer_page(file: &[u8], k: u64, work: &[u32], text: &mut [u8], n: usize) -> PageAnswer
+// Page k of an accepted file with n blocks, by the plan in the work numbers: how many bytes its text
+// has.
+fn answer_page(file: &[u8], k: u64, work: &[u32], text: &mut [u8], n: usize) -> Result<u64, Refusal>
     requires { HasRoom file.now work.now n }
     ensures answer { (limit : ℕ) → HoldsPlan file.now n limit work.now
         → AnswersPage limit k file.now result text.old text.new }
 {
     let FoundPage::Row(p) = find_page(n, k) else {
-        return PageAnswer::Refused { number: 9, at: 0 };
+        return Err(Refusal::NotFound);
     };
     let length = page_length(n, p);
     if text.len() < length {
-        return PageAnswer::Refused { number: 10, at: 0 };
+        return Err(Refusal::ShortResult);
     }
     put_page(text, 0, file, work, n, k, p);
-    PageAnswer::Length(length as u64)
+    Ok(length as u64)
 }
 
 // Page k of a file that is open, with n blocks.
@@ -47,10 +40,10 @@ fn make_page(
     work: &mut [u32],
     text: &mut [u8],
     n: u32,
-) -> PageAnswer
+) -> Result<u64, Refusal>
     requires { IsOpen file.now none 4 (length work.old) n }
     ensures answer { record {
-      answer = page_answer result;
+      answer = answer_of result;
       work = work.new;
       results = text.new ∷ [];
     }
@@ -65,19 +58,23 @@ fn make_page(
 
 // Page k of a file, its blocks grouped by a limit: its text in the front of `text`. What
 // `PageClaims` says holds of all pages of the file.
-pub fn page_of(file: &[u8], limit: u64, k: u64, work: &mut [u32], text: &mut [u8]) -> PageAnswer
+pub fn page_of(
+    file: &[u8],
+    limit: u64,
+    k: u64,
+    work: &mut [u32],
+    text: &mut [u8],
+) -> Result<u64, Refusal>
     ensures answer { record {
-      answer = page_answer result;
+      answer = answer_of result;
       work = work.new;
       results = text.new ∷ [];
     }
         ≡ page_call limit k (parse file.now) work.old text.old }
     ensures claims { PageClaims limit file.now }
 {
-    match open_file(file, Early::Nothing, 4, work.len()) {
-        Opened::Blocks { blocks, .. } => make_page(file, limit, k, work, text, blocks),
-        Opened::Refused { number, at } => PageAnswer::Refused { number, at },
-    }
+    let open = open_file(file, None, 4, work.len())?;
+    make_page(file, limit, k, work, text, open.blocks)
 }
 
 // Page k of a file, and the numbers of the answer, of which 0 or the number of the refusal is
@@ -101,15 +98,15 @@ pub fn page_numbers(
     ensures claims { PageClaims limit file.now }
 {
     match page_of(file, limit, k, work, text) {
-        PageAnswer::Length(n) => {
+        Ok(n) => {
             *at = 0;
             *length = n;
             0
         }
-        PageAnswer::Refused { number, at: i } => {
-            *at = i;
+        Err(refusal) => {
+            *at = refusal.place();
             *length = 0;
-            number
+            refusal.number()
         }
     }
 }

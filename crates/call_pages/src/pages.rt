@@ -6,39 +6,46 @@ ghost use Rattle.file_blocks.specs.Parse.{parse};
 ghost use Rattle.plan_groups.specs.Groups.{HasRoom};
 ghost use Rattle.plan_members.specs.Prepared.{HoldsPlan};
 ghost use Rattle.call_frame.specs.Open.{IsOpen};
-ghost use Rattle.call_pages.specs.Calls.{pages_answer, pages_call, pages_numbers};
+ghost use Rattle.call_frame.specs.Refusal.{answer_of};
+ghost use Rattle.call_pages.specs.Calls.{pages_call, pages_numbers};
 ghost use Rattle.call_pages.specs.Claims.{PageClaims};
 ghost use Rattle.call_pages.specs.Steps.{AnswersPages};
 
 use crate::text::{FoundPage, find_page, put_pages};
-use call_frame::{Early, Opened, clear, open_file};
+use call_frame::{Refusal, clear, open_file};
 use plan_members::prepare;
 
-// The answer of the call for pages.
+// What is answered of some pages.
 #[derive(Clone, Copy)]
-pub enum PagesAnswer {
-    // How many pages are written, and how many bytes their texts have.
-    Pages { count: u64, length: u64 },
-    // The number of the refusal, and i or 0.
-    Refused { number: u32, at: u64 },
+pub struct PagesValues {
+    // How many pages are written.
+    pub count: u64,
+    // How many bytes their texts have.
+    pub length: u64,
 }
 
 // The pages from page k on of an accepted file with n blocks, by the plan in the work numbers.
-fn answer_pages(file: &[u8], k: u64, work: &[u32], text: &mut [u8], n: usize) -> PagesAnswer
+fn answer_pages(
+    file: &[u8],
+    k: u64,
+    work: &[u32],
+    text: &mut [u8],
+    n: usize,
+) -> Result<PagesValues, Refusal>
     requires { HasRoom file.now work.now n }
     ensures answer { (limit : ℕ) → HoldsPlan file.now n limit work.now
         → AnswersPages limit k file.now result text.old text.new }
 {
     let FoundPage::Row(p) = find_page(n, k) else {
-        return PagesAnswer::Refused { number: 9, at: 0 };
+        return Err(Refusal::NotFound);
     };
     let front = put_pages(text, file, work, n, k, p);
     if front.count == 0 {
-        return PagesAnswer::Refused { number: 10, at: 0 };
+        return Err(Refusal::ShortResult);
     }
     let count = front.count as u64;
     let length = front.length as u64;
-    PagesAnswer::Pages { count, length }
+    Ok(PagesValues { count, length })
 }
 
 // The pages from page k on of a file that is open, with n blocks.
@@ -49,10 +56,10 @@ fn make_pages(
     work: &mut [u32],
     text: &mut [u8],
     n: u32,
-) -> PagesAnswer
+) -> Result<PagesValues, Refusal>
     requires { IsOpen file.now none 4 (length work.old) n }
     ensures answer { record {
-      answer = pages_answer result;
+      answer = answer_of result;
       work = work.new;
       results = text.new ∷ [];
     }
@@ -67,19 +74,23 @@ fn make_pages(
 
 // The pages from page k on of a file, its blocks grouped by a limit: as many whole ones as fit, one
 // after another in the front of `text`. What `PageClaims` says holds of all pages of the file.
-pub fn pages_of(file: &[u8], limit: u64, k: u64, work: &mut [u32], text: &mut [u8]) -> PagesAnswer
+pub fn pages_of(
+    file: &[u8],
+    limit: u64,
+    k: u64,
+    work: &mut [u32],
+    text: &mut [u8],
+) -> Result<PagesValues, Refusal>
     ensures answer { record {
-      answer = pages_answer result;
+      answer = answer_of result;
       work = work.new;
       results = text.new ∷ [];
     }
         ≡ pages_call limit k (parse file.now) work.old text.old }
     ensures claims { PageClaims limit file.now }
 {
-    match open_file(file, Early::Nothing, 4, work.len()) {
-        Opened::Blocks { blocks, .. } => make_pages(file, limit, k, work, text, blocks),
-        Opened::Refused { number, at } => PagesAnswer::Refused { number, at },
-    }
+    let open = open_file(file, None, 4, work.len())?;
+    make_pages(file, limit, k, work, text, open.blocks)
 }
 
 // The pages from page k on of a file, and the numbers of the answer, of which 0 or the number of
@@ -104,20 +115,17 @@ pub fn pages_numbers(
     ensures claims { PageClaims limit file.now }
 {
     match pages_of(file, limit, k, work, text) {
-        PagesAnswer::Pages {
-            count: c,
-            length: n,
-        } => {
+        Ok(pages) => {
             *at = 0;
-            *count = c;
-            *length = n;
+            *count = pages.count;
+            *length = pages.length;
             0
         }
-        PagesAnswer::Refused { number, at: i } => {
-            *at = i;
+        Err(refusal) => {
+            *at = refusal.place();
             *count = 0;
             *length = 0;
-            number
+            refusal.number()
         }
     }
 }

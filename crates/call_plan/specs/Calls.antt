@@ -1,17 +1,10 @@
 -- To be believed: the public call for the plan of a file. It is lent work numbers and a plan.
 use Rattle.std.specs.Prelude.{ℕ, List, [], ◌∷◌, length}
 use Rattle.std.proofs.Math.Option.{none}
-use Rattle.call_frame.specs.Answer.{Answer, refusal, value}
 use Rattle.file_blocks.specs.Parse.{Block, Parsed}
 use Rattle.plan_groups.specs.Plan.{plan}
 use Rattle.call_frame.specs.Frame.{Call, Outcome, makes, call_frame}
 use Rattle.call_frame.specs.Numbers.{Handed, handed}
-use Rattle.call_plan.specs.declared.calls.PlanAnswer.{PlanAnswer}
-
--- what the cases of PlanAnswer stand for: the number of blocks, or a refusal
-unfoldable pub plan_answer : PlanAnswer → Answer ℕ
-plan_answer (PlanAnswer.Blocks n) = value n
-plan_answer (PlanAnswer.Refused n i) = refusal n i
 
 -- what it makes at a group limit: the number of blocks, and two numbers for each
 abbrev pub asks_plan : ℕ → Call ℕ

@@ -4,4 +4,4 @@
 mod calls;
 mod rows;
 
-pub use calls::{PlanAnswer, plan_numbers, plan_of};
+pub use calls::{plan_numbers, plan_of};

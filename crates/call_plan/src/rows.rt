@@ -8,10 +8,8 @@ pub(crate) fn put_rows(work: &[u32], n: usize, plan: &mut [u32])
     requires n_in_bounds_2 { 2 * n ≤ length plan.old }
     ensures { plan.new ≡ rows_in n work.now ++ drop (2 * n) plan.old }
 {
-    let mut p = 0;
-    while p < n {
+    for p in 0..n {
         plan[2 * p] = work[2 * n + p];
         plan[2 * p + 1] = work[p];
-        p += 1;
     }
 }

@@ -25,9 +25,10 @@ use Rattle.emit_reasons.specs.Steps.{Put}
 use Rattle.call_frame.specs.Frame.{Decision, refuses, numbered, cleared, refused_with, settle}
 use Rattle.call_frame.proofs.Pieces.{Some, some_of}
 use Rattle.call_frame.proofs.Settling.{refused_own, refused_10, handed_over}
-use Rattle.call_reasons.specs.declared.reason.ReasonAnswer.{ReasonAnswer}
-use Rattle.call_reasons.specs.declared.reasons.ReasonsAnswer.{ReasonsAnswer}
-use Rattle.call_reasons.specs.Calls.{ReasonsValues, reason_answer, reasons_answer}
+use Rattle.call_frame.specs.declared.refusal.Refusal.{Refusal}
+use Rattle.std.specs.Prelude.{Result, Ok, Err}
+use Rattle.call_reasons.specs.declared.reasons.ReasonsValues.{ReasonsValues}
+use Rattle.call_frame.specs.Refusal.{answer_of}
 use Rattle.call_reasons.specs.Calls.{
   made_sentence,
   fitting_lines,
@@ -113,21 +114,19 @@ module _ (bs : List Block) (k : ℕ) (text : List ℕ) where
   -- there is no such instruction
   module _ (past : instr_total bs ≤ k) where
     pub reason_9 : record {
-      answer = reason_answer (ReasonAnswer.Refused 9 0);
+      answer = answer_of (Err Refusal.NotFound);
       work = [];
       results = text ∷ [];
     }
         ≡ settle one [] (text ∷ [])
-    unfolding reason_answer
     reason_9 = refused_own _ (not_there k bs _ past) [] (text ∷ [])
 
     pub reasons_9 : record {
-      answer = reasons_answer (ReasonsAnswer.Refused 9 0);
+      answer = answer_of (Err Refusal.NotFound);
       work = [];
       results = text ∷ [];
     }
         ≡ settle many [] (text ∷ [])
-    unfolding reasons_answer
     reasons_9 = refused_own _ (not_there k bs _ past) [] (text ∷ [])
 
   module _ (here : k < instr_total bs) where
@@ -139,24 +138,22 @@ module _ (bs : List Block) (k : ℕ) (text : List ℕ) where
       -- its sentence does not fit
       pub reason_10 : length text < length (print (sentence_text o))
           → record {
-            answer = reason_answer (ReasonAnswer.Refused 10 0);
+            answer = answer_of (Err Refusal.ShortResult);
             work = [];
             results = text ∷ [];
           }
           ≡ settle one [] (text ∷ [])
-      unfolding reason_answer
       reason_10 over = refused_10 _ _ sentence_is [] text over
 
       -- it is in the front of the text
       pub reason_made : {n : ℕ} → n ≡ length (print (sentence_text o)) → n ≤ length text
           → {text' : List ℕ} {r : ℕ} → Wrote text 0 (sentence_text o) text' r
           → record {
-            answer = reason_answer (ReasonAnswer.Length n);
+            answer = answer_of (Ok n);
             work = [];
             results = text' ∷ [];
           }
           ≡ settle one [] (text ∷ [])
-      unfolding reason_answer
       reason_made is fits w =
           handed_over _ _ sentence_is [] text _ _ is (omega (arith, is, fits))
           (whole w (omega (arith, is, fits))).0
@@ -184,12 +181,11 @@ module _ (bs : List Block) (k : ℕ) (text : List ℕ) where
       -- some are written
       pub reasons_made : (r.length ≡ 0 → ⊥)
           → record {
-            answer = reasons_answer (ReasonsAnswer.Lines r.next r.length);
+            answer = answer_of (Ok (record { next = r.next; length = r.length }));
             work = [];
             results = text' ∷ [];
           }
           ≡ settle many [] (text ∷ [])
-      unfolding reasons_answer
       reasons_made any =
           handed_over _ _
           (lines_are put.made
@@ -216,12 +212,11 @@ module _ (bs : List Block) (k : ℕ) (text : List ℕ) where
         -- the first does not fit
         pub reasons_10 : (r.next ≡ instr_total bs → ⊥)
             → record {
-              answer = reasons_answer (ReasonsAnswer.Refused 10 0);
+              answer = answer_of (Err Refusal.ShortResult);
               work = [];
               results = text' ∷ [];
             }
             ≡ settle many [] (text ∷ [])
-        unfolding reasons_answer
         reasons_10 more =
             let some =
             some_of ls
@@ -238,12 +233,12 @@ module _ (bs : List Block) (k : ℕ) (text : List ℕ) where
         -- there is none
         pub reasons_none : r.next ≡ instr_total bs
             → record {
-              answer = reasons_answer (ReasonsAnswer.Lines r.next 0);
+              answer = answer_of (Ok (record { next = r.next; length = 0 }));
               work = [];
               results = text' ∷ [];
             }
             ≡ settle many [] (text ∷ [])
-        unfolding reasons_answer print
+        unfolding print
         reasons_none last =
             let empty : ls ≡ [] =
             no_lines put.rest ls_rest (sym put.next ∙ last) in

@@ -9,28 +9,10 @@ use Rattle.lower_reasons.specs.Lines.{Line, line_text, line_length, lines_from}
 use Rattle.lower_reasons.specs.Lines.{number_or}
 use Rattle.lower_reasons.specs.Said.{Said, said_in_all}
 use Rattle.lower_reasons.specs.Sentence.{sentence_text}
-use Rattle.call_frame.specs.Answer.{Answer, refusal, value}
 use Rattle.call_frame.specs.Frame.{Decision, Call, Outcome, refuses, makes, numbered}
 use Rattle.call_frame.specs.Frame.{call_frame}
 use Rattle.call_frame.specs.Numbers.{Handed, handed}
-use Rattle.call_reasons.specs.declared.reason.ReasonAnswer.{ReasonAnswer}
-use Rattle.call_reasons.specs.declared.reasons.ReasonsAnswer.{ReasonsAnswer}
-
--- what is answered of the lines from an instruction on: the first instruction whose line did not
--- fit, or how many instructions the file has where all did; and the bytes of those that did
-pub record ReasonsValues : Type 0 where
-  pub next : ℕ
-  pub length : ℕ
-
--- what the cases of ReasonAnswer stand for: the length of the text, or a refusal
-unfoldable pub reason_answer : ReasonAnswer → Answer ℕ
-reason_answer (ReasonAnswer.Length n) = value n
-reason_answer (ReasonAnswer.Refused n i) = refusal n i
-
--- what the cases of ReasonsAnswer stand for
-unfoldable pub reasons_answer : ReasonsAnswer → Answer ReasonsValues
-reasons_answer (ReasonsAnswer.Lines m n) = value (record { next = m; length = n })
-reasons_answer (ReasonsAnswer.Refused n i) = refusal n i
+use Rattle.call_reasons.specs.declared.reasons.ReasonsValues.{ReasonsValues}
 
 -- what is made of what is said of an instruction: its sentence, or no bytes
 abbrev pub made_sentence : Option Said → Decision ℕ

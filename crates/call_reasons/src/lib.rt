@@ -6,5 +6,5 @@ mod lines;
 mod reason;
 mod reasons;
 
-pub use reason::{ReasonAnswer, reason_numbers, reason_of};
-pub use reasons::{ReasonsAnswer, reasons_numbers, reasons_of};
+pub use reason::{reason_numbers, reason_of};
+pub use reasons::{ReasonsValues, reasons_numbers, reasons_of};

@@ -5,59 +5,60 @@ ghost use Rattle.std.proofs.Math.Option.{none};
 ghost use Rattle.file_blocks.specs.Parse.{parse, blocks_of, instr_total};
 ghost use Rattle.claim_reasons.specs.Claims.{ReasonClaims};
 ghost use Rattle.call_frame.specs.Open.{IsOpen};
-ghost use Rattle.call_reasons.specs.Calls.{reasons_answer, reasons_call, reasons_numbers};
+ghost use Rattle.call_frame.specs.Refusal.{answer_of};
+ghost use Rattle.call_reasons.specs.Calls.{reasons_call, reasons_numbers};
 
 use crate::find::{FoundPlace, find_instr};
 use crate::lines::put_lines;
-use call_frame::{Early, Opened, open_file};
+use call_frame::{Refusal, open_file};
 
-// The answer of the call for sentences.
+// What is answered of the lines from an instruction on.
 #[derive(Clone, Copy)]
-pub enum ReasonsAnswer {
-    // The first instruction whose line was not written, or how many there are where none is left;
-    // and how many bytes the lines have.
-    Lines { next: u64, length: u64 },
-    // The number of the refusal, and i or 0.
-    Refused { number: u32, at: u64 },
+pub struct ReasonsValues {
+    // The first instruction whose line was not written, or how many there are where none is left.
+    pub next: u64,
+    // How many bytes the lines have.
+    pub length: u64,
 }
 
 // The lines from instruction k on of a file that is open, with n blocks and `total` instructions.
-fn make_reasons(file: &[u8], k: u64, text: &mut [u8], n: u32, total: u64) -> ReasonsAnswer
+fn make_reasons(
+    file: &[u8],
+    k: u64,
+    text: &mut [u8],
+    n: u32,
+    total: u64,
+) -> Result<ReasonsValues, Refusal>
     requires { IsOpen file.now none 0 0 n × (total ≡ instr_total (blocks_of file.now)) }
-    ensures answer { record { answer = reasons_answer result; work = []; results = text.new ∷ [] }
+    ensures answer { record { answer = answer_of result; work = []; results = text.new ∷ [] }
         ≡ reasons_call k (parse file.now) text.old }
 {
     let size = n as usize;
     let FoundPlace::At { block, first } = find_instr(file, size, k) else {
-        return ReasonsAnswer::Refused { number: 9, at: 0 };
+        return Err(Refusal::NotFound);
     };
     let index = k - first as u64;
     let put = put_lines(text, file, size, block, first, index as u32);
     let next = put.next as u64;
     if put.length != 0 {
         let length = put.length as u64;
-        return ReasonsAnswer::Lines { next, length };
+        return Ok(ReasonsValues { next, length });
     }
     if next != total {
-        return ReasonsAnswer::Refused { number: 10, at: 0 };
+        return Err(Refusal::ShortResult);
     }
-    ReasonsAnswer::Lines { next, length: 0 }
+    Ok(ReasonsValues { next, length: 0 })
 }
 
 // The sentences of a file from instruction k on, a newline after each: as many as fit, one after
 // another in the front of `text`. What `ReasonClaims` says holds of all sentences of the file.
-pub fn reasons_of(file: &[u8], k: u64, text: &mut [u8]) -> ReasonsAnswer
-    ensures answer { record { answer = reasons_answer result; work = []; results = text.new ∷ [] }
+pub fn reasons_of(file: &[u8], k: u64, text: &mut [u8]) -> Result<ReasonsValues, Refusal>
+    ensures answer { record { answer = answer_of result; work = []; results = text.new ∷ [] }
         ≡ reasons_call k (parse file.now) text.old }
     ensures claims { ReasonClaims file.now }
 {
-    match open_file(file, Early::Nothing, 0, 0) {
-        Opened::Blocks {
-            blocks,
-            instructions,
-        } => make_reasons(file, k, text, blocks, instructions),
-        Opened::Refused { number, at } => ReasonsAnswer::Refused { number, at },
-    }
+    let open = open_file(file, None, 0, 0)?;
+    make_reasons(file, k, text, open.blocks, open.instructions as u64)
 }
 
 // The sentences of a file from instruction k on, and the numbers of the answer, of which 0 or the
@@ -79,17 +80,17 @@ pub fn reasons_numbers(
     ensures claims { ReasonClaims file.now }
 {
     match reasons_of(file, k, text) {
-        ReasonsAnswer::Lines { next: m, length: n } => {
+        Ok(lines) => {
             *at = 0;
-            *next = m;
-            *length = n;
+            *next = lines.next;
+            *length = lines.length;
             0
         }
-        ReasonsAnswer::Refused { number, at: i } => {
-            *at = i;
+        Err(refusal) => {
+            *at = refusal.place();
             *next = 0;
             *length = 0;
-            number
+            refusal.number()
         }
     }
 }

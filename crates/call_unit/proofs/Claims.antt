@@ -9,7 +9,7 @@ use native.Mathlib.Omega.{arith}
 use lib.ListN.{length, get_elem?}
 use lib.Dec.{ltb}
 use Rattle.base_hash.specs.Fnv.{hash_multiplier}
-use Rattle.file_blocks.specs.Refusal.{Rule, short, limits, trailer, block, order, sum, instr}
+use Rattle.file_blocks.specs.declared.rule.Rule.{Rule}
 use Rattle.file_blocks.specs.Refusal.{number, first_broken, rules}
 use Rattle.file_blocks.specs.Parse.{Parsed, parsed, parse, blocks_of}
 use Rattle.lower_units.specs.Units.{TranslationUnit, UnitValues, unit_values, text_of, units}
@@ -138,13 +138,13 @@ module _ (m : ℕ) where
 
 -- the rules of a file have numbers up to 7
 rule_number : (r : Rule) → number r ≤ 7
-rule_number short = omega arith
-rule_number limits = omega arith
-rule_number trailer = omega arith
-rule_number (block i) = omega arith
-rule_number (order i) = omega arith
-rule_number sum = omega arith
-rule_number (instr i) = omega arith
+rule_number Rule.Short = omega arith
+rule_number Rule.Limits = omega arith
+rule_number Rule.Trailer = omega arith
+rule_number (Rule.Block i) = omega arith
+rule_number (Rule.Order i) = omega arith
+rule_number Rule.Sum = omega arith
+rule_number (Rule.Instr i) = omega arith
 
 module _ (limit max : ℕ) where
   tells : (p : Parsed) (k : ℕ) (v : UnitValues) (work text : List ℕ)

@@ -5,27 +5,13 @@ use Rattle.std.specs.Prelude.{ℕ, cond, List, [], ◌∷◌}
 use Rattle.std.proofs.Math.Option.{none}
 use Rattle.std.proofs.Math.ListN.{get_elem?}
 use Rattle.base_hash.specs.Fnv.{hash_multiplier}
-use Rattle.call_frame.specs.Answer.{Answer, refusal, value}
 use Rattle.file_blocks.specs.Parse.{Block, Parsed}
 use Rattle.lower_units.specs.Units.{TranslationUnit, UnitValues, unit_values, text_of, units}
 use Rattle.call_frame.specs.Frame.{Decision, Call, Outcome, refuses, makes, numbered, if_found}
 use Rattle.call_frame.specs.Frame.{call_frame}
 use Rattle.call_frame.specs.Numbers.{Handed, handed}
-use Rattle.call_answers.specs.declared.MeasureAnswer.{MeasureAnswer}
 use Rattle.call_answers.specs.declared.Told.{Told}
-use Rattle.call_answers.specs.declared.WriteAnswer.{WriteAnswer}
 use Rattle.call_answers.specs.Values.{told_of, same_values}
-
--- what the cases of MeasureAnswer stand for: what is told of a unit, or a refusal
-unfoldable pub measure_answer : MeasureAnswer → Answer Told
-measure_answer (MeasureAnswer.Told t) = value t
-measure_answer (MeasureAnswer.Refused n i) = refusal n i
-
--- what the cases of WriteAnswer stand for: that the unit is written, or a refusal; `Unit` is the
--- type that has no value but `tt`
-unfoldable pub write_answer : WriteAnswer → Answer Unit
-write_answer WriteAnswer.Written = value tt
-write_answer (WriteAnswer.Refused n i) = refusal n i
 
 -- a call for unit k at a group limit and a wished size, which needs four work numbers for each
 -- block: what is decided of that unit, or 9 where there is none
@@ -46,7 +32,8 @@ told_of_unit k v = told_of k v.length v.done v.last
 abbrev pub measures : ℕ → TranslationUnit → Decision Told
 measures k u = makes (told_of_unit k (unit_values u)) []
 
--- writing makes the text where what is given for the unit has its values, or refuses with 11
+-- writing makes the text where what is given for the unit has its values, or refuses with 11; it
+-- tells nothing: `Unit` is the type that has no value but `tt`
 abbrev pub writes : Told → TranslationUnit → Decision Unit
 writes t u =
     cond (same_values t (told_of_unit t.unit (unit_values u)))

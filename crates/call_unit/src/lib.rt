@@ -4,6 +4,6 @@
 mod measure;
 mod write;
 
-pub use call_answers::{MeasureAnswer, Told, WriteAnswer};
+pub use call_answers::Told;
 pub use measure::{measure_numbers, measure_of};
 pub use write::{write_numbers, write_of};

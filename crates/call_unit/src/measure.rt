@@ -4,12 +4,13 @@ ghost use Rattle.std.proofs.Math.Option.{none};
 ghost use Rattle.file_blocks.specs.Parse.{parse};
 ghost use Rattle.plan_members.specs.Prepared.{HoldsPlan};
 ghost use Rattle.call_frame.specs.Open.{IsOpen};
-ghost use Rattle.call_unit.specs.Calls.{measure_answer, measure_call, measure_numbers};
+ghost use Rattle.call_frame.specs.Refusal.{answer_of};
+ghost use Rattle.call_unit.specs.Calls.{measure_call, measure_numbers};
 ghost use Rattle.call_unit.specs.Claims.{MeasureThenWrite};
 ghost use Rattle.call_unit.specs.Steps.{AnswersMeasure};
 
-use call_answers::{MeasureAnswer, measure_numbers_of, told_of};
-use call_frame::{Early, Opened, clear, open_file};
+use call_answers::{Told, measure_numbers_of, told_of};
+use call_frame::{Refusal, clear, open_file};
 use emit_units::find_unit;
 use plan_members::prepare;
 
@@ -22,14 +23,14 @@ fn answer_measure(
     k: u64,
     work: &[u32],
     n: usize,
-) -> MeasureAnswer
+) -> Result<Told, Refusal>
     requires { HoldsPlan file.now n limit work.now }
     ensures answer { AnswersMeasure limit max k file.now result }
 {
     let Some(e) = find_unit(file, work, n, max, k) else {
-        return MeasureAnswer::Refused { number: 9, at: 0 };
+        return Err(Refusal::NotFound);
     };
-    MeasureAnswer::Told(told_of(k, e.length, e.end, e.last))
+    Ok(told_of(k, e.length, e.end, e.last))
 }
 
 // Measures unit k of a file that is open, with n blocks.
@@ -40,9 +41,9 @@ fn measure_open(
     k: u64,
     work: &mut [u32],
     n: u32,
-) -> MeasureAnswer
+) -> Result<Told, Refusal>
     requires { IsOpen file.now none 4 (length work.old) n }
-    ensures answer { record { answer = measure_answer result; work = work.new; results = [] }
+    ensures answer { record { answer = answer_of result; work = work.new; results = [] }
         ≡ measure_call limit max k (parse file.now) work.old }
 {
     let size = n as usize;
@@ -55,15 +56,19 @@ fn measure_open(
 // What is told of unit k of a file, whose blocks are grouped by a limit and whose units are handed
 // on once they have max bytes. With what is told of a unit it is written, where enough is lent, and
 // with nothing else.
-pub fn measure_of(file: &[u8], limit: u64, max: u64, k: u64, work: &mut [u32]) -> MeasureAnswer
-    ensures answer { record { answer = measure_answer result; work = work.new; results = [] }
+pub fn measure_of(
+    file: &[u8],
+    limit: u64,
+    max: u64,
+    k: u64,
+    work: &mut [u32],
+) -> Result<Told, Refusal>
+    ensures answer { record { answer = answer_of result; work = work.new; results = [] }
         ≡ measure_call limit max k (parse file.now) work.old }
     ensures measured { MeasureThenWrite limit max file.now }
 {
-    match open_file(file, Early::Nothing, 4, work.len()) {
-        Opened::Blocks { blocks, .. } => measure_open(file, limit, max, k, work, blocks),
-        Opened::Refused { number, at } => MeasureAnswer::Refused { number, at },
-    }
+    let open = open_file(file, None, 4, work.len())?;
+    measure_open(file, limit, max, k, work, open.blocks)
 }
 
 // What is told of unit k of a file, and the numbers of the answer, of which 0 or the number of the

@@ -7,12 +7,13 @@ ghost use Rattle.file_blocks.specs.Parse.{parse};
 ghost use Rattle.plan_members.specs.Prepared.{HoldsPlan};
 ghost use Rattle.claim_units.specs.Claims.{UnitClaims};
 ghost use Rattle.call_frame.specs.Open.{IsOpen};
-ghost use Rattle.call_unit.specs.Calls.{write_answer, write_call, write_numbers};
+ghost use Rattle.call_frame.specs.Refusal.{answer_of};
+ghost use Rattle.call_unit.specs.Calls.{write_call, write_numbers};
 ghost use Rattle.call_unit.specs.Claims.{MeasureThenWrite};
 ghost use Rattle.call_unit.specs.Steps.{AnswersWrite};
 
-use call_answers::{Told, WriteAnswer, answer_in, told_of, write_numbers_of};
-use call_frame::{Early, Opened, clear, open_file};
+use call_answers::{Told, answer_in, told_of, write_numbers_of};
+use call_frame::{Refusal, clear, open_file};
 use emit_units::{find_unit, write_unit};
 use plan_members::prepare;
 
@@ -27,20 +28,17 @@ fn answer_write(
     work: &[u32],
     text: &mut [u8],
     n: usize,
-) -> WriteAnswer
+) -> Result<(), Refusal>
     requires { HoldsPlan file.now n limit work.now }
     ensures answer { AnswersWrite limit max given file.now result text.old text.new }
 {
     let Some(e) = find_unit(file, work, n, max, given.unit) else {
-        return WriteAnswer::Refused { number: 9, at: 0 };
+        return Err(Refusal::NotFound);
     };
     let found = told_of(given.unit, e.length, e.end, e.last);
-    let decided = answer_in(given, found, text.len());
-    let WriteAnswer::Written = decided else {
-        return decided;
-    };
+    answer_in(given, found, text.len())?;
     write_unit(text, file, work, n, max, e);
-    decided
+    Ok(())
 }
 
 // Writes the unit that is given, of a file that is open, with n blocks.
@@ -52,10 +50,10 @@ fn write_open(
     work: &mut [u32],
     text: &mut [u8],
     n: u32,
-) -> WriteAnswer
+) -> Result<(), Refusal>
     requires { IsOpen file.now none 4 (length work.old) n }
     ensures answer { record {
-      answer = write_answer result;
+      answer = answer_of result;
       work = work.new;
       results = text.new ∷ [];
     }
@@ -80,9 +78,9 @@ pub fn write_of(
     given: Told,
     work: &mut [u32],
     text: &mut [u8],
-) -> WriteAnswer
+) -> Result<(), Refusal>
     ensures answer { record {
-      answer = write_answer result;
+      answer = answer_of result;
       work = work.new;
       results = text.new ∷ [];
     }
@@ -91,10 +89,8 @@ pub fn write_of(
     ensures measured { MeasureThenWrite limit max file.now }
     ensures claims { UnitClaims hash_multiplier limit max file.now }
 {
-    match open_file(file, Early::Nothing, 4, work.len()) {
-        Opened::Blocks { blocks, .. } => write_open(file, limit, max, given, work, text, blocks),
-        Opened::Refused { number, at } => WriteAnswer::Refused { number, at },
-    }
+    let open = open_file(file, None, 4, work.len())?;
+    write_open(file, limit, max, given, work, text, open.blocks)
 }
 
 // Writes the unit that is given, of a file, and the numbers of the answer, of which 0 or the number

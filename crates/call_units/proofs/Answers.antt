@@ -26,9 +26,10 @@ use Rattle.call_frame.proofs.Settling.{refused_own, refused_10, refused_short, h
 use Rattle.call_frame.proofs.Settling.{handed_all}
 use Rattle.call_frame.specs.Frame.{numbered, refused_with, too_short}
 use Rattle.call_units.specs.declared.units.Asked.{Asked}
-use Rattle.call_units.specs.declared.units.UnitsAnswer.{UnitsAnswer}
-use Rattle.call_units.specs.declared.lengths.LengthsAnswer.{LengthsAnswer}
-use Rattle.call_units.specs.Calls.{FrontValues, LengthsValues, units_answer, lengths_answer}
+use Rattle.call_frame.specs.declared.refusal.Refusal.{Refusal}
+use Rattle.std.specs.Prelude.{Result, Ok, Err}
+use Rattle.call_units.specs.declared.units.FrontValues.{FrontValues}
+use Rattle.call_units.specs.declared.lengths.LengthsValues.{LengthsValues}
 use Rattle.call_units.specs.Calls.{made_units, made_lengths, units_asked}
 use Rattle.call_units.specs.Steps.{AnswersUnits, AnswersLengths}
 
@@ -72,8 +73,7 @@ module _ (asked : Asked) (f text lengths : List ℕ) where
 
   -- there is no such unit
   pub units_9 : units_asked asked (blocks_of f) ≡ []
-      → AnswersUnits asked f (UnitsAnswer.Refused 9 0) text lengths text lengths
-  unfolding units_answer
+      → AnswersUnits asked f (Err Refusal.NotFound) text lengths text lengths
   units_9 e = λ work. refused_own _ (decided_9 made_units fit asks e) work (text ∷ lengths ∷ [])
 
   module _ {p : ℕ} (s : StartsAt f asked.limit asked.max asked.first p)
@@ -102,8 +102,8 @@ module _ (asked : Asked) (f text lengths : List ℕ) where
 
       -- not one fits
       pub units-10 : r.count ≡ 0
-          → AnswersUnits asked f (UnitsAnswer.Refused 10 0) text lengths text' lengths'
-      unfolding units_answer texts_of flatten
+          → AnswersUnits asked f (Err Refusal.ShortResult) text lengths text' lengths'
+      unfolding texts_of flatten
       units-10 zero = λ work.
           let made : put.made ≡ [] = none_of put.made (omega (arith, put.count)) in
           let nothing : fit asks ≡ [] = put.fits ∙ made in
@@ -120,9 +120,8 @@ module _ (asked : Asked) (f text lengths : List ℕ) where
 
       -- some are in the fronts
       pub units-made : 0 < r.count
-          → AnswersUnits asked f (UnitsAnswer.Units r.count r.length r.end r.last) text
+          → AnswersUnits asked f (Ok (front_of r.count r.length r.end r.last)) text
           lengths text' lengths'
-      unfolding units_answer
       units-made any = λ work.
           let m = some_of put.made (λ e. omega (arith, put.count, ap length e)) in
           let values : front_of r.count r.length r.end r.last
@@ -157,8 +156,7 @@ module _ (asked : Asked) (f lengths : List ℕ) where
 
   -- there is no such unit
   pub lengths_9 : units_asked asked (blocks_of f) ≡ []
-      → AnswersLengths asked f (LengthsAnswer.Refused 9 0) lengths lengths
-  unfolding lengths_answer
+      → AnswersLengths asked f (Err Refusal.NotFound) lengths lengths
   lengths_9 e = λ work.
       refused_own _ (decided_9 made_lengths places (units_asked asked (blocks_of f)) e) work
       (lengths ∷ [])
@@ -174,8 +172,7 @@ module _ (asked : Asked) (f lengths : List ℕ) where
 
     -- there is no place
     pub lengths_10 : r.count ≡ 0
-        → AnswersLengths asked f (LengthsAnswer.Refused 10 0) lengths lengths'
-    unfolding lengths_answer
+        → AnswersLengths asked f (Err Refusal.ShortResult) lengths lengths'
     lengths_10 zero = λ work.
         let made : put.made ≡ [] = none_of put.made (omega (arith, put.count)) in
         let nothing : places from ≡ [] = put.fits ∙ made in
@@ -194,9 +191,8 @@ module _ (asked : Asked) (f lengths : List ℕ) where
 
     -- some are in the front
     pub lengths_made : 0 < r.count
-        → AnswersLengths asked f (LengthsAnswer.Lengths r.count r.end r.last) lengths
+        → AnswersLengths asked f (Ok (lengths_of r.count r.end r.last)) lengths
         lengths'
-    unfolding lengths_answer
     lengths_made any = λ work.
         let m = some_of put.made (λ e. omega (arith, put.count, ap length e)) in
         let values : lengths_of r.count r.end r.last

@@ -1,10 +1,9 @@
 -- To be believed: the public calls for the units of a file from a given one on, and for their
 -- lengths. Both are lent work numbers and a place for each length, the first a text too.
-use Rattle.std.specs.Prelude.{ℕ, Bool, false, cond, List, [], ◌∷◌, map, length, drop, get_or}
+use Rattle.std.specs.Prelude.{ℕ, false, cond, List, [], ◌∷◌, map, length, drop, get_or}
 use Rattle.std.proofs.Math.Option.{none}
 use Rattle.base_fitting.specs.Fitting.{fitting}
 use Rattle.base_hash.specs.Fnv.{hash_multiplier}
-use Rattle.call_frame.specs.Answer.{Answer, refusal, value}
 use Rattle.file_blocks.specs.Parse.{Block, Parsed}
 use Rattle.lower_units.specs.Units.{TranslationUnit, units}
 use Rattle.emit_units.specs.Texts.{unit_length, texts_of, done_with, ends_file}
@@ -12,33 +11,8 @@ use Rattle.call_frame.specs.Frame.{Decision, Call, Outcome, makes, call_frame}
 use Rattle.call_frame.specs.Pieces.{of_those_that_fit}
 use Rattle.call_frame.specs.Numbers.{Handed, handed}
 use Rattle.call_units.specs.declared.units.Asked.{Asked}
-use Rattle.call_units.specs.declared.units.UnitsAnswer.{UnitsAnswer}
-use Rattle.call_units.specs.declared.lengths.LengthsAnswer.{LengthsAnswer}
-
--- what is answered of some units: how many they are, how long their texts are in all, how many
--- blocks are done with the last of them, and whether that is the last of the file
-pub record FrontValues : Type 0 where
-  pub count : ℕ
-  pub length : ℕ
-  pub done : ℕ
-  pub last : Bool
-
--- the same without the bytes in all, for the call that tells lengths
-pub record LengthsValues : Type 0 where
-  pub count : ℕ
-  pub done : ℕ
-  pub last : Bool
-
--- what the cases of UnitsAnswer stand for
-unfoldable pub units_answer : UnitsAnswer → Answer FrontValues
-units_answer (UnitsAnswer.Units c n d l) =
-    value (record { count = c; length = n; done = d; last = l })
-units_answer (UnitsAnswer.Refused n i) = refusal n i
-
--- what the cases of LengthsAnswer stand for
-unfoldable pub lengths_answer : LengthsAnswer → Answer LengthsValues
-lengths_answer (LengthsAnswer.Lengths c d l) = value (record { count = c; done = d; last = l })
-lengths_answer (LengthsAnswer.Refused n i) = refusal n i
+use Rattle.call_units.specs.declared.units.FrontValues.{FrontValues}
+use Rattle.call_units.specs.declared.lengths.LengthsValues.{LengthsValues}
 
 -- what is made of some units: their values; their texts, one after another, and their lengths
 abbrev pub made_units : List TranslationUnit → Decision FrontValues

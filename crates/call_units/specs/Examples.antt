@@ -14,7 +14,8 @@ use Rattle.call_frame.specs.Frame.{Outcome, settle, call_on_blocks, call_frame}
 use Rattle.call_frame.specs.Pieces.{of_those_that_fit}
 use Rattle.call_units.specs.declared.units.Asked.{Asked}
 use Rattle.call_units.specs.Calls.{units_call, units_numbers, lengths_call, lengths_numbers}
-use Rattle.call_units.specs.Calls.{FrontValues, made_units}
+use Rattle.call_units.specs.declared.units.FrontValues.{FrontValues}
+use Rattle.call_units.specs.Calls.{made_units}
 
 -- units from the first on, of any size
 abbrev all : Asked

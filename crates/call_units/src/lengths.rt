@@ -5,22 +5,24 @@ ghost use Rattle.std.proofs.Math.Option.{none};
 ghost use Rattle.file_blocks.specs.Parse.{parse};
 ghost use Rattle.plan_members.specs.Prepared.{HoldsPlan};
 ghost use Rattle.call_frame.specs.Open.{IsOpen};
-ghost use Rattle.call_units.specs.Calls.{lengths_answer, lengths_call, lengths_numbers};
+ghost use Rattle.call_frame.specs.Refusal.{answer_of};
+ghost use Rattle.call_units.specs.Calls.{lengths_call, lengths_numbers};
 ghost use Rattle.call_units.specs.Steps.{AnswersLengths};
 
 use crate::units::Asked;
-use call_frame::{Early, Opened, clear, open_file};
+use call_frame::{Refusal, clear, open_file};
 use emit_units::{find_start, put_lengths};
 use plan_members::prepare;
 
-// The answer of the call for lengths.
+// What is answered of the lengths of some units.
 #[derive(Clone, Copy)]
-pub enum LengthsAnswer {
-    // How many lengths there are, how many blocks are done with the last of their units, and
-    // whether it is the last of the file.
-    Lengths { count: u64, done: u64, last: bool },
-    // The number of the refusal, and i or 0.
-    Refused { number: u32, at: u64 },
+pub struct LengthsValues {
+    // How many lengths there are.
+    pub count: u64,
+    // How many blocks are done with the last of their units.
+    pub done: u64,
+    // Whether that is the last of the file.
+    pub last: bool,
 }
 
 // The lengths of the units from a given one on of an accepted file with n blocks, by the plan in
@@ -31,21 +33,21 @@ fn answer_lengths(
     work: &[u32],
     lengths: &mut [u64],
     n: usize,
-) -> LengthsAnswer
+) -> Result<LengthsValues, Refusal>
     requires { HoldsPlan file.now n asked.limit work.now }
     ensures answer { AnswersLengths asked file.now result lengths.old lengths.new }
 {
     let Some(p) = find_start(file, work, n, asked.max, asked.first) else {
-        return LengthsAnswer::Refused { number: 9, at: 0 };
+        return Err(Refusal::NotFound);
     };
     let front = put_lengths(lengths, file, work, n, asked.max, p);
     if front.count == 0 {
-        return LengthsAnswer::Refused { number: 10, at: 0 };
+        return Err(Refusal::ShortResult);
     }
     let count = front.count as u64;
     let done = front.end as u64;
     let last = front.last;
-    LengthsAnswer::Lengths { count, done, last }
+    Ok(LengthsValues { count, done, last })
 }
 
 // The lengths of the units from a given one on of a file that is open, with n blocks.
@@ -55,10 +57,10 @@ fn measure_units(
     work: &mut [u32],
     lengths: &mut [u64],
     n: u32,
-) -> LengthsAnswer
+) -> Result<LengthsValues, Refusal>
     requires { IsOpen file.now none 4 (length work.old) n }
     ensures answer { record {
-      answer = lengths_answer result;
+      answer = answer_of result;
       work = work.new;
       results = lengths.new ∷ [];
     }
@@ -73,18 +75,21 @@ fn measure_units(
 
 // The lengths of the units from a given one on of a file, as many as have a place, in the front of
 // `lengths`.
-pub fn lengths_of(file: &[u8], asked: Asked, work: &mut [u32], lengths: &mut [u64]) -> LengthsAnswer
+pub fn lengths_of(
+    file: &[u8],
+    asked: Asked,
+    work: &mut [u32],
+    lengths: &mut [u64],
+) -> Result<LengthsValues, Refusal>
     ensures answer { record {
-      answer = lengths_answer result;
+      answer = answer_of result;
       work = work.new;
       results = lengths.new ∷ [];
     }
         ≡ lengths_call asked (parse file.now) work.old lengths.old }
 {
-    match open_file(file, Early::Nothing, 4, work.len()) {
-        Opened::Blocks { blocks, .. } => measure_units(file, asked, work, lengths, blocks),
-        Opened::Refused { number, at } => LengthsAnswer::Refused { number, at },
-    }
+    let open = open_file(file, None, 4, work.len())?;
+    measure_units(file, asked, work, lengths, open.blocks)
 }
 
 // The lengths of the units from a given one on of a file, and the numbers of the answer, of which 0
@@ -109,23 +114,19 @@ pub fn lengths_numbers(
         (lengths_call asked (parse file.now) work.old lengths.old) }
 {
     match lengths_of(file, asked, work, lengths) {
-        LengthsAnswer::Lengths {
-            count: c,
-            done: d,
-            last: is_last,
-        } => {
+        Ok(values) => {
             *at = 0;
-            *count = c;
-            *done = d;
-            *last = is_last as u64;
+            *count = values.count;
+            *done = values.done;
+            *last = values.last as u64;
             0
         }
-        LengthsAnswer::Refused { number, at: i } => {
-            *at = i;
+        Err(refusal) => {
+            *at = refusal.place();
             *count = 0;
             *done = 0;
             *last = 0;
-            number
+            refusal.number()
         }
     }
 }

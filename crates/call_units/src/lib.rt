@@ -4,5 +4,5 @@
 mod lengths;
 mod units;
 
-pub use lengths::{LengthsAnswer, lengths_numbers, lengths_of};
-pub use units::{Asked, UnitsAnswer, units_numbers, units_of};
+pub use lengths::{LengthsValues, lengths_numbers, lengths_of};
+pub use units::{Asked, FrontValues, units_numbers, units_of};

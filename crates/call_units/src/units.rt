@@ -7,10 +7,11 @@ ghost use Rattle.file_blocks.specs.Parse.{parse};
 ghost use Rattle.plan_members.specs.Prepared.{HoldsPlan};
 ghost use Rattle.claim_units.specs.Claims.{UnitClaims};
 ghost use Rattle.call_frame.specs.Open.{IsOpen};
-ghost use Rattle.call_units.specs.Calls.{units_answer, units_call, units_numbers};
+ghost use Rattle.call_frame.specs.Refusal.{answer_of};
+ghost use Rattle.call_units.specs.Calls.{units_call, units_numbers};
 ghost use Rattle.call_units.specs.Steps.{AnswersUnits};
 
-use call_frame::{Early, Opened, clear, open_file};
+use call_frame::{Refusal, clear, open_file};
 use emit_units::{find_start, put_units};
 use plan_members::prepare;
 
@@ -23,22 +24,17 @@ pub struct Asked {
     pub first: u64,
 }
 
-// The answer of the call for units.
+// What is answered of some units.
 #[derive(Clone, Copy)]
-pub enum UnitsAnswer {
-    // How many units there are, how many bytes their texts have, how many blocks are done with the
-    // last of them, and whether it is the last of the file.
-    Units {
-        count: u64,
-        length: u64,
-        done: u64,
-        last: bool,
-    },
-    // The number of the refusal, and i or 0.
-    Refused {
-        number: u32,
-        at: u64,
-    },
+pub struct FrontValues {
+    // How many units there are.
+    pub count: u64,
+    // How many bytes their texts have.
+    pub length: u64,
+    // How many blocks are done with the last of them.
+    pub done: u64,
+    // Whether that is the last of the file.
+    pub last: bool,
 }
 
 // The units from a given one on of an accepted file with n blocks, by the plan in the work numbers.
@@ -49,28 +45,28 @@ fn answer_units(
     text: &mut [u8],
     lengths: &mut [u64],
     n: usize,
-) -> UnitsAnswer
+) -> Result<FrontValues, Refusal>
     requires { HoldsPlan file.now n asked.limit work.now }
     ensures answer { AnswersUnits asked file.now result text.old lengths.old
         text.new lengths.new }
 {
     let Some(p) = find_start(file, work, n, asked.max, asked.first) else {
-        return UnitsAnswer::Refused { number: 9, at: 0 };
+        return Err(Refusal::NotFound);
     };
     let front = put_units(text, lengths, file, work, n, asked.max, p);
     if front.count == 0 {
-        return UnitsAnswer::Refused { number: 10, at: 0 };
+        return Err(Refusal::ShortResult);
     }
     let count = front.count as u64;
     let length = front.length as u64;
     let done = front.end as u64;
     let last = front.last;
-    UnitsAnswer::Units {
+    Ok(FrontValues {
         count,
         length,
         done,
         last,
-    }
+    })
 }
 
 // The units from a given one on of a file that is open, with n blocks.
@@ -81,10 +77,10 @@ fn emit_units(
     text: &mut [u8],
     lengths: &mut [u64],
     n: u32,
-) -> UnitsAnswer
+) -> Result<FrontValues, Refusal>
     requires { IsOpen file.now none 4 (length work.old) n }
     ensures answer { record {
-      answer = units_answer result;
+      answer = answer_of result;
       work = work.new;
       results = text.new ∷ lengths.new ∷ [];
     }
@@ -107,9 +103,9 @@ pub fn units_of(
     work: &mut [u32],
     text: &mut [u8],
     lengths: &mut [u64],
-) -> UnitsAnswer
+) -> Result<FrontValues, Refusal>
     ensures answer { record {
-      answer = units_answer result;
+      answer = answer_of result;
       work = work.new;
       results = text.new ∷ lengths.new ∷ [];
     }
@@ -117,10 +113,8 @@ pub fn units_of(
         lengths.old }
     ensures claims { UnitClaims hash_multiplier asked.limit asked.max file.now }
 {
-    match open_file(file, Early::Nothing, 4, work.len()) {
-        Opened::Blocks { blocks, .. } => emit_units(file, asked, work, text, lengths, blocks),
-        Opened::Refused { number, at } => UnitsAnswer::Refused { number, at },
-    }
+    let open = open_file(file, None, 4, work.len())?;
+    emit_units(file, asked, work, text, lengths, open.blocks)
 }
 
 // The units from a given one on of a file, and the numbers of the answer, of which 0 or the number
@@ -150,26 +144,21 @@ pub fn units_numbers(
     ensures claims { UnitClaims hash_multiplier asked.limit asked.max file.now }
 {
     match units_of(file, asked, work, text, lengths) {
-        UnitsAnswer::Units {
-            count: c,
-            length: n,
-            done: d,
-            last: is_last,
-        } => {
+        Ok(values) => {
             *at = 0;
-            *count = c;
-            *length = n;
-            *done = d;
-            *last = is_last as u64;
+            *count = values.count;
+            *length = values.length;
+            *done = values.done;
+            *last = values.last as u64;
             0
         }
-        UnitsAnswer::Refused { number, at: i } => {
-            *at = i;
+        Err(refusal) => {
+            *at = refusal.place();
             *count = 0;
             *length = 0;
             *done = 0;
             *last = 0;
-            number
+            refusal.number()
         }
     }
 }

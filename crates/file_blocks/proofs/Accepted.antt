@@ -16,7 +16,8 @@ use Rattle.file_records.specs.BlockRecord.{length_at, aligned, count_sum, code_r
 use Rattle.file_records.specs.BlockRecord.{key_rises}
 use Rattle.file_instrs.specs.InstrRecord.{instr_right}
 use Rattle.file_instrs.specs.Decode.{timed_at}
-use Rattle.file_blocks.specs.Refusal.{Rule, broken, first_broken, block_rules, instr_rules}
+use Rattle.file_blocks.specs.declared.rule.Rule.{Rule}
+use Rattle.file_blocks.specs.Refusal.{broken, first_broken, block_rules, instr_rules}
 use Rattle.file_blocks.specs.Refusal.{rules}
 use Rattle.file_blocks.specs.Parse.{Block, Parsed, instrs_from, code_at, block_at, blocks_from}
 use Rattle.file_blocks.specs.Parse.{parsed, parse, instr_total}
@@ -68,7 +69,7 @@ in_instrs f m =
     (Memᴰ.tail
     (Memᴰ.tail (Memᴰ.append_right (block_rules (block_count f) 0) (Memᴰ.tail m))))
 
-in_sum : (f : List ℕ) → Memᴰ Rule.sum (rules f)
+in_sum : (f : List ℕ) → Memᴰ Rule.Sum (rules f)
 in_sum f =
     Memᴰ.tail
     (Memᴰ.tail
@@ -115,7 +116,7 @@ module _ (f : List ℕ) (bs : List Block) (accepted : parse f ≡ Parsed.accepte
 
   pub trailer_right_lem : trailer_right f ≡ true
   trailer_right_lem =
-      not-false _ (kept Rule.trailer (Memᴰ.tail (Memᴰ.tail (Memᴰ.head refl))))
+      not-false _ (kept Rule.Trailer (Memᴰ.tail (Memᴰ.tail (Memᴰ.head refl))))
 
   pub sections_of : Sections f
   sections_of = sections f trailer_right_lem
@@ -124,23 +125,23 @@ module _ (f : List ℕ) (bs : List Block) (accepted : parse f ≡ Parsed.accepte
   pub block_right_lem : (i : ℕ) → i < block_count f → block_right f (block_start f i) ≡ true
   block_right_lem i h =
       not-false _
-      (kept (Rule.block i)
+      (kept (Rule.Block i)
       (in_blocks f
-      (Memᴰ.cast (ap Rule.block (sym (zero-add i))) (block_rules_lem (block_count f) 0 i h).0)))
+      (Memᴰ.cast (ap Rule.Block (sym (zero-add i))) (block_rules_lem (block_count f) 0 i h).0)))
 
   pub key_rises_lem : (i : ℕ) → i < block_count f → key_rises f i ≡ true
   key_rises_lem i h =
       not-false _
-      (kept (Rule.order i)
+      (kept (Rule.Order i)
       (in_blocks f
-      (Memᴰ.cast (ap Rule.order (sym (zero-add i))) (block_rules_lem (block_count f) 0 i h).1)))
+      (Memᴰ.cast (ap Rule.Order (sym (zero-add i))) (block_rules_lem (block_count f) 0 i h).1)))
 
   pub instr_right_lem : (i : ℕ) → i < instr_count f → instr_right f (instr_start f i) ≡ true
   instr_right_lem i h =
       not-false _
-      (kept (Rule.instr i)
+      (kept (Rule.Instr i)
       (in_instrs f
-      (Memᴰ.cast (ap Rule.instr (sym (zero-add i))) (instr_rules_lem (instr_count f) 0 i h))))
+      (Memᴰ.cast (ap Rule.Instr (sym (zero-add i))) (instr_rules_lem (instr_count f) 0 i h))))
 
   -- the readers find each record
   pub block_found : (i : ℕ) → i < length bs
@@ -156,7 +157,7 @@ module _ (f : List ℕ) (bs : List Block) (accepted : parse f ≡ Parsed.accepte
 
   -- the limits hold
   limits : within_limits f ≡ true
-  limits = not-false _ (kept Rule.limits (Memᴰ.tail (Memᴰ.head refl)))
+  limits = not-false _ (kept Rule.Limits (Memᴰ.tail (Memᴰ.head refl)))
 
   pub few_blocks : block_count f ≤ 65536
   few_blocks =
@@ -172,7 +173,7 @@ module _ (f : List ℕ) (bs : List Block) (accepted : parse f ≡ Parsed.accepte
 
   -- the counts sum to I
   pub sums : count_sum f (block_count f) ≡ instr_count f
-  sums = eqb-true _ _ (not-false _ (kept Rule.sum (in_sum f)))
+  sums = eqb-true _ _ (not-false _ (kept Rule.Sum (in_sum f)))
 
   -- so the blocks have I instructions in all
   pub instrs_of_lem : instr_total bs ≡ instr_count f

@@ -1,48 +1,44 @@
 -- What the answer of the check says of a file.
 -- Assumes nothing.
-use Rattle.std.proofs.Common.{◌≡◌, ℕ, List, length, sym, refl, ◌∙◌, ap₂, arith}
+use Rattle.std.proofs.Common.{◌≡◌, ℕ, List, refl, ap, ◌∙◌}
+use Rattle.std.specs.Prelude.{Ok, Err}
 use mathlib.Core.Option.{Option, none, some}
-use Rattle.file_blocks.specs.declared.refusal.Checked.{Checked}
+use Rattle.file_blocks.specs.declared.refusal.Counts.{Counts}
+use Rattle.file_blocks.specs.declared.rule.Rule.{Rule}
 use Rattle.file_records.specs.Trailer.{block_count}
-use Rattle.file_blocks.specs.Refusal.{Rule, first_broken, rules}
+use Rattle.file_blocks.specs.Refusal.{number, place, first_broken, rules}
 use Rattle.file_blocks.specs.Parse.{Parsed, parsed, parse, blocks_of, instr_total, Accepted}
-use Rattle.file_blocks.specs.Found.{checked}
+use Rattle.file_blocks.specs.Checked.{counts_of, answered, checked}
 use Rattle.file_blocks.proofs.Accepted.{length_of_lem}
 
-by_refusal : (p : Parsed) (n i : ℕ) → Checked.Refused n i ≡ checked p → p ≡ Parsed.refused n i
-unfolding checked
-by_refusal (Parsed.refused m j) n i e =
-    let same_number : m ≡ n = cc in
-    let same_place : j ≡ i = cc in
-    ap₂ Parsed.refused same_number same_place
-by_refusal (Parsed.accepted bs) n i e = absurd (let z : ◌≡◌ {A = ℕ} 0 1 = cc in omega arith)
+by_rule : (f : List ℕ) (o : Option Rule) (r : Rule) → Err r ≡ answered f o → o ≡ some r
+by_rule f none r e = cc
+by_rule f (some s) r e = cc
 
-by_counts : (f : List ℕ) (o : Option Rule) (b k : ℕ) → Checked.Accepted b k ≡ checked (parsed f o)
-    → (parsed f o ≡ Parsed.accepted (blocks_of f)) × (b ≡ length (blocks_of f))
-    × (k ≡ instr_total (blocks_of f))
-unfolding checked
-by_counts f none b k e =
-    let blocks : b ≡ length (blocks_of f) = cc in
-    let instructions : k ≡ instr_total (blocks_of f) = cc in
-    (refl, blocks, instructions)
-by_counts f (some r) b k e = absurd (let z : ◌≡◌ {A = ℕ} 0 1 = cc in omega arith)
+by_counts : (f : List ℕ) (o : Option Rule) (c : Counts) → Ok c ≡ answered f o
+    → (o ≡ none) × (c ≡ counts_of (blocks_of f))
+by_counts f none c e = (refl, cc)
+by_counts f (some r) c e = cc
 
-module _ (f : List ℕ) (r : Checked) (e : r ≡ checked (parse f)) where
+module _ (f : List ℕ) where
   -- a file that the check refuses
-  pub refused_file : (n i : ℕ) → r ≡ Checked.Refused n i → parse f ≡ Parsed.refused n i
-  refused_file n i is = by_refusal (parse f) n i (sym is ∙ e)
+  pub refused_file : (r : Rule) → Err r ≡ checked f → parse f ≡ Parsed.refused (number r) (place r)
+  unfolding checked parse
+  refused_file r e = ap (parsed f) (by_rule f (first_broken f (rules f)) r e)
 
-  accepted_all : (b k : ℕ) → r ≡ Checked.Accepted b k
-      → Accepted f × (b ≡ length (blocks_of f)) × (k ≡ instr_total (blocks_of f))
-  unfolding parse
-  accepted_all b k is = by_counts f (first_broken f (rules f)) b k (sym is ∙ e)
+  module _ (c : Counts) (e : Ok c ≡ checked f) where
+    told : (first_broken f (rules f) ≡ none) × (c ≡ counts_of (blocks_of f))
+    unfolding checked
+    told = by_counts f (first_broken f (rules f)) c e
 
-  -- a file that the check accepts, and its counts
-  pub accepted_file : (b k : ℕ) → r ≡ Checked.Accepted b k → Accepted f
-  accepted_file b k is = (accepted_all b k is).0
+    -- a file that the check accepts, and its counts
+    pub accepted_file : Accepted f
+    unfolding parse
+    accepted_file = ap (parsed f) told.0
 
-  pub accepted_blocks : (b k : ℕ) → r ≡ Checked.Accepted b k → b ≡ block_count f
-  accepted_blocks b k is = (accepted_all b k is).1 ∙ length_of_lem f (blocks_of f) (accepted_file b k is)
+    pub accepted_blocks : c.blocks ≡ block_count f
+    accepted_blocks =
+        ap (λ (k : Counts). k.blocks) told.1 ∙ length_of_lem f (blocks_of f) accepted_file
 
-  pub accepted_instrs : (b k : ℕ) → r ≡ Checked.Accepted b k → k ≡ instr_total (blocks_of f)
-  accepted_instrs b k is = (accepted_all b k is).2
+    pub accepted_instrs : c.instructions ≡ instr_total (blocks_of f)
+    accepted_instrs = ap (λ (k : Counts). k.instructions) told.1

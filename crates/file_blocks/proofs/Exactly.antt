@@ -4,26 +4,27 @@ use Rattle.std.proofs.Common.{◌≡◌, ℕ, ◌-◌, ◌↔◌, List, [], ◌�
 use mathlib.Core.Option.{Option, none, some}
 use Rattle.base_lists.proofs.Firsts.{is_found, first_found}
 use Rattle.file_records.specs.Trailer.{block_count}
-use Rattle.file_blocks.specs.Refusal.{Rule, number, place, broken, first_broken, rules}
+use Rattle.file_blocks.specs.declared.rule.Rule.{Rule}
+use Rattle.file_blocks.specs.Refusal.{number, place, broken, first_broken, rules}
 use Rattle.file_blocks.specs.Refusal.{Applies}
 use Rattle.file_blocks.specs.Parse.{Block, Parsed, blocks_from, parsed, parse}
 
 -- the rule that a number and a place name
 rule_of : ℕ → ℕ → Rule
 rule_of n i =
-    get_or (Rule.short ∷ Rule.limits ∷ Rule.trailer ∷ Rule.block i ∷ Rule.order i ∷ Rule.sum
-    ∷ Rule.instr i
-    ∷ []) (n - 1) Rule.short
+    get_or (Rule.Short ∷ Rule.Limits ∷ Rule.Trailer ∷ Rule.Block i ∷ Rule.Order i ∷ Rule.Sum
+    ∷ Rule.Instr i
+    ∷ []) (n - 1) Rule.Short
 
 rule_of_lem : (r : Rule) → rule_of (number r) (place r) ≡ r
 unfolding rule_of
-rule_of_lem Rule.short = refl
-rule_of_lem Rule.limits = refl
-rule_of_lem Rule.trailer = refl
-rule_of_lem (Rule.block i) = refl
-rule_of_lem (Rule.order i) = refl
-rule_of_lem Rule.sum = refl
-rule_of_lem (Rule.instr i) = refl
+rule_of_lem Rule.Short = refl
+rule_of_lem Rule.Limits = refl
+rule_of_lem Rule.Trailer = refl
+rule_of_lem (Rule.Block i) = refl
+rule_of_lem (Rule.Order i) = refl
+rule_of_lem Rule.Sum = refl
+rule_of_lem (Rule.Instr i) = refl
 
 -- two rules with the same number and place are one
 same_rule : (r s : Rule) → number r ≡ number s → place r ≡ place s → r ≡ s

@@ -9,7 +9,8 @@ use Rattle.file_records.proofs.Rules.{large_count}
 use Rattle.file_records.specs.Trailer.{blocks_back, block_count, instrs_back, instr_count, block_start}
 use Rattle.file_records.specs.BlockRecord.{key_at, count_at, block_right, key_rises, count_sum}
 use Rattle.file_instrs.specs.InstrRecord.{instr_right}
-use Rattle.file_blocks.specs.Refusal.{Rule, block_rules, instr_rules, first_broken}
+use Rattle.file_blocks.specs.declared.rule.Rule.{Rule}
+use Rattle.file_blocks.specs.Refusal.{block_rules, instr_rules, first_broken}
 
 -- the least key that is above that of the block before block i
 pub least_key : List ℕ → ℕ → ℕ
@@ -25,13 +26,13 @@ rises f (suc i) =
 
 -- the rules of the blocks from block i on, where there is one
 next_rules : (n i : ℕ) → i < n
-    → block_rules (n - i) i ≡ Rule.block i ∷ Rule.order i ∷ block_rules (n - (i + 1)) (i + 1)
+    → block_rules (n - i) i ≡ Rule.Block i ∷ Rule.Order i ∷ block_rules (n - (i + 1)) (i + 1)
 next_rules n i h =
     let one : n - i ≡ suc (n - (i + 1)) = omega arith in
     rw (one, add-one)
 
 next_instrs : (n i : ℕ) → i < n
-    → instr_rules (n - i) i ≡ Rule.instr i ∷ instr_rules (n - (i + 1)) (i + 1)
+    → instr_rules (n - i) i ≡ Rule.Instr i ∷ instr_rules (n - (i + 1)) (i + 1)
 next_instrs n i h =
     let one : n - i ≡ suc (n - (i + 1)) = omega arith in
     rw (one, add-one)
@@ -40,12 +41,12 @@ module _ (f : List ℕ) (rest : List Rule) (start n i : ℕ) (starts : start ≡
     (inside : i < n) where
   -- block i breaks a rule of its record
   pub block_broken : block_right f (start + 16 * i) ≡ false
-      → first_broken f (block_rules (n - i) i ++ rest) ≡ some (Rule.block i)
+      → first_broken f (block_rules (n - i) i ++ rest) ≡ some (Rule.Block i)
   block_broken e = rw (next_rules n i inside, ← starts, e)
 
   -- block i keeps those, and its key is not above the last
   pub order_broken : block_right f (start + 16 * i) ≡ true → key_at f (start + 16 * i) < least_key f i
-      → first_broken f (block_rules (n - i) i ++ rest) ≡ some (Rule.order i)
+      → first_broken f (block_rules (n - i) i ++ rest) ≡ some (Rule.Order i)
   order_broken e h = rw (next_rules n i inside, ← starts, e, rises f i, ← starts, lt-leb _ _ h)
 
   -- block i breaks no rule
@@ -74,8 +75,8 @@ pub record Blocks (f : List ℕ) (blocks least total i : ℕ) : Type 0 where
   pub key : least ≡ least_key f i
   pub counts : total ≡ count_sum f i
   pub small : total ≤ 65535 * i
-  pub kept : first_broken f (block_rules (block_count f) 0 ++ (Rule.sum ∷ []))
-      ≡ first_broken f (block_rules (blocks - i) i ++ (Rule.sum ∷ []))
+  pub kept : first_broken f (block_rules (block_count f) 0 ++ (Rule.Sum ∷ []))
+      ≡ first_broken f (block_rules (blocks - i) i ++ (Rule.Sum ∷ []))
 
 module _ (f : List ℕ) (n : ℕ) (all : n ≡ block_count f) where
   pub blocks_none : Blocks f n 0 0 0
@@ -95,19 +96,19 @@ module _ (f : List ℕ) (n : ℕ) (all : n ≡ block_count f) where
 
     -- after the last block, the counts sum to I
     pub sum_right : count_sum f i ≡ instr_count f
-        → first_broken f (block_rules (n - i) i ++ (Rule.sum ∷ [])) ≡ none
+        → first_broken f (block_rules (n - i) i ++ (Rule.Sum ∷ [])) ≡ none
     sum_right e = rw (none_left, ← (done ∙ all), eq-eqb _ _ e)
 
     -- or they do not
     pub sum_wrong : (count_sum f i ≡ instr_count f → ⊥)
-        → first_broken f (block_rules (n - i) i ++ (Rule.sum ∷ [])) ≡ some Rule.sum
+        → first_broken f (block_rules (n - i) i ++ (Rule.Sum ∷ [])) ≡ some Rule.Sum
     sum_wrong e = rw (none_left, ← (done ∙ all), ne_eqb _ _ e)
 
 module _ (f : List ℕ) (start n i : ℕ) (starts : start ≡ length f - instrs_back f) (inside : i < n)
   where
     -- instruction i breaks a rule of its record
     pub instr-broken : instr_right f (start + 16 * i) ≡ false
-        → first_broken f (instr_rules (n - i) i) ≡ some (Rule.instr i)
+        → first_broken f (instr_rules (n - i) i) ≡ some (Rule.Instr i)
     instr-broken e = rw (next_instrs n i inside, ← starts, e)
 
     -- instruction i breaks none

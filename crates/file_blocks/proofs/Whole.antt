@@ -1,37 +1,33 @@
 -- The whole check: its passes one after the other give the first broken rule, and an accepted file
 -- has the counts of its trailer. Assumes nothing.
-use Rattle.std.proofs.Common.{◌≡◌, ℕ, zero, suc, ◌+◌, ◌<◌, ◌≤◌, Bool, true, false, cond, ◌⊎◌, List, [], ◌∷◌, ◌++◌, length, sym, refl, ap, ◌∙◌, ap₂, inl, inr, append_assoc, append-nil, le_of_suc-le-suc, not-suc-le-zero, add-zero, add_assoc, zero-add, arith, eqb-true, le-leb}
+use Rattle.std.proofs.Common.{◌≡◌, ℕ, zero, suc, ◌+◌, ◌<◌, ◌≤◌, Bool, true, false, cond, ◌⊎◌, List, [], ◌∷◌, ◌++◌, length, sym, refl, ap, ◌∙◌, ap₂, inl, inr, append_assoc, le_of_suc-le-suc, not-suc-le-zero, add-zero, add_assoc, zero-add, arith, eqb-true, le-leb}
 use mathlib.Core.List.Memᴰ
 use mathlib.Core.List.{Memᴰ}
 use mathlib.Core.Option.{Option, none, some}
 use borrow.Author.Tests.{lt-leb, not-false}
-use Rattle.file_blocks.specs.declared.refusal.Checked.{Checked}
-use Rattle.file_blocks.specs.declared.refusal.Found.{Found}
+use Rattle.file_blocks.specs.declared.refusal.Counts.{Counts}
 use Rattle.file_records.specs.Trailer.{block_count, instr_count, block_start, within_limits}
 use Rattle.file_records.specs.Trailer.{trailer_right}
 use Rattle.file_records.specs.BlockRecord.{count_at, count_sum}
-use Rattle.file_blocks.specs.Refusal.{Rule, broken, first_broken, block_rules, instr_rules}
-use Rattle.file_blocks.specs.Parse.{instrs_from, block_at, blocks_from, parsed, parse}
+use Rattle.file_blocks.specs.declared.rule.Rule.{Rule}
+use Rattle.file_blocks.specs.Refusal.{broken, first_broken, block_rules, instr_rules}
+use Rattle.file_blocks.specs.Parse.{instrs_from, block_at, blocks_from, blocks_of}
 use Rattle.file_blocks.specs.Parse.{instr_total}
-use Rattle.file_blocks.specs.Found.{found, checked}
-
--- the answer of a pass, or another answer where it found nothing
-abbrev pub or_else : Found → Checked → Checked
-or_else (Found.Broken n i) other = Checked.Refused n i
-or_else Found.Nothing other = other
+use Rattle.file_blocks.specs.Checked.{passed, counts_of, answered, checked}
+use Rattle.std.specs.Prelude.{Result, Ok, Err}
+use Rattle.std.specs.Result.{result_and}
 
 -- one rule more in front of the first list
-one_more : (f : List ℕ) (b : Bool) (r : Rule) (o later : Option Rule) (other : Checked)
-    → or_else (found o) other ≡ checked (parsed f later)
-    → or_else (found (cond b (some r) o)) other ≡ checked (parsed f (cond b (some r) later))
-unfolding checked
+one_more : (f : List ℕ) (b : Bool) (r : Rule) (o later : Option Rule) (other : Result Counts Rule)
+    → result_and (passed o) other ≡ answered f later
+    → result_and (passed (cond b (some r) o)) other ≡ answered f (cond b (some r) later)
 one_more f true r o later other e = refl
 one_more f false r o later other e = e
 
 -- what two names of rules say together
 passes : (f : List ℕ) (xs ys : List Rule)
-    → or_else (found (first_broken f xs)) (checked (parsed f (first_broken f ys)))
-    ≡ checked (parsed f (first_broken f (xs ++ ys)))
+    → result_and (passed (first_broken f xs)) (answered f (first_broken f ys))
+    ≡ answered f (first_broken f (xs ++ ys))
 passes f [] ys = refl
 passes f (r ∷ xs) ys =
     one_more f (broken f r) r (first_broken f xs) (first_broken f (xs ++ ys)) _ (passes f xs ys)
@@ -77,102 +73,104 @@ each_kept f (x ∷ xs) r e m =
 
 -- each block and each instruction has its rules
 pub block_rules_lem : (n i j : ℕ) → j < n
-    → Memᴰ (Rule.block (i + j)) (block_rules n i)
-    × Memᴰ (Rule.order (i + j)) (block_rules n i)
+    → Memᴰ (Rule.Block (i + j)) (block_rules n i)
+    × Memᴰ (Rule.Order (i + j)) (block_rules n i)
 block_rules_lem zero i j h = absurd (not-suc-le-zero h)
 block_rules_lem (suc n) i zero h = (
-  Memᴰ.head (ap Rule.block (add-zero i)),
+  Memᴰ.head (ap Rule.Block (add-zero i)),
   Memᴰ.tail
-      (Memᴰ.head (ap Rule.order (add-zero i))),
+      (Memᴰ.head (ap Rule.Order (add-zero i))),
 )
 block_rules_lem (suc n) i (suc j) h =
     let m = block_rules_lem n (suc i) j (le_of_suc-le-suc h) in
     let same : i + suc j ≡ suc i + j = omega arith in (
-      Memᴰ.tail (Memᴰ.tail (Memᴰ.cast (ap Rule.block same) m.0)),
+      Memᴰ.tail (Memᴰ.tail (Memᴰ.cast (ap Rule.Block same) m.0)),
       Memᴰ.tail
-          (Memᴰ.tail (Memᴰ.cast (ap Rule.order same) m.1)),
+          (Memᴰ.tail (Memᴰ.cast (ap Rule.Order same) m.1)),
     )
 
-pub instr_rules_lem : (n i j : ℕ) → j < n → Memᴰ (Rule.instr (i + j)) (instr_rules n i)
+pub instr_rules_lem : (n i j : ℕ) → j < n → Memᴰ (Rule.Instr (i + j)) (instr_rules n i)
 instr_rules_lem zero i j h = absurd (not-suc-le-zero h)
-instr_rules_lem (suc n) i zero h = Memᴰ.head (ap Rule.instr (add-zero i))
+instr_rules_lem (suc n) i zero h = Memᴰ.head (ap Rule.Instr (add-zero i))
 instr_rules_lem (suc n) i (suc j) h =
     let same : i + suc j ≡ suc i + j = omega arith in
-    Memᴰ.tail (Memᴰ.cast (ap Rule.instr same) (instr_rules_lem n (suc i) j (le_of_suc-le-suc h)))
+    Memᴰ.tail (Memᴰ.cast (ap Rule.Instr same) (instr_rules_lem n (suc i) j (le_of_suc-le-suc h)))
 
-sum_last : (xs : List Rule) → Memᴰ Rule.sum (xs ++ (Rule.sum ∷ []))
+sum_last : (xs : List Rule) → Memᴰ Rule.Sum (xs ++ (Rule.Sum ∷ []))
 sum_last [] = Memᴰ.head refl
 sum_last (x ∷ xs) = Memᴰ.tail (sum_last xs)
 
-found_none : (o : Option Rule) → Found.Nothing ≡ found o → o ≡ none
-found_none none e = refl
-found_none (some r) e = absurd (let z : ◌≡◌ {A = ℕ} 0 1 = cc in omega arith)
+passed_none : (o : Option Rule) → Ok tt ≡ passed o → o ≡ none
+passed_none none e = refl
+passed_none (some r) e = cc
+
+passed_some : (o : Option Rule) (r : Rule) → Err r ≡ passed o → o ≡ some r
+passed_some none r e = cc
+passed_some (some s) r e = cc
 
 module _ (f : List ℕ) where
-  last_pass : (ys : List Rule)
-      → or_else (found (first_broken f ys)) (checked (parsed f none))
-      ≡ checked (parsed f (first_broken f ys))
-  last_pass ys = rw append-nil at (passes f ys [])
+  -- the rules of the first pass, and those of the second
+  abbrev block_pass : Option Rule
+  block_pass = first_broken f (block_rules (block_count f) 0 ++ (Rule.Sum ∷ []))
 
-  pub too_short : length f < 32 → Checked.Refused 1 0 ≡ checked (parse f)
-  unfolding parse checked
+  abbrev instr_pass : Option Rule
+  instr_pass = first_broken f (instr_rules (instr_count f) 0)
+
+  pub too_short : length f < 32 → Err Rule.Short ≡ checked f
+  unfolding checked
   too_short h = simp (lt-leb _ _ h)
 
   module _ (long : 32 ≤ length f) where
-    pub over_limits : within_limits f ≡ false → Checked.Refused 2 0 ≡ checked (parse f)
-    unfolding parse checked
+    pub over_limits : within_limits f ≡ false → Err Rule.Limits ≡ checked f
+    unfolding checked
     over_limits e = simp (le-leb _ _ long, e)
 
     pub wrong_trailer : within_limits f ≡ true → trailer_right f ≡ false
-        → Checked.Refused 3 0 ≡ checked (parse f)
-    unfolding parse checked
+        → Err Rule.Trailer ≡ checked f
+    unfolding checked
     wrong_trailer e h = simp (le-leb _ _ long, e, h)
 
     -- with a right trailer, the pass over the blocks decides, and then the one over the
     -- instructions
     in_passes : within_limits f ≡ true → trailer_right f ≡ true
-        → or_else (found (first_broken f (block_rules (block_count f) 0 ++ (Rule.sum ∷ []))))
-        (or_else (found (first_broken f (instr_rules (instr_count f) 0))) (checked (parsed f none)))
-        ≡ checked (parse f)
-    unfolding parse
+        → result_and (passed block_pass) (answered f instr_pass) ≡ checked f
+    unfolding checked
     in_passes e h =
-        ap (or_else (found (first_broken f (block_rules (block_count f) 0 ++ (Rule.sum ∷ [])))))
-        (last_pass (instr_rules (instr_count f) 0))
-        ∙ passes f (block_rules (block_count f) 0 ++ (Rule.sum ∷ [])) (instr_rules (instr_count f) 0)
-        ∙ ap (λ (l : List Rule). checked (parsed f (first_broken f l)))
-        (append_assoc (block_rules (block_count f) 0) (Rule.sum ∷ []) (instr_rules (instr_count f) 0))
+        passes f (block_rules (block_count f) 0 ++ (Rule.Sum ∷ [])) (instr_rules (instr_count f) 0)
+        ∙ ap (λ (l : List Rule). answered f (first_broken f l))
+        (append_assoc (block_rules (block_count f) 0) (Rule.Sum ∷ []) (instr_rules (instr_count f) 0))
         ∙ sym (simp (le-leb _ _ long, e, h))
 
   -- a file whose blocks pass has the counts of its trailer
-  counts : Found.Nothing ≡ found (first_broken f (block_rules (block_count f) 0 ++ (Rule.sum ∷ [])))
-      → Checked.Accepted (block_count f) (instr_count f) ≡ checked (parsed f none)
-  unfolding count_sum checked
+  counts : Ok tt ≡ passed block_pass
+      → record { blocks = block_count f; instructions = instr_count f } ≡ counts_of (blocks_of f)
+  unfolding count_sum
   counts clean =
       let sums : count_sum f (block_count f)
       ≡ instr_count f =
       eqb-true _ _
       (not-false _
-      (each_kept f (block_rules (block_count f) 0 ++ (Rule.sum ∷ [])) Rule.sum (found_none _ clean)
+      (each_kept f (block_rules (block_count f) 0 ++ (Rule.Sum ∷ [])) Rule.Sum (passed_none _ clean)
       (sum_last (block_rules (block_count f) 0)))) in
       let total : instr_total (blocks_from f (block_count f) 0 0)
       ≡ count_sum f (block_count f) = sym (zero-add _) ∙ total_blocks f (block_count f) 0 0
       ∙ ap (count_sum f) (zero-add (block_count f)) in
-      ap₂ Checked.Accepted (sym (length_blocks f (block_count f) 0 0)) (sym (total ∙ sums))
+      ap₂ (λ (b i : ℕ). record { blocks = b; instructions = i })
+      (sym (length_blocks f (block_count f) 0 0)) (sym (total ∙ sums))
 
   -- what the answers of the two passes say of the whole
   module _ (long : 32 ≤ length f) (few : within_limits f ≡ true) (right : trailer_right f ≡ true)
-      (r : Found)
-      (blocks : r ≡ found (first_broken f (block_rules (block_count f) 0 ++ (Rule.sum ∷ [])))) where
-    pub blocks_refused : (n i : ℕ) → r ≡ Found.Broken n i → Checked.Refused n i ≡ checked (parse f)
-    blocks_refused n i e = rw (← blocks, e) at (in_passes long few right)
+    where
+      pub blocks_refused : (r : Rule) → Err r ≡ passed block_pass → Err r ≡ checked f
+      blocks_refused r e = rw (← e) at (in_passes long few right)
 
-    module _ (e : r ≡ Found.Nothing) (q : Found)
-        (instrs : q ≡ found (first_broken f (instr_rules (instr_count f) 0))) where
-      pub instrs_refused : (n i : ℕ) → q ≡ Found.Broken n i
-          → Checked.Refused n i ≡ checked (parse f)
-      instrs_refused n i g = rw (← blocks, e, ← instrs, g) at (in_passes long few right)
+      module _ (clean : Ok tt ≡ passed block_pass) where
+        pub instrs_refused : (r : Rule) → Err r ≡ passed instr_pass → Err r ≡ checked f
+        instrs_refused r e =
+            sym (ap (answered f) (passed_some _ r e)) ∙ (rw (← clean) at (in_passes long few right))
 
-      pub all_kept : q ≡ Found.Nothing
-          → Checked.Accepted (block_count f) (instr_count f) ≡ checked (parse f)
-      all_kept g =
-          counts (sym e ∙ blocks) ∙ (rw (← blocks, e, ← instrs, g) at (in_passes long few right))
+        pub all_kept : Ok tt ≡ passed instr_pass
+            → Ok (record { blocks = block_count f; instructions = instr_count f }) ≡ checked f
+        all_kept e =
+            ap Ok (counts clean) ∙ sym (ap (answered f) (passed_none _ e))
+            ∙ (rw (← clean) at (in_passes long few right))

@@ -2,6 +2,6 @@
 pub mod Refusal
 pub mod Parse
 pub mod Read
-pub mod Found
+pub mod Checked
 pub mod Address
 pub mod Examples

@@ -7,7 +7,8 @@ use Rattle.file_records.specs.Trailer.{block_count, block_start, instr_start}
 use Rattle.file_records.specs.BlockRecord.{addr_at, count_at, code_offset_at, thumb_at, present_at}
 use Rattle.file_records.specs.BlockRecord.{length_at, key_plus}
 use Rattle.file_instrs.specs.Decode.{timed_at}
-use Rattle.file_blocks.specs.Refusal.{Rule, number, place, first_broken, rules}
+use Rattle.file_blocks.specs.declared.rule.Rule.{Rule}
+use Rattle.file_blocks.specs.Refusal.{number, place, first_broken, rules}
 
 -- a block: its address, whether it is Thumb, its code bytes or their absence, its instructions with
 -- their costs

@@ -8,7 +8,7 @@ ghost use Rattle.std.specs.Io.KnownBytes.{Appends, Consumes, IsAtEnd};
 ghost use Rattle.base_text.specs.Wrote.{Wrote};
 ghost use Rattle.list_program.specs.Output.{longest, room, refusal_line, output};
 
-use call_listing::{ListingAnswer, listing_of};
+use call_listing::listing_of;
 use plan_groups::PART_LIMIT;
 use std::io;
 
@@ -37,8 +37,8 @@ fn put_answer(file: &[u8], out: &mut [u8]) -> usize
 {
     let mut work = [0u32; 16384];
     match listing_of(file, PART_LIMIT, &mut work, out) {
-        ListingAnswer::Length(n) => n as usize,
-        ListingAnswer::Refused { number, at } => put_refusal(out, number, at),
+        Ok(length) => length as usize,
+        Err(refusal) => put_refusal(out, refusal.number(), refusal.place()),
     }
 }
 

@@ -1,67 +1,43 @@
 -- By what the check says of the file, then by the early refusal and the room of the work numbers.
 -- Assumes nothing.
-use mathlib.Core.Path.{ap}
-use native.Mathlib.Nat.{mul-le-mul_right}
-use native.Mathlib.Omega.{arith}
+use Rattle.std.proofs.Common.{ap, arith}
+use Rattle.std.proofs.lemmas.Result.{err_from_is_err_and}
 use Rattle.file_blocks.proofs.Accepted.{few_blocks}
 use Rattle.file_blocks.proofs.Answers.{refused_file, accepted_file, accepted_blocks}
 use Rattle.file_blocks.proofs.Answers.{accepted_instrs}
-use Rattle.call_frame.specs.Open.{early_of, opening, IsOpened}
+use Rattle.call_frame.specs.Open.{opening}
+use Rattle.call_frame.specs.Refusal.{early_of}
 use Rattle.call_frame.proofs.Opening.{opening_early, opening_8}
 use Rattle.call_frame.proofs.open.open_file.Goals as goal
 
-pub overflow_mul-per_block : goal.overflow_mul-per_block
-overflow_mul-per_block c =
-    let given = c.in-Accepted.is in
-    omega (
-      arith,
-      accepted_blocks _ _ c.check.ensures _ _ given,
-      few_blocks _ _ (accepted_file _ _ c.check.ensures _ _ given),
-      mul-le-mul_right c.in-Accepted.blocks
-          c.requires,
-    )
+pub returns-in_err-counts-clause-refused : goal.returns-in_err-counts-clause-refused
+unfolding opening
+returns-in_err-counts-clause-refused c =
+    let p = err_from_is_err_and c.from_residual.result c.from_residual.ensures.1 in
+    rw (p.1, p.2, refused_file _ _ c.in_err-counts.ensures)
 
-pub returns-then-lent-per_block : goal.returns-then-lent-per_block
-unfolding IsOpened
-returns-then-lent-per_block c =
-    let given = c.in-Accepted.is in
-    opening_8 _ (accepted_file _ _ c.check.ensures _ _ given) _ _ _ _
-    (accepted_blocks _ _ c.check.ensures _ _ given) (ap early_of c.in-Nothing.is)
+pub returns-in-Some-clause-refused : goal.returns-in-Some-clause-refused
+returns-in-Some-clause-refused c =
+    opening_early _ (accepted_file _ _ c.in_ok-counts.ensures) _ _ _ _
+    (ap early_of c.in-Some.is)
+
+pub returns-then-lent-per_block-clause-refused : goal.returns-then-lent-per_block-clause-refused
+returns-then-lent-per_block-clause-refused c =
+    opening_8 _ (accepted_file _ _ c.in_ok-counts.ensures) _ _ _ _
+    (accepted_blocks _ _ c.in_ok-counts.ensures) (ap early_of c.in_default.is)
     c.if-lent-per_block.true
 
-pub overflow_cast-result : goal.overflow_cast-result
-overflow_cast-result c =
-    let given = c.in-Accepted.is in
-    omega (
-      arith,
-      accepted_blocks _ _ c.check.ensures _ _ given,
-      few_blocks _ _ (accepted_file _ _ c.check.ensures _ _ given),
-    )
+pub returns-clause-open : goal.returns-clause-open
+returns-clause-open c =
+    let given = c.in_ok-counts.ensures in
+    let all = accepted_blocks _ _ given in
+    record {
+      accepted = accepted_file _ _ given;
+      blocks = all;
+      few = omega (arith, all, few_blocks _ _ (accepted_file _ _ given));
+      nothing = ap early_of c.in_default.is;
+      room = c.if-lent-per_block.false;
+    }
 
-pub returns-in-Refused : goal.returns-in-Refused
-unfolding IsOpened opening
-returns-in-Refused c =
-    rw (refused_file _ _ c.check.ensures _ _
-    c.in-Refused.is)
-
-pub returns-in-Refused-early : goal.returns-in-Refused-early
-unfolding IsOpened
-returns-in-Refused-early c =
-    opening_early _
-    (accepted_file _ _ c.check.ensures _ _
-    c.in-Accepted.is) _ _ _ _ (ap early_of c.in-Refused-early.is)
-
-pub returns-else-lent-per_block : goal.returns-else-lent-per_block
-unfolding IsOpened
-returns-else-lent-per_block c =
-    let given = c.in-Accepted.is in
-    let all = accepted_blocks _ _ c.check.ensures _ _ given in (
-      record {
-        accepted = accepted_file _ _ c.check.ensures _ _ given;
-        blocks = all;
-        few = omega (arith, all, few_blocks _ _ (accepted_file _ _ c.check.ensures _ _ given));
-        nothing = ap early_of c.in-Nothing.is;
-        room = c.if-lent-per_block.false;
-      },
-      accepted_instrs _ _ c.check.ensures _ _ given,
-    )
+pub returns-clause-counted : goal.returns-clause-counted
+returns-clause-counted c = accepted_instrs _ _ c.in_ok-counts.ensures

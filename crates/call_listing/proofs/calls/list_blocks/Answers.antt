@@ -7,7 +7,7 @@ use Rattle.base_text.specs.Doc.{print}
 use Rattle.plan_members.proofs.Groups.{groups_planned, groups_room, groups_past}
 use Rattle.call_frame.proofs.Opening.{settled_call}
 use Rattle.call_frame.proofs.Settling.{cleared_same, refused_10, handed_over}
-use Rattle.call_listing.specs.Calls.{listing_answer, asks_listing}
+use Rattle.call_listing.specs.Calls.{asks_listing}
 use Rattle.call_listing.specs.Listing.{listing}
 use Rattle.call_listing.proofs.calls.list_blocks.Goals as goal
 
@@ -16,7 +16,6 @@ group_blocks-requires c =
     ((c.requires.room, c.requires.few, c.requires.blocks), c.requires.accepted)
 
 pub returns-then-text-length : goal.returns-then-text-length
-unfolding listing_answer
 returns-then-text-length c =
     record {
       answer = let a = c.args in
@@ -30,7 +29,6 @@ returns-then-text-length c =
     }
 
 pub returns : goal.returns
-unfolding listing_answer
 returns c =
     record {
       answer = let a = c.args in

@@ -1,18 +1,15 @@
 -- By what opening tells of the file.
 -- Assumes nothing.
 use Rattle.std.proofs.Common.{[], ◌∷◌}
-use Rattle.call_frame.proofs.Opening.{is_open, refused_call}
-use Rattle.call_listing.specs.Calls.{listing_answer, asks_listing}
+use Rattle.call_frame.proofs.Opening.{refused_on}
+use Rattle.call_listing.specs.Calls.{asks_listing}
 use Rattle.call_listing.proofs.calls.listing_of.Goals as goal
 
-pub list_blocks-requires : goal.list_blocks-requires
-list_blocks-requires c =
-    is_open _ _ _ _ _ c.open_file.ensures _ _ c.in-Blocks.is
-
-pub returns-in-Refused : goal.returns-in-Refused
-unfolding listing_answer
-returns-in-Refused c =
-    record {
-      answer = refused_call (asks_listing _) _ (_ ∷ []) _ _ c.open_file.ensures _ _
-          c.in-Refused.is;
+pub returns-in_err-open : goal.returns-in_err-open
+returns-in_err-open c =
+    let a = c.args in record {
+      answer = refused_on (asks_listing a.limit) _ (_ ∷ []) _ _ c.in_err-open.ensures.refused _ c.from_residual.ensures.1;
     }
+
+pub returns : goal.returns
+returns c = record { answer = c.list_blocks.ensures.answer }

@@ -10,7 +10,7 @@ use Rattle.plan_groups.specs.Plan.{plan}
 use Rattle.plan_groups.proofs.PlanLength.{plan_length}
 use Rattle.call_frame.proofs.Opening.{block_number, settled_call}
 use Rattle.call_frame.proofs.Settling.{cleared_same, refused_10, handed_over}
-use Rattle.call_plan.specs.Calls.{plan_answer, asks_plan}
+use Rattle.call_plan.specs.Calls.{asks_plan}
 use Rattle.call_plan.proofs.calls.plan_blocks.Goals as goal
 
 pub group_blocks-requires : goal.group_blocks-requires
@@ -18,7 +18,6 @@ group_blocks-requires c =
     ((c.requires.room, c.requires.few, c.requires.blocks), c.requires.accepted)
 
 pub returns-then-plan-size : goal.returns-then-plan-size
-unfolding plan_answer
 returns-then-plan-size c =
     record {
       answer = let a = c.args in
@@ -29,7 +28,6 @@ returns-then-plan-size c =
     }
 
 pub returns : goal.returns
-unfolding plan_answer
 returns c =
     record {
       answer = let a = c.args in

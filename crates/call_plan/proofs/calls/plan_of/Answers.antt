@@ -1,18 +1,15 @@
 -- By what opening tells of the file.
 -- Assumes nothing.
-use mathlib.Core.List.{[], ◌∷◌}
-use Rattle.call_frame.proofs.Opening.{is_open, refused_call}
-use Rattle.call_plan.specs.Calls.{plan_answer, asks_plan}
+use Rattle.std.proofs.Common.{[], ◌∷◌}
+use Rattle.call_frame.proofs.Opening.{refused_on}
+use Rattle.call_plan.specs.Calls.{asks_plan}
 use Rattle.call_plan.proofs.calls.plan_of.Goals as goal
 
-pub plan_blocks-requires : goal.plan_blocks-requires
-plan_blocks-requires c =
-    is_open _ _ _ _ _ c.open_file.ensures _ _ c.in-Blocks.is
-
-pub returns-in-Refused : goal.returns-in-Refused
-unfolding plan_answer
-returns-in-Refused c =
-    record {
-      answer = refused_call (asks_plan _) _ (_ ∷ []) _ _ c.open_file.ensures _ _
-          c.in-Refused.is;
+pub returns-in_err-open : goal.returns-in_err-open
+returns-in_err-open c =
+    let a = c.args in record {
+      answer = refused_on (asks_plan a.limit) _ (_ ∷ []) _ _ c.in_err-open.ensures.refused _ c.from_residual.ensures.1;
     }
+
+pub returns : goal.returns
+returns c = record { answer = c.plan_blocks.ensures.answer }

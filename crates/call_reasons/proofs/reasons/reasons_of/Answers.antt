@@ -1,24 +1,17 @@
 -- By what opening tells of the file; the claims hold of every file.
 -- Assumes nothing.
-use mathlib.Core.List.{[], ◌∷◌}
+use Rattle.std.proofs.Common.{[], ◌∷◌}
+use Rattle.call_frame.proofs.Opening.{refused_on}
 use Rattle.claim_reasons.proofs.Claims.{reason_claims}
-use Rattle.call_frame.proofs.Opening.{is_open, instr_number, refused_call}
-use Rattle.call_reasons.specs.Calls.{reasons_answer, asks_reasons}
+use Rattle.call_reasons.specs.Calls.{asks_reasons}
 use Rattle.call_reasons.proofs.reasons.reasons_of.Goals as goal
 
-pub make_reasons-requires : goal.make_reasons-requires
-make_reasons-requires c = (
-  is_open _ _ _ _ _ c.open_file.ensures _ _ c.in-Blocks.is,
-  instr_number _ _ _ _ _ c.open_file.ensures _ _ c.in-Blocks.is,
-)
+pub returns-in_err-open : goal.returns-in_err-open
+returns-in_err-open c =
+    let a = c.args in record {
+      answer = refused_on (asks_reasons a.k) [] (_ ∷ []) _ _ c.in_err-open.ensures.refused _ c.from_residual.ensures.1;
+      claims = reason_claims _;
+    }
 
-pub returns-in-Blocks : goal.returns-in-Blocks
-returns-in-Blocks c = record { answer = c.make_reasons.ensures.answer; claims = reason_claims _ }
-
-pub returns-in-Refused : goal.returns-in-Refused
-unfolding reasons_answer
-returns-in-Refused c = record {
-  answer = refused_call (asks_reasons c.args.k) [] (_ ∷ []) _ _ c.open_file.ensures _ _
-      c.in-Refused.is;
-  claims = reason_claims _;
-}
+pub returns : goal.returns
+returns c = record { answer = c.make_reasons.ensures.answer; claims = reason_claims _ }

@@ -2,6 +2,8 @@
 -- Assumes nothing.
 use Prim.Native.Nat.{◌≤◌}
 use lib.ListN.{length}
+use Rattle.std.proofs.Common.{refl}
+use Rattle.std.proofs.lemmas.Result.{err_from_is_err_and}
 use mathlib.Core.Path.{subst}
 use native.Mathlib.Omega.{arith}
 use Rattle.file_blocks.proofs.Accepted.{few_blocks}
@@ -26,16 +28,18 @@ returns-in_default c =
           (c.find_unit.ensures a.limit c.requires));
     }
 
-pub returns-in_default-decided : goal.returns-in_default-decided
+pub returns-in_err-answer_in : goal.returns-in_err-answer_in
 unfolding IsFoundUnit
-returns-in_default-decided c =
+returns-in_err-answer_in c =
+    let p = err_from_is_err_and c.from_residual.result c.from_residual.ensures.1 in
     record {
       answer = let a = c.args in
           let is : IsUnit a.file.now a.limit a.max a.given.unit _ =
           subst (IsFoundUnit a.file.now a.limit a.max a.given.unit) c.in-Some.is
           (c.find_unit.ensures a.limit c.requires) in
-          write_refused a.file.now a.limit a.max a.given _ is _
-          c.told_of-found.ensures _ c.answer_in-decided.ensures _ _ c.in_default-decided.is;
+          rw (p.1, p.2)
+          (write_refused a.file.now a.limit a.max a.given _ is _ c.told_of-found.ensures _
+          c.in_err-answer_in.ensures _ refl);
     }
 
 pub write_unit-requires : goal.write_unit-requires
@@ -62,8 +66,8 @@ returns c =
           (c.find_unit.ensures a.limit c.requires) in
           let fits : length (text_of is.unit.tree) ≤ length a.text.now =
           write_fits a.file.now a.limit a.max a.given a.text.now is _
-          c.told_of-found.ensures _ c.answer_in-decided.ensures c.in-Written.is in
+          c.told_of-found.ensures _ c.in_ok-answer_in.ensures refl in
           write_made a.file.now a.limit a.max a.given _ is _
-          c.told_of-found.ensures _ c.answer_in-decided.ensures c.in-Written.is _
+          c.told_of-found.ensures _ c.in_ok-answer_in.ensures refl _
           (whole (c.write_unit.ensures a.limit a.given.unit c.requires is) fits).0;
     }

@@ -1,25 +1,19 @@
 -- By what opening tells of the file; the claims hold of every file.
 -- Assumes nothing.
-use mathlib.Core.List.{[], ◌∷◌}
+use Rattle.std.proofs.Common.{[], ◌∷◌}
+use Rattle.call_frame.proofs.Opening.{refused_on}
 use Rattle.claim_units.proofs.Claims.{unit_claims}
-use Rattle.call_frame.proofs.Opening.{is_open, refused_call}
-use Rattle.call_unit.specs.Calls.{write_answer, asks_of_unit, writes}
+use Rattle.call_unit.specs.Calls.{asks_of_unit, writes}
 use Rattle.call_unit.proofs.Claims.{measure_then_write}
 use Rattle.call_unit.proofs.write.write_of.Goals as goal
 
-pub write_open-requires : goal.write_open-requires
-write_open-requires c =
-    is_open _ _ _ _ _ c.open_file.ensures _ _ c.in-Blocks.is
-
-pub returns-in-Blocks : goal.returns-in-Blocks
-returns-in-Blocks c = record { answer = c.write_open.ensures.answer; measured = measure_then_write _ _ _; claims = unit_claims _ _ _ _ }
-
-pub returns-in-Refused : goal.returns-in-Refused
-unfolding write_answer
-returns-in-Refused c =
+pub returns-in_err-open : goal.returns-in_err-open
+returns-in_err-open c =
     let a = c.args in record {
-      answer = refused_call (asks_of_unit (writes a.given) a.limit a.max a.given.unit) _ (_ ∷ [])
-          _ _ c.open_file.ensures _ _ c.in-Refused.is;
+      answer = refused_on (asks_of_unit (writes a.given) a.limit a.max a.given.unit) _ (_ ∷ []) _ _ c.in_err-open.ensures.refused _ c.from_residual.ensures.1;
       measured = measure_then_write _ _ _;
       claims = unit_claims _ _ _ _;
     }
+
+pub returns : goal.returns
+returns c = record { answer = c.write_open.ensures.answer; measured = measure_then_write _ _ _; claims = unit_claims _ _ _ _ }

@@ -1,22 +1,15 @@
 -- By what opening tells of the file.
 -- Assumes nothing.
-use mathlib.Core.List.{[], ◌∷◌}
-use Rattle.call_frame.proofs.Opening.{is_open, refused_call}
-use Rattle.call_units.specs.Calls.{lengths_answer, asks_lengths}
+use Rattle.std.proofs.Common.{[], ◌∷◌}
+use Rattle.call_frame.proofs.Opening.{refused_on}
+use Rattle.call_units.specs.Calls.{asks_lengths}
 use Rattle.call_units.proofs.lengths.lengths_of.Goals as goal
 
-pub measure_units-requires : goal.measure_units-requires
-measure_units-requires c =
-    is_open _ _ _ _ _ c.open_file.ensures _ _ c.in-Blocks.is
-
-pub returns-in-Blocks : goal.returns-in-Blocks
-returns-in-Blocks c =
-    record { answer = c.measure_units.ensures.answer }
-
-pub returns-in-Refused : goal.returns-in-Refused
-unfolding lengths_answer
-returns-in-Refused c =
-    record {
-      answer = refused_call (asks_lengths c.args.asked) _ (_ ∷ []) _ _ c.open_file.ensures _ _
-          c.in-Refused.is;
+pub returns-in_err-open : goal.returns-in_err-open
+returns-in_err-open c =
+    let a = c.args in record {
+      answer = refused_on (asks_lengths a.asked) _ (_ ∷ []) _ _ c.in_err-open.ensures.refused _ c.from_residual.ensures.1;
     }
+
+pub returns : goal.returns
+returns c = record { answer = c.measure_units.ensures.answer }

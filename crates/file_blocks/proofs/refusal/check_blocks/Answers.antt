@@ -1,5 +1,5 @@
 use Rattle.std.proofs.Common.{ℕ, ◌+◌, sym, ap, ◌∙◌, ap₂, arith}
-use Rattle.file_blocks.specs.Found.{found}
+use Rattle.file_blocks.specs.Checked.{passed}
 use Rattle.file_records.proofs.Sections.{sections}
 use Rattle.file_blocks.proofs.Passes as passes
 use Rattle.file_blocks.proofs.refusal.check_blocks.Goals as goal
@@ -15,7 +15,7 @@ block_right-requires c =
     omega (arith, sections _ c.requires)
 
 pub returns-then-not-block_right : goal.returns-then-not-block_right
-returns-then-not-block_right c = ap found
+returns-then-not-block_right c = ap passed
     (sym
     (c.loop-i.invariant.kept
     ∙ passes.block_broken _ _ _ _ _
@@ -29,7 +29,7 @@ key-k-requires c =
 
 pub returns-then-k-least : goal.returns-then-k-least
 returns-then-k-least c =
-    ap found
+    ap passed
     (sym
     (c.loop-i.invariant.kept
     ∙ passes.order_broken _ _ _ _ _
@@ -65,7 +65,7 @@ loop-i-preserved c =
     }
 
 pub returns-then-sum-trailer_word : goal.returns-then-sum-trailer_word
-returns-then-sum-trailer_word c = ap found
+returns-then-sum-trailer_word c = ap passed
     (sym
     (c.loop-i.invariant.kept
     ∙ passes.sum_right _ _ c.trailer_word-blocks.ensures _
@@ -74,7 +74,7 @@ returns-then-sum-trailer_word c = ap found
     ∙ c.trailer_word.ensures)))
 
 pub returns-else-sum-trailer_word : goal.returns-else-sum-trailer_word
-returns-else-sum-trailer_word c = ap found
+returns-else-sum-trailer_word c = ap passed
     (sym
     (c.loop-i.invariant.kept
     ∙ passes.sum_wrong _ _ c.trailer_word-blocks.ensures _

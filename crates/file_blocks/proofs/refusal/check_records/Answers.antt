@@ -1,4 +1,4 @@
-use Rattle.file_blocks.specs.Found.{found}
+use Rattle.file_blocks.specs.Checked.{passed}
 use Rattle.file_records.proofs.Sections.{sections}
 use Rattle.file_blocks.proofs.Passes as passes
 use Rattle.std.proofs.Common.{sym, ap, ◌∙◌, arith}
@@ -16,7 +16,7 @@ instr_right-requires c =
     (omega (arith, sections _ c.requires.0), c.requires.1)
 
 pub returns-then-not-instr_right : goal.returns-then-not-instr_right
-returns-then-not-instr_right c = ap found
+returns-then-not-instr_right c = ap passed
     (sym
     (c.loop-i.invariant.1
     ∙ passes.instr-broken _ _ _ _
@@ -36,6 +36,6 @@ loop-i-preserved c = (
 
 pub returns : goal.returns
 returns c =
-    ap found
+    ap passed
     (sym (c.loop-i.invariant.1
     ∙ passes.instrs_all _ _ c.trailer_word-instrs.ensures _ (omega arith)))

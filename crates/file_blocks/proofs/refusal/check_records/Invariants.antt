@@ -9,6 +9,3 @@ abbrev pub invariant-loop-i : goal.invariant-loop-i
 invariant-loop-i l = (l.i ≤ l.instrs)
     × (first_broken l.file (instr_rules (instr_count l.file) 0)
     ≡ first_broken l.file (instr_rules (l.instrs - l.i) l.i))
-
-abbrev pub decreases-loop-i : goal.decreases-loop-i
-decreases-loop-i l = l.instrs - l.i
