@@ -4,9 +4,10 @@ ghost use Rattle.armv4t.specs.declared.Operand2.{Operand2};
 ghost use Rattle.armv4t.specs.Shift.{no_shift};
 ghost use Rattle.file_records.specs.Bytes.{byte_at};
 ghost use Rattle.file_instrs.specs.Decode.{shift_at, operand_at, mem_offset_at, width_of, alu_at};
-ghost use Rattle.file_instrs.specs.Decode.{mul_at, mul_long_at, mem_at, block_mem_at, free_op, op_at};
+ghost use Rattle.file_instrs.specs.Decode.{mul_at, mul_long_at, mem_at, block_mem_at, op_at};
 ghost use Rattle.file_instrs.specs.Decode.{timed_at};
 
+use crate::kind::Kind;
 use armv4t::{AluOp, Cond, Instr, MemOffset, MemWidth, Op, Operand2, Shift, ShiftKind};
 use file_records::bytes::{half, word};
 
@@ -191,58 +192,47 @@ fn block_mem(file: &[u8], at: usize) -> Op
     }
 }
 
-// The operation of a kind that leaves its bytes free.
-fn free(kind: u8) -> Op
-    ensures { result ≡ free_op kind }
+// The operation of a record, by its kind; where a kind leaves its bytes free, with 0 in every field.
+fn op(file: &[u8], at: usize) -> Op
+    requires { at + 16 ≤ length file.now }
+    ensures { result ≡ op_at file.now at }
 {
-    match kind {
-        3 => Op::Swap {
+    match Kind::from(file[at]) {
+        Kind::Alu => alu(file, at),
+        Kind::Mul => mul(file, at),
+        Kind::MulLong => mul_long(file, at),
+        Kind::Swap => Op::Swap {
             byte: false,
             rd: 0,
             rm: 0,
             rn: 0,
         },
-        10 => Op::Mrs { spsr: false, rd: 0 },
-        11 => Op::MsrReg {
+        Kind::Bx => Op::Bx { rm: file[at + 4] },
+        Kind::Branch => Op::Branch {
+            link: file[at + 4] != 0,
+            target: word(file, at + 12),
+        },
+        Kind::ThumbBlHigh => Op::ThumbBlHigh {
+            lr_partial: word(file, at + 12),
+        },
+        Kind::ThumbBlLow => Op::ThumbBlLow {
+            off: half(file, at + 12),
+        },
+        Kind::Mem => mem(file, at),
+        Kind::BlockMem => block_mem(file, at),
+        Kind::Mrs => Op::Mrs { spsr: false, rd: 0 },
+        Kind::MsrReg => Op::MsrReg {
             spsr: false,
             fields: 0,
             rm: 0,
         },
-        12 => Op::MsrImm {
+        Kind::MsrImm => Op::MsrImm {
             spsr: false,
             fields: 0,
             value: 0,
         },
-        13 => Op::Swi { imm: 0 },
-        _ => Op::Undefined { raw: 0 },
-    }
-}
-
-// The operation of a record, by its kind.
-fn op(file: &[u8], at: usize) -> Op
-    requires { at + 16 ≤ length file.now }
-    ensures { result ≡ op_at file.now at }
-{
-    let kind = file[at];
-    match kind {
-        0 => alu(file, at),
-        1 => mul(file, at),
-        2 => mul_long(file, at),
-        3 => free(kind),
-        4 => Op::Bx { rm: file[at + 4] },
-        5 => Op::Branch {
-            link: file[at + 4] != 0,
-            target: word(file, at + 12),
-        },
-        6 => Op::ThumbBlHigh {
-            lr_partial: word(file, at + 12),
-        },
-        7 => Op::ThumbBlLow {
-            off: half(file, at + 12),
-        },
-        8 => mem(file, at),
-        9 => block_mem(file, at),
-        _ => free(kind),
+        Kind::Swi => Op::Swi { imm: 0 },
+        Kind::Undefined => Op::Undefined { raw: 0 },
     }
 }
 

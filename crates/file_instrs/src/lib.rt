@@ -3,3 +3,4 @@
 
 pub mod decode;
 pub mod instr_record;
+mod kind;

@@ -1,63 +1,50 @@
--- `op` reads the operation of a record. The definition looks the kind up in a list of ten; the last
--- arm's kinds, past all ten, get the list's default.
-use Prim.Native.Nat.{zero-le}
-use lib.ListN.{get_or-eq_default}
-use Rattle.file_instrs.specs.Decode.{ops_at, free_op, op_at}
-use Rattle.file_instrs.proofs.Limits.{next}
-use mathlib.Core.Path.{◌∙◌, sym}
+-- `op` reads the operation of a record by its kind, as the definition does by number.
+use Rattle.std.proofs.Common.{sym, ap, ◌∙◌}
+use Rattle.armv4t.specs.declared.Op.{Op}
+use Rattle.file_instrs.proofs.ByKind.{op_told}
 use Rattle.file_instrs.proofs.decode.op.Goals as goal
 
-pub returns-in-0 : goal.returns-in-0
-unfolding op_at
-returns-in-0 c = c.alu.ensures ∙ sym (rw c.in-0.is)
+pub returns-in-Alu : goal.returns-in-Alu
+returns-in-Alu c = c.alu.ensures ∙ op_told _ _ (sym c.in-Alu.is ∙ c.from.ensures)
 
-pub returns-in-1 : goal.returns-in-1
-unfolding op_at
-returns-in-1 c = c.mul.ensures ∙ sym (rw c.in-1.is)
+pub returns-in-Mul : goal.returns-in-Mul
+returns-in-Mul c = c.mul.ensures ∙ op_told _ _ (sym c.in-Mul.is ∙ c.from.ensures)
 
-pub returns-in-2 : goal.returns-in-2
-unfolding op_at
-returns-in-2 c = c.mul_long.ensures ∙ sym (rw c.in-2.is)
+pub returns-in-MulLong : goal.returns-in-MulLong
+returns-in-MulLong c = c.mul_long.ensures ∙ op_told _ _ (sym c.in-MulLong.is ∙ c.from.ensures)
 
-pub returns-in-3 : goal.returns-in-3
-unfolding op_at
-returns-in-3 c = c.free.ensures ∙ rw c.in-3.is
+pub returns-in-Swap : goal.returns-in-Swap
+returns-in-Swap c = op_told _ _ (sym c.in-Swap.is ∙ c.from.ensures)
 
-pub returns-in-4 : goal.returns-in-4
-unfolding op_at
-returns-in-4 c = rw c.in-4.is
+pub returns-in-Bx : goal.returns-in-Bx
+returns-in-Bx c = op_told _ _ (sym c.in-Bx.is ∙ c.from.ensures)
 
-pub returns-in-5 : goal.returns-in-5
-unfolding op_at
-returns-in-5 c = rw (c.in-5.is, c.word.ensures)
+pub returns-in-Branch : goal.returns-in-Branch
+returns-in-Branch c = rw c.word.ensures (op_told _ _ (sym c.in-Branch.is ∙ c.from.ensures))
 
-pub returns-in-6 : goal.returns-in-6
-unfolding op_at
-returns-in-6 c = rw (c.in-6.is, c.word-in-6.ensures)
+pub returns-in-ThumbBlHigh : goal.returns-in-ThumbBlHigh
+returns-in-ThumbBlHigh c = ap Op.ThumbBlHigh c.word-in-ThumbBlHigh.ensures ∙ op_told _ _ (sym c.in-ThumbBlHigh.is ∙ c.from.ensures)
 
-pub returns-in-7 : goal.returns-in-7
-unfolding op_at
-returns-in-7 c = rw (c.in-7.is, c.half.ensures)
+pub returns-in-ThumbBlLow : goal.returns-in-ThumbBlLow
+returns-in-ThumbBlLow c = ap Op.ThumbBlLow c.half.ensures ∙ op_told _ _ (sym c.in-ThumbBlLow.is ∙ c.from.ensures)
 
-pub returns-in-8 : goal.returns-in-8
-unfolding op_at
-returns-in-8 c = c.mem.ensures ∙ sym (rw c.in-8.is)
+pub returns-in-Mem : goal.returns-in-Mem
+returns-in-Mem c = c.mem.ensures ∙ op_told _ _ (sym c.in-Mem.is ∙ c.from.ensures)
 
-pub returns-in-9 : goal.returns-in-9
-unfolding op_at
-returns-in-9 c = c.block_mem.ensures ∙ sym (rw c.in-9.is)
+pub returns-in-BlockMem : goal.returns-in-BlockMem
+returns-in-BlockMem c = c.block_mem.ensures ∙ op_told _ _ (sym c.in-BlockMem.is ∙ c.from.ensures)
 
-pub returns-in_default : goal.returns-in_default
-unfolding op_at
-returns-in_default c = c.free-in_default.ensures
-    ∙ sym (get_or-eq_default (ops_at _ _) (free_op _)
-    (next (next
-    (next (next
-    (next (next
-    (next (next
-    (next (next zero-le c.in_default.in_default-own.rest.0.0.0.0.0.0.0.0.0.1)
-    c.in_default.in_default-own.rest.0.0.0.0.0.0.0.0.1)
-    c.in_default.in_default-own.rest.0.0.0.0.0.0.0.1) c.in_default.in_default-own.rest.0.0.0.0.0.0.1)
-    c.in_default.in_default-own.rest.0.0.0.0.0.1) c.in_default.in_default-own.rest.0.0.0.0.1)
-    c.in_default.in_default-own.rest.0.0.0.1) c.in_default.in_default-own.rest.0.0.1)
-    c.in_default.in_default-own.rest.0.1) c.in_default.in_default-own.rest.1))
+pub returns-in-Mrs : goal.returns-in-Mrs
+returns-in-Mrs c = op_told _ _ (sym c.in-Mrs.is ∙ c.from.ensures)
+
+pub returns-in-MsrReg : goal.returns-in-MsrReg
+returns-in-MsrReg c = op_told _ _ (sym c.in-MsrReg.is ∙ c.from.ensures)
+
+pub returns-in-MsrImm : goal.returns-in-MsrImm
+returns-in-MsrImm c = op_told _ _ (sym c.in-MsrImm.is ∙ c.from.ensures)
+
+pub returns-in-Swi : goal.returns-in-Swi
+returns-in-Swi c = op_told _ _ (sym c.in-Swi.is ∙ c.from.ensures)
+
+pub returns-in-Undefined : goal.returns-in-Undefined
+returns-in-Undefined c = op_told _ _ (sym c.in-Undefined.is ∙ c.from.ensures)
