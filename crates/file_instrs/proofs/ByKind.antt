@@ -1,5 +1,5 @@
 -- What the records of each kind say, by kind as by number. Assumes nothing.
-use Rattle.std.proofs.Common.{◌≡◌, ℕ, zero, suc, ◌+◌, ◌≤◌, true, false, eqb, ltb, List, get_or, refl, sym, ap, ◌∙◌, arith}
+use Rattle.std.proofs.Common.{◌≡◌, ℕ, zero, suc, ◌+◌, ◌≤◌, true, false, eqb, ltb, List, get_or, refl, ap, ◌∙◌, arith}
 use borrow.Author.Tests.{ne_eqb, ltb-true}
 use Rattle.armv4t.specs.declared.Op.{Op}
 use Rattle.file_records.specs.Bytes.{byte_at, half_at, word_at}
