@@ -59,12 +59,8 @@ fn limits(kind: Kind, form: u8) -> [u8; 12]
         // five flag bits, rn, rlist
         Kind::BlockMem => [31, 0, 15, 0, 0, 0, 0, 0, 255, 255, 0, 0],
         // these leave all fields free
-        Kind::Swap
-        | Kind::Mrs
-        | Kind::MsrReg
-        | Kind::MsrImm
-        | Kind::Swi
-        | Kind::Undefined => [255; 12],
+        Kind::Swap | Kind::Mrs | Kind::MsrReg | Kind::MsrImm | Kind::Swi | Kind::Undefined =>
+            [255; 12],
     }
 }
 

@@ -4,3 +4,4 @@
 pub mod decode;
 pub mod instr_record;
 mod kind;
+mod record;

@@ -26,7 +26,7 @@ loop-number-preserved c =
           (length limits.result)) first.ensures)
           ∙ limits_next at.all limits.result at.number (search rules) at.invariant.1
           (omega arith) at.invariant.2
-              (limits.ensures (at.number % 10) c.from.ensures),
+          (limits.ensures (at.number % 10) c.from.ensures),
     )
 
 pub returns : goal.returns
