@@ -8,6 +8,7 @@ ghost use Rattle.file_instrs.specs.InstrRecord.{within as limits-within, even_fi
 ghost use Rattle.file_instrs.specs.InstrRecord.{instr_right};
 
 use crate::kind::Kind;
+use crate::record::Record;
 
 // The kind whose limits a kind has: those from 10 on leave all fields free, as Swap (3) does.
 fn limits_kind(kind: u8) -> u8
@@ -113,16 +114,18 @@ fn within(file: &[u8], at: usize, limits: &[u8], from: usize) -> bool
     ok
 }
 
-// The rotation of an Alu value and the target of a Branch are even. All tests are made, since a
-// jump by kind would cost more.
-fn even_fields(file: &[u8], at: usize) -> bool
-    requires { at + 16 ≤ length file.now }
-    ensures { result ≡ even_fields file.now at }
-{
-    let kind = file[at];
-    let rotation = (kind == 0) & (file[at + 8] == 0);
-    let target = kind == 5;
-    !(rotation & (file[at + 9] % 2 != 0) | target & (file[at + 12] % 2 != 0))
+impl Record<'_> {
+    // The rotation of an Alu value and the target of a Branch are even. All tests are made, since a
+    // jump by kind would cost more.
+    fn even_fields(self) -> bool
+        ensures { result ≡ even_fields self.entry.file.now self.entry.at }
+    {
+        let kind = self.file[self.at];
+        let rotation = (kind == 0) & (self.file[self.at + 8] == 0);
+        let target = kind == 5;
+        !(rotation & (self.file[self.at + 9] % 2 != 0)
+            | target & (self.file[self.at + 12] % 2 != 0))
+    }
 }
 
 // The rules of an instruction record.
@@ -134,5 +137,5 @@ pub fn instr_right(file: &[u8], at: usize, limits: &[u8]) -> bool
     if !within(file, at, limits, 16 * number) {
         return false;
     }
-    even_fields(file, at)
+    Record { file, at }.even_fields()
 }

@@ -6,11 +6,11 @@ use Rattle.file_instrs.proofs.record.Record.mem.Goals as goal
 pub returns : goal.returns
 unfolding mem_at
 returns c = simp (
-      c.byte-bits.ensures,
-      c.width.ensures,
-      c.byte.ensures,
-      c.byte-2.ensures,
-      c.byte-3.ensures,
-      c.mem_offset.ensures,
-      div-one,
-    )
+  c.byte-bits.ensures,
+  c.width.ensures,
+  c.byte.ensures,
+  c.byte-2.ensures,
+  c.byte-3.ensures,
+  c.mem_offset.ensures,
+  div-one,
+)
