@@ -147,13 +147,12 @@ module _ (f : List ℕ) (bs : List Block) (accepted : parse f ≡ Parsed.accepte
   pub block_found : (i : ℕ) → i < length bs
       → found_block f i ≡ Some (record_at f (block_start f i))
   block_found i h =
-      sym (reading.block_there f i _ (omega (arith, length_of_lem)) refl
-      (omega (arith, length_of_lem, sections_of)))
+      reading.block_there f i (omega (arith, length_of_lem)) (omega (arith, length_of_lem, sections_of))
 
   pub instr_found : (i addr : ℕ) (thumb : Bool) → i < instr_count f
       → found_instr f i addr thumb ≡ Some (timed_at f (instr_start f i) addr thumb)
   instr_found i addr thumb h =
-      sym (reading.instr_there f i _ addr thumb h refl (omega (arith, sections_of)))
+      reading.instr_there f i addr thumb h (omega (arith, sections_of))
 
   -- the limits hold
   limits : within_limits f ≡ true

@@ -2,13 +2,14 @@
 -- by offset and length, whether or not the file is accepted. A record that the trailer does not
 -- count, or that does not lie inside the file, is None; code bytes that are absent, or do not
 -- lie inside it, are the empty list.
-use Rattle.std.specs.Prelude.{◌≡◌, ℕ, ◌+◌, ◌*◌, ◌%◌, ◌^◌, Bool, cond, ◌&&◌, List, [], ◌∷◌, length, nat_le, nat_lt, Option, Some, None}
+use Rattle.std.specs.Prelude.{◌≡◌, ℕ, ◌+◌, ◌-◌, ◌*◌, ◌%◌, ◌^◌, Bool, cond, ◌&&◌, List, [], ◌∷◌, length, nat_le, nat_lt, Option, Some, None}
 use Rattle.armv4t.specs.declared.Instr.{Instr}
 use Rattle.armv4t.specs.Fused.{Fused, fuse}
 use Rattle.armv4t.specs.Instr.{size_of}
 use Rattle.file_blocks.specs.declared.next.FusedPair.{FusedPair}
 use Rattle.file_blocks.specs.declared.read.BlockRecord.{BlockRecord}
-use Rattle.file_records.specs.Trailer.{block_count, instr_count, block_start, instr_start}
+use Rattle.file_records.specs.Trailer.{trailer_word, block_count, instr_count, block_start}
+use Rattle.file_records.specs.Trailer.{instr_start}
 use Rattle.file_records.specs.BlockRecord.{addr_at, count_at, code_offset_at, thumb_at, present_at}
 use Rattle.file_records.specs.BlockRecord.{length_of, count_sum}
 use Rattle.file_instrs.specs.declared.decode.TimedInstr.{TimedInstr}
@@ -25,6 +26,15 @@ record_at f at =
       count = count_at f at;
       offset = code_offset_at f at;
     }
+
+-- where record i of a section stands, whose distance from the file's end is word k of the trailer,
+-- where the word after counts it and it lies inside the file
+unfoldable pub offset_of : List ℕ → ℕ → ℕ → Option ℕ
+offset_of f k i =
+    cond
+    (nat_lt i (trailer_word f (k + 1)) && nat_le (length f - trailer_word f k + 16 * i + 16) (length f))
+    (Some (length f - trailer_word f k + 16 * i))
+    None
 
 -- block record i, where the trailer counts it and it lies inside the file
 unfoldable pub found_block : List ℕ → ℕ → Option BlockRecord

@@ -1,9 +1,10 @@
 // Readers that lean on no check. Records are read by number: the answer is None where the
 // trailer counts no such record, or it does not lie inside the file. Code bytes are read by offset
 // and length: an empty slice where they are absent, or do not lie inside the file.
-ghost use Rattle.std.specs.Prelude.{◌≡◌, ◌+◌, ◌^◌, ◌<◌, ◌≤◌, length};
+ghost use Rattle.std.specs.Prelude.{◌≡◌, ◌+◌, ◌^◌, ◌<◌, ◌≤◌, length, IfSome};
 ghost use Rattle.file_records.specs.Trailer.{block_count};
-ghost use Rattle.file_blocks.specs.Read.{record_at, found_block, found_instr, code_bytes};
+ghost use Rattle.file_blocks.specs.Read.{record_at, offset_of, found_block, found_instr};
+ghost use Rattle.file_blocks.specs.Read.{code_bytes};
 
 use file_instrs::decode::{TimedInstr, timed_instr};
 use file_records::block_record::{addr, count, instrs_length, offset, present, thumb};
@@ -47,17 +48,28 @@ fn block_record(file: &[u8], at: usize) -> BlockRecord
     }
 }
 
+// Where record i of a section stands: the trailer's word k has the section's distance from the
+// file's end, and the word after it counts its records.
+fn record_offset(file: &[u8], k: usize, i: usize) -> Option<usize>
+    requires { k < 7 }
+    ensures inside { IfSome result (λ at. at + 16 ≤ length file.now) }
+    ensures found { result ≡ offset_of file.now k i }
+{
+    if trailer_word(file, k + 1) as usize <= i {
+        return None;
+    }
+    let at = section_start(file, k) + 16 * i;
+    if file.len() < at + 16 {
+        return None;
+    }
+    Some(at)
+}
+
 // Block record i.
 pub fn block_at(file: &[u8], i: usize) -> Option<BlockRecord>
     ensures { result ≡ found_block file.now i }
 {
-    if trailer_word(file, 2) as usize <= i {
-        return None;
-    }
-    let at = section_start(file, 1) + 16 * i;
-    if file.len() < at + 16 {
-        return None;
-    }
+    let at = record_offset(file, 1, i)?;
     Some(block_record(file, at))
 }
 
@@ -65,13 +77,7 @@ pub fn block_at(file: &[u8], i: usize) -> Option<BlockRecord>
 pub fn instr_at(file: &[u8], i: usize, address: u32, is_thumb: bool) -> Option<TimedInstr>
     ensures { result ≡ found_instr file.now i address is_thumb }
 {
-    if trailer_word(file, 4) as usize <= i {
-        return None;
-    }
-    let at = section_start(file, 3) + 16 * i;
-    if file.len() < at + 16 {
-        return None;
-    }
+    let at = record_offset(file, 3, i)?;
     Some(timed_instr(file, at, address, is_thumb))
 }
 

@@ -3,7 +3,6 @@
 use mathlib.Core.Path.{◌≡◌, refl, ap, ap₂, sym, ◌∙◌}
 use mathlib.Core.Bool.{Bool, true, false, not, cond, ◌&&◌, ◌||◌, and-true, and_assoc}
 use mathlib.Core.Bool.{and-eq-true_iff, not-not}
-use mathlib.Core.Logic.{◌⊎◌, inl, inr}
 use mathlib.Core.List.{List, [], ◌∷◌, ◌++◌, append_assoc}
 use Prim.Native.Nat.{ℕ, zero, suc, ◌+◌, ◌*◌, ◌/◌, ◌%◌, ◌≤◌, ◌<◌}
 use native.Mathlib.Nat.{add-zero, le_of_suc-le-suc, not-suc-le-zero}
@@ -49,13 +48,6 @@ pub numbered : (kind form k m : ℕ) → k < 10 → ((x : ℕ) → fields k x �
 unfolding largest
 numbered kind form k m h e g =
     ap (λ (r : List ℕ). 14 ∷ 15 ∷ max_byte ∷ max_byte ∷ r) (digits k m h ∙ e m ∙ g kind)
-
--- the last digit of the numbers of one kind
-pub last_digit : (kind : ℕ) {n : ℕ} → (n ≡ kind) ⊎ ((n ≡ 10 + kind) ⊎ (n ≡ 20 + kind))
-    → n % 10 ≡ kind % 10
-last_digit kind (inl e) = omega arith
-last_digit kind (inr (inl e)) = omega arith
-last_digit kind (inr (inr e)) = omega arith
 
 -- those of one number, among others, are 16 values
 pub limits_long : (all : List ℕ) (from : ℕ) → from + 16 ≤ length all

@@ -1,10 +1,14 @@
 // Instruction records: the rules that hold of one.
 ghost use Rattle.std.specs.Prelude.{◌≡◌, ℕ, ◌+◌, ◌/◌, ◌%◌, ◌<◌, ◌≤◌, length, take, drop};
 ghost use Rattle.std.proofs.Math.Seq.{paste};
+ghost use Rattle.file_instrs.specs.Kind.{kind_of};
 ghost use Rattle.file_instrs.specs.InstrRecord.{fields, largest};
 ghost use Rattle.file_instrs.specs.Limits.{limits_to};
 ghost use Rattle.file_instrs.specs.InstrRecord.{within as limits-within, even_fields};
 ghost use Rattle.file_instrs.specs.InstrRecord.{instr_right};
+
+use crate::kind::Kind;
+use crate::record::Record;
 
 // The kind whose limits a kind has: those from 10 on leave all fields free, as Swap (3) does.
 fn limits_kind(kind: u8) -> u8
@@ -22,38 +26,42 @@ fn limits_form(form: u8) -> u8
     if form < 3 { form } else { 0 }
 }
 
-// The largest value of each of bytes 4 to 15, by ten times the form plus the kind.
-fn limits(number: u8) -> [u8; 12]
-    requires { number < 30 }
-    ensures { result ≡ fields (number % 10) (number / 10) }
+// The largest value of each of bytes 4 to 15, by kind and form.
+fn limits(kind: Kind, form: u8) -> [u8; 12]
+    ensures { (n : ℕ) → kind ≡ kind_of n → result ≡ fields n form }
 {
-    match number {
-        // Alu with a value, a shift by amount, a shift by register: operation, s, rd, rn, form, ror
-        // or rm, shift kind, amount or rs, value
-        0 => [15, 1, 15, 15, 0, 30, 0, 0, 255, 255, 255, 255],
-        10 => [15, 1, 15, 15, 1, 15, 3, 31, 0, 0, 0, 0],
-        20 => [15, 1, 15, 15, 2, 15, 3, 15, 0, 0, 0, 0],
-        // Mul: acc, s, rd, rn, rs, rm
-        1 | 11 | 21 => [1, 1, 15, 15, 15, 15, 0, 0, 0, 0, 0, 0],
-        // MulLong: signed, acc, s, rd_hi, rd_lo, rs, rm
-        2 | 12 | 22 => [1, 1, 1, 15, 15, 15, 15, 0, 0, 0, 0, 0],
-        // Bx: rm
-        4 | 14 | 24 => [15, 0, 0, 0, 0, 0, 0, 0, 0, 0, 0, 0],
-        // Branch: link, target
-        5 | 15 | 25 => [1, 0, 0, 0, 0, 0, 0, 0, 255, 255, 255, 255],
-        // ThumbBlHigh: lr_partial
-        6 | 16 | 26 => [0, 0, 0, 0, 0, 0, 0, 0, 255, 255, 255, 255],
-        // ThumbBlLow: off
-        7 | 17 | 27 => [0, 0, 0, 0, 0, 0, 0, 0, 255, 255, 0, 0],
-        // Mem, in the same three forms: five flag bits, width, rd, rn, form, rm, shift kind, amount
-        // or rs, value
-        8 => [31, 2, 15, 15, 0, 0, 0, 0, 255, 255, 0, 0],
-        18 => [31, 2, 15, 15, 1, 15, 3, 31, 0, 0, 0, 0],
-        28 => [31, 2, 15, 15, 2, 15, 3, 15, 0, 0, 0, 0],
-        // BlockMem: five flag bits, rn, rlist
-        9 | 19 | 29 => [31, 0, 15, 0, 0, 0, 0, 0, 255, 255, 0, 0],
-        // Swap, and the kinds from 10 on
-        _ => [255; 12],
+    match kind {
+        // with a value, a shift by amount, a shift by register: operation, s, rd, rn, form, ror or
+        // rm, shift kind, amount or rs, value
+        Kind::Alu => match form {
+            1 => [15, 1, 15, 15, 1, 15, 3, 31, 0, 0, 0, 0],
+            2 => [15, 1, 15, 15, 2, 15, 3, 15, 0, 0, 0, 0],
+            _ => [15, 1, 15, 15, 0, 30, 0, 0, 255, 255, 255, 255],
+        },
+        // acc, s, rd, rn, rs, rm
+        Kind::Mul => [1, 1, 15, 15, 15, 15, 0, 0, 0, 0, 0, 0],
+        // signed, acc, s, rd_hi, rd_lo, rs, rm
+        Kind::MulLong => [1, 1, 1, 15, 15, 15, 15, 0, 0, 0, 0, 0],
+        // rm
+        Kind::Bx => [15, 0, 0, 0, 0, 0, 0, 0, 0, 0, 0, 0],
+        // link, target
+        Kind::Branch => [1, 0, 0, 0, 0, 0, 0, 0, 255, 255, 255, 255],
+        // lr_partial
+        Kind::ThumbBlHigh => [0, 0, 0, 0, 0, 0, 0, 0, 255, 255, 255, 255],
+        // off
+        Kind::ThumbBlLow => [0, 0, 0, 0, 0, 0, 0, 0, 255, 255, 0, 0],
+        // in the same three forms: five flag bits, width, rd, rn, form, rm, shift kind, amount or
+        // rs, value
+        Kind::Mem => match form {
+            1 => [31, 2, 15, 15, 1, 15, 3, 31, 0, 0, 0, 0],
+            2 => [31, 2, 15, 15, 2, 15, 3, 15, 0, 0, 0, 0],
+            _ => [31, 2, 15, 15, 0, 0, 0, 0, 255, 255, 0, 0],
+        },
+        // five flag bits, rn, rlist
+        Kind::BlockMem => [31, 0, 15, 0, 0, 0, 0, 0, 255, 255, 0, 0],
+        // these leave all fields free
+        Kind::Swap | Kind::Mrs | Kind::MsrReg | Kind::MsrImm | Kind::Swi | Kind::Undefined =>
+            [255; 12],
     }
 }
 
@@ -79,7 +87,7 @@ pub fn all_limits() -> [u8; 480]
     let mut all = [0; 480];
     for number in 0..30u8 {
         let from = 16 * number as usize;
-        let fields = limits(number);
+        let fields = limits(Kind::from(number % 10), number / 10);
         put(&mut all[..], from, &head[..]);
         put(&mut all[..], from + 4, &fields[..]);
     }
@@ -106,16 +114,18 @@ fn within(file: &[u8], at: usize, limits: &[u8], from: usize) -> bool
     ok
 }
 
-// The rotation of an Alu value and the target of a Branch are even. All tests are made, since a
-// jump by kind would cost more.
-fn even_fields(file: &[u8], at: usize) -> bool
-    requires { at + 16 ≤ length file.now }
-    ensures { result ≡ even_fields file.now at }
-{
-    let kind = file[at];
-    let rotation = (kind == 0) & (file[at + 8] == 0);
-    let target = kind == 5;
-    !(rotation & (file[at + 9] % 2 != 0) | target & (file[at + 12] % 2 != 0))
+impl Record<'_> {
+    // The rotation of an Alu value and the target of a Branch are even. All tests are made, since a
+    // jump by kind would cost more.
+    fn even_fields(self) -> bool
+        ensures { result ≡ even_fields self.entry.file.now self.entry.at }
+    {
+        let kind = self.file[self.at];
+        let rotation = (kind == 0) & (self.file[self.at + 8] == 0);
+        let target = kind == 5;
+        !(rotation & (self.file[self.at + 9] % 2 != 0)
+            | target & (self.file[self.at + 12] % 2 != 0))
+    }
 }
 
 // The rules of an instruction record.
@@ -127,5 +137,5 @@ pub fn instr_right(file: &[u8], at: usize, limits: &[u8]) -> bool
     if !within(file, at, limits, 16 * number) {
         return false;
     }
-    even_fields(file, at)
+    Record { file, at }.even_fields()
 }

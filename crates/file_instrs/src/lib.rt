@@ -3,3 +3,5 @@
 
 pub mod decode;
 pub mod instr_record;
+mod kind;
+mod record;

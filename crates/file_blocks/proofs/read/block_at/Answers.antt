@@ -1,16 +1,19 @@
--- `block_at` finds block record i, or nothing: past the count, past the file's end, and there are
--- the three cases of the definition.
-use Rattle.file_blocks.proofs.Reading as reading
-use Rattle.std.proofs.Common.{Some, ap, ◌∙◌, arith}
+-- `block_at` reads a record where it stands, if it does.
+use Rattle.std.proofs.Common.{Some, sym, ap, ◌∙◌, option_map}
+use Rattle.file_blocks.specs.Read.{record_at}
+use Rattle.file_blocks.proofs.Reading.{block_read}
 use Rattle.file_blocks.proofs.read.block_at.Goals as goal
 
-pub returns-then-trailer_word-i : goal.returns-then-trailer_word-i
-returns-then-trailer_word-i c = reading.no_block _ _ 0 (omega arith)
-
-pub returns-then-file-at : goal.returns-then-file-at
-returns-then-file-at c = reading.block_past _ _ _ c.section_start.ensures c.if-file-at.true
+pub returns-in_err-at : goal.returns-in_err-at
+returns-in_err-at c =
+    c.from_residual.ensures
+    ∙ ap (option_map (record_at c.args.file.now))
+    (sym c.in_err-at.was ∙ c.record_offset.ensures.found)
+    ∙ block_read _ _
 
 pub returns : goal.returns
-returns c = ap Some c.block_record.ensures
-    ∙ reading.block_there _ _ _ (omega arith) c.section_start.ensures
-    c.if-file-at.false
+returns c =
+    ap Some c.block_record.ensures
+    ∙ ap (option_map (record_at c.args.file.now))
+    (sym c.in_ok-at.was ∙ c.record_offset.ensures.found)
+    ∙ block_read _ _

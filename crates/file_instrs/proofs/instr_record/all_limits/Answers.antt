@@ -1,5 +1,5 @@
 use mathlib.Core.Path.{◌≡◌, refl, sym, ap, ◌∙◌}
-use Prim.Native.Nat.{ℕ, ◌+◌, ◌*◌}
+use Prim.Native.Nat.{ℕ, ◌+◌, ◌*◌, ◌%◌}
 use native.Mathlib.Omega.{arith}
 use mathlib.Core.List.{List}
 use lib.ListN.{length, take}
@@ -25,7 +25,8 @@ loop-number-preserved c =
           ∙ ap (λ (l : List ℕ). paste l (16 * at.number + 4) limits.result
           (length limits.result)) first.ensures)
           ∙ limits_next at.all limits.result at.number (search rules) at.invariant.1
-          (omega arith) at.invariant.2 limits.ensures,
+          (omega arith) at.invariant.2
+          (limits.ensures (at.number % 10) c.from.ensures),
     )
 
 pub returns : goal.returns

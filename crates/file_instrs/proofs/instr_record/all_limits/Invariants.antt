@@ -1,7 +1,7 @@
 -- `file_instrs::instr_record::all_limits` meets its contract: each turn puts those of one number
 -- more after those before it. Assumes nothing.
 use mathlib.Core.Path.{◌≡◌}
-use Prim.Native.Nat.{◌*◌, ◌-◌, ◌≤◌}
+use Prim.Native.Nat.{◌*◌, ◌≤◌}
 use lib.ListN.{length, take}
 use Rattle.file_instrs.specs.Limits.{limits_to}
 use Rattle.file_instrs.proofs.instr_record.all_limits.Given as goal

@@ -1,7 +1,7 @@
 -- `file_instrs::instr_record::put` meets its contract: each turn pastes one value more.
 -- Assumes nothing.
 use mathlib.Core.Path.{◌≡◌}
-use Prim.Native.Nat.{◌+◌, ◌-◌, ◌≤◌}
+use Prim.Native.Nat.{◌+◌, ◌≤◌}
 use lib.ListN.{length}
 use lib.Seq.{paste}
 use Rattle.file_instrs.proofs.instr_record.put.Given as goal

@@ -1,7 +1,7 @@
 -- `file_instrs::instr_record::within` meets its contract: each turn takes one byte more. Assumes
 -- nothing.
 use mathlib.Core.Path.{◌≡◌}
-use Prim.Native.Nat.{◌+◌, ◌-◌, ◌≤◌}
+use Prim.Native.Nat.{◌+◌, ◌≤◌}
 use lib.ListN.{length, take, drop}
 use Rattle.file_instrs.specs.InstrRecord.{within as limits-within}
 use Rattle.file_instrs.proofs.instr_record.within.Given as goal
