@@ -21,7 +21,7 @@ use Rattle.call_frame.proofs.Pieces.{decided_front}
 use Rattle.call_frame.proofs.Settling.{refused_own, refused_10, handed_over}
 use Rattle.call_pages.specs.declared.text.Front.{Front}
 use Rattle.call_frame.specs.declared.refusal.Refusal.{Refusal}
-use Rattle.std.specs.Prelude.{Result, Ok, Err}
+use Rattle.std.specs.Prelude.{Ok, Err}
 use Rattle.call_pages.specs.Page.{rows_of, Page, per_page, pages_from, page_text, page_length}
 use Rattle.call_pages.specs.declared.pages.PagesValues.{PagesValues}
 use Rattle.call_pages.specs.Calls.{made_page, made_pages}

@@ -26,7 +26,7 @@ use Rattle.call_frame.specs.Frame.{Decision, refuses, numbered, cleared, refused
 use Rattle.call_frame.proofs.Pieces.{Some, some_of}
 use Rattle.call_frame.proofs.Settling.{refused_own, refused_10, handed_over}
 use Rattle.call_frame.specs.declared.refusal.Refusal.{Refusal}
-use Rattle.std.specs.Prelude.{Result, Ok, Err}
+use Rattle.std.specs.Prelude.{Ok, Err}
 use Rattle.call_reasons.specs.declared.reasons.ReasonsValues.{ReasonsValues}
 use Rattle.call_frame.specs.Refusal.{answer_of}
 use Rattle.call_reasons.specs.Calls.{

@@ -27,7 +27,7 @@ use Rattle.call_frame.proofs.Settling.{handed_all}
 use Rattle.call_frame.specs.Frame.{numbered, refused_with, too_short}
 use Rattle.call_units.specs.declared.units.Asked.{Asked}
 use Rattle.call_frame.specs.declared.refusal.Refusal.{Refusal}
-use Rattle.std.specs.Prelude.{Result, Ok, Err}
+use Rattle.std.specs.Prelude.{Ok, Err}
 use Rattle.call_units.specs.declared.units.FrontValues.{FrontValues}
 use Rattle.call_units.specs.declared.lengths.LengthsValues.{LengthsValues}
 use Rattle.call_units.specs.Calls.{made_units, made_lengths, units_asked}

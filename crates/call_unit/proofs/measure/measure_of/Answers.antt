@@ -1,6 +1,6 @@
 -- By what opening tells of the file; the claims hold of every file.
 -- Assumes nothing.
-use Rattle.std.proofs.Common.{[], ◌∷◌}
+use Rattle.std.proofs.Common.{[]}
 use Rattle.call_frame.proofs.Opening.{refused_on}
 use Rattle.call_unit.specs.Calls.{asks_of_unit, measures}
 use Rattle.call_unit.proofs.Claims.{measure_then_write}
