@@ -1,8 +1,8 @@
 use Rattle.std.proofs.Common.{rules, subst}
 use Rattle.std.specs.Io.KnownBytes.{Consumes}
 use Rattle.std.proofs.KnownBytes.{Consumes-trans}
-use Rattle.case_io.proofs.Filled.{take_filled}
-use Rattle.case_io.proofs.input.fill.Goals as goal
+use Rattle.base_input.proofs.Filled.{take_filled}
+use Rattle.base_input.proofs.fill.Goals as goal
 
 pub loop-done-preserved : goal.loop-done-preserved
 loop-done-preserved g c = (

@@ -1,7 +1,7 @@
 -- What was read stands in the front of `out`, whose length a turn keeps.
 use Rattle.std.proofs.Common.{length, take, ◌-◌, ◌≡◌, ◌≤◌}
 use Rattle.std.specs.Io.KnownBytes.{Consumes}
-use Rattle.case_io.proofs.input.fill.Given as goal
+use Rattle.base_input.proofs.fill.Given as goal
 
 abbrev pub invariant-loop-done : goal.invariant-loop-done
 invariant-loop-done g l =
