@@ -31,6 +31,7 @@ pub const TEXT: usize = 65600;
 pub const LENGTHS: usize = 32;
 
 // All that vectors lend a front of.
+#[derive(Drop)]
 pub struct Lent {
     pub work: [u32; WORK],
     pub text: [u8; TEXT],
