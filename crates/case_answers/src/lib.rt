@@ -3,3 +3,6 @@
 
 pub mod check_cases;
 pub mod exits_cases;
+
+// The longest file that a vector may hold.
+const LONGEST: usize = 4096;

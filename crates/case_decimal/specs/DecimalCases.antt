@@ -4,7 +4,7 @@ use Rattle.base_text.specs.Doc.{dec, print}
 use Rattle.base_text.specs.Wrote.{index_after, overlay}
 use Rattle.call_frame.specs.Numbers.{Handed}
 use Rattle.case_lent.specs.Left.{with_rest}
-use Rattle.case_decimal.specs.declared.Asked.{Asked}
+use Rattle.case_decimal.specs.declared.asked.Asked.{Asked}
 
 -- the index after the digits of n at index `at`, and the text with them there
 abbrev pub prints_over : (n at : ℕ) (text : List ℕ) → Handed

@@ -8,22 +8,16 @@ ghost use Rattle.std.specs.Prelude.{◌≡◌, ◌∷◌, [], ◌≤◌, IfOk};
 ghost use Rattle.case_lent.specs.Left.{same_left};
 ghost use Rattle.case_decimal.specs.DecimalCases.{prints_over, printer_leaves};
 
-use base_text::put_dec;
-use case_io::verdict::{Section, Verdict};
-use case_io::{compare, input, report, verdict};
-use case_lent::{TEXT, no_text, same_text, whole};
-use std::io;
+mod asked;
 
-// What a vector asks for, and how much it lends.
-#[derive(Clone, Copy)]
-struct Asked {
-    // The number to print.
-    number: u64,
-    // The index of its first digit.
-    at: usize,
-    // How many bytes of text are lent.
-    text: usize,
-}
+use asked::Asked;
+use base_text::put_dec;
+use case_io::broken::Broken;
+use case_io::compare::same_told;
+use case_io::input;
+use case_io::section::Section;
+use case_lent::{Lent, TEXT, at_most, same, whole};
+use std::io;
 
 // The index after the digits.
 fn answer(number: u64, at: usize, text: &mut [u8]) -> [u64; 1]
@@ -41,43 +35,18 @@ fn is_right<W: io::Write>(
     k: u64,
     asked: Asked,
     expected: &[u64; 1],
-    expected_text: [u8; TEXT],
-    mut text: [u8; TEXT],
+    left: &Lent,
+    lent: Lent,
 ) -> io::Result<bool>
-    requires { asked.text ≤ 65600 }
-    ensures { IfOk result (λ same. same ≡ same_left expected.now [] expected_text
-        (printer_leaves asked text)) }
+    ensures { IfOk result (λ same. same ≡ same_left expected.now [] left.now.text
+        (printer_leaves asked lent.text)) }
 {
-    let text_length = asked.text;
-    let got = answer(asked.number, asked.at, &mut text[..text_length]);
-    if !compare::same(expected, &got) {
-        report::mismatch(out, Section::Decimal, k, expected, &got)?;
-        return Ok(false);
-    }
-    same_text(out, Section::Decimal, k, &expected_text, &text)
-}
-
-// Reads the expected text of vector `k` and tries the vector.
-fn replay_text<R: io::Read, W: io::Write>(
-    reader: &mut R,
-    out: &mut W,
-    k: u64,
-    asked: Asked,
-    expected: &[u64; 1],
-) -> io::Result<Verdict>
-    requires { asked.text ≤ 65600 }
-{
-    let length = asked.text;
-    let mut expected_text = no_text();
-    if !input::bytes(reader, &mut expected_text[..length])? {
-        return verdict::ended(out, k);
-    }
-    let text = no_text();
-    if is_right(out, k, asked, expected, expected_text, text)? {
-        Ok(Verdict::Right)
-    } else {
-        Ok(Verdict::Wrong)
-    }
+    let Lent { mut text, .. } = lent;
+    let got = answer(asked.number, asked.at, &mut text[..asked.text]);
+    Ok(
+        same_told(out, Section::Decimal, k, expected, &got)?
+            && same(out, Section::Decimal, k, &left.text, &text)?,
+    )
 }
 
 // Reads vector `k` and tries it.
@@ -85,20 +54,17 @@ pub fn replay_one<R: io::Read, W: io::Write>(
     reader: &mut R,
     out: &mut W,
     k: u64,
-) -> io::Result<Verdict> {
-    let mut numbers = [0u64; 7];
-    if !input::numbers(reader, &mut numbers)? {
-        return verdict::ended(out, k);
-    }
-    let text = numbers[4] as usize;
-    if TEXT <= text {
-        return verdict::too_long(out, k);
-    }
+) -> Result<bool, Broken> {
+    let [number, number_high, at, at_high, text, after, after_high]: [u64; 7] = input::array(
+        reader,
+    )?;
     let asked = Asked {
-        number: whole(numbers[0], numbers[1]),
-        at: whole(numbers[2], numbers[3]) as usize,
-        text,
+        number: whole(number, number_high),
+        at: whole(at, at_high) as usize,
+        text: at_most(text, TEXT - 1)?,
     };
-    let expected = [whole(numbers[5], numbers[6])];
-    replay_text(reader, out, k, asked, &expected)
+    let mut left = Lent::new(0);
+    input::bytes(reader, &mut left.text[..asked.text])?;
+    let expected = [whole(after, after_high)];
+    Ok(is_right(out, k, asked, &expected, &left, Lent::new(0))?)
 }

@@ -9,10 +9,11 @@ ghost use Rattle.case_fronts.specs.FrontCases.{lengths_call_leaves, same_lengths
 
 use crate::Asked;
 use call_units::lengths_numbers;
-use case_io::input::Filled;
-use case_io::verdict::{Section, Verdict};
-use case_io::{compare, input, report, verdict};
-use case_lent::{LENGTHS, LONGEST, WORK, no_lengths, same_lengths, same_work, whole, work_numbers};
+use case_io::broken::Broken;
+use case_io::compare::same_told;
+use case_io::input;
+use case_io::section::Section;
+use case_lent::{LENGTHS, LONGEST, Lent, WORK, at_most, same, whole};
 use plan_groups::PART_LIMIT;
 use std::io;
 
@@ -36,7 +37,7 @@ fn answer(file: &[u8], max: u64, first: u64, work: &mut [u32], lengths: &mut [u6
     let number = lengths_numbers(
         file, asked, work, lengths, &mut at, &mut count, &mut done, &mut last,
     );
-    [number as u64, at, count, done, last]
+    [u64::from(number), at, count, done, last]
 }
 
 // Whether the call answers all the expected numbers and leaves what is expected. The first of these
@@ -47,95 +48,32 @@ fn is_right<W: io::Write>(
     asked: Asked,
     file: &[u8],
     expected: &[u64; 5],
-    expected_work: [u32; WORK],
-    expected_lengths: [u64; LENGTHS],
-    mut work: [u32; WORK],
-    mut lengths: [u64; LENGTHS],
+    left: &Lent,
+    lent: Lent,
 ) -> io::Result<bool>
-    requires { (asked.work ≤ 576) × (asked.lengths ≤ 32) }
     ensures { IfOk result (λ same. same
-        ≡ same_lengths expected.now expected_work expected_lengths
-        (lengths_call_leaves asked file.now work lengths)) }
+        ≡ same_lengths expected.now left.now.work left.now.lengths
+        (lengths_call_leaves asked file.now lent.work lent.lengths)) }
 {
-    let work_length = asked.work;
-    let places = asked.lengths;
+    let Lent {
+        mut work,
+        mut lengths,
+        ..
+    } = lent;
     let got = answer(
         file,
         asked.size,
         asked.first,
-        &mut work[..work_length],
-        &mut lengths[..places],
+        &mut work[..asked.work],
+        &mut lengths[..asked.lengths],
     );
-    if !compare::same(expected, &got) {
-        report::mismatch(out, Section::Lengths, k, expected, &got)?;
+    if !same_told(out, Section::Lengths, k, expected, &got)? {
         return Ok(false);
     }
-    if !same_work(out, Section::Lengths, k, &expected_work, &work)? {
+    if !same(out, Section::Lengths, k, &left.work, &work)? {
         return Ok(false);
     }
-    same_lengths(out, Section::Lengths, k, &expected_lengths, &lengths)
-}
-
-// Reads the expected lengths of vector `k` and tries the vector.
-fn replay_lengths<R: io::Read, W: io::Write>(
-    reader: &mut R,
-    out: &mut W,
-    k: u64,
-    asked: Asked,
-    cleared: usize,
-    expected: &[u64; 5],
-    file: &[u8],
-) -> io::Result<Verdict>
-    requires { (asked.work ≤ 576) × (asked.lengths ≤ 32) }
-{
-    let count = expected[2] as usize;
-    if LENGTHS < count {
-        return verdict::too_long(out, k);
-    }
-    let mut expected_lengths = no_lengths();
-    if !input::numbers(reader, &mut expected_lengths[..count])? {
-        return verdict::ended(out, k);
-    }
-    let expected_work = work_numbers(cleared);
-    let work = work_numbers(0);
-    let lengths = no_lengths();
-    if is_right(
-        out,
-        k,
-        asked,
-        file,
-        expected,
-        expected_work,
-        expected_lengths,
-        work,
-        lengths,
-    )? {
-        Ok(Verdict::Right)
-    } else {
-        Ok(Verdict::Wrong)
-    }
-}
-
-// Reads the answer and the file of vector `k`, and tries it.
-fn replay_file<R: io::Read, W: io::Write>(
-    reader: &mut R,
-    out: &mut W,
-    k: u64,
-    asked: Asked,
-    cleared: usize,
-) -> io::Result<Verdict>
-    requires { (asked.work ≤ 576) × (asked.lengths ≤ 32) }
-{
-    let mut expected = [0u64; 5];
-    if !input::numbers(reader, &mut expected)? {
-        return verdict::ended(out, k);
-    }
-    let mut buffer = [0u8; LONGEST];
-    match input::file(reader, &mut buffer)? {
-        Filled::To(n) => replay_lengths(reader, out, k, asked, cleared, &expected, &buffer[..n]),
-        Filled::Ended => verdict::ended(out, k),
-        Filled::TooLong => verdict::too_long(out, k),
-    }
+    same_told(out, Section::Lengths, k, &left.lengths, &lengths)
 }
 
 // Reads vector `k` and tries it.
@@ -143,28 +81,22 @@ pub fn replay_one<R: io::Read, W: io::Write>(
     reader: &mut R,
     out: &mut W,
     k: u64,
-) -> io::Result<Verdict> {
-    let mut numbers = [0u64; 7];
-    if !input::numbers(reader, &mut numbers)? {
-        return verdict::ended(out, k);
-    }
-    let work = numbers[4] as usize;
-    let lengths = numbers[5] as usize;
-    let cleared = numbers[6] as usize;
-    if WORK <= work {
-        return verdict::too_long(out, k);
-    }
-    if LENGTHS <= lengths {
-        return verdict::too_long(out, k);
-    }
-    let size = whole(numbers[0], numbers[1]);
-    let first = whole(numbers[2], numbers[3]);
+) -> Result<bool, Broken> {
+    let [size, size_high, first, first_high, work, lengths, cleared]: [u64; 7] = input::array(
+        reader,
+    )?;
     let asked = Asked {
-        size,
-        first,
-        work,
+        size: whole(size, size_high),
+        first: whole(first, first_high),
+        work: at_most(work, WORK - 1)?,
         text: 0,
-        lengths,
+        lengths: at_most(lengths, LENGTHS - 1)?,
     };
-    replay_file(reader, out, k, asked, cleared)
+    let expected: [u64; 5] = input::array(reader)?;
+    let mut buffer = [0u8; LONGEST];
+    let n = input::file(reader, &mut buffer)?;
+    let count = at_most(expected[2], LENGTHS)?;
+    let mut left = Lent::new(cleared as usize);
+    input::numbers(reader, &mut left.lengths[..count])?;
+    Ok(is_right(out, k, asked, &buffer[..n], &expected, &left, Lent::new(0))?)
 }

@@ -2,6 +2,8 @@
 // for and how much to lend, and what the call must answer and leave in what it was lent.
 #![tactic(auto)]
 
+ghost use Rattle.std.specs.Prelude.{◌≤◌};
+
 pub mod lengths_cases;
 pub mod units_cases;
 
@@ -18,4 +20,5 @@ pub(crate) struct Asked {
     text: usize,
     // How many places for a length are lent.
     lengths: usize,
+    ghost fits: { (work ≤ 576) × (text ≤ 65600) × (lengths ≤ 32) },
 }

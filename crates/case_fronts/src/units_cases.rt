@@ -9,13 +9,11 @@ ghost use Rattle.case_fronts.specs.FrontCases.{units_call_leaves, same_front};
 
 use crate::Asked;
 use call_units::units_numbers;
-use case_io::input::Filled;
-use case_io::verdict::{Section, Verdict};
-use case_io::{compare, input, report, verdict};
-use case_lent::{
-    LENGTHS, LONGEST, TEXT, WORK, no_lengths, no_text, same_lengths, same_text, same_work, whole,
-    work_numbers,
-};
+use case_io::broken::Broken;
+use case_io::compare::same_told;
+use case_io::input;
+use case_io::section::Section;
+use case_lent::{LENGTHS, LONGEST, Lent, TEXT, WORK, at_most, same, whole};
 use plan_groups::PART_LIMIT;
 use std::io;
 
@@ -61,7 +59,7 @@ fn answer(
         &mut done,
         &mut last,
     );
-    [number as u64, at, count, length, done, last]
+    [u64::from(number), at, count, length, done, last]
 }
 
 // Whether the call answers all the expected numbers and leaves what is expected. The first of these
@@ -72,113 +70,36 @@ fn is_right<W: io::Write>(
     asked: Asked,
     file: &[u8],
     expected: &[u64; 6],
-    expected_work: [u32; WORK],
-    expected_text: [u8; TEXT],
-    expected_lengths: [u64; LENGTHS],
-    mut work: [u32; WORK],
-    mut text: [u8; TEXT],
-    mut lengths: [u64; LENGTHS],
+    left: &Lent,
+    lent: Lent,
 ) -> io::Result<bool>
-    requires { (asked.work ≤ 576) × (asked.text ≤ 65600) × (asked.lengths ≤ 32) }
     ensures { IfOk result (λ same. same
-        ≡ same_front expected.now expected_work expected_text expected_lengths
-        (units_call_leaves asked file.now work text lengths)) }
+        ≡ same_front expected.now left.now.work left.now.text left.now.lengths
+        (units_call_leaves asked file.now lent.work lent.text lent.lengths)) }
 {
-    let work_length = asked.work;
-    let text_length = asked.text;
-    let places = asked.lengths;
+    let Lent {
+        mut work,
+        mut text,
+        mut lengths,
+    } = lent;
     let got = answer(
         file,
         asked.size,
         asked.first,
-        &mut work[..work_length],
-        &mut text[..text_length],
-        &mut lengths[..places],
+        &mut work[..asked.work],
+        &mut text[..asked.text],
+        &mut lengths[..asked.lengths],
     );
-    if !compare::same(expected, &got) {
-        report::mismatch(out, Section::Fronts, k, expected, &got)?;
+    if !same_told(out, Section::Fronts, k, expected, &got)? {
         return Ok(false);
     }
-    if !same_work(out, Section::Fronts, k, &expected_work, &work)? {
+    if !same(out, Section::Fronts, k, &left.work, &work)? {
         return Ok(false);
     }
-    if !same_text(out, Section::Fronts, k, &expected_text, &text)? {
+    if !same(out, Section::Fronts, k, &left.text, &text)? {
         return Ok(false);
     }
-    same_lengths(out, Section::Fronts, k, &expected_lengths, &lengths)
-}
-
-// Reads the expected text and the expected lengths of vector `k` and tries the vector.
-fn replay_text<R: io::Read, W: io::Write>(
-    reader: &mut R,
-    out: &mut W,
-    k: u64,
-    asked: Asked,
-    cleared: usize,
-    expected: &[u64; 6],
-    file: &[u8],
-) -> io::Result<Verdict>
-    requires { (asked.work ≤ 576) × (asked.text ≤ 65600) × (asked.lengths ≤ 32) }
-{
-    let count = expected[2] as usize;
-    let length = expected[3] as usize;
-    if TEXT < length {
-        return verdict::too_long(out, k);
-    }
-    if LENGTHS < count {
-        return verdict::too_long(out, k);
-    }
-    let mut expected_text = no_text();
-    if !input::bytes(reader, &mut expected_text[..length])? {
-        return verdict::ended(out, k);
-    }
-    let mut expected_lengths = no_lengths();
-    if !input::numbers(reader, &mut expected_lengths[..count])? {
-        return verdict::ended(out, k);
-    }
-    let expected_work = work_numbers(cleared);
-    let work = work_numbers(0);
-    let text = no_text();
-    let lengths = no_lengths();
-    if is_right(
-        out,
-        k,
-        asked,
-        file,
-        expected,
-        expected_work,
-        expected_text,
-        expected_lengths,
-        work,
-        text,
-        lengths,
-    )? {
-        Ok(Verdict::Right)
-    } else {
-        Ok(Verdict::Wrong)
-    }
-}
-
-// Reads the answer and the file of vector `k`, and tries it.
-fn replay_file<R: io::Read, W: io::Write>(
-    reader: &mut R,
-    out: &mut W,
-    k: u64,
-    asked: Asked,
-    cleared: usize,
-) -> io::Result<Verdict>
-    requires { (asked.work ≤ 576) × (asked.text ≤ 65600) × (asked.lengths ≤ 32) }
-{
-    let mut expected = [0u64; 6];
-    if !input::numbers(reader, &mut expected)? {
-        return verdict::ended(out, k);
-    }
-    let mut buffer = [0u8; LONGEST];
-    match input::file(reader, &mut buffer)? {
-        Filled::To(n) => replay_text(reader, out, k, asked, cleared, &expected, &buffer[..n]),
-        Filled::Ended => verdict::ended(out, k),
-        Filled::TooLong => verdict::too_long(out, k),
-    }
+    same_told(out, Section::Fronts, k, &left.lengths, &lengths)
 }
 
 // Reads vector `k` and tries it.
@@ -186,32 +107,31 @@ pub fn replay_one<R: io::Read, W: io::Write>(
     reader: &mut R,
     out: &mut W,
     k: u64,
-) -> io::Result<Verdict> {
-    let mut numbers = [0u64; 8];
-    if !input::numbers(reader, &mut numbers)? {
-        return verdict::ended(out, k);
-    }
-    let work = numbers[4] as usize;
-    let text = numbers[5] as usize;
-    let lengths = numbers[6] as usize;
-    let cleared = numbers[7] as usize;
-    if WORK <= work {
-        return verdict::too_long(out, k);
-    }
-    if TEXT <= text {
-        return verdict::too_long(out, k);
-    }
-    if LENGTHS <= lengths {
-        return verdict::too_long(out, k);
-    }
-    let size = whole(numbers[0], numbers[1]);
-    let first = whole(numbers[2], numbers[3]);
-    let asked = Asked {
+) -> Result<bool, Broken> {
+    let [
         size,
+        size_high,
         first,
+        first_high,
         work,
         text,
         lengths,
+        cleared,
+    ]: [u64; 8] = input::array(reader)?;
+    let asked = Asked {
+        size: whole(size, size_high),
+        first: whole(first, first_high),
+        work: at_most(work, WORK - 1)?,
+        text: at_most(text, TEXT - 1)?,
+        lengths: at_most(lengths, LENGTHS - 1)?,
     };
-    replay_file(reader, out, k, asked, cleared)
+    let expected: [u64; 6] = input::array(reader)?;
+    let mut buffer = [0u8; LONGEST];
+    let n = input::file(reader, &mut buffer)?;
+    let length = at_most(expected[3], TEXT)?;
+    let count = at_most(expected[2], LENGTHS)?;
+    let mut left = Lent::new(cleared as usize);
+    input::bytes(reader, &mut left.text[..length])?;
+    input::numbers(reader, &mut left.lengths[..count])?;
+    Ok(is_right(out, k, asked, &buffer[..n], &expected, &left, Lent::new(0))?)
 }

@@ -1,5 +1,4 @@
 -- The laws that proofs cite.
-mod Filled
 mod Printed
 pub mod Same
 mod Words

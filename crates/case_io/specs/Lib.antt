@@ -2,3 +2,4 @@
 pub mod Input
 pub mod Lines
 pub mod Same
+pub mod Told

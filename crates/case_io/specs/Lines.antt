@@ -1,7 +1,7 @@
 -- Steps: the lines that are printed, as bytes.
 use Rattle.std.specs.Prelude.{ℕ, List, [], ◌∷◌, ◌++◌, codes}
 use Rattle.std.specs.Fmt.{decimal}
-use Rattle.case_io.specs.declared.verdict.Section.{Section}
+use Rattle.case_io.specs.declared.section.Section.{Section}
 
 -- the name of a section
 abbrev pub name_text : Section → List ℕ
@@ -39,15 +39,10 @@ place_text i expected got =
     decimal i ++ (codes ": expected " ++ (decimal expected
     ++ (codes ", got " ++ (decimal got ++ codes "\n"))))
 
--- the line on a vector of which one work number is not the expected one
-abbrev pub work_line : Section → (k i expected got : ℕ) → List ℕ
-work_line section k i expected got =
-    vector_text section k ++ (codes "work number " ++ place_text i expected got)
-
--- the line on a vector of which one byte of the text is not the expected one
-abbrev pub text_line : Section → (k i expected got : ℕ) → List ℕ
-text_line section k i expected got =
-    vector_text section k ++ (codes "byte " ++ place_text i expected got)
+-- the line on a vector of which one number, of a kind, is not the expected one
+abbrev pub place_line : (kind : List ℕ) → Section → (k i expected got : ℕ) → List ℕ
+place_line kind section k i expected got =
+    vector_text section k ++ (kind ++ (codes " " ++ place_text i expected got))
 
 -- the line on a section
 abbrev pub total_line : Section → (cases mismatches : ℕ) → List ℕ

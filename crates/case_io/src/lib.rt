@@ -2,7 +2,8 @@
 // lines printed.
 #![tactic(auto)]
 
+pub mod broken;
 pub mod compare;
 pub mod input;
 pub mod report;
-pub mod verdict;
+pub mod section;

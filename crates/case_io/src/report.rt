@@ -1,74 +1,32 @@
 // The lines that the program prints. `k` is the index of a vector in its section. An error of the
 // output is handed on: a part of the line may then have been printed.
-ghost use Rattle.std.specs.Prelude.{OnOk};
-ghost use Rattle.std.specs.Fmt.{decimal};
+ghost use Rattle.std.specs.Prelude.{OnOk, Some};
 ghost use Rattle.std.specs.Io.KnownBytes.{Appends};
-ghost use Rattle.case_io.specs.Lines.{name_text, vector_text, spaced, place_text};
-ghost use Rattle.case_io.specs.Lines.{mismatch_line, work_line, text_line, total_line};
-ghost use Rattle.case_io.specs.Lines.{early_line, long_line, on_line};
+ghost use Rattle.case_io.specs.Lines.{mismatch_line, place_line, total_line};
+ghost use Rattle.case_io.specs.Lines.{early_line, long_line, on_line, spaced};
+ghost use Rattle.case_io.specs.Told.{TellsBroken};
 
-use crate::verdict::Section;
-use std::io;
-use std::io::Write;
-
-// Prints bytes as they are.
-fn text<W: Write>(out: &mut W, bytes: &[u8]) -> io::Result<()>
-    ensures { OnOk result (Appends (W.contents out.old) (W.contents out.new) bytes.now) }
-{
-    out.write_all(bytes)
-}
-
-// Prints a number in decimal.
-fn number<W: Write>(out: &mut W, n: u64) -> io::Result<()>
-    ensures { OnOk result (Appends (W.contents out.old) (W.contents out.new) (decimal n)) }
-{
-    write!(out, "{n}")
-}
-
-// Prints the name of a section.
-fn name<W: Write>(out: &mut W, section: Section) -> io::Result<()>
-    ensures { OnOk result (Appends (W.contents out.old) (W.contents out.new) (name_text section)) }
-{
-    match section {
-        Section::Check => text(out, b"check"),
-        Section::Exits => text(out, b"exits"),
-        Section::Plan => text(out, b"plan"),
-        Section::Measure => text(out, b"measure"),
-        Section::Write => text(out, b"write"),
-        Section::Fronts => text(out, b"fronts"),
-        Section::Lengths => text(out, b"lengths"),
-        Section::Page => text(out, b"page"),
-        Section::Pages => text(out, b"pages"),
-        Section::Reason => text(out, b"reason"),
-        Section::Reasons => text(out, b"reasons"),
-        Section::Decimal => text(out, b"decimal"),
-    }
-}
+use crate::broken::Broken;
+use crate::section::Section;
+use std::{fmt, io};
 
 // Each number with a space in front.
-fn numbers<W: Write>(out: &mut W, list: &[u64]) -> io::Result<()>
-    ensures { OnOk result (Appends (W.contents out.old) (W.contents out.new) (spaced list.now)) }
-{
-    for n in list {
-        text(out, b" ")?;
-        number(out, *n)?;
-    }
-    Ok(())
-}
+#[derive(Clone, Copy)]
+struct Spaced<'a>(&'a [u64]);
 
-// The start of a line on a vector.
-fn vector<W: Write>(out: &mut W, section: Section, k: u64) -> io::Result<()>
-    ensures { OnOk result (Appends (W.contents out.old) (W.contents out.new)
-        (vector_text section k)) }
-{
-    name(out, section)?;
-    text(out, b" ")?;
-    number(out, k)?;
-    text(out, b": ")
+impl fmt::Display for Spaced<'_> {
+    ghost output = { λ list. Some (spaced list.0.now) };
+
+    fn fmt<W: fmt::Write>(&self, f: &mut fmt::Formatter<W>) -> fmt::Result {
+        for n in self.0 {
+            write!(f, " {n}")?;
+        }
+        Ok(())
+    }
 }
 
 // The line on a vector with other numbers than expected.
-pub fn mismatch<W: Write>(
+pub fn mismatch<W: io::Write>(
     out: &mut W,
     section: Section,
     k: u64,
@@ -78,95 +36,70 @@ pub fn mismatch<W: Write>(
     ensures { OnOk result (Appends (W.contents out.old) (W.contents out.new)
         (mismatch_line section k expected.now got.now)) }
 {
-    vector(out, section, k)?;
-    text(out, b"expected")?;
-    numbers(out, expected)?;
-    text(out, b", got")?;
-    numbers(out, got)?;
-    text(out, b"\n")
+    let (expected, got) = (Spaced(expected), Spaced(got));
+    writeln!(out, "{section} {k}: expected{expected}, got{got}")
 }
 
-// A place at which a vector expects another number than stands there.
-fn place_differs<W: Write>(out: &mut W, i: u64, expected: u64, got: u64) -> io::Result<()>
-    ensures { OnOk result (Appends (W.contents out.old) (W.contents out.new)
-        (place_text i expected got)) }
-{
-    number(out, i)?;
-    text(out, b": expected ")?;
-    number(out, expected)?;
-    text(out, b", got ")?;
-    number(out, got)?;
-    text(out, b"\n")
-}
-
-// The line on a vector: work number `i` is not the expected one.
-pub fn work_differs<W: Write>(
+// The line on a vector: what stands at place `i`, a number of this kind, is not the expected one.
+pub fn place_differs<W: io::Write>(
     out: &mut W,
     section: Section,
     k: u64,
+    kind: &str,
     i: u64,
-    expected: u32,
-    got: u32,
+    expected: u64,
+    got: u64,
 ) -> io::Result<()>
     ensures { OnOk result (Appends (W.contents out.old) (W.contents out.new)
-        (work_line section k i expected got)) }
+        (place_line kind.now section k i expected got)) }
 {
-    vector(out, section, k)?;
-    text(out, b"work number ")?;
-    place_differs(out, i, expected as u64, got as u64)
-}
-
-// The line on a vector: byte `i` of the text is not the expected one.
-pub fn text_differs<W: Write>(
-    out: &mut W,
-    section: Section,
-    k: u64,
-    i: u64,
-    expected: u8,
-    got: u8,
-) -> io::Result<()>
-    ensures { OnOk result (Appends (W.contents out.old) (W.contents out.new)
-        (text_line section k i expected got)) }
-{
-    vector(out, section, k)?;
-    text(out, b"byte ")?;
-    place_differs(out, i, expected as u64, got as u64)
+    writeln!(
+        out,
+        "{section} {k}: {kind} {i}: expected {expected}, got {got}"
+    )
 }
 
 // The line on a section: how many cases it has, and how many mismatches.
-pub fn total<W: Write>(out: &mut W, section: Section, cases: u64, mismatches: u64) -> io::Result<()>
+pub fn total<W: io::Write>(
+    out: &mut W,
+    section: Section,
+    cases: u64,
+    mismatches: u64,
+) -> io::Result<()>
     ensures { OnOk result (Appends (W.contents out.old) (W.contents out.new)
         (total_line section cases mismatches)) }
 {
-    name(out, section)?;
-    text(out, b": ")?;
-    number(out, cases)?;
-    text(out, b" cases, ")?;
-    number(out, mismatches)?;
-    text(out, b" mismatches\n")
+    writeln!(out, "{section}: {cases} cases, {mismatches} mismatches")
 }
 
 // The line on an input that ends in vector `k`; `k` is 0 where it ends in the count of a section.
-pub fn ends_early<W: Write>(out: &mut W, k: u64) -> io::Result<()>
+pub fn ends_early<W: io::Write>(out: &mut W, k: u64) -> io::Result<()>
     ensures { OnOk result (Appends (W.contents out.old) (W.contents out.new) (early_line k)) }
 {
-    text(out, b"input ends early at ")?;
-    number(out, k)?;
-    text(out, b"\n")
+    writeln!(out, "input ends early at {k}")
 }
 
 // The line on a vector that the buffers do not hold.
-pub fn too_long<W: Write>(out: &mut W, k: u64) -> io::Result<()>
+pub fn too_long<W: io::Write>(out: &mut W, k: u64) -> io::Result<()>
     ensures { OnOk result (Appends (W.contents out.old) (W.contents out.new) (long_line k)) }
 {
-    text(out, b"vector ")?;
-    number(out, k)?;
-    text(out, b" is too long\n")
+    writeln!(out, "vector {k} is too long")
+}
+
+// The line on a vector that could not be replayed. An error has none: it is handed on.
+pub fn broken<W: io::Write>(out: &mut W, k: u64, broken: Broken) -> io::Result<()>
+    ensures { TellsBroken k broken (W.contents out.old) (W.contents out.new) result }
+{
+    match broken {
+        Broken::Ended => ends_early(out, k),
+        Broken::TooLong => too_long(out, k),
+        Broken::Failed(e) => Err(e),
+    }
 }
 
 // The line on an input that does not end after the last section.
-pub fn goes_on<W: Write>(out: &mut W) -> io::Result<()>
+pub fn goes_on<W: io::Write>(out: &mut W) -> io::Result<()>
     ensures { OnOk result (Appends (W.contents out.old) (W.contents out.new) on_line) }
 {
-    text(out, b"input goes on after the last section\n")
+    writeln!(out, "input goes on after the last section")
 }

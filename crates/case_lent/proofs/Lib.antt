@@ -1,3 +1,3 @@
 -- The laws that proofs cite.
-pub mod Compared
 mod Kept
+mod Numbers

@@ -11,8 +11,3 @@ TellsFirst line expected got old new false =
     (i : ℕ) × (i < length expected) × (take i expected ≡ take i got)
     × (get_or expected i 0 ≢ get_or got i 0)
     × Appends old new (line i (get_or expected i 0) (get_or got i 0))
-
--- nothing, or a line
-abbrev pub Tells : List ℕ → Option (List ℕ) → Option (List ℕ) → Bool → Type 0
-Tells line old new true = Keeps old new
-Tells line old new false = Appends old new line

@@ -13,14 +13,13 @@ ghost use Rattle.case_io.specs.Same.{same_numbers};
 ghost use Rattle.case_plan.specs.PlanCases.{in_order};
 
 use call_plan::plan_numbers;
-use case_io::input::Filled;
-use case_io::verdict::{Section, Verdict};
-use case_io::{compare, input, report, verdict};
+use case_io::broken::Broken;
+use case_io::compare::same_told;
+use case_io::input;
+use case_io::section::Section;
+use case_lent::{LONGEST, at_most};
 use plan_groups::PART_LIMIT;
 use std::io;
-
-// The longest file that a vector may hold.
-const LONGEST: usize = 4096;
 
 // The most work numbers that a vector may have lent.
 const MOST_WORK: usize = 512;
@@ -45,7 +44,7 @@ fn numbers(file: &[u8], work: &mut [u32], res: &mut [u32]) -> [u64; 3]
     let mut at: u64 = 0;
     let mut blocks: u64 = 0;
     let number = plan_numbers(file, PART_LIMIT, work, res, &mut at, &mut blocks);
-    [number as u64, at, blocks]
+    [u64::from(number), at, blocks]
 }
 
 // Puts lent numbers into a list from place `at` on.
@@ -54,10 +53,8 @@ fn put(list: &mut [u64], at: usize, lent: &[u32])
     ensures { list.new
         ≡ paste list.old at lent.now (length lent.now) }
 {
-    let mut i = 0;
-    while i < lent.len() {
-        list[at + i] = lent[i] as u64;
-        i += 1;
+    for (i, n) in lent.iter().enumerate() {
+        list[at + i] = u64::from(*n);
     }
 }
 
@@ -71,10 +68,10 @@ fn answer(got: &mut [u64], file: &[u8], work: &mut [u32], res: &mut [u32])
         (plan_call part_limit (parse file.now) work.old
         res.old)) }
 {
-    let three = numbers(file, work, res);
-    got[0] = three[0];
-    got[1] = three[1];
-    got[2] = three[2];
+    let [number, at, blocks] = numbers(file, work, res);
+    got[0] = number;
+    got[1] = at;
+    got[2] = blocks;
     put(got, 3, work);
     put(got, 3 + work.len(), res);
 }
@@ -98,39 +95,20 @@ fn is_right<W: io::Write>(
         res.old)))) }
 {
     answer(got, file, work, res);
-    if compare::same(expected, got) {
-        return Ok(true);
-    }
-    report::mismatch(out, Section::Plan, k, expected, got)?;
-    Ok(false)
+    same_told(out, Section::Plan, k, expected, got)
 }
 
-// Numbers that no plan has, each another one.
+// Makes each number of a list one that no plan has, another one than those beside it.
 fn fill(list: &mut [u64]) {
-    let mut i = 0;
-    while i < list.len() {
-        list[i] = 4294967295 - (i % 65536) as u64;
-        i += 1;
+    for (i, n) in list.iter_mut().enumerate() {
+        *n = 4294967295 - (i % 65536) as u64;
     }
 }
 
-// Lends what a list has from place `at` on.
-fn lend(lent: &mut [u32], list: &[u64], at: usize)
-    requires { at + length lent.old ≤ length list.now }
-{
-    let mut i = 0;
-    while i < lent.len() {
-        lent[i] = (list[at + i] % 4294967296) as u32;
-        i += 1;
-    }
-}
-
-// Makes each number of a list 0.
-fn clear(list: &mut [u64]) {
-    let mut i = 0;
-    while i < list.len() {
-        list[i] = 0;
-        i += 1;
+// Lends the first numbers of a list.
+fn lend(lent: &mut [u32], list: &[u64]) {
+    for (to, n) in lent.iter_mut().zip(list) {
+        *to = (*n % 4294967296) as u32;
     }
 }
 
@@ -144,26 +122,17 @@ fn replay_plan<R: io::Read, W: io::Write>(
     file: &[u8],
     work: &mut [u32],
     res: &mut [u32],
-) -> io::Result<Verdict>
+) -> Result<bool, Broken>
     requires { (length expected.old ≡ 3 + (length work.old + length res.old))
         × (length expected.old ≤ 771) }
 {
     let n = expected.len();
-    let blocks = expected[2] as usize;
-    if res.len() / 2 < blocks {
-        return verdict::too_long(out, k);
-    }
+    let blocks = at_most(expected[2], res.len() / 2)?;
     let start = 3 + work.len();
     let end = start + 2 * blocks;
-    if !input::numbers(reader, &mut expected[start..end])? {
-        return verdict::ended(out, k);
-    }
+    input::numbers(reader, &mut expected[start..end])?;
     let mut got = [0u64; MOST];
-    if is_right(out, k, expected, &mut got[..n], file, work, res)? {
-        Ok(Verdict::Right)
-    } else {
-        Ok(Verdict::Wrong)
-    }
+    Ok(is_right(out, k, expected, &mut got[..n], file, work, res)?)
 }
 
 // Reads the answer and the file of vector `k`. Expected at first is what is lent; of the work
@@ -176,24 +145,19 @@ fn replay_file<R: io::Read, W: io::Write>(
     work: &mut [u32],
     res: &mut [u32],
     cleared: usize,
-) -> io::Result<Verdict>
+) -> Result<bool, Broken>
     requires { (length expected.old ≡ 3 + (length work.old + length res.old))
         × (length expected.old ≤ 771) × (cleared ≤ length work.old) }
 {
     fill(expected);
-    lend(work, expected, 3);
-    lend(res, expected, 3 + work.len());
-    if !input::numbers(reader, &mut expected[..3])? {
-        return verdict::ended(out, k);
-    }
+    lend(work, &expected[3..]);
+    lend(res, &expected[3 + work.len()..]);
+    input::numbers(reader, &mut expected[..3])?;
     let end = 3 + cleared;
-    clear(&mut expected[3..end]);
+    expected[3..end].fill(0);
     let mut buffer = [0u8; LONGEST];
-    match input::file(reader, &mut buffer)? {
-        Filled::To(n) => replay_plan(reader, out, k, expected, &buffer[..n], work, res),
-        Filled::Ended => verdict::ended(out, k),
-        Filled::TooLong => verdict::too_long(out, k),
-    }
+    let n = input::file(reader, &mut buffer)?;
+    replay_plan(reader, out, k, expected, &buffer[..n], work, res)
 }
 
 // Reads vector `k` and tries it.
@@ -201,34 +165,19 @@ pub fn replay_one<R: io::Read, W: io::Write>(
     reader: &mut R,
     out: &mut W,
     k: u64,
-) -> io::Result<Verdict> {
-    let mut lent = [0u64; 3];
-    if !input::numbers(reader, &mut lent)? {
-        return verdict::ended(out, k);
-    }
-    let work_length = lent[0] as usize;
-    let result_length = lent[1] as usize;
-    let cleared = lent[2] as usize;
-    if MOST_WORK < work_length {
-        return verdict::too_long(out, k);
-    }
-    if MOST_RESULT < result_length {
-        return verdict::too_long(out, k);
-    }
-    if work_length < cleared {
-        return verdict::too_long(out, k);
-    }
-    let mut expected = [0u64; MOST];
-    let mut work = [0u32; MOST_WORK];
-    let mut result = [0u32; MOST_RESULT];
+) -> Result<bool, Broken> {
+    let [work_length, result_length, cleared]: [u64; 3] = input::array(reader)?;
+    let work_length = at_most(work_length, MOST_WORK)?;
+    let result_length = at_most(result_length, MOST_RESULT)?;
+    let cleared = at_most(cleared, work_length)?;
     let n = 3 + work_length + result_length;
     replay_file(
         reader,
         out,
         k,
-        &mut expected[..n],
-        &mut work[..work_length],
-        &mut result[..result_length],
+        &mut [0u64; MOST][..n],
+        &mut [0u32; MOST_WORK][..work_length],
+        &mut [0u32; MOST_RESULT][..result_length],
         cleared,
     )
 }

@@ -10,48 +10,45 @@ ghost use Rattle.file_blocks.specs.Parse.{parse};
 ghost use Rattle.case_lent.specs.Left.{same_left};
 ghost use Rattle.case_reasons.specs.ReasonCases.{hands_over, reason_call_leaves};
 
+mod asked;
+
+use asked::Asked;
+pub use asked::Sentences;
 use call_reasons::{reason_numbers, reasons_numbers};
-use case_io::input::Filled;
-use case_io::verdict::{Section, Verdict};
-use case_io::{compare, input, report, verdict};
-use case_lent::{LONGEST, TEXT, no_text, same_text, whole};
+use case_io::broken::Broken;
+use case_io::compare::same_told;
+use case_io::input;
+use case_io::section::Section;
+use case_lent::{LONGEST, Lent, TEXT, at_most, same, whole};
 use std::io;
 
-// What a vector asks for, and how much it lends.
-#[derive(Clone, Copy)]
-struct Asked {
-    // Whether the sentences from an instruction on are asked for, and not one alone.
-    many: bool,
-    // The number of that instruction.
-    instruction: u64,
-    // How many bytes of text are lent.
-    text: usize,
-}
-
 // The section of a call.
-fn section_of(many: bool) -> Section {
-    if many {
-        Section::Reasons
-    } else {
-        Section::Reason
+fn section_of(sentences: Sentences) -> Section {
+    match sentences {
+        Sentences::One => Section::Reason,
+        Sentences::From => Section::Reasons,
     }
 }
 
 // The refusal's number or 0, its i, the next instruction, and the bytes in all. The call for one
 // sentence does not say the next instruction: it has 0 there.
-fn answer(file: &[u8], many: bool, k: u64, text: &mut [u8]) -> [u64; 4]
+fn answer(file: &[u8], sentences: Sentences, k: u64, text: &mut [u8]) -> [u64; 4]
     ensures { record { numbers = result; work = []; results = text.new ∷ [] }
-        ≡ hands_over many k (parse file.now) text.old }
+        ≡ hands_over sentences k (parse file.now) text.old }
 {
     let mut at: u64 = 0;
     let mut next: u64 = 0;
     let mut length: u64 = 0;
-    if many {
-        let number = reasons_numbers(file, k, text, &mut at, &mut next, &mut length);
-        return [number as u64, at, next, length];
+    match sentences {
+        Sentences::One => {
+            let number = reason_numbers(file, k, text, &mut at, &mut length);
+            [u64::from(number), at, 0, length]
+        }
+        Sentences::From => {
+            let number = reasons_numbers(file, k, text, &mut at, &mut next, &mut length);
+            [u64::from(number), at, next, length]
+        }
     }
-    let number = reason_numbers(file, k, text, &mut at, &mut length);
-    [number as u64, at, 0, length]
 }
 
 // Whether the call answers all the expected numbers and leaves what is expected. The first of these
@@ -62,96 +59,41 @@ fn is_right<W: io::Write>(
     asked: Asked,
     file: &[u8],
     expected: &[u64; 4],
-    expected_text: [u8; TEXT],
-    mut text: [u8; TEXT],
+    left: &Lent,
+    lent: Lent,
 ) -> io::Result<bool>
-    requires { asked.text ≤ 65600 }
-    ensures { IfOk result (λ same. same ≡ same_left expected.now [] expected_text
-        (reason_call_leaves asked file.now text)) }
+    ensures { IfOk result (λ same. same ≡ same_left expected.now [] left.now.text
+        (reason_call_leaves asked file.now lent.text)) }
 {
-    let section = section_of(asked.many);
-    let text_length = asked.text;
+    let Lent { mut text, .. } = lent;
+    let section = section_of(asked.sentences);
     let got = answer(
         file,
-        asked.many,
+        asked.sentences,
         asked.instruction,
-        &mut text[..text_length],
+        &mut text[..asked.text],
     );
-    if !compare::same(expected, &got) {
-        report::mismatch(out, section, k, expected, &got)?;
-        return Ok(false);
-    }
-    same_text(out, section, k, &expected_text, &text)
+    Ok(same_told(out, section, k, expected, &got)? && same(out, section, k, &left.text, &text)?)
 }
 
-// Reads the expected text of vector `k` and tries the vector.
-fn replay_text<R: io::Read, W: io::Write>(
-    reader: &mut R,
-    out: &mut W,
-    k: u64,
-    asked: Asked,
-    expected: &[u64; 4],
-    file: &[u8],
-) -> io::Result<Verdict>
-    requires { asked.text ≤ 65600 }
-{
-    let length = expected[3] as usize;
-    if TEXT < length {
-        return verdict::too_long(out, k);
-    }
-    let mut expected_text = no_text();
-    if !input::bytes(reader, &mut expected_text[..length])? {
-        return verdict::ended(out, k);
-    }
-    let text = no_text();
-    if is_right(out, k, asked, file, expected, expected_text, text)? {
-        Ok(Verdict::Right)
-    } else {
-        Ok(Verdict::Wrong)
-    }
-}
-
-// Reads the answer and the file of vector `k`, and tries it.
-fn replay_file<R: io::Read, W: io::Write>(
-    reader: &mut R,
-    out: &mut W,
-    k: u64,
-    asked: Asked,
-) -> io::Result<Verdict>
-    requires { asked.text ≤ 65600 }
-{
-    let mut expected = [0u64; 4];
-    if !input::numbers(reader, &mut expected)? {
-        return verdict::ended(out, k);
-    }
-    let mut buffer = [0u8; LONGEST];
-    match input::file(reader, &mut buffer)? {
-        Filled::To(n) => replay_text(reader, out, k, asked, &expected, &buffer[..n]),
-        Filled::Ended => verdict::ended(out, k),
-        Filled::TooLong => verdict::too_long(out, k),
-    }
-}
-
-// Reads vector `k` of the call for the sentences from an instruction on, or for one, and tries it.
+// Reads vector `k` of one of the two calls and tries it.
 pub fn replay_one<R: io::Read, W: io::Write>(
     reader: &mut R,
     out: &mut W,
     k: u64,
-    many: bool,
-) -> io::Result<Verdict> {
-    let mut numbers = [0u64; 3];
-    if !input::numbers(reader, &mut numbers)? {
-        return verdict::ended(out, k);
-    }
-    let instruction = whole(numbers[0], numbers[1]);
-    let text = numbers[2] as usize;
-    if TEXT <= text {
-        return verdict::too_long(out, k);
-    }
+    sentences: Sentences,
+) -> Result<bool, Broken> {
+    let [instruction, instruction_high, text]: [u64; 3] = input::array(reader)?;
     let asked = Asked {
-        many,
-        instruction,
-        text,
+        sentences,
+        instruction: whole(instruction, instruction_high),
+        text: at_most(text, TEXT - 1)?,
     };
-    replay_file(reader, out, k, asked)
+    let expected: [u64; 4] = input::array(reader)?;
+    let mut buffer = [0u8; LONGEST];
+    let n = input::file(reader, &mut buffer)?;
+    let length = at_most(expected[3], TEXT)?;
+    let mut left = Lent::new(0);
+    input::bytes(reader, &mut left.text[..length])?;
+    Ok(is_right(out, k, asked, &buffer[..n], &expected, &left, Lent::new(0))?)
 }

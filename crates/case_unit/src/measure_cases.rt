@@ -8,10 +8,11 @@ ghost use Rattle.call_unit.specs.Calls.{measure_call, measure_numbers};
 ghost use Rattle.case_unit.specs.UnitCases.{measure_call_leaves, same_measured};
 
 use call_unit::measure_numbers;
-use case_io::input::Filled;
-use case_io::verdict::{Section, Verdict};
-use case_io::{compare, input, report, verdict};
-use case_lent::{LONGEST, WORK, same_work, whole, work_numbers};
+use case_io::broken::Broken;
+use case_io::compare::same_told;
+use case_io::input;
+use case_io::section::Section;
+use case_lent::{LONGEST, Lent, WORK, at_most, same, whole};
 use plan_groups::PART_LIMIT;
 use std::io;
 
@@ -24,6 +25,7 @@ struct Asked {
     unit: u64,
     // How many work numbers are lent.
     work: usize,
+    ghost fits: { work ≤ 576 },
 }
 
 // The refusal's number or 0, its i, the unit's number, its length, the blocks done, and 1 for the
@@ -50,7 +52,7 @@ fn answer(file: &[u8], max: u64, k: u64, work: &mut [u32]) -> [u64; 6]
         &mut done,
         &mut last,
     );
-    [number as u64, at, unit, length, done, last]
+    [u64::from(number), at, unit, length, done, last]
 }
 
 // Whether the call answers all the expected numbers and leaves the expected work numbers. The first
@@ -61,83 +63,36 @@ fn is_right<W: io::Write>(
     asked: Asked,
     file: &[u8],
     expected: &[u64; 6],
-    expected_work: [u32; WORK],
-    mut work: [u32; WORK],
+    left: &Lent,
+    lent: Lent,
 ) -> io::Result<bool>
-    requires { asked.work ≤ 576 }
-    ensures { IfOk result (λ same. same ≡ same_measured expected.now expected_work
-        (measure_call_leaves asked.size asked.unit asked.work file.now work)) }
+    ensures { IfOk result (λ same. same ≡ same_measured expected.now left.now.work
+        (measure_call_leaves asked.size asked.unit asked.work file.now lent.work)) }
 {
-    let work_length = asked.work;
-    let got = answer(file, asked.size, asked.unit, &mut work[..work_length]);
-    if !compare::same(expected, &got) {
-        report::mismatch(out, Section::Measure, k, expected, &got)?;
-        return Ok(false);
-    }
-    same_work(out, Section::Measure, k, &expected_work, &work)
+    let Lent { mut work, .. } = lent;
+    let got = answer(file, asked.size, asked.unit, &mut work[..asked.work]);
+    Ok(
+        same_told(out, Section::Measure, k, expected, &got)?
+            && same(out, Section::Measure, k, &left.work, &work)?,
+    )
 }
 
-// Tries vector `k`, whose answer has been read, on a file.
-fn replay_answer<W: io::Write>(
-    out: &mut W,
-    k: u64,
-    asked: Asked,
-    cleared: usize,
-    read: &[u64; 7],
-    file: &[u8],
-) -> io::Result<Verdict>
-    requires { asked.work ≤ 576 }
-{
-    let unit = whole(read[2], read[3]);
-    let expected = [read[0], read[1], unit, read[4], read[5], read[6]];
-    let expected_work = work_numbers(cleared);
-    let work = work_numbers(0);
-    if is_right(out, k, asked, file, &expected, expected_work, work)? {
-        Ok(Verdict::Right)
-    } else {
-        Ok(Verdict::Wrong)
-    }
-}
-
-// Reads the answer and the file of vector `k`, and tries it. The unit's number may have 64 bits.
-fn replay_file<R: io::Read, W: io::Write>(
-    reader: &mut R,
-    out: &mut W,
-    k: u64,
-    asked: Asked,
-    cleared: usize,
-) -> io::Result<Verdict>
-    requires { asked.work ≤ 576 }
-{
-    let mut read = [0u64; 7];
-    if !input::numbers(reader, &mut read)? {
-        return verdict::ended(out, k);
-    }
-    let mut buffer = [0u8; LONGEST];
-    match input::file(reader, &mut buffer)? {
-        Filled::To(n) => replay_answer(out, k, asked, cleared, &read, &buffer[..n]),
-        Filled::Ended => verdict::ended(out, k),
-        Filled::TooLong => verdict::too_long(out, k),
-    }
-}
-
-// Reads vector `k` and tries it.
+// Reads vector `k` and tries it. The unit's number may have 64 bits, in the answer too.
 pub fn replay_one<R: io::Read, W: io::Write>(
     reader: &mut R,
     out: &mut W,
     k: u64,
-) -> io::Result<Verdict> {
-    let mut numbers = [0u64; 6];
-    if !input::numbers(reader, &mut numbers)? {
-        return verdict::ended(out, k);
-    }
-    let size = whole(numbers[0], numbers[1]);
-    let unit = whole(numbers[2], numbers[3]);
-    let work = numbers[4] as usize;
-    let cleared = numbers[5] as usize;
-    if WORK <= work {
-        return verdict::too_long(out, k);
-    }
-    let asked = Asked { size, unit, work };
-    replay_file(reader, out, k, asked, cleared)
+) -> Result<bool, Broken> {
+    let [size, size_high, unit, unit_high, work, cleared]: [u64; 6] = input::array(reader)?;
+    let asked = Asked {
+        size: whole(size, size_high),
+        unit: whole(unit, unit_high),
+        work: at_most(work, WORK - 1)?,
+    };
+    let [number, at, unit, unit_high, length, done, last]: [u64; 7] = input::array(reader)?;
+    let expected = [number, at, whole(unit, unit_high), length, done, last];
+    let mut buffer = [0u8; LONGEST];
+    let n = input::file(reader, &mut buffer)?;
+    let left = Lent::new(cleared as usize);
+    Ok(is_right(out, k, asked, &buffer[..n], &expected, &left, Lent::new(0))?)
 }

@@ -10,10 +10,11 @@ ghost use Rattle.case_unit.specs.UnitCases.{write_call_leaves};
 
 use call_answers::Told;
 use call_unit::write_numbers;
-use case_io::input::Filled;
-use case_io::verdict::{Section, Verdict};
-use case_io::{compare, input, report, verdict};
-use case_lent::{LONGEST, TEXT, WORK, no_text, same_text, same_work, whole, work_numbers};
+use case_io::broken::Broken;
+use case_io::compare::same_told;
+use case_io::input;
+use case_io::section::Section;
+use case_lent::{LONGEST, Lent, TEXT, WORK, at_most, same, whole};
 use plan_groups::PART_LIMIT;
 use std::io;
 
@@ -28,6 +29,7 @@ struct Asked {
     work: usize,
     // How many bytes of text are lent.
     text: usize,
+    ghost fits: { (work ≤ 576) × (text ≤ 65600) },
 }
 
 // The refusal's number or 0, and its i.
@@ -39,7 +41,7 @@ fn answer(file: &[u8], max: u64, given: Told, work: &mut [u32], text: &mut [u8])
 {
     let mut at: u64 = 0;
     let number = write_numbers(file, PART_LIMIT, max, given, work, text, &mut at);
-    [number as u64, at]
+    [u64::from(number), at]
 }
 
 // Whether the call answers the expected numbers and leaves what is expected. The first of these
@@ -50,130 +52,67 @@ fn is_right<W: io::Write>(
     asked: Asked,
     file: &[u8],
     expected: &[u64; 2],
-    expected_work: [u32; WORK],
-    expected_text: [u8; TEXT],
-    mut work: [u32; WORK],
-    mut text: [u8; TEXT],
+    left: &Lent,
+    lent: Lent,
 ) -> io::Result<bool>
-    requires { (asked.work ≤ 576) × (asked.text ≤ 65600) }
-    ensures { IfOk result (λ same. same ≡ same_left expected.now expected_work expected_text
+    ensures { IfOk result (λ same. same ≡ same_left expected.now left.now.work left.now.text
         (write_call_leaves asked.size asked.given asked.work asked.text
-        file.now work text)) }
+        file.now lent.work lent.text)) }
 {
-    let work_length = asked.work;
-    let text_length = asked.text;
+    let Lent {
+        mut work,
+        mut text,
+        ..
+    } = lent;
     let got = answer(
         file,
         asked.size,
         asked.given,
-        &mut work[..work_length],
-        &mut text[..text_length],
+        &mut work[..asked.work],
+        &mut text[..asked.text],
     );
-    if !compare::same(expected, &got) {
-        report::mismatch(out, Section::Write, k, expected, &got)?;
+    if !same_told(out, Section::Write, k, expected, &got)? {
         return Ok(false);
     }
-    if !same_work(out, Section::Write, k, &expected_work, &work)? {
+    if !same(out, Section::Write, k, &left.work, &work)? {
         return Ok(false);
     }
-    same_text(out, Section::Write, k, &expected_text, &text)
+    same(out, Section::Write, k, &left.text, &text)
 }
 
-// Reads the expected text of vector `k` and tries the vector.
-fn replay_text<R: io::Read, W: io::Write>(
-    reader: &mut R,
-    out: &mut W,
-    k: u64,
-    asked: Asked,
-    cleared: usize,
-    read: &[u64; 3],
-    file: &[u8],
-) -> io::Result<Verdict>
-    requires { (asked.work ≤ 576) × (asked.text ≤ 65600) }
-{
-    let length = read[2] as usize;
-    if TEXT < length {
-        return verdict::too_long(out, k);
-    }
-    let mut expected_text = no_text();
-    if !input::bytes(reader, &mut expected_text[..length])? {
-        return verdict::ended(out, k);
-    }
-    let expected = [read[0], read[1]];
-    let expected_work = work_numbers(cleared);
-    let work = work_numbers(0);
-    let text = no_text();
-    if is_right(
-        out,
-        k,
-        asked,
-        file,
-        &expected,
-        expected_work,
-        expected_text,
-        work,
-        text,
-    )? {
-        Ok(Verdict::Right)
-    } else {
-        Ok(Verdict::Wrong)
-    }
+// Reads what vector `k` asks for, and how many work numbers the call is to clear.
+fn read_asked<R: io::Read>(reader: &mut R) -> Result<(Asked, usize), Broken> {
+    let numbers: [u64; 13] = input::array(reader)?;
+    let [size, size_high, unit, unit_high, length, length_high, ..] = numbers;
+    let [.., done, done_high, last, last_high, work, text, cleared] = numbers;
+    let given = Told {
+        unit: whole(unit, unit_high),
+        length: whole(length, length_high),
+        done: whole(done, done_high),
+        last: whole(last, last_high),
+    };
+    let asked = Asked {
+        size: whole(size, size_high),
+        given,
+        work: at_most(work, WORK - 1)?,
+        text: at_most(text, TEXT - 1)?,
+    };
+    Ok((asked, cleared as usize))
 }
 
-// Reads the answer and the file of vector `k`, and tries it. After the answer it is said how many
-// bytes of text are expected.
-fn replay_file<R: io::Read, W: io::Write>(
-    reader: &mut R,
-    out: &mut W,
-    k: u64,
-    asked: Asked,
-    cleared: usize,
-) -> io::Result<Verdict>
-    requires { (asked.work ≤ 576) × (asked.text ≤ 65600) }
-{
-    let mut read = [0u64; 3];
-    if !input::numbers(reader, &mut read)? {
-        return verdict::ended(out, k);
-    }
-    let mut buffer = [0u8; LONGEST];
-    match input::file(reader, &mut buffer)? {
-        Filled::To(n) => replay_text(reader, out, k, asked, cleared, &read, &buffer[..n]),
-        Filled::Ended => verdict::ended(out, k),
-        Filled::TooLong => verdict::too_long(out, k),
-    }
-}
-
-// Reads vector `k` and tries it.
+// Reads vector `k` and tries it. After the answer it is said how many bytes of text are expected.
 pub fn replay_one<R: io::Read, W: io::Write>(
     reader: &mut R,
     out: &mut W,
     k: u64,
-) -> io::Result<Verdict> {
-    let mut numbers = [0u64; 13];
-    if !input::numbers(reader, &mut numbers)? {
-        return verdict::ended(out, k);
-    }
-    let size = whole(numbers[0], numbers[1]);
-    let given = Told {
-        unit: whole(numbers[2], numbers[3]),
-        length: whole(numbers[4], numbers[5]),
-        done: whole(numbers[6], numbers[7]),
-        last: whole(numbers[8], numbers[9]),
-    };
-    let work = numbers[10] as usize;
-    let text = numbers[11] as usize;
-    let cleared = numbers[12] as usize;
-    if WORK <= work {
-        return verdict::too_long(out, k);
-    }
-    if TEXT <= text {
-        return verdict::too_long(out, k);
-    }
-    let asked = Asked {
-        size,
-        given,
-        work,
-        text,
-    };
-    replay_file(reader, out, k, asked, cleared)
+) -> Result<bool, Broken> {
+    let (asked, cleared) = read_asked(reader)?;
+    let [number, at, length]: [u64; 3] = input::array(reader)?;
+    let mut buffer = [0u8; LONGEST];
+    let n = input::file(reader, &mut buffer)?;
+    let length = at_most(length, TEXT)?;
+    let mut left = Lent::new(cleared);
+    input::bytes(reader, &mut left.text[..length])?;
+    let expected = [number, at];
+    Ok(is_right(out, k, asked, &buffer[..n], &expected, &left, Lent::new(0))?)
 }

@@ -5,7 +5,7 @@
 
 mod sections;
 
-use case_io::verdict::Section;
+use case_io::section::SECTIONS;
 use case_io::{input, report};
 use std::io;
 
@@ -14,41 +14,10 @@ use std::io;
 fn main(rt: HostRuntime) -> io::Result<()> {
     let mut reader = rt.stdin();
     let mut out = rt.stdout();
-    if !sections::replay(&mut reader, &mut out, Section::Check)? {
-        return Ok(());
-    }
-    if !sections::replay(&mut reader, &mut out, Section::Exits)? {
-        return Ok(());
-    }
-    if !sections::replay(&mut reader, &mut out, Section::Plan)? {
-        return Ok(());
-    }
-    if !sections::replay(&mut reader, &mut out, Section::Measure)? {
-        return Ok(());
-    }
-    if !sections::replay(&mut reader, &mut out, Section::Write)? {
-        return Ok(());
-    }
-    if !sections::replay(&mut reader, &mut out, Section::Fronts)? {
-        return Ok(());
-    }
-    if !sections::replay(&mut reader, &mut out, Section::Lengths)? {
-        return Ok(());
-    }
-    if !sections::replay(&mut reader, &mut out, Section::Page)? {
-        return Ok(());
-    }
-    if !sections::replay(&mut reader, &mut out, Section::Pages)? {
-        return Ok(());
-    }
-    if !sections::replay(&mut reader, &mut out, Section::Reason)? {
-        return Ok(());
-    }
-    if !sections::replay(&mut reader, &mut out, Section::Reasons)? {
-        return Ok(());
-    }
-    if !sections::replay(&mut reader, &mut out, Section::Decimal)? {
-        return Ok(());
+    for section in SECTIONS {
+        if !sections::replay(&mut reader, &mut out, section)? {
+            return Ok(());
+        }
     }
     if !input::at_end(&mut reader)? {
         report::goes_on(&mut out)?;

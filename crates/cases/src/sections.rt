@@ -3,9 +3,11 @@
 // line printed, in part.
 use case_answers::{check_cases, exits_cases};
 use case_fronts::{lengths_cases, units_cases};
-use case_io::input::Read;
-use case_io::verdict::{Section, Verdict};
+use case_io::broken::Broken;
+use case_io::section::Section;
 use case_io::{input, report};
+use case_pages::Pages;
+use case_reasons::Sentences;
 use case_unit::{measure_cases, write_cases};
 use std::io;
 
@@ -15,7 +17,7 @@ fn replay_one<R: io::Read, W: io::Write>(
     out: &mut W,
     section: Section,
     k: u64,
-) -> io::Result<Verdict> {
+) -> Result<bool, Broken> {
     match section {
         Section::Check => check_cases::replay_one(reader, out, k),
         Section::Exits => exits_cases::replay_one(reader, out, k),
@@ -24,10 +26,10 @@ fn replay_one<R: io::Read, W: io::Write>(
         Section::Write => write_cases::replay_one(reader, out, k),
         Section::Fronts => units_cases::replay_one(reader, out, k),
         Section::Lengths => lengths_cases::replay_one(reader, out, k),
-        Section::Page => case_pages::replay_one(reader, out, k, false),
-        Section::Pages => case_pages::replay_one(reader, out, k, true),
-        Section::Reason => case_reasons::replay_one(reader, out, k, false),
-        Section::Reasons => case_reasons::replay_one(reader, out, k, true),
+        Section::Page => case_pages::replay_one(reader, out, k, Pages::One),
+        Section::Pages => case_pages::replay_one(reader, out, k, Pages::From),
+        Section::Reason => case_reasons::replay_one(reader, out, k, Sentences::One),
+        Section::Reasons => case_reasons::replay_one(reader, out, k, Sentences::From),
         Section::Decimal => case_decimal::replay_one(reader, out, k),
     }
 }
@@ -39,23 +41,23 @@ pub(crate) fn replay<R: io::Read, W: io::Write>(
     out: &mut W,
     section: Section,
 ) -> io::Result<bool> {
-    let Read::Number(count) = input::number(reader)? else {
-        report::ends_early(out, 0)?;
-        return Ok(false);
+    let count = match input::number(reader) {
+        Ok(count) => count,
+        Err(broken) => {
+            report::broken(out, 0, broken)?;
+            return Ok(false);
+        }
     };
     let mut mismatches: u64 = 0;
-    let mut k: u64 = 0;
-    while k < count {
-        match replay_one(reader, out, section, k)? {
-            Verdict::Right => {}
-            Verdict::Wrong => {
-                mismatches += 1;
-            }
-            Verdict::Broken => {
+    for k in 0..count {
+        match replay_one(reader, out, section, k) {
+            Ok(true) => {}
+            Ok(false) => mismatches += 1,
+            Err(broken) => {
+                report::broken(out, k, broken)?;
                 return Ok(false);
             }
         }
-        k += 1;
     }
     report::total(out, section, count, mismatches)?;
     Ok(true)

@@ -1,4 +1,3 @@
 -- The laws that the functions' proofs share.
-mod Filled
 mod Read
 mod Room

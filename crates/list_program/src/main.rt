@@ -3,11 +3,12 @@
 // line printed, in part.
 #![tactic(auto)]
 
-ghost use Rattle.std.specs.Prelude.{◌≡◌, ◌+◌, ◌≤◌, ◌<◌, length, take, IfOk, OnOk, IfSome};
-ghost use Rattle.std.specs.Io.KnownBytes.{Appends, Consumes, IsAtEnd};
+ghost use Rattle.std.specs.Prelude.{◌≡◌, ◌≤◌, length, take, OnOk, IfSome};
+ghost use Rattle.std.specs.Io.KnownBytes.{Appends};
 ghost use Rattle.base_text.specs.Wrote.{Wrote};
 ghost use Rattle.list_program.specs.Output.{longest, room, refusal_line, output};
 
+use base_input::fill;
 use call_listing::listing_of;
 use plan_groups::PART_LIMIT;
 use std::io;
@@ -52,25 +53,6 @@ fn put_output(file: &[u8], out: &mut [u8]) -> usize
         return base_text::put(out, 0, b"too long\n");
     }
     put_answer(file, out)
-}
-
-// Reads until `buffer` is full or the input ends, and answers how many bytes that was.
-fn fill<R: io::Read>(reader: &mut R, buffer: &mut [u8]) -> io::Result<usize>
-    ensures size { length buffer.new ≡ length buffer.old }
-    ensures within { IfOk result (λ n. n ≤ length buffer.new) }
-    ensures bytes { IfOk result (λ n.
-        Consumes (R.remaining reader.old) (R.remaining reader.new) (take n buffer.new)) }
-    ensures end { IfOk result (λ n. n < length buffer.new → IsAtEnd (R.remaining reader.new)) }
-{
-    let mut done = 0;
-    while done < buffer.len() {
-        let n = reader.read(&mut buffer[done..])?;
-        if n == 0 {
-            break;
-        }
-        done += n;
-    }
-    Ok(done)
 }
 
 // Prints the listing of the file that is left to read. One byte more than the longest file is asked

@@ -36,7 +36,7 @@ pub struct DecimalVector {
 /// What is asked for: the number, the index and how many bytes are lent.
 type Asked = (u64, u64, usize);
 
-/// The text before the call, as `no_text` of `case_lent` has it. None of its bytes is a digit, and
+/// The text before the call, as `Lent::new` of `case_lent` makes it. None of its bytes is a digit, and
 /// neighbours differ.
 fn lent(text_len: usize) -> Vec<u8> {
     (0..text_len).map(|i| 255 - (i % 127) as u8).collect()

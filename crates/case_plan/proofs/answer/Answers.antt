@@ -13,7 +13,7 @@ use Rattle.case_plan.proofs.answer.Goals as goal
 
 pub returns : goal.returns
 returns c =
-    let call = c.numbers-three in
+    let call = c.numbers in
     let args = c.args in
     let got = args.got.now in
     let work = call.new.work in

@@ -1,0 +1,2 @@
+-- The law that proofs cite.
+mod Filled

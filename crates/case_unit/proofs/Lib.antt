@@ -1,2 +1,0 @@
--- The law that proofs cite.
-mod Compared
