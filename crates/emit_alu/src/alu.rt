@@ -28,7 +28,7 @@ pub fn alu_is_inlined(rd: Reg, op2: Operand2) -> bool
     ensures { (thumb : Bool) (i : Instr) (op : AluOp) (s : Bool) (rn : ℕ)
         → result ≡ is_some (op_body thumb i (Alu op s rd rn op2)) }
 {
-    if rd == 15 { false } else { op2_is_native(op2) }
+    rd != 15 && op2_is_native(op2)
 }
 
 // The lines of data processing.

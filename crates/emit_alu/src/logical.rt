@@ -12,6 +12,7 @@ ghost use Rattle.emit_alu.specs.Texts.{statements_text};
 ghost use Rattle.emit_alu.specs.Processing.{first, second, logical_rest_text};
 
 use crate::alu::Processing;
+use crate::mul::put_low;
 use armv4t::{AluOp, Operand2, Reg};
 use emit_operands::{op2_has_carry, put_op2_carry, put_op2_value, put_reg};
 
@@ -22,8 +23,7 @@ pub(crate) fn put_result(out: &mut [u8], at: usize, op: AluOp, rd: Reg) -> usize
     if op.is_compare() {
         return base_text::put(out, at, b"        (void)r;\n");
     }
-    let p = base_text::put_then_dec(out, at, b"        c[", rd as u64);
-    base_text::put(out, p, b"] = r;\n")
+    put_low(out, at, rd)
 }
 
 // The line that sets C, if the second operand gives a carry.

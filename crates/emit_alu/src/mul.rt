@@ -46,7 +46,7 @@ fn put_more(out: &mut [u8], at: usize, acc: bool, rn: Reg) -> usize
 }
 
 // The line that sets rd.
-fn put_low(out: &mut [u8], at: usize, rd: Reg) -> usize
+pub(crate) fn put_low(out: &mut [u8], at: usize, rd: Reg) -> usize
     ensures { Wrote out.old at (statements_text (set_reg rd (v32 x-r) ∷ [])) out.new result }
 {
     let p = base_text::put_then_dec(out, at, b"        c[", rd as u64);

@@ -73,10 +73,7 @@ pub(crate) fn is_native_exit(region: u32, i: Instr) -> bool
     ensures { result ≡ native_exit region i }
 {
     let condition = i.cond;
-    if condition.is_al() {
-        return region != 0;
-    }
-    false
+    condition.is_al() && region != 0
 }
 
 // The text of a Bx.

@@ -106,16 +106,10 @@ fn put_load_ob(out: &mut [u8], at: usize, rd: u8, rn: u8, wb: bool) -> usize
         (each_on_line (list_if (wb && not (rn == rd) && not (rn == 15)) (set_reg rn (v32 x-ob)))))
         out.new result }
 {
-    if wb {
-        if rn == rd {
-            return at;
-        }
-        if rn == PC {
-            return at;
-        }
-        return put_moved_base(out, at, rn);
+    if rn == rd {
+        return at;
     }
-    at
+    put_store_ob(out, at, rn, wb)
 }
 
 // The write-back of a store.

@@ -67,13 +67,10 @@ fn put_load_back(out: &mut [u8], at: usize, m: BlockTransfer, in_list: bool, tot
         (lines_text 8 (base_back (m.writeback && not in_list) m total))
         out.new result }
 {
-    if m.writeback {
-        if in_list {
-            return at;
-        }
-        return put_write_back(out, at, m.rn, m.up, total);
+    if in_list {
+        return at;
     }
-    at
+    put_store_back(out, at, m, total)
 }
 
 // The write-back of a store: the base is written back if writeback is set.
@@ -147,17 +144,5 @@ pub fn put_block_mem(out: &mut [u8], at: usize, i: Instr, m: BlockTransfer) -> u
 pub fn block_mem_is_inlined(load: bool, rn: u8, rlist: u16, s_bit: bool) -> bool
     ensures { result ≡ not (s_bit || rlist == 0 || rn == 15 || (load && is_listed rlist 15)) }
 {
-    if s_bit {
-        return false;
-    }
-    if rlist == 0 {
-        return false;
-    }
-    if rn == PC {
-        return false;
-    }
-    if load {
-        return !is_listed(rlist, PC);
-    }
-    true
+    !(s_bit || rlist == 0 || rn == PC || (load && is_listed(rlist, PC)))
 }

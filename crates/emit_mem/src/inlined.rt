@@ -12,12 +12,7 @@ use armv4t::{MemOffset, PC, Shift, ShiftKind};
 fn kind_is_inlined(kind: ShiftKind, amount: u8) -> bool
     ensures { (e : Expr) → result ≡ is_some (shifted_offset e kind amount) }
 {
-    match kind {
-        ShiftKind::Lsl => true,
-        ShiftKind::Lsr => true,
-        ShiftKind::Asr => true,
-        ShiftKind::Ror => amount != 0,
-    }
+    amount != 0 || !matches!(kind, ShiftKind::Ror)
 }
 
 // Whether a register as an offset is inlined, by its shift: not if that is by a register.
@@ -44,8 +39,5 @@ fn offset_is_inlined(offset: MemOffset) -> bool
 pub fn mem_is_inlined(rd: u8, offset: MemOffset) -> bool
     ensures { (i : Instr) → result ≡ (not (rd == 15) && is_some (offset_expr i offset)) }
 {
-    if rd == PC {
-        return false;
-    }
-    offset_is_inlined(offset)
+    rd != PC && offset_is_inlined(offset)
 }

@@ -134,10 +134,7 @@ fn put_address(out: &mut [u8], at: usize, thumb: bool, i: Instr, m: Transfer) ->
 fn writes_back(pre: bool, writeback: bool) -> bool
     ensures { result ≡ (not pre || writeback) }
 {
-    if pre {
-        return writeback;
-    }
-    true
+    !pre || writeback
 }
 
 // All lines of a Mem, its offset said with no case left out.

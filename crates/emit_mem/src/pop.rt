@@ -75,32 +75,14 @@ pub fn put_pop(out: &mut [u8], at: usize, thumb: bool, rn: u8, rlist: u16) -> us
 fn is_upward_load(load: bool, pre: bool, up: bool, s_bit: bool, writeback: bool) -> bool
     ensures { result ≡ (load && not pre && up && not s_bit && writeback) }
 {
-    if load {
-        if pre {
-            return false;
-        }
-        if up {
-            if s_bit {
-                return false;
-            }
-            return writeback;
-        }
-        return false;
-    }
-    false
+    load && !pre && up && !s_bit && writeback
 }
 
 // Whether a load is of PC, from another base, in a block outside region 0.
 fn loads_pc(region: u32, rn: u8, rlist: u16) -> bool
     ensures { result ≡ (is_listed rlist 15 && not (rn == 15) && not (region == 0)) }
 {
-    if is_listed(rlist, PC) {
-        if rn == PC {
-            return false;
-        }
-        return region != 0;
-    }
-    false
+    is_listed(rlist, PC) && rn != PC && region != 0
 }
 
 // Whether a BlockMem is a pop of PC, in a block of a region; al: its condition is Al.
@@ -109,11 +91,7 @@ pub fn is_pop(region: u32, al: bool, m: BlockTransfer) -> bool
         → result ≡ is_pop region i m.load m.rn m.rlist m.pre m.up m.s_bit
         m.writeback }
 {
-    if is_upward_load(m.load, m.pre, m.up, m.s_bit, m.writeback) {
-        if al {
-            return loads_pc(region, m.rn, m.rlist);
-        }
-        return false;
-    }
-    false
+    is_upward_load(m.load, m.pre, m.up, m.s_bit, m.writeback)
+        && al
+        && loads_pc(region, m.rn, m.rlist)
 }

@@ -100,10 +100,7 @@ pub(crate) struct Stored {
 fn stores_moved(writeback: bool, lowest: u8, rn: u8) -> bool
     ensures { result ≡ stores_moved writeback lowest rn }
 {
-    if writeback {
-        return rn != lowest;
-    }
-    false
+    writeback && rn != lowest
 }
 
 // What is stored of a register.

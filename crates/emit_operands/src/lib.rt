@@ -146,10 +146,7 @@ pub fn put_op2_carry(out: &mut [u8], at: usize, op2: Operand2, pc: u32) -> usize
 fn shift_is_native(shift: Shift) -> bool
     ensures { (i : Instr) (rm : ℕ) → result ≡ is_some (op2_exprs i (Operand2.Reg rm shift)) }
 {
-    match shift {
-        Shift::Imm { kind, amount } => true,
-        Shift::Reg { kind, rs } => false,
-    }
+    matches!(shift, Shift::Imm { .. })
 }
 
 // Whether the second operand can be written.
@@ -166,12 +163,7 @@ pub fn op2_is_native(op2: Operand2) -> bool
 fn kind_has_carry(kind: ShiftKind, amount: u8) -> bool
     ensures { (e : Expr) → result ≡ is_some (shift_exprs e kind amount).1 }
 {
-    match kind {
-        ShiftKind::Lsl => amount != 0,
-        ShiftKind::Lsr => true,
-        ShiftKind::Asr => true,
-        ShiftKind::Ror => true,
-    }
+    amount != 0 || !matches!(kind, ShiftKind::Lsl)
 }
 
 // Whether a register operand gives a carry, by its shift; a shift by a register counts as none.

@@ -132,25 +132,7 @@ pub(crate) fn pops_pc(
       writeback = writeback;
     }) }
 {
-    if !load {
-        return false;
-    }
-    if pre {
-        return false;
-    }
-    if !up {
-        return false;
-    }
-    if s_bit {
-        return false;
-    }
-    if !writeback {
-        return false;
-    }
-    if !is_listed(rlist, PC) {
-        return false;
-    }
-    rn != PC
+    load && !pre && up && !s_bit && writeback && is_listed(rlist, PC) && rn != PC
 }
 
 // The reason of a BlockMem that is not that pop.

@@ -17,10 +17,7 @@ use file_blocks::{BlockRecord, instr_of, is_guarded, next_of, region_of};
 pub(crate) fn has_code(block: BlockRecord) -> bool
     ensures { result ≡ (not (outside_rom_bios block.addr) || block.present) }
 {
-    if block.present {
-        return true;
-    }
-    !is_guarded(block.addr)
+    !is_guarded(block.addr) || block.present
 }
 
 // Whether instruction j of a block makes a pair with the one after it.
@@ -37,10 +34,7 @@ fn ends_at(file: &[u8], block: BlockRecord, first: usize, region: u32, j: u32, x
     ensures { result ≡ (pairs x (drop (suc j) (instrs_of file.now block first))
         || drops_rest region x) }
 {
-    if pairs_at(file, block, first, j, x) {
-        return true;
-    }
-    drops_rest(region, x)
+    pairs_at(file, block, first, j, x) || drops_rest(region, x)
 }
 
 // Whether the walk comes to the instruction with an index: it does not end with one before it.

