@@ -65,14 +65,12 @@ pub(crate) fn put_listing(file: &[u8], work: &[u32], n: usize, out: &mut [u8]) -
 {
     let mut at = base_text::put(out, 0, b"key group exits\n");
     let mut first: usize = 0;
-    let mut i = 0;
-    while i < n {
+    for i in 0..n {
         let Some(block) = block_at(file, i) else {
             return at;
         };
         at = put_block(file, out, at, work[n + i], block, first);
         first = std::num::wrapping_add_usize(first, block.count as usize);
-        i += 1;
     }
     at
 }

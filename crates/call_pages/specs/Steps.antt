@@ -1,6 +1,6 @@
 -- Steps: the rows and pages that the steps of the code name, and what they answer once the work
 -- numbers hold the plan.
-use Rattle.std.specs.Prelude.{ℕ, ◌*◌, ◌-◌, ◌≤◌, ◌<◌, ◌≡◌, List, [], ◌∷◌, length, get_or, take, drop, Result}
+use Rattle.std.specs.Prelude.{ℕ, ◌*◌, ◌-◌, ◌≤◌, ◌<◌, ◌≡◌, List, [], ◌∷◌, length, get_or, take, drop, Option, Some, None, Result}
 use Rattle.base_fitting.specs.Fitting.{fitting}
 use Rattle.base_fitting.specs.Steps.{HasFront}
 use Rattle.base_text.specs.Doc.{print, each}
@@ -9,7 +9,6 @@ use Rattle.plan_groups.specs.Plan.{plan}
 use Rattle.call_frame.specs.Frame.{settle}
 use Rattle.call_frame.specs.declared.refusal.Refusal.{Refusal}
 use Rattle.call_frame.specs.Refusal.{answer_of}
-use Rattle.call_pages.specs.declared.text.FoundPage.{FoundPage}
 use Rattle.call_pages.specs.declared.text.Front.{Front}
 use Rattle.call_pages.specs.declared.pages.PagesValues.{PagesValues}
 use Rattle.call_pages.specs.Page.{Row, rows_of, Page, per_page, pages, page_text, page_length}
@@ -30,9 +29,9 @@ pub record Begins (n k p : ℕ) : Type 0 where
   pub inside : p < n
 
 -- where page k of n rows begins; there is none for 0, nor where no row is left
-unfoldable pub IsFoundPage : ℕ → ℕ → FoundPage → Type 0
-IsFoundPage n k (FoundPage.Row p) = Begins n k p
-IsFoundPage n k FoundPage.Nothing = 1 ≤ k → n ≤ per_page * (k - 1)
+unfoldable pub IsFoundPage : ℕ → ℕ → Option ℕ → Type 0
+IsFoundPage n k (Some p) = Begins n k p
+IsFoundPage n k None = 1 ≤ k → n ≤ per_page * (k - 1)
 
 -- the pages of a file from page k on
 abbrev pub pages_asked : ℕ → ℕ → List ℕ → List Page

@@ -10,7 +10,7 @@ ghost use Rattle.call_pages.specs.Calls.{page_call, page_numbers};
 ghost use Rattle.call_pages.specs.Claims.{PageClaims};
 ghost use Rattle.call_pages.specs.Steps.{AnswersPage};
 
-use crate::text::{FoundPage, find_page, page_length, put_page};
+use crate::text::{find_page, page_length, put_page};
 use call_frame::{Refusal, clear, open_file};
 use plan_members::prepare;
 
@@ -21,7 +21,7 @@ fn answer_page(file: &[u8], k: u64, work: &[u32], text: &mut [u8], n: usize) -> 
     ensures answer { (limit : ℕ) → HoldsPlan file.now n limit work.now
         → AnswersPage limit k file.now result text.old text.new }
 {
-    let FoundPage::Row(p) = find_page(n, k) else {
+    let Some(p) = find_page(n, k) else {
         return Err(Refusal::NotFound);
     };
     let length = page_length(n, p);

@@ -11,7 +11,7 @@ ghost use Rattle.call_pages.specs.Calls.{pages_call, pages_numbers};
 ghost use Rattle.call_pages.specs.Claims.{PageClaims};
 ghost use Rattle.call_pages.specs.Steps.{AnswersPages};
 
-use crate::text::{FoundPage, find_page, put_pages};
+use crate::text::{find_page, put_pages};
 use call_frame::{Refusal, clear, open_file};
 use plan_members::prepare;
 
@@ -36,7 +36,7 @@ fn answer_pages(
     ensures answer { (limit : ℕ) → HoldsPlan file.now n limit work.now
         → AnswersPages limit k file.now result text.old text.new }
 {
-    let FoundPage::Row(p) = find_page(n, k) else {
+    let Some(p) = find_page(n, k) else {
         return Err(Refusal::NotFound);
     };
     let front = put_pages(text, file, work, n, k, p);

@@ -15,15 +15,6 @@ const PER_PAGE: usize = 60;
 // How long a line is, with its newline.
 const LINE: usize = 65;
 
-// Where a page begins.
-#[derive(Clone, Copy)]
-pub(crate) enum FoundPage {
-    // The row of its first line.
-    Row(usize),
-    // There is no such page.
-    Nothing,
-}
-
 // Some pages: how many they are, and the bytes of their texts in all.
 #[derive(Clone, Copy)]
 pub(crate) struct Front {
@@ -31,19 +22,19 @@ pub(crate) struct Front {
     pub length: usize,
 }
 
-// The first row of page k, where there are n rows.
-pub(crate) fn find_page(n: usize, k: u64) -> FoundPage
+// The first row of page k, where there are n rows, if there is such a page.
+pub(crate) fn find_page(n: usize, k: u64) -> Option<usize>
     requires { n ≤ 65536 }
     ensures { IsFoundPage n k result }
 {
     if k == 0 {
-        return FoundPage::Nothing;
+        return None;
     }
     let last = (n + PER_PAGE - 1) / PER_PAGE;
     if (last as u64) < k {
-        return FoundPage::Nothing;
+        return None;
     }
-    FoundPage::Row(PER_PAGE * (k - 1) as usize)
+    Some(PER_PAGE * (k - 1) as usize)
 }
 
 // How many rows the page has that begins at row p, where there are n rows.
@@ -83,10 +74,8 @@ pub(crate) fn put_page(
 {
     let rows = rows_on(n, p);
     let mut next = put_head(out, at, k);
-    let mut i = 0;
-    while i < rows {
+    for i in 0..rows {
         next = put_row(out, next, file, work, n, p + i);
-        i += 1;
     }
     next
 }

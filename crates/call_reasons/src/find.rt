@@ -8,30 +8,28 @@ use file_blocks::block_at;
 
 // Where an instruction stands.
 #[derive(Clone, Copy)]
-pub(crate) enum FoundPlace {
-    // The number of its block, and that of the block's first instruction.
-    At { block: usize, first: usize },
-    // There is no such instruction.
-    Nothing,
+pub(crate) struct Place {
+    // The number of its block.
+    pub block: usize,
+    // The number of the block's first instruction.
+    pub first: usize,
 }
 
-// Where instruction k of an accepted file with n blocks stands.
-pub(crate) fn find_instr(file: &[u8], n: usize, k: u64) -> FoundPlace
+// Where instruction k of an accepted file with n blocks stands, if there is one.
+pub(crate) fn find_instr(file: &[u8], n: usize, k: u64) -> Option<Place>
     requires { Accepted file.now × (n ≡ block_count file.now) }
     ensures { IsFoundPlace file.now k result }
 {
-    let mut i = 0;
     let mut first = 0;
-    while i < n {
+    for i in 0..n {
         let Some(block) = block_at(file, i) else {
-            return FoundPlace::Nothing;
+            return None;
         };
         let next = first + block.count as usize;
         if k < next as u64 {
-            return FoundPlace::At { block: i, first };
+            return Some(Place { block: i, first });
         }
         first = next;
-        i += 1;
     }
-    FoundPlace::Nothing
+    None
 }

@@ -26,8 +26,7 @@ pub(crate) fn put_lines(
     let mut next = first;
     let mut length = 0;
     let mut skip = index;
-    let mut b = i;
-    while b < n {
+    for b in i..n {
         let Some(block) = block_at(file, b) else {
             return Progress { next, length };
         };
@@ -39,7 +38,6 @@ pub(crate) fn put_lines(
         next = end;
         length = put.length;
         skip = 0;
-        b += 1;
     }
     Progress { next, length }
 }

@@ -8,33 +8,24 @@ ghost use Rattle.call_frame.specs.Refusal.{answer_of};
 ghost use Rattle.call_reasons.specs.Calls.{reason_call, reason_numbers};
 ghost use Rattle.call_reasons.specs.Steps.{IsSaid};
 
-use crate::find::{FoundPlace, find_instr};
+use crate::find::find_instr;
 use call_frame::{Refusal, open_file};
 use emit_reasons::said_at;
 use emit_sentences::{Sentence, put_said};
 use file_blocks::block_at;
 
-// What is said of instruction k.
-#[derive(Clone, Copy)]
-pub(crate) enum FoundSaid {
-    At(Option<Sentence>),
-    // There is no such instruction.
-    Nothing,
-}
-
-// What is said of instruction k of a file that is open, with n blocks.
-fn find_said(file: &[u8], n: u32, k: u64) -> FoundSaid
+// What is said of instruction k of a file that is open, with n blocks, if there is one.
+fn find_said(file: &[u8], n: u32, k: u64) -> Option<Option<Sentence>>
     requires { IsOpen file.now none 0 0 n }
     ensures { IsSaid file.now k result }
 {
-    let FoundPlace::At { block: i, first } = find_instr(file, n as usize, k) else {
-        return FoundSaid::Nothing;
-    };
-    let Some(block) = block_at(file, i) else {
-        return FoundSaid::Nothing;
+    let place = find_instr(file, n as usize, k)?;
+    let first = place.first;
+    let Some(block) = block_at(file, place.block) else {
+        return None;
     };
     let index = k - first as u64;
-    FoundSaid::At(said_at(file, block, first, index as u32))
+    Some(said_at(file, block, first, index as u32))
 }
 
 // The sentence of instruction k of a file that is open, with n blocks: how many bytes it has, 0 where
@@ -44,7 +35,7 @@ fn make_reason(file: &[u8], k: u64, text: &mut [u8], n: u32) -> Result<u64, Refu
     ensures answer { record { answer = answer_of result; work = []; results = text.new ∷ [] }
         ≡ reason_call k (parse file.now) text.old }
 {
-    let FoundSaid::At(said) = find_said(file, n, k) else {
+    let Some(said) = find_said(file, n, k) else {
         return Err(Refusal::NotFound);
     };
     let mut nothing = [0u8; 0];

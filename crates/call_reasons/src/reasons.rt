@@ -8,7 +8,7 @@ ghost use Rattle.call_frame.specs.Open.{IsOpen};
 ghost use Rattle.call_frame.specs.Refusal.{answer_of};
 ghost use Rattle.call_reasons.specs.Calls.{reasons_call, reasons_numbers};
 
-use crate::find::{FoundPlace, find_instr};
+use crate::find::find_instr;
 use crate::lines::put_lines;
 use call_frame::{Refusal, open_file};
 
@@ -34,11 +34,12 @@ fn make_reasons(
         ≡ reasons_call k (parse file.now) text.old }
 {
     let size = n as usize;
-    let FoundPlace::At { block, first } = find_instr(file, size, k) else {
+    let Some(place) = find_instr(file, size, k) else {
         return Err(Refusal::NotFound);
     };
+    let first = place.first;
     let index = k - first as u64;
-    let put = put_lines(text, file, size, block, first, index as u32);
+    let put = put_lines(text, file, size, place.block, first, index as u32);
     let next = put.next as u64;
     if put.length != 0 {
         let length = put.length as u64;

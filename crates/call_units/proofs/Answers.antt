@@ -7,7 +7,6 @@ use mathlib.Core.List.{List, [], ◌∷◌, ◌++◌, map, flatten}
 use native.Mathlib.Omega.{arith}
 use borrow.Author.Tests.{ltb-false, lt-ltb, le-ltb}
 use lib.ListN.{length, drop, length-map}
-use mir.Val.{bool_byte}
 use Rattle.base_fitting.specs.Fitting.{fitting}
 use Rattle.base_fitting.specs.Steps.{total}
 use Rattle.base_fitting.proofs.Laws.{fit_room, fit_places, fit_nothing}
@@ -32,11 +31,6 @@ use Rattle.call_units.specs.declared.units.FrontValues.{FrontValues}
 use Rattle.call_units.specs.declared.lengths.LengthsValues.{LengthsValues}
 use Rattle.call_units.specs.Calls.{made_units, made_lengths, units_asked}
 use Rattle.call_units.specs.Steps.{AnswersUnits, AnswersLengths}
-
--- a boolean as a number
-pub bool_byte_lem : (b : Bool) → bool_byte b ≡ cond b 1 0
-bool_byte_lem true = refl
-bool_byte_lem false = refl
 
 -- the values of answers
 abbrev front_of : ℕ → ℕ → ℕ → Bool → FrontValues

@@ -10,6 +10,3 @@ returns-in_err-open c =
     let a = c.args in record {
       answer = refused_on (asks_listing a.limit) _ (_ ∷ []) _ _ c.in_err-open.ensures.refused _ c.from_residual.ensures.1;
     }
-
-pub returns : goal.returns
-returns c = record { answer = c.list_blocks.ensures.answer }

@@ -22,6 +22,3 @@ invariant-loop-i l = (l.i ≤ l.n) × (l.first ≡ count_sum l.file l.i)
     × (length l.out ≡ length l.initial.out)
     × ((limit : ℕ) → HoldsGroups l.file l.n limit l.work → (o : List ℕ) → Wrote o 0 header l.initial.out l.initial.at
     → Wrote o 0 (lines_to l.file limit l.i) l.out l.at)
-
-abbrev pub decreases-loop-i : goal.decreases-loop-i
-decreases-loop-i l = l.n - l.i

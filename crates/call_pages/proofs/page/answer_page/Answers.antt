@@ -21,7 +21,7 @@ unfolding IsFoundPage
 page_length-length-requires c =
     let a = c.args in
     let begins : Begins a.n a.k _ =
-    subst (IsFoundPage a.n a.k) c.in-Row.is c.find_page.ensures in
+    subst (IsFoundPage a.n a.k) c.in-Some.is c.find_page.ensures in
     omega (arith, begins.inside)
 
 pub returns-then-text-length : goal.returns-then-text-length
@@ -31,7 +31,7 @@ returns-then-text-length c =
       answer = let a = c.args in
           λ limit ready.
           page_10 ready a.k _
-          (subst (IsFoundPage a.n a.k) c.in-Row.is c.find_page.ensures)
+          (subst (IsFoundPage a.n a.k) c.in-Some.is c.find_page.ensures)
           (omega (arith, c.page_length-length.ensures));
     }
 
@@ -40,7 +40,7 @@ unfolding IsFoundPage
 put_page-requires c =
     let a = c.args in
     let begins : Begins a.n a.k _ =
-    subst (IsFoundPage a.n a.k) c.in-Row.is c.find_page.ensures in
+    subst (IsFoundPage a.n a.k) c.in-Some.is c.find_page.ensures in
     (c.requires, omega (arith, begins.inside))
 
 pub returns : goal.returns
@@ -50,6 +50,6 @@ returns c =
       answer = let a = c.args in
           λ limit ready.
           page_made ready a.k _
-          (subst (IsFoundPage a.n a.k) c.in-Row.is c.find_page.ensures)
+          (subst (IsFoundPage a.n a.k) c.in-Some.is c.find_page.ensures)
           c.page_length-length.ensures (omega arith) (c.put_page.ensures limit ready);
     }

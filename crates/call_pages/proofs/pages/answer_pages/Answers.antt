@@ -21,7 +21,7 @@ unfolding IsFoundPage
 put_pages-front-requires c =
     let a = c.args in (
       c.requires,
-      subst (IsFoundPage a.n a.k) c.in-Row.is c.find_page.ensures,
+      subst (IsFoundPage a.n a.k) c.in-Some.is c.find_page.ensures,
     )
 
 pub returns-then-front-eq0 : goal.returns-then-front-eq0
@@ -31,7 +31,7 @@ returns-then-front-eq0 c =
       answer = let a = c.args in
           λ limit ready.
           pages_10 ready a.k _
-          (subst (IsFoundPage a.n a.k) c.in-Row.is c.find_page.ensures)
+          (subst (IsFoundPage a.n a.k) c.in-Some.is c.find_page.ensures)
           (c.put_pages-front.ensures limit ready) (omega arith);
     }
 
@@ -42,6 +42,6 @@ returns c =
       answer = let a = c.args in
           λ limit ready.
           pages_made ready a.k _
-          (subst (IsFoundPage a.n a.k) c.in-Row.is c.find_page.ensures)
+          (subst (IsFoundPage a.n a.k) c.in-Some.is c.find_page.ensures)
           (c.put_pages-front.ensures limit ready) (omega arith);
     }

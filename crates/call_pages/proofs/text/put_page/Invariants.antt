@@ -20,6 +20,3 @@ abbrev pub invariant-loop-i : goal.invariant-loop-i
 invariant-loop-i l = (l.i ≤ l.rows) × (length l.out ≡ length l.initial.out)
     × ((limit : ℕ) → HoldsPlan l.file l.n limit l.work
     → Wrote l.initial.out l.initial.next (each (row_line (blocks_of l.file)) (take l.i (rows_on l.file limit l.k l.p))) l.out l.next)
-
-abbrev pub decreases-loop-i : goal.decreases-loop-i
-decreases-loop-i l = l.rows - l.i

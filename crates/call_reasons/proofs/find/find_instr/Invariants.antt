@@ -8,6 +8,3 @@ use Rattle.call_reasons.proofs.find.find_instr.Given as goal
 
 abbrev pub invariant-loop-i : goal.invariant-loop-i
 invariant-loop-i l = (l.i ≤ l.n) × (l.first ≡ count_sum l.file l.i) × (l.first ≤ l.k)
-
-abbrev pub decreases-loop-i : goal.decreases-loop-i
-decreases-loop-i l = l.n - l.i

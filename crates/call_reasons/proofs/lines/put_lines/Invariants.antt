@@ -18,6 +18,3 @@ invariant-loop-b l =
     × (l.b < l.n → l.skip ≤ count_at l.file (block_start l.file l.b))
     × Putting l.initial.text (lines_from (l.first + l.index) (blocks_of l.file))
     (lines_of (l.next + l.skip) (drop l.skip (rest_from l.file l.b))) l.text l.length
-
-abbrev pub decreases-loop-b : goal.decreases-loop-b
-decreases-loop-b l = l.n - l.b

@@ -16,23 +16,18 @@ use Rattle.call_reasons.proofs.reason.find_said.Goals as goal
 pub find_instr-requires : goal.find_instr-requires
 find_instr-requires c = (c.requires.accepted, c.requires.blocks)
 
-pub returns-in_default : goal.returns-in_default
+pub returns-in_err-place : goal.returns-in_err-place
 unfolding IsFoundPlace IsSaid
-returns-in_default c =
-    let a = c.args in
-    subst (IsFoundPlace a.file.now a.k) c.in_default.is c.find_instr.ensures
+returns-in_err-place c = rw c.from_residual.ensures c.in_err-place.ensures
 
-pub returns-in_default-block_at : goal.returns-in_default-block_at
+pub returns-in_default : goal.returns-in_default
 unfolding IsFoundPlace
-returns-in_default-block_at c =
-    let stands : StandsAt c.args.file.now c.args.k _ _ =
-    subst (IsFoundPlace c.args.file.now c.args.k) c.in-At.is
-    c.find_instr.ensures in
+returns-in_default c =
+    let stands : StandsAt c.args.file.now c.args.k _ _ = c.in_ok-place.ensures in
     absurd
     (omega (
       arith,
-      missing _ c.requires.accepted _
-          (sym c.block_at.ensures ∙ c.in_default-block_at.is),
+      missing _ c.requires.accepted _ (sym c.block_at.ensures ∙ c.in_default.is),
       stands.inside,
     ))
 
@@ -40,16 +35,14 @@ pub overflow_sub-index : goal.overflow_sub-index
 unfolding IsFoundPlace
 overflow_sub-index c =
     let stands : StandsAt c.args.file.now c.args.k _ _ =
-    subst (IsFoundPlace c.args.file.now c.args.k) c.in-At.is
-    c.find_instr.ensures in
+    c.in_ok-place.ensures in
     omega (arith, stands.from)
 
 pub overflow_cast-index : goal.overflow_cast-index
 unfolding IsFoundPlace
 overflow_cast-index c =
     let stands : StandsAt c.args.file.now c.args.k _ _ =
-    subst (IsFoundPlace c.args.file.now c.args.k) c.in-At.is
-    c.find_instr.ensures in
+    c.in_ok-place.ensures in
     omega (
       arith,
       stands.before,
@@ -60,8 +53,7 @@ pub said_at-requires : goal.said_at-requires
 unfolding IsFoundPlace
 said_at-requires c =
     let stands : StandsAt c.args.file.now c.args.k _ _ =
-    subst (IsFoundPlace c.args.file.now c.args.k) c.in-At.is
-    c.find_instr.ensures in
+    c.in_ok-place.ensures in
     let is =
     block_is c.requires.accepted c.block_at.ensures c.in-Some.is
     stands.starts in
@@ -73,7 +65,7 @@ returns c =
     let f = c.args.file.now in
     let ok = c.requires.accepted in
     let stands : StandsAt f c.args.k _ _ =
-    subst (IsFoundPlace f c.args.k) c.in-At.is c.find_instr.ensures in
+    c.in_ok-place.ensures in
     let is = block_is ok c.block_at.ensures c.in-Some.is stands.starts in (
       omega (
         arith,

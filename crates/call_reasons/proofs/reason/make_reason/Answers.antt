@@ -30,7 +30,7 @@ unfolding IsSaid
 returns-then-text-length c =
     record {
       answer = let a = c.args in
-          let told = subst (IsSaid a.file.now a.k) c.in-At.is
+          let told = subst (IsSaid a.file.now a.k) c.in-Some.is
           c.find_said.ensures in
           settled_call (asks_reason a.k) [] (_ ∷ []) _ _ c.requires [] (cleared_none a.n) _
           (reason_10 (blocks_of a.file.now) a.k _ told.0 told.1
@@ -42,10 +42,10 @@ unfolding IsSaid
 returns c =
     record {
       answer = let a = c.args in
-          let told = subst (IsSaid a.file.now a.k) c.in-At.is
+          let told = subst (IsSaid a.file.now a.k) c.in-Some.is
           c.find_said.ensures in
           settled_call (asks_reason a.k) [] (_ ∷ []) _ _ c.requires [] (cleared_none a.n) _
           (reason_made (blocks_of a.file.now) a.k _ told.0 told.1
-          (omega (arith, c.put_said-length.ensures.next, said_short (said_by c.in-At.said)))
+          (omega (arith, c.put_said-length.ensures.next, said_short (said_by c.in-Some.said)))
           (omega arith) c.put_said.ensures);
     }

@@ -36,7 +36,7 @@ overflow_sub-index c =
     let a = c.args in
     let f = a.file.now in
     let stands : StandsAt f a.k _ _ =
-    subst (IsFoundPlace f a.k) c.in-At.is c.find_instr.ensures in
+    subst (IsFoundPlace f a.k) c.in-Some.is c.find_instr.ensures in
     omega (arith, stands.from)
 
 pub overflow_cast-index : goal.overflow_cast-index
@@ -45,7 +45,7 @@ overflow_cast-index c =
     let a = c.args in
     let f = a.file.now in
     let stands : StandsAt f a.k _ _ =
-    subst (IsFoundPlace f a.k) c.in-At.is c.find_instr.ensures in
+    subst (IsFoundPlace f a.k) c.in-Some.is c.find_instr.ensures in
     omega (
       arith,
       stands.before,
@@ -58,7 +58,7 @@ put_lines-put-requires c =
     let a = c.args in
     let f = a.file.now in
     let stands : StandsAt f a.k _ _ =
-    subst (IsFoundPlace f a.k) c.in-At.is c.find_instr.ensures in (
+    subst (IsFoundPlace f a.k) c.in-Some.is c.find_instr.ensures in (
       record {
         accepted = c.requires.0.accepted;
         inside = stands.inside;
@@ -74,11 +74,11 @@ returns-then-put-ne0 c =
     record {
       answer = let a = c.args in
           let f = a.file.now in
-          let stands : StandsAt f a.k c.in-At.block c.in-At.first =
-          subst (IsFoundPlace f a.k) c.in-At.is c.find_instr.ensures in
+          let stands : StandsAt f a.k c.in-Some.place.block c.in-Some.place.first =
+          subst (IsFoundPlace f a.k) c.in-Some.is c.find_instr.ensures in
           let here = in_file f c.requires.0.accepted stands in
           let made =
-          put_from (blocks_of f) (c.in-At.first + (a.k - c.in-At.first)) a.k (omega (arith, stands.from))
+          put_from (blocks_of f) (c.in-Some.place.first + (a.k - c.in-Some.place.first)) a.k (omega (arith, stands.from))
           c.put_lines-put.ensures in
           settled_call (asks_reasons a.k) [] (_ ∷ []) _ _ c.requires.0 [] (cleared_none a.n) _
           (reasons_made (blocks_of f) a.k _ here made c.if-put-ne0.true);
@@ -90,11 +90,11 @@ returns-then-next-total c =
     record {
       answer = let a = c.args in
           let f = a.file.now in
-          let stands : StandsAt f a.k c.in-At.block c.in-At.first =
-          subst (IsFoundPlace f a.k) c.in-At.is c.find_instr.ensures in
+          let stands : StandsAt f a.k c.in-Some.place.block c.in-Some.place.first =
+          subst (IsFoundPlace f a.k) c.in-Some.is c.find_instr.ensures in
           let here = in_file f c.requires.0.accepted stands in
           let made =
-          put_from (blocks_of f) (c.in-At.first + (a.k - c.in-At.first)) a.k (omega (arith, stands.from))
+          put_from (blocks_of f) (c.in-Some.place.first + (a.k - c.in-Some.place.first)) a.k (omega (arith, stands.from))
           c.put_lines-put.ensures in
           settled_call (asks_reasons a.k) [] (_ ∷ []) _ _ c.requires.0 [] (cleared_none a.n) _
           (reasons_10 (blocks_of f) a.k _ here made c.if-put-ne0.false
@@ -107,11 +107,11 @@ returns c =
     record {
       answer = let a = c.args in
           let f = a.file.now in
-          let stands : StandsAt f a.k c.in-At.block c.in-At.first =
-          subst (IsFoundPlace f a.k) c.in-At.is c.find_instr.ensures in
+          let stands : StandsAt f a.k c.in-Some.place.block c.in-Some.place.first =
+          subst (IsFoundPlace f a.k) c.in-Some.is c.find_instr.ensures in
           let here = in_file f c.requires.0.accepted stands in
           let made =
-          put_from (blocks_of f) (c.in-At.first + (a.k - c.in-At.first)) a.k (omega (arith, stands.from))
+          put_from (blocks_of f) (c.in-Some.place.first + (a.k - c.in-Some.place.first)) a.k (omega (arith, stands.from))
           c.put_lines-put.ensures in
           settled_call (asks_reasons a.k) [] (_ ∷ []) _ _ c.requires.0 [] (cleared_none a.n) _
           (reasons_none (blocks_of f) a.k _ here made c.if-put-ne0.false
