@@ -1,6 +1,6 @@
 -- What is said of the instructions of a file from a block on.
 -- Assumes nothing.
-use Rattle.std.proofs.Common.{Option, Some}
+use Rattle.std.proofs.Common.{Option as Found, Some}
 use Prim.Native.Nat.{ℕ, zero, suc, ◌+◌, ◌-◌, ◌≤◌, ◌<◌}
 use mathlib.Core.Path.{◌≡◌, refl, sym, ap, ap₂, ◌∙◌}
 use mathlib.Core.Bool.{Bool, true, false, not, cond, ◌||◌}
@@ -75,7 +75,7 @@ module _ (f : List ℕ) (ok : Accepted f) where
   total_is = instrs_of_lem f (blocks_of f) ok ∙ sym (sums f (blocks_of f) ok)
 
 -- a block that was found by its number
-pub block_is : {f : List ℕ} → Accepted f → {i : ℕ} {q : Option BlockRecord} {r : BlockRecord} {first : ℕ}
+pub block_is : {f : List ℕ} → Accepted f → {i : ℕ} {q : Found BlockRecord} {r : BlockRecord} {first : ℕ}
     → q ≡ found_block f i → q ≡ Some r → first ≡ count_sum f i → IsBlock f i r first
 block_is ok e g starts = record { accepted = ok; found = sym e ∙ g; starts = starts }
 

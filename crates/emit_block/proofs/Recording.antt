@@ -1,6 +1,6 @@
 -- A record of a block that was written, alone or as the first of a fused pair.
 -- Assumes nothing.
-use Rattle.std.proofs.Common.{◌≡◌, ℕ, suc, ◌+◌, ◌*◌, ◌%◌, ◌^◌, ◌<◌, ◌≤◌, Bool, true, false, cond, List, ◌∷◌, drop, sym, ap, ◌∙◌, subst, true≢false, Some, None}
+use Rattle.std.proofs.Common.{◌≡◌, ℕ, suc, ◌+◌, ◌*◌, ◌%◌, ◌^◌, ◌<◌, ◌≤◌, Bool, true, cond, List, ◌∷◌, drop, sym, ap, ◌∙◌, subst, true≢false, Some, None}
 use package.native.Mathlib.Nat.{mod-eq_of_lt}
 use package.native.Mathlib.Numerals.{add-one}
 use package.native.Mathlib.Omega.{arith}

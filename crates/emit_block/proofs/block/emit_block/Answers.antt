@@ -1,6 +1,6 @@
 -- `emit_block` writes the guard of a block and its records, by its region and its code bytes.
 -- Assumes nothing.
-use Rattle.std.proofs.Common.{true, false, sym, ap, ◌∙◌, arith, rules}
+use Rattle.std.proofs.Common.{true, false, sym, ap, ◌∙◌, arith}
 use mathlib.Core.Option.{some}
 use borrow.Author.Tests.{not-true, not-false}
 use Rattle.file_blocks.specs.Read.{IsBlock}
