@@ -7,17 +7,14 @@ ghost use Rattle.plan_exits.specs.Exits.{keys_of};
 ghost use Rattle.call_exits.specs.Calls.{exits_call, exits_numbers};
 
 use call_frame::{Refusal, open_file};
-use plan_exits::{Exits, FoundExits, block_exits};
+use plan_exits::{Exits, block_exits};
 
 // The exits of a block by its number, or refusal 9 where there is no such block.
 pub fn exits_of(file: &[u8], block: u64) -> Result<Exits, Refusal>
     ensures answer { answer_by keys_of result ≡ exits_call block (parse file.now) }
 {
     open_file(file, None, 0, 0)?;
-    match block_exits(file, block as usize) {
-        FoundExits::Exits(exits) => Ok(exits),
-        FoundExits::Nothing => Err(Refusal::NotFound),
-    }
+    block_exits(file, block as usize).ok_or(Refusal::NotFound)
 }
 
 // The numbers of exits: how many keys, and the keys.

@@ -10,7 +10,7 @@ ghost use Rattle.call_listing.specs.Listing.{exits_text, line, block_line, listi
 ghost use Rattle.call_listing.specs.Steps.{HoldsGroups};
 ghost use Rattle.call_frame.specs.Open.{IsOpen};
 
-use file_blocks::{BlockRecord, FoundBlock, block_at, key_of};
+use file_blocks::{BlockRecord, block_at, key_of};
 use plan_exits::{Exits, exits_at};
 
 // The exits of a line.
@@ -66,7 +66,7 @@ pub(crate) fn put_listing(file: &[u8], work: &[u32], n: usize, out: &mut [u8]) -
     let mut at = base_text::put(out, 0, b"key group exits\n");
     let mut first: usize = 0;
     for i in 0..n {
-        let FoundBlock::At(block) = block_at(file, i) else {
+        let Some(block) = block_at(file, i) else {
             return at;
         };
         at = put_block(file, out, at, work[n + i], block, first);

@@ -12,7 +12,7 @@ use crate::find::find_instr;
 use call_frame::{Refusal, open_file};
 use emit_reasons::said_at;
 use emit_sentences::{Sentence, put_said};
-use file_blocks::{FoundBlock, block_at};
+use file_blocks::block_at;
 
 // What is said of instruction k of a file that is open, with n blocks, if there is one.
 fn find_said(file: &[u8], n: u32, k: u64) -> Option<Sentence>
@@ -21,7 +21,7 @@ fn find_said(file: &[u8], n: u32, k: u64) -> Option<Sentence>
 {
     let place = find_instr(file, n as usize, k)?;
     let first = place.first;
-    let FoundBlock::At(block) = block_at(file, place.block) else {
+    let Some(block) = block_at(file, place.block) else {
         return None;
     };
     let index = k - first as u64;

@@ -55,7 +55,7 @@ said_at-requires c =
     let stands : StandsAt c.args.file.now c.args.k _ _ =
     c.in_ok-place.ensures in
     let is =
-    block_is c.requires.accepted c.block_at.ensures c.in-At.is
+    block_is c.requires.accepted c.block_at.ensures c.in-Some.is
     stands.starts in
     ((_, is), omega (arith, stands.from, stands.before, record_count_lem is))
 
@@ -66,7 +66,7 @@ returns c =
     let ok = c.requires.accepted in
     let stands : StandsAt f c.args.k _ _ =
     c.in_ok-place.ensures in
-    let is = block_is ok c.block_at.ensures c.in-At.is stands.starts in (
+    let is = block_is ok c.block_at.ensures c.in-Some.is stands.starts in (
       omega (
         arith,
         stands.before,
