@@ -14,10 +14,7 @@ pub fn exits_of(file: &[u8], block: u64) -> Result<Exits, Refusal>
     ensures answer { answer_by keys_of result ≡ exits_call block (parse file.now) }
 {
     open_file(file, None, 0, 0)?;
-    match block_exits(file, block as usize) {
-        Some(exits) => Ok(exits),
-        None => Err(Refusal::NotFound),
-    }
+    block_exits(file, block as usize).ok_or(Refusal::NotFound)
 }
 
 // The numbers of exits: how many keys, and the keys.

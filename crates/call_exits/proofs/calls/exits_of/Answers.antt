@@ -1,17 +1,29 @@
 -- By what opening tells of the file, and what is found of the block.
 -- Assumes nothing.
-use Rattle.std.proofs.Common.{ℕ, List, [], sym, ap, ◌∙◌}
-use Rattle.std.proofs.Math.Option.{Option}
+use Rattle.std.proofs.Common.{◌≡◌, ℕ, List, [], refl, sym, ap, ◌∙◌}
+use Rattle.std.proofs.Math.Option as maybe
 use Rattle.std.proofs.lemmas.Result.{err_from_is_err_and}
+use Rattle.std.specs.Prelude.{Option, Some, None}
+use Rattle.std.specs.Option.{ok_or}
+use Rattle.plan_exits.specs.declared.exits.Exits.{Exits}
+use Rattle.plan_exits.specs.Exits.{keys_of}
 use Rattle.plan_exits.specs.Found.{found_keys}
+use Rattle.call_frame.specs.declared.refusal.Refusal.{Refusal}
 use Rattle.call_frame.specs.Frame.{Outcome, makes, settle, if_found}
+use Rattle.call_frame.specs.Refusal.{answer_by}
 use Rattle.call_frame.proofs.Opening.{refused_call, open_call}
 use Rattle.call_exits.specs.Calls.{asks_exits}
 use Rattle.call_exits.proofs.calls.exits_of.Goals as goal
 
 -- what is left by what is found
-abbrev found : List ℕ → Option (List ℕ) → Outcome (List ℕ)
+abbrev found : List ℕ → maybe.Option (List ℕ) → Outcome (List ℕ)
 found work o = settle (if_found (λ (ks : List ℕ). makes ks []) o) work []
+
+-- which is what the code answers
+answered : (work : List ℕ) (o : Option Exits)
+    → answer_by keys_of (ok_or o Refusal.NotFound) ≡ (found work (found_keys o)).answer
+answered work (Some e) = refl
+answered work None = refl
 
 pub returns-in_err-open_file : goal.returns-in_err-open_file
 returns-in_err-open_file c =
@@ -21,20 +33,12 @@ returns-in_err-open_file c =
           (refused_call (asks_exits _) [] [] _ _ c.in_err-open_file.ensures.refused));
     }
 
-pub returns-in-Some : goal.returns-in-Some
-returns-in-Some c =
+pub returns : goal.returns
+returns c =
     record {
       answer = let o = c.in_ok-open_file.ensures.open in
-          ap (λ (l : Outcome (List ℕ)). l.answer)
-          (ap (found _) (sym (ap found_keys c.in-Some.is) ∙ c.block_exits.ensures o.accepted)
-          ∙ open_call (asks_exits _) [] [] _ _ o);
-    }
-
-pub returns-in-None : goal.returns-in-None
-returns-in-None c =
-    record {
-      answer = let o = c.in_ok-open_file.ensures.open in
-          ap (λ (l : Outcome (List ℕ)). l.answer)
-          (ap (found _) (sym (ap found_keys c.in-None.is) ∙ c.block_exits.ensures o.accepted)
-          ∙ open_call (asks_exits _) [] [] _ _ o);
+          rw c.ok_or.ensures.value
+          (answered _ c.block_exits.result
+          ∙ ap (λ (l : Outcome (List ℕ)). l.answer)
+          (ap (found _) (c.block_exits.ensures o.accepted) ∙ open_call (asks_exits _) [] [] _ _ o));
     }
