@@ -45,7 +45,8 @@ pub enum Cond {
 }
 
 impl Cond {
-    // The condition that the low 4 bits encode.
+    // The condition that the low 4 bits encode. Cond, AluOp and ShiftKind each have a table of
+    // their own: one function over any table would be called with that table, and is no plainer.
     pub fn from_bits(bits: u8) -> Cond
         ensures { result ≡ cond_of (bits % 16) }
     {

@@ -48,7 +48,9 @@ by_number f at (suc (suc (suc (suc (suc (suc (suc (suc (suc (suc (suc zero))))))
 by_number f at (suc (suc (suc (suc (suc (suc (suc (suc (suc (suc (suc (suc zero)))))))))))) = refl
 by_number f at (suc (suc (suc (suc (suc (suc (suc (suc (suc (suc (suc (suc (suc zero))))))))))))) = refl
 by_number f at (suc (suc (suc (suc (suc (suc (suc (suc (suc (suc (suc (suc (suc (suc n)))))))))))))) =
-    let far : 14 ≤ (suc (suc (suc (suc (suc (suc (suc (suc (suc (suc (suc (suc (suc (suc n)))))))))))))) = omega arith in
+    let far : 14
+    ≤ (suc (suc (suc (suc (suc (suc (suc (suc (suc (suc (suc (suc (suc (suc n)))))))))))))) =
+    omega arith in
     simp (past far 3 refl, past far 10 refl, past far 11 refl, past far 12 refl, past far 13 refl)
 
 -- so of a kind that the code found

@@ -1,4 +1,4 @@
--- To be believed: the kinds of instruction record, by number.
+-- Steps: the kinds of instruction record, by number.
 use Rattle.std.specs.Prelude.{ℕ, List, [], ◌∷◌, slice_index_or}
 use Rattle.file_instrs.specs.declared.kind.Kind.{Kind}
 use Rattle.file_instrs.specs.declared.kind.Kind.TheVariants.{Alu, Mul, MulLong, Swap, Bx, Branch}

@@ -70,7 +70,8 @@ impl Record<'_> {
 
     // A register operand, shifted or not.
     fn register(self) -> Operand2
-        ensures { result ≡ Operand2.Reg (byte_at self.entry.file.now (self.entry.at + 9)) (shift_at self.entry.file.now self.entry.at) }
+        ensures { result ≡ Operand2.Reg (byte_at self.entry.file.now (self.entry.at + 9))
+            (shift_at self.entry.file.now self.entry.at) }
     {
         let rm = self.byte(9);
         if self.unshifted() {
@@ -184,7 +185,8 @@ impl Record<'_> {
         }
     }
 
-    // The operation of a record, by its kind; where a kind leaves its bytes free, with 0 in every field.
+    // The operation of a record, by its kind; where a kind leaves its bytes free, with 0 in every
+    // field.
     fn op(self) -> Op
         ensures { result ≡ op_at self.entry.file.now self.entry.at }
     {

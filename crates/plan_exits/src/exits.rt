@@ -9,7 +9,8 @@ ghost use Rattle.plan_exits.specs.Found.{EndsNoPair, AreExits, AreFoundExits};
 use armv4t::{Cond, Instr, Op, PC, fuse_thumb_bl, is_listed, set_bit0};
 use file_blocks::{BlockRecord, block_at, fall_through, instr_of, key_of};
 
-// The keys of an exit list, the target before the fall-through.
+// The keys of an exit list, the target before the fall-through. An Option for each key would be no
+// plainer: it would let the second stand alone.
 #[derive(Clone, Copy)]
 pub enum Exits {
     None,
@@ -98,8 +99,8 @@ pub fn exits_at(file: &[u8], block: BlockRecord, first: usize) -> Exits
     closing_exits(block.thumb, previous.instr, last.instr)
 }
 
-// The exits of block i, or that there is no such block. `first` sums the counts of the blocks before block k; in an
-// accepted file it does not wrap.
+// The exits of block i, or that there is no such block. `first` sums the counts of the blocks
+// before block k; in an accepted file it does not wrap.
 pub fn block_exits(file: &[u8], i: usize) -> Option<Exits>
     ensures { AreFoundExits file.now i result }
 {

@@ -69,7 +69,7 @@ fn close_part(group: u32, open: bool) -> u32
 
 // Places all blocks: goes along the links of each component in turn, and never reads the key order
 // that it writes over. `r` counts the components begun, `h` is the next member of the last of them,
-// or n.
+// or n. A `for` would be no plainer: a turn that begins a component places no block.
 pub(crate) fn place_blocks(file: &[u8], work: &mut [u32], n: u32, limit: u64)
     requires has_room { HasRoom file.now work.old n × Accepted file.now }
     requires all_once { AllOnce n (take n work.old) }
