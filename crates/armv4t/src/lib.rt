@@ -382,29 +382,18 @@ pub fn set_bit0(x: u32) -> u32
     x | 1
 }
 
-// What the two halves of a Thumb BL make together.
-#[derive(Clone, Copy)]
-pub enum Fused {
-    // Where it goes, and the return address with the Thumb bit.
-    Pair { target: u32, ret: u32 },
-    // The two are no such pair.
-    Nothing,
-}
-
-// Fuse a Thumb BL pair: `high` is a ThumbBlHigh, and `low` the ThumbBlLow after it.
-pub fn fuse_thumb_bl(high: Instr, low: Instr) -> Fused
+// Fuse a Thumb BL pair: `high` is a ThumbBlHigh, and `low` the ThumbBlLow after it. Answers where
+// the pair goes, and the return address with the Thumb bit; or that the two are no such pair.
+pub fn fuse_thumb_bl(high: Instr, low: Instr) -> Option<(u32, u32)>
     ensures { result ≡ fuse high low }
 {
-    let first = high.op;
-    let second = low.op;
-    match first {
-        Op::ThumbBlHigh { lr_partial } => match second {
-            Op::ThumbBlLow { off } => Fused::Pair {
-                target: std::num::wrapping_add_u32(lr_partial, (off as u32) * 2),
-                ret: set_bit0(std::num::wrapping_add_u32(low.addr, 2)),
-            },
-            _ => Fused::Nothing,
-        },
-        _ => Fused::Nothing,
-    }
+    let Op::ThumbBlHigh { lr_partial } = high.op else {
+        return None;
+    };
+    let Op::ThumbBlLow { off } = low.op else {
+        return None;
+    };
+    let target = std::num::wrapping_add_u32(lr_partial, (off as u32) * 2);
+    let ret = set_bit0(std::num::wrapping_add_u32(low.addr, 2));
+    Some((target, ret))
 }

@@ -6,7 +6,7 @@ ghost use Rattle.plan_exits.specs.Exits.{keys_of};
 ghost use Rattle.call_exits.specs.Calls.{exits_answer, exits_call, exits_numbers};
 
 use call_frame::{Early, Opened, open_file};
-use plan_exits::{Exits, FoundExits, block_exits};
+use plan_exits::{Exits, block_exits};
 
 // The answer of the call for the exits of a block.
 #[derive(Clone, Copy)]
@@ -23,8 +23,8 @@ pub fn exits_of(file: &[u8], block: u64) -> ExitsAnswer
     match open_file(file, Early::Nothing, 0, 0) {
         Opened::Refused { number, at } => ExitsAnswer::Refused { number, at },
         Opened::Blocks { .. } => match block_exits(file, block as usize) {
-            FoundExits::Exits(e) => ExitsAnswer::Exits(e),
-            FoundExits::Nothing => ExitsAnswer::Refused { number: 9, at: 0 },
+            Some(e) => ExitsAnswer::Exits(e),
+            None => ExitsAnswer::Refused { number: 9, at: 0 },
         },
     }
 }

@@ -10,7 +10,7 @@ ghost use Rattle.call_listing.specs.Listing.{exits_text, line, block_line, listi
 ghost use Rattle.call_listing.specs.Steps.{HoldsGroups};
 ghost use Rattle.call_frame.specs.Open.{IsOpen};
 
-use file_blocks::{BlockRecord, FoundBlock, block_at, key_of};
+use file_blocks::{BlockRecord, block_at, key_of};
 use plan_exits::{Exits, exits_at};
 
 // The exits of a line.
@@ -67,7 +67,7 @@ pub(crate) fn put_listing(file: &[u8], work: &[u32], n: usize, out: &mut [u8]) -
     let mut first: usize = 0;
     let mut i = 0;
     while i < n {
-        let FoundBlock::At(block) = block_at(file, i) else {
+        let Some(block) = block_at(file, i) else {
             return at;
         };
         at = put_block(file, out, at, work[n + i], block, first);

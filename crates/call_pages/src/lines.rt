@@ -10,7 +10,7 @@ ghost use Rattle.call_pages.specs.Page.{left_in, right_in, keys_text, page_line,
 ghost use Rattle.call_pages.specs.Page.{row_line};
 ghost use Rattle.call_pages.specs.Steps.{row_at};
 
-use file_blocks::{FoundBlock, block_at, key_of};
+use file_blocks::{block_at, key_of};
 use plan_exits::{Exits, exits_at};
 use plan_members::{first_of, row_block, row_group};
 
@@ -93,7 +93,7 @@ pub(crate) fn put_row(
         out.new result }
 {
     let i = row_block(work, p);
-    let FoundBlock::At(block) = block_at(file, i) else {
+    let Some(block) = block_at(file, i) else {
         return at;
     };
     let exits = exits_at(file, block, first_of(work, n, i));

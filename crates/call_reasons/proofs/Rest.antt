@@ -1,5 +1,6 @@
 -- What is said of the instructions of a file from a block on.
 -- Assumes nothing.
+use Rattle.std.proofs.Common.{Option as Found, Some}
 use Prim.Native.Nat.{ℕ, zero, suc, ◌+◌, ◌-◌, ◌≤◌, ◌<◌}
 use mathlib.Core.Path.{◌≡◌, refl, sym, ap, ap₂, ◌∙◌}
 use mathlib.Core.Bool.{Bool, true, false, not, cond, ◌||◌}
@@ -13,7 +14,6 @@ use Rattle.base_lists.specs.Lists.{is_some}
 use Rattle.file_records.specs.BlockRecord.{count_at, count_sum}
 use Rattle.file_records.specs.Trailer.{block_count, block_start}
 use Rattle.file_blocks.specs.declared.read.BlockRecord.{BlockRecord}
-use Rattle.file_blocks.specs.declared.read.FoundBlock.{FoundBlock}
 use Rattle.file_blocks.specs.Address.{region, outside_rom_bios}
 use Rattle.file_blocks.specs.Parse.{block_at, blocks_from, blocks_of, instr_total, Accepted}
 use Rattle.file_blocks.specs.Read.{record_at, found_block, instrs_of, IsBlock}
@@ -75,8 +75,8 @@ module _ (f : List ℕ) (ok : Accepted f) where
   total_is = instrs_of_lem f (blocks_of f) ok ∙ sym (sums f (blocks_of f) ok)
 
 -- a block that was found by its number
-pub block_is : {f : List ℕ} → Accepted f → {i : ℕ} {q : FoundBlock} {r : BlockRecord} {first : ℕ}
-    → q ≡ found_block f i → q ≡ FoundBlock.At r → first ≡ count_sum f i → IsBlock f i r first
+pub block_is : {f : List ℕ} → Accepted f → {i : ℕ} {q : Found BlockRecord} {r : BlockRecord} {first : ℕ}
+    → q ≡ found_block f i → q ≡ Some r → first ≡ count_sum f i → IsBlock f i r first
 block_is ok e g starts = record { accepted = ok; found = sym e ∙ g; starts = starts }
 
 -- one of the first of two lists

@@ -4,7 +4,7 @@ ghost use Rattle.file_records.specs.Trailer.{block_count};
 ghost use Rattle.file_blocks.specs.Parse.{Accepted};
 ghost use Rattle.call_reasons.specs.Steps.{IsFoundPlace};
 
-use file_blocks::{FoundBlock, block_at};
+use file_blocks::block_at;
 
 // Where an instruction stands.
 #[derive(Clone, Copy)]
@@ -23,7 +23,7 @@ pub(crate) fn find_instr(file: &[u8], n: usize, k: u64) -> FoundPlace
     let mut i = 0;
     let mut first = 0;
     while i < n {
-        let FoundBlock::At(block) = block_at(file, i) else {
+        let Some(block) = block_at(file, i) else {
             return FoundPlace::Nothing;
         };
         let next = first + block.count as usize;

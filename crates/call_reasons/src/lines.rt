@@ -7,7 +7,7 @@ ghost use Rattle.emit_reasons.specs.Steps.{Put};
 ghost use Rattle.call_reasons.specs.Steps.{StandsIn};
 
 use emit_reasons::{Progress, put_block};
-use file_blocks::{FoundBlock, block_at};
+use file_blocks::block_at;
 
 // The lines from instruction first + index on, where block i of n begins with instruction `first`
 // and has that one: as many as fit, one after another in the front of `text`.
@@ -28,7 +28,7 @@ pub(crate) fn put_lines(
     let mut skip = index;
     let mut b = i;
     while b < n {
-        let FoundBlock::At(block) = block_at(file, b) else {
+        let Some(block) = block_at(file, b) else {
             return Progress { next, length };
         };
         let end = next + block.count as usize;

@@ -11,7 +11,7 @@ use crate::find::{FoundPlace, find_instr};
 use call_frame::{Early, Opened, open_file};
 use emit_reasons::said_at;
 use emit_sentences::{Sentence, put_said};
-use file_blocks::{FoundBlock, block_at};
+use file_blocks::block_at;
 
 // The answer of the call for one sentence.
 #[derive(Clone, Copy)]
@@ -38,7 +38,7 @@ fn find_said(file: &[u8], n: u32, k: u64) -> FoundSaid
     let FoundPlace::At { block: i, first } = find_instr(file, n as usize, k) else {
         return FoundSaid::Nothing;
     };
-    let FoundBlock::At(block) = block_at(file, i) else {
+    let Some(block) = block_at(file, i) else {
         return FoundSaid::Nothing;
     };
     let index = k - first as u64;

@@ -1,5 +1,6 @@
 -- What is counted where the text of a block is run is what is carried out by its records_in, one
 -- after the other.
+use Rattle.std.proofs.Common.{Some}
 use Prim.Native.Nat.{ℕ, suc, ◌+◌, ◌%◌, ◌<◌}
 use mathlib.Core.Path.{◌≡◌, refl, sym, ap, ◌∙◌, subst}
 use mathlib.Core.Logic.{◌⊎◌, inl, inr}
@@ -10,7 +11,6 @@ use native.Mathlib.Omega.{arith}
 use borrow.Author.Tests.{eqb-true, eqb-false}
 use lib.Dec.{eqb}
 use Rattle.armv4t.specs.Instr.{size_of}
-use Rattle.armv4t.specs.declared.Fused.TheVariants.{Pair}
 use Rattle.armv4t.specs.Fused.{fuse}
 use Rattle.file_instrs.specs.declared.decode.TimedInstr.{TimedInstr}
 use Rattle.file_blocks.specs.Parse.{Block}
@@ -89,7 +89,7 @@ no_form t region cycles [] e = refl
 no_form t region cycles (x ∷ xs) e = absurd (let y : ◌≡◌ {A = ℕ} 0 1 = cc in omega arith)
 
 forms_pair : (t : Bool) (region cycles : ℕ) (x y : TimedInstr) (ys : List TimedInstr)
-    (target ret : ℕ) → fuse x.instr y.instr ≡ Pair target ret
+    (target ret : ℕ) → fuse x.instr y.instr ≡ Some (target, ret)
     → (emit_instrs t region cycles (x ∷ y ∷ ys)).0
     ≡ Form.native (emit_pair (cycles + (x.cost + y.cost)) target ret)
     ∷ (emit_instrs t region 0 ys).0

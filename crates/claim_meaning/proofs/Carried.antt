@@ -1,5 +1,6 @@
 -- The text of records one after the other carries them out in order, up to where it leaves the
 -- block.
+use Rattle.std.proofs.Common.{Some, None}
 use Prim.Native.Nat.{ℕ, suc, ◌+◌, ◌%◌, ◌<◌}
 use mathlib.Core.Path.{◌≡◌, refl, sym, ap, ◌∙◌, subst}
 use mathlib.Core.Bool.{Bool, true, false, cond}
@@ -11,9 +12,7 @@ use borrow.Author.Tests.{eqb-true, eqb-false}
 use lib.Dec.{eqb, lit<}
 use Rattle.armv4t.specs.Bit0.{clear_bit0}
 use Rattle.armv4t.specs.Instr.{size_of}
-use Rattle.armv4t.specs.declared.Fused.{Fused}
-use Rattle.armv4t.specs.declared.Fused.TheVariants.{Pair, Nothing}
-use Rattle.armv4t.specs.Fused.{fuse}
+use Rattle.armv4t.specs.Fused.{Fused, fuse}
 use Rattle.file_instrs.specs.declared.decode.TimedInstr.{TimedInstr}
 use Rattle.file_blocks.specs.Parse.{Block}
 use Rattle.file_blocks.specs.Address.{region, key_of, fall_through}
@@ -419,7 +418,7 @@ module _ (multiplier : ℕ) (ks : List ℕ) (b : Block) (step : ℕ → ℕ → 
 
   -- a fused pair, whatever stands after it
   pair_done : (x y : TimedInstr) → Known ks b x → Known ks b y → PairMeans ks b.addr x y
-      → (target ret : ℕ) → fuse x.instr y.instr ≡ Pair target ret
+      → (target ret : ℕ) → fuse x.instr y.instr ≡ Some (target, ret)
       → (xs : List TimedInstr) (fs : List Form) (i cycles before : ℕ) (z : State) (m : Machine)
       → AtRecord step before z m
       → Done step before multiplier ks b (x ∷ y ∷ xs) m i
@@ -571,14 +570,14 @@ module _ (multiplier : ℕ) (ks : List ℕ) (b : Block) (step : ℕ → ℕ → 
           (fused_or f (cons_form s.0 fs)
           (λ target ret. cons_form (Form.native (emit_pair (cycles + (x.cost + y.cost)) target ret))
           (emit_instrs b.thumb (region b.addr) 0 ys))).0 z
-      go follow Nothing e =
+      go follow None e =
           let f = some_form b.thumb (region b.addr) s.1 y ys in
           subst (λ (rs : List Form). Done step before multiplier ks b (x ∷ y ∷ ys) m i (s.0 ∷ rs)
           z) (sym f.2)
           (alone_done x (first k) i cycles before z m q y ys f.0 f.1 e
           (subst (λ (rs : List Form). After x (y ∷ ys) rs) f.2
           (after_more x y ys fs.0 e (λ j n u. follow j s.1 n u))))
-      go follow (Pair target ret) e =
+      go follow (Some (target, ret)) e =
           pair_done x y (first k) (first (others k)) (k.pairs [] ys x y refl) target ret e ys
           (emit_instrs b.thumb (region b.addr) 0 ys).0 i
           (cycles + (x.cost + y.cost)) before z m q

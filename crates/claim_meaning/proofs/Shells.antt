@@ -1,4 +1,5 @@
 -- What the records of a block are lowered to, native or shells, and what shells do.
+use Rattle.std.proofs.Common.{Some, None}
 use Prim.Native.Nat.{ℕ, ◌+◌, ◌<◌}
 use mathlib.Core.Path.{◌≡◌, refl, ap, ◌∙◌}
 use mathlib.Core.Bool.{Bool, true, false, cond}
@@ -10,9 +11,7 @@ use Rattle.armv4t.specs.declared.Op.TheVariants.{Alu, Mul, MulLong, Swap, Bx, Br
 use Rattle.armv4t.specs.declared.Op.TheVariants.{ThumbBlLow, Mem, BlockMem, Mrs, MsrReg, MsrImm}
 use Rattle.armv4t.specs.declared.Op.TheVariants.{Swi, Undefined}
 use Rattle.armv4t.specs.declared.Instr.{Instr}
-use Rattle.armv4t.specs.declared.Fused.{Fused}
-use Rattle.armv4t.specs.declared.Fused.TheVariants.{Pair, Nothing}
-use Rattle.armv4t.specs.Fused.{fuse, fuse_low, fuse_ops}
+use Rattle.armv4t.specs.Fused.{Fused, fuse, fuse_low, fuse_ops}
 use Rattle.file_instrs.specs.declared.decode.TimedInstr.{TimedInstr}
 use Rattle.c_tree.specs.Expr.{u32, x-pc}
 use Rattle.c_tree.specs.Stmt.{common, Code, ◌⨾◌, ret_interp}
@@ -102,15 +101,15 @@ some_form thumb region cycles x (y ∷ ys) = go (fuse x.instr y.instr)
         (emit_instrs thumb region (emit_instr thumb region cycles x).1 (y ∷ ys)))
         (λ target ret. cons_form (Form.native (emit_pair (cycles + (x.cost + y.cost)) target ret))
         (emit_instrs thumb region 0 ys))).0 ≡ r ∷ rs)
-    go Nothing = (_, _, refl)
-    go (Pair target ret) = (_, _, refl)
+    go None = (_, _, refl)
+    go (Some (target, ret)) = (_, _, refl)
 
 -- half of a Thumb BL, which the manual writes out
 pub record Half (op : Op) : Type 0 where
   pub half : is_half op ≡ true
   pub written : WrittenOut op
 
-low_half : (lr : ℕ) (op : Op) (addr : ℕ) {target ret : ℕ} → fuse_low lr op addr ≡ Pair target ret
+low_half : (lr : ℕ) (op : Op) (addr : ℕ) {target ret : ℕ} → fuse_low lr op addr ≡ Some (target, ret)
     → Half op
 low_half lr (Alu _ _ _ _ _) addr e = absurd (not_pair e)
 low_half lr (Mul _ _ _ _ _ _) addr e = absurd (not_pair e)
@@ -128,7 +127,7 @@ low_half lr (MsrImm _ _ _) addr e = absurd (not_pair e)
 low_half lr (Swi _) addr e = absurd (not_pair e)
 low_half lr (Undefined _) addr e = absurd (not_pair e)
 
-op_halves : (high low : Op) (addr : ℕ) {target ret : ℕ} → fuse_ops high low addr ≡ Pair target ret
+op_halves : (high low : Op) (addr : ℕ) {target ret : ℕ} → fuse_ops high low addr ≡ Some (target, ret)
     → Half high × Half low
 op_halves (Alu _ _ _ _ _) low addr e = absurd (not_pair e)
 op_halves (Mul _ _ _ _ _ _) low addr e = absurd (not_pair e)
@@ -148,7 +147,7 @@ op_halves (Swi _) low addr e = absurd (not_pair e)
 op_halves (Undefined _) low addr e = absurd (not_pair e)
 
 -- what fuses are two halves
-pub halves : (high low : Instr) (target ret : ℕ) → fuse high low ≡ Pair target ret
+pub halves : (high low : Instr) (target ret : ℕ) → fuse high low ≡ Some (target, ret)
     → Half high.op × Half low.op
 unfolding fuse
 halves high low target ret e = op_halves high.op low.op low.addr e

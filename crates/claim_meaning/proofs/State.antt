@@ -1,5 +1,6 @@
 -- T at the exit of a block is bit 0 of the key that it leads to, if it was the block's own set at
 -- its entry, and each step of the interpreter leaves it so.
+use Rattle.std.proofs.Common.{Some, None}
 use Prim.Native.Nat.{ℕ, ◌%◌}
 use mathlib.Core.Path.{◌≡◌, refl, sym, ap, ◌∙◌, subst}
 use mathlib.Core.Bool.{Bool}
@@ -11,8 +12,7 @@ use Rattle.armv4t.specs.declared.Op.{Op}
 use Rattle.armv4t.specs.declared.Op.TheVariants.{Alu, Mul, MulLong, Swap, Bx, Branch, ThumbBlHigh}
 use Rattle.armv4t.specs.declared.Op.TheVariants.{ThumbBlLow, Mem, BlockMem, Mrs, MsrReg, MsrImm}
 use Rattle.armv4t.specs.declared.Op.TheVariants.{Swi, Undefined}
-use Rattle.armv4t.specs.declared.Fused.TheVariants.{Nothing, Pair}
-use Rattle.armv4t.specs.Fused.{fuse_ops, fuse}
+use Rattle.armv4t.specs.Fused.{Fused, fuse_ops, fuse}
 use Rattle.armv4t.specs.declared.Instr.{Instr}
 use Rattle.armv4t.specs.InRange.{InRange}
 use Rattle.file_instrs.specs.declared.decode.TimedInstr.{TimedInstr}
@@ -32,12 +32,12 @@ pub record OfSet (thumb : Bool) (x : TimedInstr) : Type 0 where
   pub even : x.instr.addr % 2 ≡ 0
   pub ranges : InRange x.instr.op
 
-no_pair : {target ret : ℕ} → Nothing ≡ Pair target ret → ⊥
+no_pair : {target ret : ℕ} → ◌≡◌ {A = Fused} None (Some (target, ret)) → ⊥
 no_pair e = let z : ◌≡◌ {A = ℕ} 0 1 = cc in omega arith
 
 -- the first half of a pair only leads on
 high_leads_on : (i : Instr) (m : Machine) (op low : Op) (a target ret : ℕ)
-    → fuse_ops op low a ≡ Pair target ret
+    → fuse_ops op low a ≡ Some (target, ret)
     → Each (λ (next : Machine × ℕ). next.1 ≡ key_after i) (operation i op m)
 high_leads_on i m (Alu op s rd rn op2) low a target ret e = absurd (no_pair e)
 high_leads_on i m (Mul acc s rd rn rs rm) low a target ret e = absurd (no_pair e)
@@ -58,7 +58,7 @@ high_leads_on i m (Swi imm) low a target ret e = absurd (no_pair e)
 high_leads_on i m (Undefined raw) low a target ret e = absurd (no_pair e)
 
 pair_leads_on : (i j : Instr) (m : Machine) (target ret : ℕ) (half : Machine × ℕ)
-    → fuse i j ≡ Pair target ret → execute i m ≡ some half → half.1 ≡ key_after i
+    → fuse i j ≡ Some (target, ret) → execute i m ≡ some half → half.1 ≡ key_after i
 unfolding fuse
 pair_leads_on i j m target ret half e f =
     subst (Each (λ (next : Machine × ℕ). next.1 ≡ key_after i)) f

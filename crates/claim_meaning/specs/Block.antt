@@ -1,6 +1,6 @@
 -- To be believed: what is claimed of the text of a whole block, from its first statement to its
 -- transfer.
-use Rattle.std.specs.Prelude.{ℕ, suc, ◌+◌, ◌≡◌, Bool, true, false, not, ◌&&◌, ◌||◌}
+use Rattle.std.specs.Prelude.{ℕ, suc, ◌+◌, ◌≡◌, Bool, true, false, not, ◌&&◌, ◌||◌, Some, None}
 use mathlib.Core.List.{List, [], ◌∷◌, Memᴰ}
 use Rattle.std.proofs.Math.Option.{none, some}
 use Rattle.base_words.specs.Word.{bit}
@@ -10,7 +10,6 @@ use Rattle.armv4t.specs.declared.Op.TheVariants.{Alu, Mul, MulLong, Swap, Bx, Br
 use Rattle.armv4t.specs.declared.Op.TheVariants.{ThumbBlLow, Mem, BlockMem, Mrs, MsrReg, MsrImm}
 use Rattle.armv4t.specs.declared.Op.TheVariants.{Swi, Undefined}
 use Rattle.armv4t.specs.declared.Instr.{Instr}
-use Rattle.armv4t.specs.declared.Fused.TheVariants.{Pair, Nothing}
 use Rattle.armv4t.specs.Fused.{fuse}
 use Rattle.file_instrs.specs.declared.decode.TimedInstr.{TimedInstr}
 use Rattle.file_blocks.specs.Parse.{Block}
@@ -79,7 +78,7 @@ is_covered region x =
 -- a record does not fuse with the one after it
 abbrev pub Alone : TimedInstr → List TimedInstr → Type 0
 Alone x [] = Unit {0}
-Alone x (y ∷ ys) = fuse x.instr y.instr ≡ Nothing
+Alone x (y ∷ ys) = fuse x.instr y.instr ≡ None
 
 -- whether a record of a block in a region leaves the block, whatever its key: a native transfer
 -- whose condition passes
@@ -115,7 +114,7 @@ module _ (step : ℕ → ℕ → Machine → Machine × ℕ) (region : ℕ) wher
         → Sequence i j (x ∷ xs) m next
     -- or with a pair that fuses
     pair : (n : ℕ) (x y : TimedInstr) (xs : List TimedInstr) (target ret : ℕ) (m : Machine)
-        (half next : Machine × ℕ) → fuse x.instr y.instr ≡ Pair target ret
+        (half next : Machine × ℕ) → fuse x.instr y.instr ≡ Some (target, ret)
         → execute x.instr m ≡ some half → execute y.instr half.0 ≡ some next
         → Sequence n n (x ∷ y ∷ xs) m next
     -- or goes on after a record that leads to the one after it, and does not leave the block

@@ -1,12 +1,11 @@
 -- Examples: a store of a base that is not the lowest is covered. That T agrees with the key needs
 -- records that are covered: the halves of a Thumb BL in an ARM block are not, and the text of the
 -- pair leads to a Thumb key with T clear.
-use Rattle.std.specs.Prelude.{ℕ, ◌≡◌, refl, true, false, [], ◌∷◌}
+use Rattle.std.specs.Prelude.{ℕ, ◌≡◌, refl, true, false, [], ◌∷◌, Some}
 use Rattle.std.proofs.Math.Option.{some}
 use Rattle.armv4t.specs.declared.Cond.TheVariants.{Al}
 use Rattle.armv4t.specs.declared.Op.{Op}
 use Rattle.armv4t.specs.declared.Op.TheVariants.{ThumbBlHigh, ThumbBlLow, BlockMem}
-use Rattle.armv4t.specs.declared.Fused.TheVariants.{Pair}
 use Rattle.armv4t.specs.Fused.{fuse}
 use Rattle.file_instrs.specs.declared.decode.TimedInstr.{TimedInstr}
 use Rattle.c_tree.specs.Stmt.{common, end}
@@ -40,7 +39,7 @@ high = arm_record 0x08000100 (ThumbBlHigh 0x08000104)
 abbrev low : TimedInstr
 low = arm_record 0x08000104 (ThumbBlLow 3)
 
-they_fuse : fuse high.instr low.instr ≡ Pair 0x0800010a 0x08000107
+they_fuse : fuse high.instr low.instr ≡ Some (0x0800010a, 0x08000107)
 unfolding fuse
 they_fuse = refl
 

@@ -1,6 +1,7 @@
 -- Something is said of exactly the instructions for which the walk over a block's forms finds a
 -- shell.
 -- Assumes nothing.
+use Rattle.std.proofs.Common.{Some, None}
 use Prim.Native.Nat.{ℕ, zero, suc, ◌+◌, ◌<◌}
 use mathlib.Core.Path.{◌≡◌, refl, sym, ap, ◌∙◌}
 use mathlib.Core.Bool.{Bool, true, false, not, cond, ◌&&◌, ◌||◌, and-false, and-true, or-false}
@@ -12,9 +13,7 @@ use borrow.Author.Tests.{eq-eqb, ne_eqb}
 use lib.Dec.{eqb}
 use lib.ListN.{length, get_or}
 use Rattle.base_lists.specs.Lists.{is_some}
-use Rattle.armv4t.specs.declared.Fused.{Fused}
-use Rattle.armv4t.specs.declared.Fused.TheVariants.{Pair, Nothing}
-use Rattle.armv4t.specs.Fused.{fuse}
+use Rattle.armv4t.specs.Fused.{Fused, fuse}
 use Rattle.file_instrs.specs.declared.decode.TimedInstr.{TimedInstr}
 use Rattle.file_blocks.specs.Parse.{Block}
 use Rattle.file_blocks.specs.Address.{region}
@@ -137,10 +136,10 @@ module _ (thumb : Bool) (area cycles p : ℕ) (x y : TimedInstr) (rest : List Ti
 
   by_first : (f : Fused) → shell_from (p + 0) p (loop f) ≡ is_some (get_or (said f) 0 none)
   unfolding shell_from
-  by_first Nothing =
+  by_first None =
       here thumb area cycles p x
       (emit_instrs thumb area (emit_instr thumb area cycles x).1 (y ∷ rest)).0
-  by_first (Pair target ret) = refl
+  by_first (Some (target, ret)) = refl
 
   by_later : (f : Fused) (j : ℕ)
       → shell_from (p + 1 + j) (p + 1)
@@ -148,11 +147,11 @@ module _ (thumb : Bool) (area cycles p : ℕ) (x y : TimedInstr) (rest : List Ti
       ≡ is_some (get_or (said_each area (y ∷ rest)) j none)
       → shell_from (p + suc j) p (loop f) ≡ is_some (get_or (said f) (suc j) none)
   unfolding shell_from
-  by_later Nothing j e =
+  by_later None j e =
       later_said thumb area cycles p x
       (emit_instrs thumb area (emit_instr thumb area cycles x).1 (y ∷ rest)).0 j (y ∷ rest)
       (said_each area (y ∷ rest)) e
-  by_later (Pair target ret) j e = sym (ap is_some (nothing_at (y ∷ rest) j))
+  by_later (Some (target, ret)) j e = sym (ap is_some (nothing_at (y ∷ rest) j))
 
 walked : (thumb : Bool) (area cycles p j : ℕ) (xs : List TimedInstr)
     → shell_from (p + j) p (emit_instrs thumb area cycles xs).0

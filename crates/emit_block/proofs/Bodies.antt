@@ -1,11 +1,10 @@
 -- The body of a block of an accepted file, by its record, and its code by what stands before its
 -- records. Assumes nothing.
-use Rattle.std.proofs.Common.{◌≡◌, ℕ, Bool, true, false, cond, List, [], map, get_or, sym, refl, ap, ◌∙◌, subst}
+use Rattle.std.proofs.Common.{◌≡◌, ℕ, Bool, true, false, cond, List, [], map, get_or, sym, refl, ap, ◌∙◌, subst, Option as Found, Some}
 use mathlib.Core.Option
 use mathlib.Core.Option.{Option, none, some}
 use package.native.Mathlib.Omega.{arith}
 use Rattle.file_blocks.specs.declared.read.BlockRecord.{BlockRecord}
-use Rattle.file_blocks.specs.declared.read.FoundBlock.{FoundBlock}
 use Rattle.file_records.specs.Trailer.{block_start}
 use Rattle.file_records.specs.BlockRecord.{length_of, count_sum}
 use Rattle.file_blocks.specs.Parse.{block_at, blocks_of}
@@ -101,8 +100,8 @@ module _ {f : List ℕ} {r : BlockRecord} {first : ℕ} {b : Body} (body : IsBod
 
 -- a block of the plan, as the walk has it
 pub block_here : {f work : List ℕ} {m : Member} {ks : List ℕ} {r : BlockRecord} {first : ℕ}
-    (q : FoundBlock) → IsMember f work m ks
-    → q ≡ found_block f m.index → q ≡ FoundBlock.At r
+    (q : Found BlockRecord) → IsMember f work m ks
+    → q ≡ found_block f m.index → q ≡ Some r
     → ((g : List ℕ) (limit : ℕ) → HoldsPlan g m.rows.blocks limit work
     → first ≡ count_sum g m.index)
     → IsBlock f m.index r first

@@ -1,6 +1,6 @@
 -- A record of a block that was written, alone or as the first of a fused pair.
 -- Assumes nothing.
-use Rattle.std.proofs.Common.{◌≡◌, ℕ, suc, ◌+◌, ◌*◌, ◌%◌, ◌^◌, ◌<◌, ◌≤◌, Bool, true, false, cond, List, ◌∷◌, drop, sym, ap, ◌∙◌, subst, true≢false}
+use Rattle.std.proofs.Common.{◌≡◌, ℕ, suc, ◌+◌, ◌*◌, ◌%◌, ◌^◌, ◌<◌, ◌≤◌, Bool, true, cond, List, ◌∷◌, drop, sym, ap, ◌∙◌, subst, true≢false, Some, None}
 use package.native.Mathlib.Nat.{mod-eq_of_lt}
 use package.native.Mathlib.Numerals.{add-one}
 use package.native.Mathlib.Omega.{arith}
@@ -12,7 +12,7 @@ use Rattle.lower_forms.specs.Block.{emit_pair, emit_instr, cons_form, emit_instr
 use Rattle.file_blocks.specs.Address.{region}
 use Rattle.lower_forms.proofs.Cycles.{own, instr_cycles}
 use Rattle.lower_units.specs.Block.{code_from}
-use Rattle.file_blocks.specs.declared.next.Next.{Next}
+use Rattle.file_blocks.specs.declared.next.FusedPair.{FusedPair}
 use Rattle.emit_instr.specs.declared.step.Step.{Step}
 use Rattle.emit_instr.specs.Onward.{Onward}
 use Rattle.file_blocks.specs.Read.{instrs_of, next_of}
@@ -44,7 +44,7 @@ module _ (f : List ℕ) (r : BlockRecord) (first : ℕ) (ks : List ℕ) (b : Bod
     (x : TimedInstr) (out : List ℕ) (at : ℕ) (out' : List ℕ) (s : Step)
     (here : drop j (instrs_of f r first) ≡ x ∷ drop (suc j) (instrs_of f r first)) where
   -- an instruction that makes no pair
-  pub alone_recorded : next_of x.instr (drop (suc j) (instrs_of f r first)) ≡ Next.Alone
+  pub alone_recorded : next_of x.instr (drop (suc j) (instrs_of f r first)) ≡ None
       → x.cost ≤ 65535
       → s.cycles ≡ (emit_instr r.thumb (region r.addr) cycles x).1
       → Onward out at
@@ -78,20 +78,20 @@ module _ (f : List ℕ) (r : BlockRecord) (first : ℕ) (ks : List ℕ) (b : Bod
       }
 
   -- a fused pair: nothing stands after it
-  pub pair_recorded : (target ret cost : ℕ)
-      → next_of x.instr (drop (suc j) (instrs_of f r first)) ≡ Next.Pair target ret cost
+  pub pair_recorded : (p : FusedPair)
+      → next_of x.instr (drop (suc j) (instrs_of f r first)) ≡ Some p
       → s.done ≡ true → s.cycles ≡ 0
       → ((fs : List Form)
       → Onward out at
-      (code_from ks b j (Form.native (emit_pair (cycles + (x.cost + cost)) target ret) ∷ fs)) end
+      (code_from ks b j (Form.native (emit_pair (cycles + (x.cost + p.cost)) p.target p.ret) ∷ fs)) end
       out' s.at)
       → Recorded f r first ks b j cycles out at out' s
-  pair_recorded target ret cost next done none onward =
+  pair_recorded p next done none onward =
       let forms =
       instrs_pair r.thumb (region r.addr) cycles x (drop (suc j) (instrs_of f r first))
-      target ret cost next in
+      p next in
       let all : (forms_from f r first j cycles).0
-      ≡ Form.native (emit_pair (cycles + (x.cost + cost)) target ret) ∷ forms.0 =
+      ≡ Form.native (emit_pair (cycles + (x.cost + p.cost)) p.target p.ret) ∷ forms.0 =
       ap (λ (ys : List TimedInstr). (emit_instrs r.thumb (region r.addr) cycles ys).0) here
       ∙ forms.1 in
       record {

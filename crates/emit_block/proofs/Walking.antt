@@ -1,6 +1,6 @@
 -- The walk over the records of a block: none, one more, all.
 -- Assumes nothing.
-use Rattle.std.proofs.Common.{◌≡◌, ℕ, suc, ◌+◌, ◌-◌, ◌*◌, ◌%◌, ◌^◌, ◌≤◌, Bool, true, false, cond, List, [], ◌++◌, length, drop, sym, refl, ap, ◌∙◌, subst, ap₂}
+use Rattle.std.proofs.Common.{◌≡◌, ℕ, suc, ◌+◌, ◌*◌, ◌%◌, ◌^◌, ◌≤◌, Bool, true, false, cond, List, [], ◌++◌, length, drop, sym, refl, ap, ◌∙◌, subst, ap₂}
 use package.native.Mathlib.Numerals.{add-one}
 use package.native.Mathlib.Omega.{arith}
 use Rattle.armv4t.specs.Instr.{size_of}

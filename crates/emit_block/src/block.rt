@@ -16,7 +16,7 @@ use crate::member::{Member, MemberBlock};
 use crate::walk::emit_records;
 use base_hash::hash;
 use emit_flow::{emit_defer, emit_guard};
-use file_blocks::{BlockRecord, FoundBlock, block_at, code_bytes, is_guarded};
+use file_blocks::{BlockRecord, block_at, code_bytes, is_guarded};
 use file_records::block_record::instrs_length;
 use plan_members::first_of;
 
@@ -60,7 +60,7 @@ pub fn emit_block(
         (slice_index_or (map (body_of hash_multiplier) (blocks_of file.now)) m.index
         default_body)))) out.new result }
 {
-    let FoundBlock::At(block) = block_at(file, m.index) else {
+    let Some(block) = block_at(file, m.index) else {
         return at;
     };
     let b = MemberBlock {

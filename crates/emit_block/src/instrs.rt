@@ -8,7 +8,6 @@ ghost use Rattle.lower_forms.specs.Block.{emit_pair};
 ghost use Rattle.base_lists.specs.Lists.{among};
 ghost use Rattle.file_blocks.specs.Read.{instrs_of, next_of};
 ghost use Rattle.lower_units.specs.Block.{code_from};
-ghost use Rattle.file_blocks.specs.declared.next.Next.{Next};
 ghost use Rattle.emit_instr.specs.Onward.{Onward};
 ghost use Rattle.emit_instr.specs.Steps.{BranchInside};
 ghost use Rattle.emit_block.specs.Walk.{IsBody, IsMember, HasBlock};
@@ -18,9 +17,7 @@ use crate::member::{Member, MemberBlock, is_inside};
 use armv4t::{Op, set_bit0};
 use emit_flow::emit_pair;
 use emit_instr::{Setting, Step, emit_instr};
-use file_blocks::{
-    BlockRecord, FoundInstr, Next, TimedInstr, instr_of, key_of, next_of, region_of,
-};
+use file_blocks::{BlockRecord, TimedInstr, instr_of, key_of, next_of, region_of};
 
 // Whether a branch goes to a block of the same group; the answer for other operations is of no use.
 fn branch_inside(file: &[u8], work: &[u32], m: Member, thumb: bool, op: Op) -> bool
@@ -69,7 +66,7 @@ fn emit_alone(
     ensures { (f ks : List ℕ) (b : Body) (first : ℕ) → IsBody f block first b
         → BranchInside ks block.thumb inside x.instr.op
         → drop j (instrs_of f block first) ≡ x ∷ drop (suc j) (instrs_of f block first)
-        → next_of x.instr (drop (suc j) (instrs_of f block first)) ≡ Next.Alone
+        → next_of x.instr (drop (suc j) (instrs_of f block first)) ≡ None
         → x.cost ≤ 65535 → cycles ≤ 65535 * j
         → Recorded f block first ks b j cycles out.old at out.new result }
 {
@@ -99,7 +96,7 @@ pub(crate) fn emit_record(
         out.new result }
 {
     let block = m.block;
-    let FoundInstr::At(x) = instr_of(file, block, m.first, j) else {
+    let Some(x) = instr_of(file, block, m.first, j) else {
         return Step {
             at,
             cycles,
@@ -108,17 +105,17 @@ pub(crate) fn emit_record(
     };
     let own = x.cost as u64;
     match next_of(file, block, m.first, j, x.instr) {
-        Next::Alone => {
+        None => {
             let instr = x.instr;
             let op = instr.op;
             let inside = branch_inside(file, work, m.member, block.thumb, op);
             emit_alone(out, at, block, cycles, x, j, inside)
         }
-        Next::Pair { target, ret, cost } => {
-            let all = std::num::wrapping_add_u64(cycles, own + cost as u64);
-            let inside = is_inside(file, work, m.member, set_bit0(target));
+        Some(pair) => {
+            let all = std::num::wrapping_add_u64(cycles, own + pair.cost as u64);
+            let inside = is_inside(file, work, m.member, set_bit0(pair.target));
             Step {
-                at: emit_fused(out, at, all, target, ret, inside, block.addr),
+                at: emit_fused(out, at, all, pair.target, pair.ret, inside, block.addr),
                 cycles: 0,
                 done: true,
             }

@@ -1,5 +1,6 @@
 -- What the walk over a block's records reads, and what it says of the instructions.
 -- Assumes nothing.
+use Rattle.std.proofs.Common.{Some, None, is_some}
 use Prim.Native.Nat.{ℕ, zero, suc, ◌+◌, ◌-◌, ◌≤◌, ◌<◌}
 use mathlib.Core.Path.{◌≡◌, refl, sym, ap, ◌∙◌}
 use mathlib.Core.Bool.{Bool, true, false, not, cond, ◌&&◌, ◌||◌}
@@ -7,34 +8,23 @@ use mathlib.Core.List.{List, [], ◌∷◌}
 use mathlib.Core.Option.{Option, none}
 use native.Mathlib.Omega.{arith}
 use lib.ListN.{drop, get_or}
-use Rattle.armv4t.specs.declared.Fused.{Fused}
 use Rattle.armv4t.specs.declared.Instr.{Instr}
-use Rattle.armv4t.specs.Fused.{fuse}
+use Rattle.armv4t.specs.Fused.{Fused, fuse}
 use Rattle.file_instrs.specs.declared.decode.TimedInstr.{TimedInstr}
-use Rattle.file_blocks.specs.declared.next.Next.{Next}
 use Rattle.file_blocks.specs.declared.read.BlockRecord.{BlockRecord}
 use Rattle.file_blocks.specs.Address.{region, outside_rom_bios}
 use Rattle.file_blocks.specs.Read.{instrs_of, fused_next, next_of}
 use Rattle.lower_reasons.specs.Said.{Said, is_pair, pairs, drops_rest, said_of, nothing_of, said_each}
 use Rattle.emit_reasons.specs.Steps.{reached, said_first, said_in_record}
 
--- whether what an instruction makes with the one after it is a pair
-abbrev is_pair_next : Next → Bool
-is_pair_next (Next.Pair target ret cost) = true
-is_pair_next Next.Alone = false
-
-pairs_next : (x : Instr) (ys : List TimedInstr) → pairs x ys ≡ is_pair_next (next_of x ys)
+-- whether an instruction makes a pair with the one after it
+pub pairs_next : (x : Instr) (ys : List TimedInstr) → pairs x ys ≡ is_some (next_of x ys)
 pairs_next x [] = refl
 pairs_next x (y ∷ ys) = by (fuse x y.instr)
   where
-    by : (f : Fused) → is_pair f ≡ is_pair_next (fused_next f y.cost)
-    by Fused.Nothing = refl
-    by (Fused.Pair target ret) = refl
-
--- so what was told of it
-pub pairs_told : (x : Instr) (ys : List TimedInstr) {n m : Next} → n ≡ next_of x ys → n ≡ m
-    → is_pair_next m ≡ pairs x ys
-pairs_told x ys e g = sym (pairs_next x ys ∙ ap is_pair_next (sym e ∙ g))
+    by : (f : Fused) → is_pair f ≡ is_some (fused_next f y.cost)
+    by None = refl
+    by (Some (target, ret)) = refl
 
 -- nothing of each, from an index on
 drop_nothing : (n : ℕ) (xs : List TimedInstr) → drop n (nothing_of xs) ≡ nothing_of (drop n xs)

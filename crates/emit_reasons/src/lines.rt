@@ -8,7 +8,7 @@ ghost use Rattle.emit_reasons.specs.Steps.{HasBlock, said_in_record, Putting, Pr
 use crate::said::{drops_rest, said_of};
 use crate::walk::{has_code, pairs_at, reaches};
 use emit_sentences::{line_length, put_line};
-use file_blocks::{BlockRecord, FoundInstr, instr_of, region_of};
+use file_blocks::{BlockRecord, instr_of, region_of};
 
 // How far the lines are written.
 #[derive(Clone, Copy)]
@@ -41,7 +41,7 @@ fn put_rest(
     let end = first + block.count as usize;
     let mut length = at;
     for j in index..block.count {
-        let FoundInstr::At(x) = instr_of(file, block, first, j) else {
+        let Some(x) = instr_of(file, block, first, j) else {
             return Progress { next: end, length };
         };
         let i = x.instr;

@@ -11,7 +11,7 @@ ghost use Rattle.emit_reasons.specs.Steps.{said_in_record};
 use crate::said::{drops_rest, said_of};
 use armv4t::Instr;
 use emit_sentences::Sentence;
-use file_blocks::{BlockRecord, FoundInstr, Next, instr_of, is_guarded, next_of, region_of};
+use file_blocks::{BlockRecord, instr_of, is_guarded, next_of, region_of};
 
 // Whether a block's text has the code of its records.
 pub(crate) fn has_code(block: BlockRecord) -> bool
@@ -25,10 +25,7 @@ pub(crate) fn pairs_at(file: &[u8], block: BlockRecord, first: usize, j: u32, x:
     requires { HasBlock file.now block first × (j < block.count) }
     ensures { result ≡ pairs x (drop (suc j) (instrs_of file.now block first)) }
 {
-    match next_of(file, block, first, j, x) {
-        Next::Pair { .. } => true,
-        Next::Alone => false,
-    }
+    next_of(file, block, first, j, x).is_some()
 }
 
 // Whether the walk ends with instruction j of a block: it makes a pair, or drops the rest.
@@ -52,7 +49,7 @@ pub(crate) fn reaches(
     ensures { result ≡ reached region (instrs_of file.now block first) index }
 {
     for j in 0..index {
-        let FoundInstr::At(x) = instr_of(file, block, first, j) else {
+        let Some(x) = instr_of(file, block, first, j) else {
             return false;
         };
         if ends_at(file, block, first, region, j, x.instr) {
@@ -74,7 +71,7 @@ fn said_here(
     ensures { said_by result
         ≡ said_first region (drop index (instrs_of file.now block first)) }
 {
-    let FoundInstr::At(x) = instr_of(file, block, first, index) else {
+    let Some(x) = instr_of(file, block, first, index) else {
         return None;
     };
     let i = x.instr;

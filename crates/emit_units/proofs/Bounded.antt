@@ -1,5 +1,6 @@
 -- How long groups and units are at most, by the instructions of their blocks.
 -- Assumes nothing.
+use Rattle.std.proofs.Common.{Some}
 use Prim.Native.Nat.{ℕ, suc, ◌+◌, ◌*◌, ◌≤◌, ◌<◌, min}
 use mathlib.Core.Path.{◌≡◌, refl, sym, ap, ◌∙◌, subst}
 use mathlib.Core.Bool.{false}
@@ -16,7 +17,6 @@ use Rattle.base_lists.proofs.Places.{map_at}
 use Rattle.file_records.specs.Trailer.{block_count}
 use Rattle.file_blocks.specs.Parse.{Block, blocks_of, Accepted}
 use Rattle.file_blocks.specs.declared.read.BlockRecord.{BlockRecord}
-use Rattle.file_blocks.specs.declared.read.FoundBlock.{FoundBlock}
 use Rattle.file_blocks.specs.Read.{found_block}
 use Rattle.file_blocks.proofs.Accepted.{length_of_lem, record_reads}
 use Rattle.file_blocks.proofs.IsBlock.{nth_block, found_record}
@@ -37,7 +37,7 @@ use Rattle.emit_units.specs.Bounds.{IsBlockBound, Bounds}
 
 -- the count of a block's instructions, as its record has it
 pub body_counts : (f : List ℕ) (i : ℕ) (r : BlockRecord) → Accepted f → i < block_count f
-    → found_block f i ≡ FoundBlock.At r
+    → found_block f i ≡ Some r
     → (get_or (file_bodies f) i default_body).count ≡ r.count
 unfolding body_of
 body_counts f i r ok inside found =

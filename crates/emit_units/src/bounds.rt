@@ -10,7 +10,7 @@ ghost use Rattle.plan_members.specs.GroupRows.{HasRows, IsGroup};
 ghost use Rattle.emit_group.specs.Groups.{file_bodies};
 ghost use Rattle.emit_units.specs.Bounds.{IsBlockBound, Bounds};
 
-use file_blocks::{FoundBlock, block_at};
+use file_blocks::block_at;
 use plan_members::{Rows, group_end, row_block};
 
 // What a block adds to the text of its group at most: 700 bytes, and 2,600 for each instruction.
@@ -18,7 +18,7 @@ fn block_bound(file: &[u8], i: usize) -> usize
     ensures small { result < 2 ^ 44 }
     ensures bound { IsBlockBound file.now i result }
 {
-    let FoundBlock::At(block) = block_at(file, i) else {
+    let Some(block) = block_at(file, i) else {
         return 0;
     };
     700 + 2600 * block.count as usize

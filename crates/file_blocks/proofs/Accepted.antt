@@ -1,6 +1,6 @@
 -- What the readers give of an accepted file: block by block and instruction by instruction what
 -- parse has. Assumes nothing.
-use Rattle.std.proofs.Common.{◌≡◌, ℕ, zero, suc, ◌+◌, ◌*◌, ◌%◌, ◌^◌, ◌<◌, ◌≤◌, Bool, true, false, cond, leb, List, length, get_or, sym, refl, ap, ◌∙◌, ap₂, true≢false, le_of_suc-le-suc, not-suc-le-zero, add-zero, mul-zero, zero-add, mul-suc, arith, eqb-true, le-leb, leb-true}
+use Rattle.std.proofs.Common.{◌≡◌, ℕ, zero, suc, ◌+◌, ◌*◌, ◌%◌, ◌^◌, ◌<◌, ◌≤◌, Bool, true, false, cond, leb, List, length, get_or, sym, refl, ap, ◌∙◌, ap₂, true≢false, le_of_suc-le-suc, not-suc-le-zero, add-zero, mul-zero, zero-add, mul-suc, arith, eqb-true, le-leb, leb-true, Some}
 use mathlib.Core.List.Memᴰ
 use mathlib.Core.List.{Memᴰ}
 use mathlib.Core.Option.{Option, none, some}
@@ -9,8 +9,6 @@ use native.Mathlib.Decide.{le_ind}
 use Rattle.armv4t.specs.Instr.{size_of}
 use Rattle.file_instrs.specs.declared.decode.TimedInstr.{TimedInstr}
 use Rattle.file_blocks.specs.declared.read.BlockRecord.{BlockRecord}
-use Rattle.file_blocks.specs.declared.read.FoundBlock.{FoundBlock}
-use Rattle.file_blocks.specs.declared.read.FoundInstr.{FoundInstr}
 use Rattle.file_records.specs.Trailer.{block_count, instr_count, code_count, block_start, instr_start}
 use Rattle.file_records.specs.Trailer.{within_limits, trailer_right}
 use Rattle.file_records.specs.BlockRecord.{addr_at, count_at, code_offset_at, thumb_at, present_at}
@@ -146,13 +144,13 @@ module _ (f : List ℕ) (bs : List Block) (accepted : parse f ≡ Parsed.accepte
 
   -- the readers find each record
   pub block_found : (i : ℕ) → i < length bs
-      → found_block f i ≡ FoundBlock.At (record_at f (block_start f i))
+      → found_block f i ≡ Some (record_at f (block_start f i))
   block_found i h =
       sym (reading.block_there f i _ (omega (arith, length_of_lem)) refl
       (omega (arith, length_of_lem, sections_of)))
 
   pub instr_found : (i addr : ℕ) (thumb : Bool) → i < instr_count f
-      → found_instr f i addr thumb ≡ FoundInstr.At (timed_at f (instr_start f i) addr thumb)
+      → found_instr f i addr thumb ≡ Some (timed_at f (instr_start f i) addr thumb)
   instr_found i addr thumb h =
       sym (reading.instr_there f i _ addr thumb h refl (omega (arith, sections_of)))
 
@@ -253,10 +251,10 @@ module _ (f : List ℕ) (bs : List Block) (accepted : parse f ≡ Parsed.accepte
         → found_instr f (count_sum f i + j)
         (addr_at f (block_start f i) + size_of (thumb_at f (block_start f i)) * j)
         (thumb_at f (block_start f i))
-        ≡ FoundInstr.At (get_or (block_at f (block_start f i) (count_sum f i)).instrs j d)
+        ≡ Some (get_or (block_at f (block_start f i) (count_sum f i)).instrs j d)
     unfolding block_at
     instr_reads j d h =
         instr_found (count_sum f i + j) _ _ (omega (arith, instrs_inside))
-        ∙ ap FoundInstr.At
+        ∙ ap Some
         (sym (instr_of f (count_at f (block_start f i)) (count_sum f i) (addr_at f (block_start f i))
         (thumb_at f (block_start f i)) j d h))

@@ -1,8 +1,7 @@
 -- What a pass over the records of an accepted file has of a block.
 -- Assumes nothing.
-use Rattle.std.proofs.Common.{◌≡◌, ℕ, ◌+◌, ◌%◌, ◌^◌, ◌<◌, ◌≤◌, Bool, true, false, cond, ◌&&◌, ltb, leb, List, length, get_or, refl, ◌∙◌, mod-eq_of_lt, zero-add, add-one, arith, ltb-true}
+use Rattle.std.proofs.Common.{◌≡◌, ℕ, ◌+◌, ◌%◌, ◌^◌, ◌<◌, ◌≤◌, Bool, true, false, cond, ◌&&◌, ltb, leb, List, length, get_or, refl, ◌∙◌, mod-eq_of_lt, zero-add, add-one, arith, ltb-true, Some, None}
 use Rattle.file_blocks.specs.declared.read.BlockRecord.{BlockRecord}
-use Rattle.file_blocks.specs.declared.read.FoundBlock.{FoundBlock}
 use Rattle.file_records.specs.Trailer.{block_count, instr_count, block_start}
 use Rattle.file_records.specs.BlockRecord.{length_of, count_sum}
 use Rattle.file_blocks.specs.Parse.{Block, block_at, blocks_of, Accepted}
@@ -11,7 +10,7 @@ use Rattle.file_blocks.proofs.Accepted.{block_of, length_of_lem, block_found, fe
 use Rattle.file_blocks.proofs.Accepted.{has_instr, ends_inside, instrs_inside}
 
 -- the reader of block records misses none
-pub missing : (f : List ℕ) → Accepted f → (i : ℕ) → found_block f i ≡ FoundBlock.Nothing
+pub missing : (f : List ℕ) → Accepted f → (i : ℕ) → found_block f i ≡ None
     → block_count f ≤ i
 missing f ok i e =
     let no : i < block_count f
@@ -27,9 +26,9 @@ unfolding count_sum
 nth_block f i d h = rw zero-add at (block_of f (block_count f) 0 0 i d h refl)
 
 -- what a record that was found says of the file
-module _ (f : List ℕ) (i : ℕ) (b : BlockRecord) (found : found_block f i ≡ FoundBlock.At b) where
+module _ (f : List ℕ) (i : ℕ) (b : BlockRecord) (found : found_block f i ≡ Some b) where
   tested : (p q : Bool) (x : BlockRecord)
-      → cond (p && q) (FoundBlock.At x) FoundBlock.Nothing ≡ FoundBlock.At b → (p ≡ true) × (b ≡ x)
+      → cond (p && q) (Some x) None ≡ Some b → (p ≡ true) × (b ≡ x)
   tested true true x e = (refl, cc)
   tested true false x e = absurd (let z : ◌≡◌ {A = ℕ} 0 1 = cc in omega arith)
   tested false q x e = absurd (let z : ◌≡◌ {A = ℕ} 0 1 = cc in omega arith)

@@ -1,13 +1,12 @@
 -- What the reader of instructions gives of a block in an accepted file.
 -- Assumes nothing.
-use Rattle.std.proofs.Common.{◌≡◌, ℕ, zero, suc, ◌+◌, ◌*◌, ◌^◌, ◌<◌, ◌≤◌, Bool, true, false, List, [], ◌∷◌, drop, refl, ap, ◌∙◌, ap₂, le_of_suc-le-suc, not-suc-le-zero, add-zero, mod-eq_of_lt, mul-zero, arith}
+use Rattle.std.proofs.Common.{◌≡◌, ℕ, zero, suc, ◌+◌, ◌*◌, ◌^◌, ◌<◌, ◌≤◌, Bool, true, false, List, [], ◌∷◌, drop, refl, ap, ◌∙◌, ap₂, le_of_suc-le-suc, not-suc-le-zero, add-zero, mod-eq_of_lt, mul-zero, arith, Option, Some, None}
 use Rattle.armv4t.specs.Instr.{size_of}
 use Rattle.file_instrs.specs.declared.decode.TimedInstr.{TimedInstr}
 use Rattle.file_records.specs.BlockRecord.{length_of}
 use Rattle.file_records.specs.Trailer.{instr_start}
 use Rattle.file_instrs.specs.Decode.{timed_at}
 use Rattle.file_blocks.specs.declared.read.BlockRecord.{BlockRecord}
-use Rattle.file_blocks.specs.declared.read.FoundInstr.{FoundInstr}
 use Rattle.file_blocks.specs.Parse.{instrs_from, blocks_of}
 use Rattle.file_blocks.specs.Read.{read_instr, IsBlock}
 use Rattle.file_blocks.proofs.Accepted.{shift, next_addr_lem, instr_found, few_instrs}
@@ -58,7 +57,7 @@ addr_below addr count j false h e = omega arith
 module _ {f : List ℕ} {i : ℕ} {b : BlockRecord} {first : ℕ} (is : IsBlock f i b first) where
   -- each instruction of the block is found
   pub instr_there : (j : ℕ) → j < b.count
-      → read_instr f b first j ≡ FoundInstr.At (instr_at f first b.addr b.thumb j)
+      → read_instr f b first j ≡ Some (instr_at f first b.addr b.thumb j)
   instr_there j h =
       let place : first + j < 2 ^ 64 =
       omega (arith, instrs_counted is, few_instrs f (blocks_of f) is.accepted) in
@@ -69,11 +68,11 @@ module _ {f : List ℕ} {i : ℕ} {b : BlockRecord} {first : ℕ} (is : IsBlock 
       (omega (arith, instrs_counted is)))
 
   -- so what is read is that instruction
-  pub read_as : (j : ℕ) (r : FoundInstr) (x : TimedInstr) → j < b.count → r ≡ read_instr f b first j
-      → r ≡ FoundInstr.At x → x ≡ instr_at f first b.addr b.thumb j
+  pub read_as : (j : ℕ) (r : Option TimedInstr) (x : TimedInstr) → j < b.count → r ≡ read_instr f b first j
+      → r ≡ Some x → x ≡ instr_at f first b.addr b.thumb j
   read_as j r x h e g = cc (instr_there j h)
 
   -- and something is read
-  pub not_missing : (j : ℕ) (r : FoundInstr) → j < b.count → r ≡ read_instr f b first j
-      → r ≡ FoundInstr.Nothing → ⊥
+  pub not_missing : (j : ℕ) (r : Option TimedInstr) → j < b.count → r ≡ read_instr f b first j
+      → r ≡ None → ⊥
   not_missing j r h e g = let z : ◌≡◌ {A = ℕ} 0 1 = cc (instr_there j h) in omega arith

@@ -1,19 +1,17 @@
 -- What the reader of instructions gives of a block, as the walk over its records has it.
 -- Assumes nothing.
-use Rattle.std.proofs.Common.{◌≡◌, ℕ, suc, ◌+◌, ◌<◌, List, [], ◌∷◌, drop, sym, ap, ◌∙◌, add-one, arith}
+use Rattle.std.proofs.Common.{◌≡◌, ℕ, suc, ◌+◌, ◌<◌, List, [], ◌∷◌, drop, Option, Some, None, sym, ap, ◌∙◌, add-one, arith}
 use Rattle.armv4t.specs.declared.Instr.{Instr}
 use Rattle.file_instrs.specs.declared.decode.TimedInstr.{TimedInstr}
-use Rattle.file_blocks.specs.declared.next.Next.{Next}
 use Rattle.file_blocks.specs.declared.read.BlockRecord.{BlockRecord}
-use Rattle.file_blocks.specs.declared.read.FoundInstr.{FoundInstr}
 use Rattle.file_blocks.specs.Read.{IsBlock, read_instr, instrs_of, next_of}
 use Rattle.file_blocks.proofs.ReadInstrs.{instr_at, drop_instr, drop_all, read_as}
 
 module _ {f : List ℕ} {i : ℕ} {r : BlockRecord} {first : ℕ} (is : IsBlock f i r first) (j : ℕ)
     (inside : j < r.count) where
   -- the instruction that was read, and those after it
-  pub here_read : (q : FoundInstr) (x : TimedInstr) → q ≡ read_instr f r first j
-      → q ≡ FoundInstr.At x
+  pub here_read : (q : Option TimedInstr) (x : TimedInstr) → q ≡ read_instr f r first j
+      → q ≡ Some x
       → drop j (instrs_of f r first) ≡ x ∷ drop (suc j) (instrs_of f r first)
   here_read q x e g =
       drop_instr f r.thumb r.count first r.addr j inside
@@ -22,7 +20,7 @@ module _ {f : List ℕ} {i : ℕ} {r : BlockRecord} {first : ℕ} (is : IsBlock 
 
   -- the last one makes nothing with another
   pub next_last : (x : Instr) → j + 1 ≡ r.count
-      → Next.Alone ≡ next_of x (drop (suc j) (instrs_of f r first))
+      → None ≡ next_of x (drop (suc j) (instrs_of f r first))
   next_last x e =
       let all : suc j ≡ r.count = omega arith in
       ap (next_of x)
@@ -30,8 +28,8 @@ module _ {f : List ℕ} {i : ℕ} {r : BlockRecord} {first : ℕ} (is : IsBlock 
       ∙ ap (λ (n : ℕ). drop n (instrs_of f r first)) (sym all))
 
   -- what another makes with the one after it
-  pub next_read : (x : Instr) (q : FoundInstr) (y : TimedInstr) → (j + 1 ≡ r.count → ⊥)
-      → q ≡ read_instr f r first (j + 1) → q ≡ FoundInstr.At y
+  pub next_read : (x : Instr) (q : Option TimedInstr) (y : TimedInstr) → (j + 1 ≡ r.count → ⊥)
+      → q ≡ read_instr f r first (j + 1) → q ≡ Some y
       → next_of x (y ∷ []) ≡ next_of x (drop (suc j) (instrs_of f r first))
   next_read x q y more e g =
       let below : suc j < r.count = omega arith in

@@ -5,8 +5,9 @@ ghost use Rattle.file_blocks.specs.Address.{region, outside_rom_bios, key_of};
 ghost use Rattle.file_blocks.specs.Address.{fall_through};
 ghost use Rattle.file_blocks.specs.Read.{read_instr};
 
-use crate::read::{BlockRecord, FoundInstr, instr_at};
+use crate::read::{BlockRecord, instr_at};
 use armv4t::{Instr, set_bit0};
+use file_instrs::decode::TimedInstr;
 
 // The region of an address: its page modulo 16.
 pub fn region_of(addr: u32) -> u32
@@ -55,7 +56,7 @@ pub fn instr_addr(addr: u32, thumb: bool, j: u32) -> u32
 
 // Instruction j of a block whose instructions are those from record `first` on. In an accepted file
 // nothing wraps.
-pub fn instr_of(file: &[u8], block: BlockRecord, first: usize, j: u32) -> FoundInstr
+pub fn instr_of(file: &[u8], block: BlockRecord, first: usize, j: u32) -> Option<TimedInstr>
     ensures { result ≡ read_instr file.now block first j }
 {
     let at = std::num::wrapping_add_usize(first, j as usize);

@@ -8,6 +8,6 @@ mod refusal;
 
 pub use file_instrs::decode::TimedInstr;
 pub use instrs::{fall_through, instr_addr, instr_of, is_guarded, key_of, region_of};
-pub use next::{Next, next_of};
-pub use read::{BlockRecord, FoundBlock, FoundInstr, block_at, block_count, code_bytes, instr_at};
+pub use next::{FusedPair, next_of};
+pub use read::{BlockRecord, block_at, block_count, code_bytes, instr_at};
 pub use refusal::{Checked, check};

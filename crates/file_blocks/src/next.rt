@@ -1,63 +1,57 @@
-// What an instruction of a block makes with the one after it: a fused pair, or nothing.
+// What an instruction of a block makes with the one after it: a fused pair, or none.
 ghost use Rattle.std.specs.Prelude.{◌≡◌, ℕ, suc, ◌<◌, false, List, [], ◌∷◌, drop};
 ghost use Rattle.file_instrs.specs.declared.decode.TimedInstr.{TimedInstr};
-ghost use Rattle.file_blocks.specs.declared.next.Next.{Next};
 ghost use Rattle.file_blocks.specs.Read.{IsBlock, instrs_of, next_of};
 
 use crate::instrs::instr_of;
-use crate::read::{BlockRecord, FoundInstr};
-use armv4t::{Fused, Instr, Op, fuse_thumb_bl};
+use crate::read::BlockRecord;
+use armv4t::{Instr, Op, fuse_thumb_bl};
 use file_instrs::decode::TimedInstr;
 
-// What an instruction makes with the one after it.
+// A fused pair of instructions.
 #[derive(Clone, Copy)]
-pub enum Next {
-    // A fused pair; the cost is that of the second half.
-    Pair { target: u32, ret: u32, cost: u16 },
-    Alone,
+pub struct FusedPair {
+    // Where it goes.
+    pub target: u32,
+    // The return address with the Thumb bit.
+    pub ret: u32,
+    // The cost of the second half.
+    pub cost: u16,
 }
 
-// What two instructions make.
-fn fused_next(x: Instr, y: TimedInstr) -> Next
+// The pair that two instructions make.
+fn fused_next(x: Instr, y: TimedInstr) -> Option<FusedPair>
     ensures { result ≡ next_of x (y ∷ []) }
 {
-    match fuse_thumb_bl(x, y.instr) {
-        Fused::Pair { target, ret } => Next::Pair {
-            target,
-            ret,
-            cost: y.cost,
-        },
-        Fused::Nothing => Next::Alone,
-    }
+    let (target, ret) = fuse_thumb_bl(x, y.instr)?;
+    Some(FusedPair {
+        target,
+        ret,
+        cost: y.cost,
+    })
 }
 
 // Whether an instruction is the first half of a Thumb BL; any other makes no pair with the one
 // after it.
 fn begins_bl(x: Instr) -> bool
-    ensures { result ≡ false → (ys : List TimedInstr) → next_of x ys ≡ Next.Alone }
+    ensures { result ≡ false → (ys : List TimedInstr) → next_of x ys ≡ None }
 {
-    let op = x.op;
-    match op {
-        Op::ThumbBlHigh { .. } => true,
-        _ => false,
-    }
+    matches!(x.op, Op::ThumbBlHigh { .. })
 }
 
-// What instruction j of a block makes with the one after it. Where it cannot make a pair, that one
-// is not read.
-pub fn next_of(file: &[u8], block: BlockRecord, first: usize, j: u32, x: Instr) -> Next
+// The pair that instruction j of a block makes with the one after it. Where it cannot make one,
+// that one is not read.
+pub fn next_of(file: &[u8], block: BlockRecord, first: usize, j: u32, x: Instr) -> Option<FusedPair>
     requires { j < block.count }
     ensures { (i : ℕ) → IsBlock file.now i block first
         → result ≡ next_of x (drop (suc j) (instrs_of file.now block first)) }
 {
     if !begins_bl(x) {
-        return Next::Alone;
+        return None;
     }
     if j + 1 == block.count {
-        return Next::Alone;
+        return None;
     }
-    let FoundInstr::At(y) = instr_of(file, block, first, j + 1) else {
-        return Next::Alone;
-    };
+    let y = instr_of(file, block, first, j + 1)?;
     fused_next(x, y)
 }

@@ -1,4 +1,4 @@
-// Readers that lean on no check. Records are read by number: the answer is Nothing where the
+// Readers that lean on no check. Records are read by number: the answer is None where the
 // trailer counts no such record, or it does not lie inside the file. Code bytes are read by offset
 // and length: an empty slice where they are absent, or do not lie inside the file.
 ghost use Rattle.std.specs.Prelude.{◌≡◌, ◌+◌, ◌^◌, ◌<◌, ◌≤◌, length};
@@ -25,20 +25,6 @@ pub struct BlockRecord {
     pub offset: u32,
 }
 
-// The block record with a number, or that there is none to read.
-#[derive(Clone, Copy)]
-pub enum FoundBlock {
-    At(BlockRecord),
-    Nothing,
-}
-
-// The instruction of the record with a number, or that there is none to read.
-#[derive(Clone, Copy)]
-pub enum FoundInstr {
-    At(TimedInstr),
-    Nothing,
-}
-
 // How many blocks the trailer says that the file has.
 pub fn block_count(file: &[u8]) -> usize
     ensures count { result ≡ block_count file.now }
@@ -62,31 +48,31 @@ fn block_record(file: &[u8], at: usize) -> BlockRecord
 }
 
 // Block record i.
-pub fn block_at(file: &[u8], i: usize) -> FoundBlock
+pub fn block_at(file: &[u8], i: usize) -> Option<BlockRecord>
     ensures { result ≡ found_block file.now i }
 {
     if trailer_word(file, 2) as usize <= i {
-        return FoundBlock::Nothing;
+        return None;
     }
     let at = section_start(file, 1) + 16 * i;
     if file.len() < at + 16 {
-        return FoundBlock::Nothing;
+        return None;
     }
-    FoundBlock::At(block_record(file, at))
+    Some(block_record(file, at))
 }
 
 // Instruction record i, as the instruction at an address of a block.
-pub fn instr_at(file: &[u8], i: usize, address: u32, is_thumb: bool) -> FoundInstr
+pub fn instr_at(file: &[u8], i: usize, address: u32, is_thumb: bool) -> Option<TimedInstr>
     ensures { result ≡ found_instr file.now i address is_thumb }
 {
     if trailer_word(file, 4) as usize <= i {
-        return FoundInstr::Nothing;
+        return None;
     }
     let at = section_start(file, 3) + 16 * i;
     if file.len() < at + 16 {
-        return FoundInstr::Nothing;
+        return None;
     }
-    FoundInstr::At(timed_instr(file, at, address, is_thumb))
+    Some(timed_instr(file, at, address, is_thumb))
 }
 
 // The slice of the file at a block record's offset, of the block's length; empty where the bytes

@@ -1,12 +1,11 @@
 -- Steps: what the answers of the code stand for, and what the searches keep.
-use Rattle.std.specs.Prelude.{ℕ, ◌≤◌, ◌<◌, cond, ◌&&◌, List, [], ◌∷◌, length, get_or, eqb, ltb}
-use Rattle.std.proofs.Math.Option.{Option, none, some}
-use Rattle.file_keys.specs.declared.find.Numbered.{Numbered}
+use Rattle.std.specs.Prelude.{ℕ, ◌≤◌, ◌<◌, cond, ◌&&◌, List, [], ◌∷◌, length, get_or, eqb, ltb, Option, Some, None}
+use Rattle.std.proofs.Math.Option as maybe
 
--- the number that was found, or none
-abbrev pub number_of : Numbered → Option ℕ
-number_of (Numbered.At i) = some i
-number_of Numbered.Nothing = none
+-- a number that the code found, or that there is none, as the definitions have it
+abbrev pub number_of : Option ℕ → maybe.Option ℕ
+number_of (Some i) = maybe.some i
+number_of None = maybe.none
 
 -- the lower of `best` and i, if i has the key of the number before it; `best` if not
 abbrev pub lesser : List ℕ → ℕ → ℕ → ℕ → ℕ

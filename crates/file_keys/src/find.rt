@@ -10,13 +10,6 @@ ghost use Rattle.file_keys.specs.Steps.{RightBlocks, HasRecords};
 use crate::keys::{Records, key_of, records_of, rises};
 use crate::sorting::order_blocks;
 
-// The number of a block, if there is one.
-#[derive(Clone, Copy)]
-pub enum Numbered {
-    At(u32),
-    Nothing,
-}
-
 // The places from `low` to the one before `high`.
 #[derive(Clone, Copy)]
 pub(crate) struct Range {
@@ -37,14 +30,14 @@ fn least(file: &[u8], records: Records, best: u32, last: u32, i: u32) -> u32
 
 // The first block in file order whose key is equal to an earlier one: the least of those that
 // follow one of their key in the order.
-pub fn first_repeated(file: &[u8], order: &[u32]) -> Numbered
+pub fn first_repeated(file: &[u8], order: &[u32]) -> Option<u32>
     requires { RightBlocks file.now × (order.now ≡ key_order (block_keys file.now)) }
     ensures { number_of result ≡ first_repeated (block_keys file.now) }
 {
     let records = records_of(file);
     let n = order.len();
     if n == 0 {
-        return Numbered::Nothing;
+        return None;
     }
     let mut best = n as u32;
     let mut last = order[0];
@@ -56,9 +49,9 @@ pub fn first_repeated(file: &[u8], order: &[u32]) -> Numbered
         p += 1;
     }
     if best == n as u32 {
-        Numbered::Nothing
+        None
     } else {
-        Numbered::At(best)
+        Some(best)
     }
 }
 
@@ -125,7 +118,7 @@ fn first_place(file: &[u8], records: Records, order: &[u32], key: u64, p: usize)
 
 // The first block in file order with a key: the only one where keys are different. The search begins
 // at place p of the order.
-pub fn find_key(file: &[u8], order: &[u32], key: u64, p: usize) -> Numbered
+pub fn find_key(file: &[u8], order: &[u32], key: u64, p: usize) -> Option<u32>
     requires right_blocks { RightBlocks file.now × (order.now ≡ key_order (block_keys file.now)) }
     requires p_in_bounds { p < length order.now }
     ensures { number_of result ≡ block_with key (block_keys file.now) }
@@ -133,18 +126,18 @@ pub fn find_key(file: &[u8], order: &[u32], key: u64, p: usize) -> Numbered
     let records = records_of(file);
     let place = first_place(file, records, order, key, p);
     if order.len() <= place {
-        return Numbered::Nothing;
+        return None;
     }
     let i = order[place];
     if key_of(file, records, i) == key {
-        Numbered::At(i)
+        Some(i)
     } else {
-        Numbered::Nothing
+        None
     }
 }
 
 // The order on the stack, and its first repeated key.
-fn repeated_on_stack(file: &[u8], n: usize) -> Numbered
+fn repeated_on_stack(file: &[u8], n: usize) -> Option<u32>
     requires { RightBlocks file.now × (n ≡ block_count file.now) }
     ensures { number_of result ≡ first_repeated (block_keys file.now) }
 {
@@ -155,13 +148,13 @@ fn repeated_on_stack(file: &[u8], n: usize) -> Numbered
 
 // The first repeated key for calls that are lent no numbers. Where keys rise there is none, and no
 // stack is used.
-pub fn first_repeated_alone(file: &[u8]) -> Numbered
+pub fn first_repeated_alone(file: &[u8]) -> Option<u32>
     requires { RightBlocks file.now }
     ensures { number_of result ≡ first_repeated (block_keys file.now) }
 {
     let records = records_of(file);
     if rises(file, records) {
-        return Numbered::Nothing;
+        return None;
     }
     repeated_on_stack(file, records.count)
 }

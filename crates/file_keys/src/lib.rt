@@ -6,5 +6,5 @@ mod find;
 mod keys;
 mod sorting;
 
-pub use find::{Numbered, find_key, first_repeated, first_repeated_alone};
+pub use find::{find_key, first_repeated, first_repeated_alone};
 pub use sorting::order_blocks;

@@ -1,4 +1,5 @@
 -- What holds of each kind of form that emit_block makes holds of all forms of a block.
+use Rattle.std.proofs.Common.{Some, None}
 use Prim.Native.Nat.{ℕ, ◌+◌}
 use mathlib.Core.Bool.{Bool, true, false}
 use mathlib.Core.List.{List, [], ◌∷◌}
@@ -7,9 +8,7 @@ use Rattle.armv4t.specs.declared.Op.TheVariants.{Alu, Mul, MulLong, Swap, Bx, Br
 use Rattle.armv4t.specs.declared.Op.TheVariants.{ThumbBlLow, Mem, BlockMem, Mrs, MsrReg, MsrImm}
 use Rattle.armv4t.specs.declared.Op.TheVariants.{Swi, Undefined}
 use Rattle.armv4t.specs.declared.Instr.{Instr}
-use Rattle.armv4t.specs.declared.Fused.{Fused}
-use Rattle.armv4t.specs.declared.Fused.TheVariants.{Pair, Nothing}
-use Rattle.armv4t.specs.Fused.{fuse}
+use Rattle.armv4t.specs.Fused.{Fused, fuse}
 use Rattle.file_instrs.specs.declared.decode.TimedInstr.{TimedInstr}
 use Rattle.file_blocks.specs.Parse.{Block}
 use Rattle.lower_forms.specs.Forms.{bx, Form, native}
@@ -25,8 +24,8 @@ use Rattle.base_lists.proofs.Bools.{either}
 -- what holds of both is held by a fused pair or not
 pub fused_or_lem : {A : Type 0} (P : A → Type 0) (f : Fused) {x : A} {g : ℕ → ℕ → A} → P x
     → ((t r : ℕ) → P (g t r)) → P (fused_or f x g)
-fused_or_lem P Nothing p q = p
-fused_or_lem P (Pair t r) p q = q t r
+fused_or_lem P None p q = p
+fused_or_lem P (Some (t, r)) p q = q t r
 
 -- P of a form that comes with the cycles pending, and of forms
 record One (P : Form → Type 0) (s : Form × ℕ) : Type 0 where

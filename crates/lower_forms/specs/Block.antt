@@ -1,16 +1,14 @@
 -- To be believed: a block's instructions as forms of text: emit_block's loop, with the cycles
 -- pending.
-use Rattle.std.specs.Prelude.{ℕ, zero, suc, ◌+◌, ◌*◌, ◌%◌, ◌^◌, Bool, true, false, not, cond, ◌&&◌, List, [], ◌∷◌, ◌++◌, eqb, length}
+use Rattle.std.specs.Prelude.{ℕ, zero, suc, ◌+◌, ◌*◌, ◌%◌, ◌^◌, Bool, true, false, not, cond, ◌&&◌, List, [], ◌∷◌, ◌++◌, eqb, length, Some, None}
 use Rattle.std.proofs.Math.Option.{Option, none, some, map}
 use Rattle.armv4t.specs.declared.Op.{Op}
 use Rattle.armv4t.specs.declared.Op.TheVariants.{Alu, Mul, MulLong, Swap, Bx, Branch, ThumbBlHigh}
 use Rattle.armv4t.specs.declared.Op.TheVariants.{ThumbBlLow, Mem, BlockMem, Mrs, MsrReg, MsrImm}
 use Rattle.armv4t.specs.declared.Op.TheVariants.{Swi, Undefined}
 use Rattle.armv4t.specs.declared.Instr.{Instr}
-use Rattle.armv4t.specs.declared.Fused.{Fused}
-use Rattle.armv4t.specs.declared.Fused.TheVariants.{Pair, Nothing}
 use Rattle.armv4t.specs.Bit0.{clear_bit0, set_bit0}
-use Rattle.armv4t.specs.Fused.{fuse}
+use Rattle.armv4t.specs.Fused.{Fused, fuse}
 use Rattle.file_instrs.specs.declared.decode.TimedInstr.{TimedInstr}
 use Rattle.file_blocks.specs.Parse.{Block}
 use Rattle.file_blocks.specs.Address.{region, key_of, fall_through}
@@ -131,8 +129,8 @@ emit_instr thumb region cycles x = emit_op thumb region cycles x x.instr.op
 
 -- `unfused` where nothing fused, else f of target and return address
 abbrev pub fused_or : {A : Type 0} → Fused → A → (ℕ → ℕ → A) → A
-fused_or Nothing unfused f = unfused
-fused_or (Pair target ret) unfused f = f target ret
+fused_or None unfused f = unfused
+fused_or (Some (target, ret)) unfused f = f target ret
 
 -- a form before those of the instructions after, and the cycles pending after them
 abbrev pub cons_form : Form → List Form × ℕ → List Form × ℕ

@@ -1,16 +1,14 @@
 -- To be believed: what is said of the instructions of a block: address, kind and reason of each
 -- whose shell the block's text prints, and nothing of the others.
-use Rattle.std.specs.Prelude.{ℕ, Bool, true, false, not, cond, ◌&&◌, ◌||◌, List, [], ◌∷◌, ◌++◌, map, get_or}
+use Rattle.std.specs.Prelude.{ℕ, Bool, true, false, not, cond, ◌&&◌, ◌||◌, List, [], ◌∷◌, ◌++◌, map, get_or, Some, None}
 use Rattle.std.proofs.Math.Option
 use Rattle.std.proofs.Math.Option.{Option, none}
 use Rattle.base_lists.specs.Lists.{is_some}
 use Rattle.armv4t.specs.declared.Cond.{Cond}
 use Rattle.armv4t.specs.declared.Op.{Op}
 use Rattle.armv4t.specs.declared.Instr.{Instr}
-use Rattle.armv4t.specs.declared.Fused.{Fused}
-use Rattle.armv4t.specs.declared.Fused.TheVariants.{Pair, Nothing}
 use Rattle.armv4t.specs.Cond.{is_al}
-use Rattle.armv4t.specs.Fused.{fuse}
+use Rattle.armv4t.specs.Fused.{Fused, fuse}
 use Rattle.file_instrs.specs.declared.decode.TimedInstr.{TimedInstr}
 use Rattle.file_blocks.specs.Parse.{Block}
 use Rattle.file_blocks.specs.Address.{region, outside_rom_bios}
@@ -31,8 +29,8 @@ has_code b = not (outside_rom_bios b.addr) || is_some b.code
 
 -- whether two halves make a pair
 abbrev pub is_pair : Fused → Bool
-is_pair (Pair target ret) = true
-is_pair Nothing = false
+is_pair (Some (target, ret)) = true
+is_pair None = false
 
 -- whether an instruction makes a pair with the one after it
 abbrev pub pairs : Instr → List TimedInstr → Bool

@@ -1,5 +1,6 @@
 -- Two halves of a Thumb BL that fuse: the text of the pair leaves as the manual's two instructions
 -- do, one after the other.
+use Rattle.std.proofs.Common.{Some, None}
 use Prim.Native.Nat.{ℕ, ◌+◌, ◌*◌, ◌/◌, ◌%◌, ◌<◌}
 use mathlib.Core.Path.{◌≡◌, refl, sym, ap, subst}
 use mathlib.Core.Bool.{Bool, true, false, not, cond, ◌&&◌, true≢false}
@@ -13,12 +14,10 @@ use Rattle.armv4t.specs.declared.Op.TheVariants.{Alu, Mul, MulLong, Swap, Bx, Br
 use Rattle.armv4t.specs.declared.Op.TheVariants.{ThumbBlLow, Mem, BlockMem, Mrs, MsrReg, MsrImm}
 use Rattle.armv4t.specs.declared.Op.TheVariants.{Swi, Undefined}
 use Rattle.armv4t.specs.declared.Instr.{Instr}
-use Rattle.armv4t.specs.declared.Fused.{Fused}
-use Rattle.armv4t.specs.declared.Fused.TheVariants.{Pair, Nothing}
 use Rattle.armv4t.specs.Bit0.{clear_bit0, set_bit0}
 use Rattle.armv4t.specs.Instr.{size_of}
 use Rattle.armv4t.specs.Cond.{is_al}
-use Rattle.armv4t.specs.Fused.{fuse_low, fuse_ops, fuse}
+use Rattle.armv4t.specs.Fused.{Fused, fuse_low, fuse_ops, fuse}
 use Rattle.file_instrs.specs.declared.decode.TimedInstr.{TimedInstr}
 use Rattle.c_tree.specs.Stmt.{Owner}
 use Rattle.c_meaning.specs.State.{State}
@@ -36,14 +35,14 @@ use Rattle.lower_units.proofs.Outcome.{outcome, always}
 use Rattle.lower_units.proofs.Aligned.{twos, two_lt}
 
 -- what fused is not nothing
-pub not_pair : {target ret : ℕ} → Nothing ≡ Pair target ret → ⊥
+pub not_pair : {target ret : ℕ} → ◌≡◌ {A = Fused} None (Some (target, ret)) → ⊥
 not_pair e = let z : ◌≡◌ {A = ℕ} 0 1 = cc in omega arith
 
 from_pair : Fused → ℕ × ℕ
-from_pair Nothing = (0, 0)
-from_pair (Pair target ret) = (target, ret)
+from_pair None = (0, 0)
+from_pair (Some (target, ret)) = (target, ret)
 
-module _ {t r target ret : ℕ} (e : Pair t r ≡ Pair target ret) where
+module _ {t r target ret : ℕ} (e : ◌≡◌ {A = Fused} (Some (t, r)) (Some (target, ret))) where
   target_of_lem : t ≡ target
   unfolding from_pair
   target_of_lem = ap (λ (f : Fused). (from_pair f).0) e
@@ -59,7 +58,7 @@ record Low (lr : ℕ) (op : Op) (addr target ret : ℕ) : Type 0 where
   target_is : (lr + off * 2) % 4294967296 ≡ target
   ret_is : set_bit0 ((addr + 2) % 4294967296) ≡ ret
 
-low_half : (lr : ℕ) (op : Op) (addr target ret : ℕ) → fuse_low lr op addr ≡ Pair target ret
+low_half : (lr : ℕ) (op : Op) (addr target ret : ℕ) → fuse_low lr op addr ≡ Some (target, ret)
     → Low lr op addr target ret
 low_half lr (Alu _ _ _ _ _) addr target ret e = absurd (not_pair e)
 low_half lr (Mul _ _ _ _ _ _) addr target ret e = absurd (not_pair e)
@@ -84,7 +83,7 @@ record High (op low : Op) (addr target ret : ℕ) : Type 0 where
   is : op ≡ ThumbBlHigh lr
   second : Low lr low addr target ret
 
-high_half : (op low : Op) (addr target ret : ℕ) → fuse_ops op low addr ≡ Pair target ret
+high_half : (op low : Op) (addr target ret : ℕ) → fuse_ops op low addr ≡ Some (target, ret)
     → High op low addr target ret
 high_half (Alu _ _ _ _ _) low addr target ret e = absurd (not_pair e)
 high_half (Mul _ _ _ _ _ _) low addr target ret e = absurd (not_pair e)

@@ -1,12 +1,12 @@
 -- Records that decode a Thumb instruction: the manual says by A7.1 what each native one does, and
 -- the halves of BL, and their text acts so.
+use Rattle.std.proofs.Common.{Some}
 use Prim.Native.Nat.{ℕ, ◌+◌, ◌*◌, ◌%◌, ◌^◌}
 use mathlib.Core.Path.{◌≡◌, refl, sym, ap, ◌∙◌, subst}
 use mathlib.Core.Bool.{Bool, true, false, ◌&&◌, ◌||◌}
 use mathlib.Core.List.{List}
 use mathlib.Core.Option.{some}
 use Rattle.armv4t.specs.declared.Instr.{Instr}
-use Rattle.armv4t.specs.declared.Fused.TheVariants.{Pair}
 use Rattle.armv4t.specs.Bit0.{set_bit0}
 use Rattle.armv4t.specs.Fused.{fuse}
 use Rattle.file_instrs.specs.declared.decode.TimedInstr.{TimedInstr}
@@ -107,11 +107,11 @@ module _ (x y : TimedInstr) (h l : ℕ) where
 
   halves_fuse : x.instr ≡ decoded x.instr.addr (format_19_high h)
       → y.instr ≡ decoded y.instr.addr (format_19_low l)
-      → fuse x.instr y.instr ≡ Pair target ret
+      → fuse x.instr y.instr ≡ Some (target, ret)
   unfolding fuse
   halves_fuse dx dy =
-      subst (λ (i : Instr). fuse i y.instr ≡ Pair target ret) (sym dx)
-      (subst (λ (j : Instr). fuse (decoded x.instr.addr (format_19_high h)) j ≡ Pair target ret)
+      subst (λ (i : Instr). fuse i y.instr ≡ Some (target, ret)) (sym dx)
+      (subst (λ (j : Instr). fuse (decoded x.instr.addr (format_19_high h)) j ≡ Some (target, ret))
       (sym dy) refl)
 
 pub thumb_pair_means : (ks : List ℕ) (at : ℕ) (x y : TimedInstr) → ThumbPairMeans ks at x y

@@ -1,6 +1,6 @@
 -- To be believed: what is claimed of native records and of fused pairs, of Thumb's instructions
 -- among them, and of the closing fall-through.
-use Rattle.std.specs.Prelude.{ℕ, ◌%◌, ◌≡◌, Bool, true, false, ◌&&◌, ◌||◌, List}
+use Rattle.std.specs.Prelude.{ℕ, ◌%◌, ◌≡◌, Bool, true, false, ◌&&◌, ◌||◌, List, Some}
 use Rattle.std.proofs.Math.Option.{some}
 use Rattle.base_words.specs.Word.{bit}
 use Rattle.armv4t.specs.declared.Op.{Op}
@@ -8,7 +8,6 @@ use Rattle.armv4t.specs.declared.Op.TheVariants.{Alu, Mul, MulLong, Swap, Bx, Br
 use Rattle.armv4t.specs.declared.Op.TheVariants.{ThumbBlLow, Mem, BlockMem, Mrs, MsrReg, MsrImm}
 use Rattle.armv4t.specs.declared.Op.TheVariants.{Swi, Undefined}
 use Rattle.armv4t.specs.declared.Instr.{Instr}
-use Rattle.armv4t.specs.declared.Fused.TheVariants.{Pair}
 use Rattle.armv4t.specs.Fused.{fuse}
 use Rattle.file_instrs.specs.declared.decode.TimedInstr.{TimedInstr}
 use Rattle.c_tree.specs.Stmt.{Owner}
@@ -82,7 +81,7 @@ ThumbMeans ks at region x =
 -- the other
 abbrev pub PairMeans : List ℕ → ℕ → TimedInstr → TimedInstr → Type 0
 PairMeans ks at x y =
-    (target ret : ℕ) → fuse x.instr y.instr ≡ Pair target ret
+    (target ret : ℕ) → fuse x.instr y.instr ≡ Some (target, ret)
     → (cycles : ℕ) (o : Owner) (z : State) (m : Machine) → Sound m → Agrees z m
     → (half next : Machine × ℕ) → execute x.instr m ≡ some half
     → execute y.instr half.0 ≡ some next
@@ -96,7 +95,7 @@ ThumbPairMeans ks at x y =
     → x.instr ≡ decoded x.instr.addr (format_19_high h)
     → y.instr ≡ decoded y.instr.addr (format_19_low l)
     → x.instr.addr % 2 ≡ 0 → y.instr.addr % 2 ≡ 0
-    → (target ret : ℕ) × (fuse x.instr y.instr ≡ Pair target ret)
+    → (target ret : ℕ) × (fuse x.instr y.instr ≡ Some (target, ret))
     × ((cycles : ℕ) (o : Owner) (z : State) (m : Machine) → Sound m → Agrees z m
     → (half next : Machine × ℕ) × (thumb_operation x.instr.addr (format_19_high h) m ≡ some half)
     × (thumb_operation y.instr.addr (format_19_low l) half.0 ≡ some next)

@@ -1,16 +1,14 @@
 -- The exits of a block by its last two instructions, and exits by a block's number.
 -- Assumes nothing.
-use Rattle.std.proofs.Common.{◌≡◌, ℕ, zero, suc, ◌+◌, ◌-◌, ◌≤◌, Bool, List, map, sym, refl, ap, ◌∙◌, ap₂, arith}
+use Rattle.std.proofs.Common.{◌≡◌, ℕ, zero, suc, ◌+◌, ◌-◌, ◌≤◌, Bool, List, map, sym, refl, ap, ◌∙◌, ap₂, arith, Option, Some, None}
 use mathlib.Core.Option.{none, some}
 use lib.ListN.{get_elem?}
 use Rattle.base_lists.proofs.Places.{map_found, map_past}
 use Rattle.armv4t.specs.Instr.{size_of}
-use Rattle.armv4t.specs.declared.Fused.{Fused}
 use Rattle.armv4t.specs.declared.Instr.{Instr}
-use Rattle.armv4t.specs.Fused.{fuse}
+use Rattle.armv4t.specs.Fused.{Fused, fuse}
 use Rattle.file_instrs.specs.declared.decode.TimedInstr.{TimedInstr}
 use Rattle.file_blocks.specs.declared.read.BlockRecord.{BlockRecord}
-use Rattle.file_blocks.specs.declared.read.FoundInstr.{FoundInstr}
 use Rattle.file_records.specs.Trailer.{block_count, block_start}
 use Rattle.file_blocks.specs.Parse.{instrs_from, block_at, blocks_of, Accepted}
 use Rattle.file_blocks.specs.Read.{record_at, read_instr, IsBlock}
@@ -64,8 +62,8 @@ module _ {f : List ℕ} {i : ℕ} {b : BlockRecord} {first : ℕ} (is : IsBlock 
       (instrs_from f r.count first r.addr r.thumb)) (sym (block_record is))
 
   -- a block of one instruction
-  pub exits_alone : (r : FoundInstr) (x : TimedInstr) → b.count ≡ 1
-      → r ≡ read_instr f b first (b.count - 1) → r ≡ FoundInstr.At x
+  pub exits_alone : (r : Option TimedInstr) (x : TimedInstr) → b.count ≡ 1
+      → r ≡ read_instr f b first (b.count - 1) → r ≡ Some x
       → last_exits b.thumb x.instr ≡ exits (block_at f (block_start f i) first)
   exits_alone r x one e g =
       ap (λ (z : TimedInstr). last_exits b.thumb z.instr)
@@ -74,9 +72,9 @@ module _ {f : List ℕ} {i : ℕ} {b : BlockRecord} {first : ℕ} (is : IsBlock 
       ∙ sym exits_are
 
   -- a block of more
-  pub exits_paired : (r q : FoundInstr) (x y : TimedInstr) → (b.count ≡ 1 → ⊥)
-      → r ≡ read_instr f b first (b.count - 2) → r ≡ FoundInstr.At x
-      → q ≡ read_instr f b first (b.count - 1) → q ≡ FoundInstr.At y
+  pub exits_paired : (r q : Option TimedInstr) (x y : TimedInstr) → (b.count ≡ 1 → ⊥)
+      → r ≡ read_instr f b first (b.count - 2) → r ≡ Some x
+      → q ≡ read_instr f b first (b.count - 1) → q ≡ Some y
       → closing_exits (fuse x.instr y.instr) (last_exits b.thumb y.instr)
       ≡ exits (block_at f (block_start f i) first)
   exits_paired r q x y more e g e' g' =
@@ -87,9 +85,9 @@ module _ {f : List ℕ} {i : ℕ} {b : BlockRecord} {first : ℕ} (is : IsBlock 
       ∙ sym exits_are
 
   -- a block of more whose last instruction makes no pair
-  pub exits_unpaired : (q : FoundInstr) (y : TimedInstr) → (b.count ≡ 1 → ⊥)
-      → ((before : Instr) → fuse before y.instr ≡ Fused.Nothing)
-      → q ≡ read_instr f b first (b.count - 1) → q ≡ FoundInstr.At y
+  pub exits_unpaired : (q : Option TimedInstr) (y : TimedInstr) → (b.count ≡ 1 → ⊥)
+      → ((before : Instr) → fuse before y.instr ≡ None)
+      → q ≡ read_instr f b first (b.count - 1) → q ≡ Some y
       → last_exits b.thumb y.instr ≡ exits (block_at f (block_start f i) first)
   exits_unpaired q y more alone e g =
       let x = instr_at f first b.addr b.thumb (b.count - 2) in

@@ -1,6 +1,6 @@
 -- A block has at most two exits.
 -- Assumes nothing.
-use Rattle.std.proofs.Common.{ℕ, ◌≤◌, Bool, true, false, cond, ◌&&◌, eqb, List, [], ◌∷◌, length, arith}
+use Rattle.std.proofs.Common.{ℕ, ◌≤◌, Bool, true, false, cond, ◌&&◌, eqb, List, [], ◌∷◌, length, arith, Option, Some, None}
 use Rattle.armv4t.specs.declared.Cond.{Cond}
 use Rattle.armv4t.specs.declared.Cond.TheVariants.{Eq, Ne, Cs, Cc, Mi, Pl, Vs, Vc, Hi, Ls, Ge, Lt}
 use Rattle.armv4t.specs.declared.Cond.TheVariants.{Gt, Le, Al, Nv}
@@ -8,9 +8,7 @@ use Rattle.armv4t.specs.declared.Op.{Op}
 use Rattle.armv4t.specs.declared.Op.TheVariants.{Alu, Mul, MulLong, Swap, Bx, Branch, ThumbBlHigh}
 use Rattle.armv4t.specs.declared.Op.TheVariants.{ThumbBlLow, Mem, BlockMem, Mrs, MsrReg, MsrImm}
 use Rattle.armv4t.specs.declared.Op.TheVariants.{Swi, Undefined}
-use Rattle.armv4t.specs.declared.Fused.{Fused}
-use Rattle.armv4t.specs.declared.Fused.TheVariants.{Pair, Nothing}
-use Rattle.armv4t.specs.Fused.{fuse}
+use Rattle.armv4t.specs.Fused.{Fused, fuse}
 use Rattle.file_instrs.specs.declared.decode.TimedInstr.{TimedInstr}
 use Rattle.file_blocks.specs.Parse.{Block}
 use Rattle.armv4t.specs.RegisterList.{is_listed}
@@ -61,8 +59,8 @@ op_few (Undefined raw) c thumb fall = omega arith
 
 closing_few : (fused : Fused) (alone : List ℕ) → length alone ≤ 2
     → length (closing_exits fused alone) ≤ 2
-closing_few (Pair target ret) alone h = omega arith
-closing_few Nothing alone h = h
+closing_few (Some (target, ret)) alone h = omega arith
+closing_few None alone h = h
 
 instr_few : (thumb : Bool) (is : List TimedInstr) → length (instr_exits thumb is) ≤ 2
 unfolding instr_exits

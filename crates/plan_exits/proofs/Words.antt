@@ -1,6 +1,6 @@
 -- The keys of a block's exits have 32 bits, where the fields of its instructions are in range.
 -- Assumes nothing.
-use Rattle.std.proofs.Common.{◌≡◌, ℕ, ◌+◌, ◌*◌, ◌%◌, ◌^◌, ◌<◌, Bool, true, false, cond, ◌&&◌, eqb, ◌⊎◌, List, [], ◌∷◌, refl, inl, inr, mod-lt, arith}
+use Rattle.std.proofs.Common.{◌≡◌, ℕ, ◌+◌, ◌*◌, ◌%◌, ◌^◌, ◌<◌, Bool, true, false, cond, ◌&&◌, eqb, ◌⊎◌, List, [], ◌∷◌, refl, inl, inr, mod-lt, arith, Option, Some, None}
 use mathlib.Core.List.Memᴰ
 use mathlib.Core.List.{Memᴰ}
 use Rattle.armv4t.specs.declared.Cond.{Cond}
@@ -8,11 +8,9 @@ use Rattle.armv4t.specs.declared.Op.{Op}
 use Rattle.armv4t.specs.declared.Op.TheVariants.{Alu, Mul, MulLong, Swap, Bx, Branch, ThumbBlHigh}
 use Rattle.armv4t.specs.declared.Op.TheVariants.{ThumbBlLow, Mem, BlockMem, Mrs, MsrReg, MsrImm}
 use Rattle.armv4t.specs.declared.Op.TheVariants.{Swi, Undefined}
-use Rattle.armv4t.specs.declared.Fused.{Fused}
-use Rattle.armv4t.specs.declared.Fused.TheVariants.{Pair, Nothing}
 use Rattle.armv4t.specs.Bit0.{set_bit0}
 use Rattle.armv4t.specs.Cond.{is_al}
-use Rattle.armv4t.specs.Fused.{fuse, fuse_ops, fuse_low}
+use Rattle.armv4t.specs.Fused.{Fused, fuse, fuse_ops, fuse_low}
 use Rattle.armv4t.specs.InRange.{InRange}
 use Rattle.armv4t.specs.RegisterList.{is_listed}
 use Rattle.file_instrs.specs.declared.decode.TimedInstr.{TimedInstr}
@@ -72,8 +70,8 @@ op_words (Undefined raw) c thumb fall r h = tt
 
 -- the target of a pair is a word
 abbrev PairWord : Fused → Type 0
-PairWord (Pair target ret) = target < 4294967296
-PairWord Nothing = Unit {0}
+PairWord (Some (target, ret)) = target < 4294967296
+PairWord None = Unit {0}
 
 low_word : (lr : ℕ) (op : Op) (addr : ℕ) → PairWord (fuse_low lr op addr)
 low_word lr (Alu _ _ _ _ _) addr = tt
@@ -111,8 +109,8 @@ high_word (Undefined _) low addr = tt
 
 closing_words : (fused : Fused) (alone : List ℕ) → PairWord fused → Words alone
     → Words (closing_exits fused alone)
-closing_words (Pair target ret) alone pair h = (set_word target pair, tt)
-closing_words Nothing alone pair h = h
+closing_words (Some (target, ret)) alone pair h = (set_word target pair, tt)
+closing_words None alone pair h = h
 
 -- the fields of some instructions are in range
 abbrev Ranges : List TimedInstr → Type 0

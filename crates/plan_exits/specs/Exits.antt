@@ -1,18 +1,16 @@
 -- To be believed: the exit list of a block (document 01), by its last instruction, or by its last
 -- two where they fuse.
-use Rattle.std.specs.Prelude.{ℕ, Bool, cond, ◌&&◌, List, [], ◌∷◌, ◌==◌}
+use Rattle.std.specs.Prelude.{ℕ, Bool, cond, ◌&&◌, List, [], ◌∷◌, ◌==◌, Option, Some, None}
 use Rattle.armv4t.specs.declared.Cond.{Cond}
 use Rattle.armv4t.specs.declared.Op.{Op}
 use Rattle.armv4t.specs.declared.Op.TheVariants.{Alu, Mul, MulLong, Swap, Bx, Branch, ThumbBlHigh}
 use Rattle.armv4t.specs.declared.Op.TheVariants.{ThumbBlLow, Mem, BlockMem, Mrs, MsrReg, MsrImm}
 use Rattle.armv4t.specs.declared.Op.TheVariants.{Swi, Undefined}
 use Rattle.armv4t.specs.declared.Instr.{Instr}
-use Rattle.armv4t.specs.declared.Fused.{Fused}
-use Rattle.armv4t.specs.declared.Fused.TheVariants.{Pair, Nothing}
 use Rattle.armv4t.specs.Bit0.{set_bit0}
 use Rattle.armv4t.specs.Cond.{is_al}
 use Rattle.armv4t.specs.RegisterList.{is_listed}
-use Rattle.armv4t.specs.Fused.{fuse}
+use Rattle.armv4t.specs.Fused.{Fused, fuse}
 use Rattle.file_instrs.specs.declared.decode.TimedInstr.{TimedInstr}
 use Rattle.file_blocks.specs.Parse.{Block}
 use Rattle.file_blocks.specs.Address.{key_of, fall_through}
@@ -50,8 +48,8 @@ last_exits thumb i = op_exits i.op i.cond thumb (fall_through thumb i)
 
 -- a closing fused pair goes to its target in Thumb; otherwise the last instruction decides
 abbrev pub closing_exits : Fused → List ℕ → List ℕ
-closing_exits (Pair target ret) alone = set_bit0 target ∷ []
-closing_exits Nothing alone = alone
+closing_exits (Some (target, ret)) alone = set_bit0 target ∷ []
+closing_exits None alone = alone
 
 -- the exits of consecutive instructions, by the last two
 unfoldable pub instr_exits : Bool → List TimedInstr → List ℕ

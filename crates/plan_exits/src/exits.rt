@@ -1,14 +1,13 @@
 // The exit list of a block, by its last instruction, or by its last two where they fuse.
 ghost use Rattle.std.specs.Prelude.{◌≡◌, ◌+◌, false, [], ◌∷◌, if◌then◌else◌};
-ghost use Rattle.armv4t.specs.declared.Fused.{Fused};
 ghost use Rattle.armv4t.specs.declared.Instr.{Instr};
 ghost use Rattle.armv4t.specs.Fused.{fuse};
 ghost use Rattle.plan_exits.specs.Exits.{branch_exits, last_exits};
 ghost use Rattle.plan_exits.specs.Exits.{closing_exits, keys_of};
 ghost use Rattle.plan_exits.specs.Found.{EndsNoPair, AreExits, AreFoundExits};
 
-use armv4t::{Cond, Fused, Instr, Op, PC, fuse_thumb_bl, is_listed, set_bit0};
-use file_blocks::{BlockRecord, FoundBlock, FoundInstr, block_at, fall_through, instr_of, key_of};
+use armv4t::{Cond, Instr, Op, PC, fuse_thumb_bl, is_listed, set_bit0};
+use file_blocks::{BlockRecord, block_at, fall_through, instr_of, key_of};
 
 // The keys of an exit list, the target before the fall-through.
 #[derive(Clone, Copy)]
@@ -16,13 +15,6 @@ pub enum Exits {
     None,
     One(u32),
     Two(u32, u32),
-}
-
-// The exits of a block by its number, or that there is no such block.
-#[derive(Clone, Copy)]
-pub enum FoundExits {
-    Exits(Exits),
-    Nothing,
 }
 
 // The fall-through, or no exit where the last operation is one that leaves the block by a value it
@@ -70,8 +62,8 @@ pub(crate) fn closing_exits(thumb: bool, before: Instr, last: Instr) -> Exits
     ensures { keys_of result ≡ closing_exits (fuse before last) (last_exits thumb last) }
 {
     match fuse_thumb_bl(before, last) {
-        Fused::Pair { target, .. } => Exits::One(set_bit0(target)),
-        Fused::Nothing => last_exits(thumb, last),
+        Some((target, _)) => Exits::One(set_bit0(target)),
+        None => last_exits(thumb, last),
     }
 }
 
@@ -80,11 +72,7 @@ pub(crate) fn closing_exits(thumb: bool, before: Instr, last: Instr) -> Exits
 fn ends_bl(instr: Instr) -> bool
     ensures { result ≡ false → EndsNoPair instr }
 {
-    let op = instr.op;
-    match op {
-        Op::ThumbBlLow { .. } => true,
-        _ => false,
-    }
+    matches!(instr.op, Op::ThumbBlLow { .. })
 }
 
 // The exits of the block with a record, whose instructions are those from record `first` on.
@@ -95,7 +83,7 @@ pub fn exits_at(file: &[u8], block: BlockRecord, first: usize) -> Exits
     if count == 0 {
         return Exits::None;
     }
-    let FoundInstr::At(last) = instr_of(file, block, first, count - 1) else {
+    let Some(last) = instr_of(file, block, first, count - 1) else {
         return Exits::None;
     };
     if count == 1 {
@@ -104,28 +92,24 @@ pub fn exits_at(file: &[u8], block: BlockRecord, first: usize) -> Exits
     if !ends_bl(last.instr) {
         return last_exits(block.thumb, last.instr);
     }
-    let FoundInstr::At(previous) = instr_of(file, block, first, count - 2) else {
+    let Some(previous) = instr_of(file, block, first, count - 2) else {
         return Exits::None;
     };
     closing_exits(block.thumb, previous.instr, last.instr)
 }
 
-// The exits of block i, or Nothing. `first` sums the counts of the blocks before block k; in an
+// The exits of block i, or that there is no such block. `first` sums the counts of the blocks before block k; in an
 // accepted file it does not wrap.
-pub fn block_exits(file: &[u8], i: usize) -> FoundExits
+pub fn block_exits(file: &[u8], i: usize) -> Option<Exits>
     ensures { AreFoundExits file.now i result }
 {
     let mut first: usize = 0;
     let mut k = 0;
     while k < i {
-        let FoundBlock::At(earlier) = block_at(file, k) else {
-            return FoundExits::Nothing;
-        };
+        let earlier = block_at(file, k)?;
         first = std::num::wrapping_add_usize(first, earlier.count as usize);
         k += 1;
     }
-    let FoundBlock::At(block) = block_at(file, i) else {
-        return FoundExits::Nothing;
-    };
-    FoundExits::Exits(exits_at(file, block, first))
+    let block = block_at(file, i)?;
+    Some(exits_at(file, block, first))
 }

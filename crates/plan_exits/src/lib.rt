@@ -3,4 +3,4 @@
 
 mod exits;
 
-pub use exits::{Exits, FoundExits, block_exits, exits_at};
+pub use exits::{Exits, block_exits, exits_at};

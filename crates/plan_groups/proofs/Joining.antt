@@ -1,5 +1,6 @@
 -- Edges in the work numbers: one, those of a block, and those of all blocks.
 -- Assumes nothing.
+use Rattle.std.proofs.Common.{Option, Some, None}
 use mathlib.Core.Path.{◌≡◌, refl, sym, ap, ◌∙◌, subst}
 use mathlib.Core.Bool.{true, false}
 use mathlib.Core.List.{List}
@@ -9,31 +10,30 @@ use native.Mathlib.Omega.{arith}
 use borrow.Rule.Slice.PartMut.{put_mid}
 use lib.ListN.{length}
 use Rattle.file_blocks.specs.declared.read.BlockRecord.{BlockRecord}
-use Rattle.file_blocks.specs.declared.read.FoundBlock.{FoundBlock}
 use Rattle.file_records.specs.Trailer.{block_count, block_start}
 use Rattle.file_records.specs.BlockRecord.{count_sum}
 use Rattle.file_blocks.specs.Parse.{block_at, blocks_of, Accepted}
 use Rattle.file_blocks.specs.Read.{record_at, found_block}
-use Rattle.plan_search.specs.declared.Target.{Target}
 use Rattle.base_forest.specs.Forest.{Forest, SameRoots, Hung}
 use Rattle.plan_exits.specs.declared.exits.Exits.{Exits}
 use Rattle.plan_exits.specs.Exits.{keys_of, exits}
 use Rattle.plan_search.specs.Target.{target, joinable, on_page8}
 use Rattle.plan_groups.specs.Plan.{join_to, join_exits}
-use Rattle.plan_search.specs.Search.{target_of, TargetInside}
+use Rattle.file_keys.specs.Answers.{number_of}
+use Rattle.plan_search.specs.Search.{TargetInside}
 use Rattle.plan_groups.specs.Groups.{quarter1, HasOrder, Joined, join_record}
 use Rattle.file_blocks.proofs.IsBlock.{missing, found_record}
 use Rattle.plan_groups.proofs.Lending.{take_kept, quarter_length, back_length, back_quarter}
 use Rattle.plan_groups.proofs.Lending.{back_before, back_after}
 use Rattle.base_forest.proofs.Roots.{deeper, same_deeper}
 
-module _ (f w : List ℕ) (n i key : ℕ) (found : Target)
-    (says : target_of found ≡ target key (blocks_of f) 0) where
+module _ (f w : List ℕ) (n i key : ℕ) (found : Option ℕ)
+    (says : number_of found ≡ target key (blocks_of f) 0) where
   abbrev joins : List ℕ → List ℕ
   joins q = join_to i q (target key (blocks_of f) 0)
 
   -- no block to join
-  pub join_nothing : found ≡ Target.Nothing
+  pub join_nothing : found ≡ None
       → Joined 1 n w w (λ q. join_to i q (target key (blocks_of f) 0))
   join_nothing e =
       record {
@@ -43,12 +43,12 @@ module _ (f w : List ℕ) (n i key : ℕ) (found : Target)
         depth = λ d g. deeper g (d + 1) (omega arith);
         roots = λ d q room g.
             subst (SameRoots (d + 1) (quarter1 n w))
-            (ap (join_to i q) (sym (ap target_of e) ∙ says))
+            (ap (join_to i q) (sym (ap number_of e) ∙ says))
             (same_deeper g (d + 1) (omega arith));
       }
 
   -- a block to join
-  pub join_at : (j : ℕ) (p' : List ℕ) → 4 * n ≤ length w → found ≡ Target.At j
+  pub join_at : (j : ℕ) (p' : List ℕ) → 4 * n ≤ length w → found ≡ Some j
       → Hung (quarter1 n w) i j p'
       → Joined 1 n w (put_mid n (2 * n - n) w p') (λ q. join_to i q (target key (blocks_of f) 0))
   join_at j p' room e h =
@@ -61,13 +61,13 @@ module _ (f w : List ℕ) (n i key : ℕ) (found : Target)
         depth = λ d g. subst (Forest (d + 1)) (sym part-is) (h.depth d g);
         roots = λ d q few g.
             subst (λ (l : List ℕ). SameRoots (d + 1) l (joins q)) (sym part-is)
-            (subst (SameRoots (d + 1) p') (ap (join_to i q) (sym (ap target_of e) ∙ says))
+            (subst (SameRoots (d + 1) p') (ap (join_to i q) (sym (ap number_of e) ∙ says))
             (h.roots d q (omega (arith, quarter_length n w room)) g));
       }
 
 -- the block found is inside
-pub target_inside : (f : List ℕ) (found : Target) (j n : ℕ) → TargetInside f found
-    → found ≡ Target.At j → n ≡ block_count f → j < n
+pub target_inside : (f : List ℕ) (found : Option ℕ) (j n : ℕ) → TargetInside f found
+    → found ≡ Some j → n ≡ block_count f → j < n
 target_inside f found j n h e g = subst (λ (m : ℕ). j < m) (sym g) (subst (TargetInside f) e h)
 
 -- edges leave the key order in quarter 0
@@ -137,13 +137,13 @@ module _ (f : List ℕ) (i n : ℕ) (w : List ℕ) (x : Exits) where
   exits_two k l w₁ w₂ e a b = rw e (joined_then a b)
 
 -- block i as a pass over the records has it
-module _ (f : List ℕ) (i n : ℕ) (w : List ℕ) (found : FoundBlock) (reads : found ≡ found_block f i)
+module _ (f : List ℕ) (i n : ℕ) (w : List ℕ) (found : Option BlockRecord) (reads : found ≡ found_block f i)
     (inside : i < n) (all : n ≡ block_count f) where
   -- the reader finds nothing: not in an accepted file
-  pub block_missing : Accepted f → found ≡ FoundBlock.Nothing → Joined 2 n w w (join_record f i)
+  pub block_missing : Accepted f → found ≡ None → Joined 2 n w w (join_record f i)
   block_missing a e = absurd (omega (arith, missing f a i (sym reads ∙ e)))
 
-  module _ (b : BlockRecord) (at : found ≡ FoundBlock.At b) where
+  module _ (b : BlockRecord) (at : found ≡ Some b) where
     record_is : b ≡ record_at f (block_start f i)
     record_is = found_record f i b (sym reads ∙ at)
 

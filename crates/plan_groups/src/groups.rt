@@ -28,10 +28,10 @@ ghost use Rattle.plan_groups.specs.Groups.{FirstsInQuarter3, Rooted, AllRooted, 
 use crate::links::{as_index, link_members};
 use crate::order::{count_of, place_blocks};
 use base_forest::{find, hang_under, own_roots};
-use file_blocks::{FoundBlock, block_at};
+use file_blocks::block_at;
 use file_keys::order_blocks;
 use plan_exits::{Exits, exits_at};
-use plan_search::{Target, find_target, on_page_8};
+use plan_search::{find_target, on_page_8};
 
 // The edge from block i to a key, if there is a block of page 8 with that key.
 fn join_key(file: &[u8], work: &mut [u32], n: usize, i: usize, key: u32)
@@ -41,7 +41,7 @@ fn join_key(file: &[u8], work: &mut [u32], n: usize, i: usize, key: u32)
     ensures { Joined 1 n work.old work.new
         (λ q. join_to i q (target key (blocks_of file.now) 0)) }
 {
-    let Target::At(j) = find_target(file, &work[..n], key, i) else {
+    let Some(j) = find_target(file, &work[..n], key, i) else {
         return;
     };
     let end = 2 * n;
@@ -74,7 +74,7 @@ fn join_block(file: &[u8], work: &mut [u32], n: usize, i: usize)
     requires forest { Forest (2 * i) (quarter1 n work.old) }
     ensures { Joined 2 n work.old work.new (join_record file.now i) }
 {
-    let FoundBlock::At(block) = block_at(file, i) else {
+    let Some(block) = block_at(file, i) else {
         return;
     };
     if !on_page_8(block.addr) {

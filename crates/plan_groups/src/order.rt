@@ -8,7 +8,7 @@ ghost use Rattle.plan_groups.specs.Groups.{HasRoom};
 ghost use Rattle.plan_groups.specs.Links.{AllOnce, Linked};
 ghost use Rattle.plan_groups.specs.Order.{part_with, Placed};
 
-use file_blocks::{FoundBlock, block_at};
+use file_blocks::block_at;
 
 // The part of a component that is being filled: the number of its group, and its instructions.
 #[derive(Clone, Copy)]
@@ -23,7 +23,7 @@ pub(crate) fn count_of(file: &[u8], i: usize) -> u64
     ensures small { result < 2 ^ 32 }
     ensures count { result ≡ count_at file.now (block_start file.now i) }
 {
-    let FoundBlock::At(block) = block_at(file, i) else {
+    let Some(block) = block_at(file, i) else {
         return 0;
     };
     block.count as u64

@@ -1,11 +1,11 @@
 -- The keys of blocks, as the readers of records and rows give them.
+use Rattle.std.proofs.Common.{Some, None}
 use mathlib.Core.Path.{◌≡◌, refl, sym, ap, ◌∙◌}
 use Prim.Native.Nat.{ℕ, ◌+◌, ◌<◌}
 use native.Mathlib.Omega.{arith}
 use mathlib.Core.List.{List}
 use lib.ListN.{length, get_or, length-map, get_or-eq_default}
 use Rattle.file_blocks.specs.declared.read.BlockRecord.{BlockRecord}
-use Rattle.file_blocks.specs.declared.read.FoundBlock.{FoundBlock}
 use Rattle.file_records.specs.BlockRecord.{count_sum, key_plus}
 use Rattle.file_blocks.specs.Parse.{Block, block_at, blocks_of, Accepted, block_key}
 use Rattle.file_blocks.specs.Read.{record_at, found_block, IsBlock}
@@ -25,7 +25,7 @@ use Rattle.plan_members.specs.declared.group_rows.Rows.{Rows}
 use Rattle.plan_members.specs.GroupRows.{IsGroup, IsRow}
 
 -- the key of a record that was found
-pub key_found : (f : List ℕ) (i : ℕ) (b : BlockRecord) (key : ℕ) → found_block f i ≡ FoundBlock.At b
+pub key_found : (f : List ℕ) (i : ℕ) (b : BlockRecord) (key : ℕ) → found_block f i ≡ Some b
     → key ≡ key_of b.addr b.thumb → Accepted f
     → key ≡ get_or (block_keys f) i 0
 unfolding record_at
@@ -42,7 +42,7 @@ key_found f i b key found e ok =
     (omega (arith, inside, length_of_lem f (blocks_of f) ok)))
 
 -- and that of none
-pub key_missing : (f : List ℕ) (i : ℕ) → found_block f i ≡ FoundBlock.Nothing → Accepted f
+pub key_missing : (f : List ℕ) (i : ℕ) → found_block f i ≡ None → Accepted f
     → 0 ≡ get_or (block_keys f) i 0
 key_missing f i e ok =
     sym (get_or-eq_default (block_keys f) 0 (omega (arith, missing f ok i e, length_keys f)))

@@ -6,13 +6,13 @@ ghost use Rattle.plan_members.specs.Members.{group_keys};
 ghost use Rattle.plan_members.specs.GroupRows.{IsRow};
 
 use crate::rows::row_block;
-use file_blocks::{FoundBlock, block_at, key_of};
+use file_blocks::{block_at, key_of};
 
 // The key of block i, or 0 where there is none.
 pub fn block_key(file: &[u8], i: usize) -> u32
     ensures { Accepted file.now → result ≡ get_or (block_keys file.now) i 0 }
 {
-    let FoundBlock::At(block) = block_at(file, i) else {
+    let Some(block) = block_at(file, i) else {
         return 0;
     };
     key_of(block.addr, block.thumb)

@@ -16,8 +16,8 @@ use Rattle.base_lists.specs.Lists.{range, first_of}
 use Rattle.base_lists.proofs.Bools.{left_true, right_true}
 use Rattle.file_records.specs.Trailer.{block_count, block_start}
 use Rattle.file_records.specs.BlockRecord.{key_plus, key_at}
+use Rattle.std.proofs.Common.{Option, Some, None}
 use Rattle.file_blocks.specs.declared.read.BlockRecord.{BlockRecord}
-use Rattle.file_blocks.specs.declared.read.FoundBlock.{FoundBlock}
 use Rattle.file_blocks.specs.Parse.{Block, block_key, block_at, blocks_of, Accepted}
 use Rattle.file_blocks.specs.Read.{record_at, found_block}
 use Rattle.file_blocks.proofs.Accepted.{length_of_lem}
@@ -85,12 +85,12 @@ hit test (suc n) i m e = go (test i) refl (hit test n (suc i) m)
         }
 
 -- what the reader found of block i tells whether it has a key
-module _ (f : List ℕ) (accepted : Accepted f) (i key : ℕ) (found : FoundBlock)
+module _ (f : List ℕ) (accepted : Accepted f) (i key : ℕ) (found : Option BlockRecord)
     (reads : found ≡ found_block f i) where
-  pub key_nowhere : found ≡ FoundBlock.Nothing → false ≡ has_key f i key
+  pub key_nowhere : found ≡ None → false ≡ has_key f i key
   key_nowhere e = rw (le-ltb _ _ (missing f accepted i (sym reads ∙ e)))
 
-  pub key_told : (b : BlockRecord) (k : ℕ) → found ≡ FoundBlock.At b
+  pub key_told : (b : BlockRecord) (k : ℕ) → found ≡ Some b
       → k ≡ key_plus b.addr b.thumb → eqb k key ≡ has_key f i key
   unfolding record_at
   key_told b k at is =
@@ -153,8 +153,8 @@ module _ (f : List ℕ) (accepted : Accepted f) (key : ℕ) where
         only m j target_inside (omega (arith, length_of_lem f (blocks_of f) accepted)) key_there
         (block_at_key j l e)
 
-    module _ (b : BlockRecord) (read : FoundBlock) (reads : read ≡ found_block f m)
-        (at : read ≡ FoundBlock.At b) where
+    module _ (b : BlockRecord) (read : Option BlockRecord) (reads : read ≡ found_block f m)
+        (at : read ≡ Some b) where
       page_of_lem : joinable (get_or (blocks_of f) m nowhere) ≡ on_page8 b.addr
       unfolding block_at record_at
       page_of_lem = ap joinable (nth_block f m nowhere target_inside)
@@ -178,5 +178,5 @@ module _ (f : List ℕ) (accepted : Accepted f) (key : ℕ) where
           ∙ page_of_lem ∙ off))
 
     -- the reader finds it
-    pub never_missing : found_block f m ≡ FoundBlock.Nothing → ⊥
+    pub never_missing : found_block f m ≡ None → ⊥
     never_missing e = omega (arith, target_inside, missing f accepted m e)

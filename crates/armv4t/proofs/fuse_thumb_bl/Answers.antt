@@ -1,21 +1,20 @@
 -- `armv4t::fuse_thumb_bl` meets its contract. The arms of both halves are given which operations
 -- these are; each `_` answers for each of its variants. Assumes nothing.
-use Rattle.std.proofs.Common.{◌≡◌, ℕ, refl}
+use Rattle.std.proofs.Common.{◌≡◌, ℕ, None, refl}
 use Rattle.armv4t.specs.declared.Op.{Op}
 use Rattle.armv4t.specs.declared.Op.TheVariants.{ThumbBlHigh, ThumbBlLow}
-use Rattle.armv4t.specs.declared.Fused.TheVariants.{Nothing}
 use Rattle.armv4t.specs.Fused.{fuse, fuse_ops, fuse_low}
 use Rattle.armv4t.proofs.fuse_thumb_bl.Goals as goal
 
 -- whatever is no first half makes nothing
 no_high : (high low : Op) (addr : ℕ) → ((x : ℕ) → high ≡ ThumbBlHigh x → ⊥)
-    → Nothing ≡ fuse_ops high low addr
+    → None ≡ fuse_ops high low addr
 no_high (ThumbBlHigh x) low addr n = absurd (n x refl)
 no_high _ low addr n = refl
 
 -- whatever is no second half makes nothing
 no_low : (lr : ℕ) (low : Op) (addr : ℕ) → ((x : ℕ) → low ≡ ThumbBlLow x → ⊥)
-    → Nothing ≡ fuse_low lr low addr
+    → None ≡ fuse_low lr low addr
 no_low lr (ThumbBlLow x) addr n = absurd (n x refl)
 no_low lr _ addr n = refl
 
@@ -24,20 +23,20 @@ unfolding fuse
 returns-in_default c =
     no_high c.args.high.op c.args.low.op c.args.low.addr c.in_default.not-ThumbBlHigh
 
-pub returns-in_default-second : goal.returns-in_default-second
+pub returns-in_default-op : goal.returns-in_default-op
 unfolding fuse
-returns-in_default-second c =
+returns-in_default-op c =
     rw c.in-ThumbBlHigh.is
     (no_low c.in-ThumbBlHigh.lr_partial c.args.low.op c.args.low.addr
-    c.in_default-second.not-ThumbBlLow)
+    c.in_default-op.not-ThumbBlLow)
 
-pub returns-in-ThumbBlLow : goal.returns-in-ThumbBlLow
+pub returns : goal.returns
 unfolding fuse
-returns-in-ThumbBlLow c =
+returns c =
     rw (
       c.in-ThumbBlHigh.is,
       c.in-ThumbBlLow.is,
+      c.wrapping_add_u32-target.ensures.value,
+      c.set_bit0-ret.ensures,
       c.wrapping_add_u32.ensures.value,
-      c.set_bit0.ensures,
-      c.wrapping_add_u32-in-ThumbBlLow.ensures.value,
     ) refl

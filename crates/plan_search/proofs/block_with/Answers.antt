@@ -17,13 +17,13 @@ find_key-requires c =
     let f = c.args.file.now in
     let long = (is_order _ _ c.requires.accepted.1).long in record { right_blocks = (right_blocks f c.requires.accepted.0, c.requires.accepted.1); p_in_bounds = omega (arith, long, length_keys f, c.requires.i_bound) }
 
-pub returns-in_default : goal.returns-in_default
-returns-in_default c =
-    sym (ap number_of c.in_default.is) ∙ c.find_key.ensures
+pub returns-in_err-j : goal.returns-in_err-j
+returns-in_err-j c =
+    ap number_of c.from_residual.ensures ∙ sym (ap number_of c.in_err-j.was) ∙ c.find_key.ensures
 
 pub returns : goal.returns
 returns c =
-    sym (ap number_of c.in-At.is) ∙ c.find_key.ensures
+    sym (ap number_of c.in_ok-j.was) ∙ c.find_key.ensures
 
 pub returns-then-has_key : goal.returns-then-has_key
 returns-then-has_key c =

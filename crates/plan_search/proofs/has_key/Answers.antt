@@ -11,4 +11,4 @@ returns-in_default c =
 pub returns : goal.returns
 returns c =
     searching.key_told _ c.requires _ _ _ c.block_at.ensures
-    _ _ c.in-At.is c.key_plus.ensures.key
+    _ _ c.in-Some.is c.key_plus.ensures.key

@@ -23,28 +23,28 @@ returns-in-Refused c =
           c.in-Refused.is);
     }
 
-pub returns-in-Exits : goal.returns-in-Exits
+pub returns-in-Some : goal.returns-in-Some
 unfolding exits_answer
-returns-in-Exits c =
+returns-in-Some c =
     record {
       answer = let o = is_open _ _ _ _ _ c.open_file.ensures _ _
           c.in-Blocks.is in
           ap (λ (l : Outcome (List ℕ)). l.answer)
           (ap (found _)
-          (sym (ap found_keys c.in-Exits.is)
+          (sym (ap found_keys c.in-Some.is)
           ∙ c.block_exits.ensures o.accepted)
           ∙ open_call (asks_exits _) [] [] _ _ o);
     }
 
-pub returns-in-Nothing : goal.returns-in-Nothing
+pub returns-in-None : goal.returns-in-None
 unfolding exits_answer
-returns-in-Nothing c =
+returns-in-None c =
     record {
       answer = let o = is_open _ _ _ _ _ c.open_file.ensures _ _
           c.in-Blocks.is in
           ap (λ (l : Outcome (List ℕ)). l.answer)
           (ap (found _)
-          (sym (ap found_keys c.in-Nothing.is)
+          (sym (ap found_keys c.in-None.is)
           ∙ c.block_exits.ensures o.accepted)
           ∙ open_call (asks_exits _) [] [] _ _ o);
     }

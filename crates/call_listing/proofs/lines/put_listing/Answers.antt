@@ -42,7 +42,7 @@ loop-i-preserved c =
     let f = c.args.file.now in
     let i = c.loop-i.i in
     let inv = c.loop-i.invariant in
-    let found = sym c.block_at.ensures ∙ c.in-At.is in
+    let found = sym c.block_at.ensures ∙ c.in-Some.is in
     let is : IsBlock f i _ c.loop-i.first =
     record { accepted = c.requires.accepted; found = found; starts = inv.1 } in
     let inside : i < block_count f = omega (arith, c.requires.blocks) in

@@ -28,7 +28,7 @@ first_of-requires c = (
   c.requires.0.1,
   omega (
     arith,
-    found_inside _ _ _ (sym c.block_at.ensures ∙ c.in-At.is),
+    found_inside _ _ _ (sym c.block_at.ensures ∙ c.in-Some.is),
     c.requires.0.2,
   ),
 )
@@ -40,7 +40,7 @@ returns c =
     let is : IsBlock a.file.now _ _ _ =
     record {
       accepted = ready.accepted;
-      found = sym c.block_at.ensures ∙ c.in-At.is;
+      found = sym c.block_at.ensures ∙ c.in-Some.is;
       starts = c.first_of.ensures _ limit ready;
     } in
     subst (λ (d : Doc). Wrote a.out.now a.at d c.put_line.new.out

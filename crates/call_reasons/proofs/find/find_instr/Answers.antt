@@ -26,7 +26,7 @@ returns-in_default c =
 pub overflow_add-next : goal.overflow_add-next
 overflow_add-next c =
     let is =
-    block_is c.requires.0 c.block_at.ensures c.in-At.is
+    block_is c.requires.0 c.block_at.ensures c.in-Some.is
     c.loop-i.invariant.1 in
     omega (arith, instrs_counted is, few_instrs _ _ c.requires.0)
 
@@ -34,7 +34,7 @@ pub returns-then-k-next : goal.returns-then-k-next
 unfolding IsFoundPlace
 returns-then-k-next c =
     let is =
-    block_is c.requires.0 c.block_at.ensures c.in-At.is
+    block_is c.requires.0 c.block_at.ensures c.in-Some.is
     c.loop-i.invariant.1 in
     record {
       inside = omega (arith, c.requires.1);
@@ -46,7 +46,7 @@ returns-then-k-next c =
 pub loop-i-preserved : goal.loop-i-preserved
 loop-i-preserved c =
     let is =
-    block_is c.requires.0 c.block_at.ensures c.in-At.is
+    block_is c.requires.0 c.block_at.ensures c.in-Some.is
     c.loop-i.invariant.1 in
     (omega arith, next_starts is, omega arith)
 

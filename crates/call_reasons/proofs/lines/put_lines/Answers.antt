@@ -39,7 +39,7 @@ overflow_add-end c =
     let inv = c.loop-b.invariant in
     let ok = c.requires.0.accepted in
     let is =
-    block_is ok c.block_at.ensures c.in-At.is inv.3 in
+    block_is ok c.block_at.ensures c.in-Some.is inv.3 in
     omega (arith, instrs_counted is, few_instrs _ _ ok)
 
 pub put_block-put-requires : goal.put_block-put-requires
@@ -47,7 +47,7 @@ put_block-put-requires c =
     let inv = c.loop-b.invariant in
     let ok = c.requires.0.accepted in
     let is =
-    block_is ok c.block_at.ensures c.in-At.is inv.3 in
+    block_is ok c.block_at.ensures c.in-Some.is inv.3 in
     ((_, is), omega (arith, inv.4 (omega arith), record_count_lem is), omega (arith, inv.0, inv.1))
 
 pub shape_of-text-then-put-end : goal.shape_of-text-then-put-end
@@ -61,7 +61,7 @@ returns-then-put-end c =
     let inv = c.loop-b.invariant in
     let ok = c.requires.0.accepted in
     let is =
-    block_is ok c.block_at.ensures c.in-At.is inv.3 in
+    block_is ok c.block_at.ensures c.in-Some.is inv.3 in
     (c.put_block-put.ensures.lines _ _ _
     (putting_as
     (lines_record is c.loop-b.skip (omega (arith, inv.4 (omega arith), record_count_lem is)))
@@ -72,7 +72,7 @@ loop-b-preserved c =
     let inv = c.loop-b.invariant in
     let ok = c.requires.0.accepted in
     let is =
-    block_is ok c.block_at.ensures c.in-At.is inv.3 in
+    block_is ok c.block_at.ensures c.in-Some.is inv.3 in
     let next = next_starts is in (
       c.put_block-put.auto.text ∙ inv.0,
       omega (arith, c.put_block-put.ensures.within, inv.0),

@@ -63,7 +63,7 @@ said_at-requires c =
     subst (IsFoundPlace c.args.file.now c.args.k) c.in-At.is
     c.find_instr.ensures in
     let is =
-    block_is c.requires.accepted c.block_at.ensures c.in-At-block_at.is
+    block_is c.requires.accepted c.block_at.ensures c.in-Some.is
     stands.starts in
     ((_, is), omega (arith, stands.from, stands.before, record_count_lem is))
 
@@ -74,7 +74,7 @@ returns c =
     let ok = c.requires.accepted in
     let stands : StandsAt f c.args.k _ _ =
     subst (IsFoundPlace f c.args.k) c.in-At.is c.find_instr.ensures in
-    let is = block_is ok c.block_at.ensures c.in-At-block_at.is stands.starts in (
+    let is = block_is ok c.block_at.ensures c.in-Some.is stands.starts in (
       omega (
         arith,
         stands.before,

@@ -1,6 +1,6 @@
 -- `emit_block` writes the guard of a block and its records, by its region and its code bytes.
 -- Assumes nothing.
-use Rattle.std.proofs.Common.{true, false, sym, ap, ◌∙◌, arith, rules}
+use Rattle.std.proofs.Common.{true, false, sym, ap, ◌∙◌, arith}
 use mathlib.Core.Option.{some}
 use borrow.Author.Tests.{not-true, not-false}
 use Rattle.file_blocks.specs.Read.{IsBlock}
@@ -26,7 +26,7 @@ returns-then-not-is_guarded c =
     let v = c.args in
     λ ks s.
     let is : IsBlock v.file.now v.m.index _ c.first_of.result =
-    block_here _ s c.block_at.ensures c.in-At.is c.first_of.ensures
+    block_here _ s c.block_at.ensures c.in-Some.is c.first_of.ensures
     in
     let body = is_body is v.hashing in
     let b = body_here is v.hashing in
@@ -40,7 +40,7 @@ returns-then-not-block c =
     let v = c.args in
     λ ks s.
     let is : IsBlock v.file.now v.m.index _ c.first_of.result =
-    block_here _ s c.block_at.ensures c.in-At.is c.first_of.ensures
+    block_here _ s c.block_at.ensures c.in-Some.is c.first_of.ensures
     in
     let body = is_body is v.hashing in
     let b = body_here is v.hashing in
@@ -59,7 +59,7 @@ returns c =
     let v = c.args in
     λ ks s.
     let is : IsBlock v.file.now v.m.index _ c.first_of.result =
-    block_here _ s c.block_at.ensures c.in-At.is c.first_of.ensures
+    block_here _ s c.block_at.ensures c.in-Some.is c.first_of.ensures
     in
     let body = is_body is v.hashing in
     let b = body_here is v.hashing in

@@ -1,6 +1,4 @@
-use Rattle.std.proofs.Common.{◌≡◌, ℕ, ◌-◌, ◌≤◌, List, length, refl, arith, rules}
-use Rattle.lower_forms.specs.Forms.{Body}
-use Rattle.emit_block.specs.Walk.{IsMemberBlock, Walked}
+use Rattle.std.proofs.Common.{◌≡◌, refl, arith, rules}
 use Rattle.emit_block.proofs.Walking.{walked_none, walked_more, walked-done, walked-cycles}
 use Rattle.emit_block.proofs.Walking.{walked_end}
 use Rattle.emit_block.proofs.walk.emit_records.Goals as goal

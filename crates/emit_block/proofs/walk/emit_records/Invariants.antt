@@ -1,10 +1,8 @@
 -- `emit_records` writes a block record by record. The loop's invariant: the records before index j
 -- are written. Assumes nothing.
-use Rattle.std.proofs.Common.{◌≡◌, ℕ, ◌-◌, ◌≤◌, List, length, refl, arith, rules}
+use Rattle.std.proofs.Common.{◌≡◌, ℕ, ◌-◌, ◌≤◌, List, length}
 use Rattle.lower_forms.specs.Forms.{Body}
 use Rattle.emit_block.specs.Walk.{IsMemberBlock, Walked}
-use Rattle.emit_block.proofs.Walking.{walked_none, walked_more, walked-done, walked-cycles}
-use Rattle.emit_block.proofs.Walking.{walked_end}
 use Rattle.emit_block.proofs.walk.emit_records.Given as goal
 
 abbrev pub invariant-loop-j : goal.invariant-loop-j

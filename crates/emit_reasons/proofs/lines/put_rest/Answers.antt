@@ -48,7 +48,7 @@ returns-then-pairs_at c = record {
       (putting_as
       (rest_pair c.args.region
       (here_read c.requires.0.1 _ (omega arith) _ _ c.instr_of.ensures
-      c.in-At.is) _ after (sym c.pairs_at.ensures ∙ c.if-pairs_at.true))
+      c.in-Some.is) _ after (sym c.pairs_at.ensures ∙ c.if-pairs_at.true))
       (c.loop-j.invariant.1 whole all after put));
 }
 
@@ -72,7 +72,7 @@ returns-then-text-length c = record {
   lines = λ whole all after put.
       alone-over c.args.region
       (here_read c.requires.0.1 _ (omega arith) _ _ c.instr_of.ensures
-      c.in-At.is) _ after
+      c.in-Some.is) _ after
       (sym c.pairs_at.ensures ∙ c.if-pairs_at.false)
       (c.loop-j.invariant.1 whole all after put) c.said_of-said.ensures
       c.line_length-size.ensures
@@ -92,7 +92,7 @@ returns-then-drops_rest c = record {
       progress_on
       (alone-drops c.args.region
       (here_read c.requires.0.1 _ (omega arith) _ _ c.instr_of.ensures
-      c.in-At.is) _ after
+      c.in-Some.is) _ after
       (sym c.pairs_at.ensures ∙ c.if-pairs_at.false)
       (c.loop-j.invariant.1 whole all after put) c.said_of-said.ensures
       c.line_length-size.ensures
@@ -133,7 +133,7 @@ loop-j-preserved c =
           (let e : suc c.loop-j.j ≡ c.loop-j.j + 1 = omega arith in e))
           (alone-on a.region
           (here_read c.requires.0.1 _ (omega arith) _ _ c.instr_of.ensures
-          c.in-At.is) _ after
+          c.in-Some.is) _ after
           (sym c.pairs_at.ensures ∙ c.if-pairs_at.false)
           (c.loop-j.invariant.1 whole all after put) c.said_of-said.ensures
           c.line_length-size.ensures

@@ -23,13 +23,13 @@ pub returns-then-ends_at : goal.returns-then-ends_at
 returns-then-ends_at c =
     coming_ends c.loop-j.invariant _
     (here_read c.requires.0.1 _ (omega (arith, c.requires.1)) _ _ c.instr_of.ensures
-    c.in-At.is) (omega arith) (sym c.ends_at.ensures ∙ c.if-ends_at.true)
+    c.in-Some.is) (omega arith) (sym c.ends_at.ensures ∙ c.if-ends_at.true)
 
 pub loop-j-preserved : goal.loop-j-preserved
 loop-j-preserved c =
     coming_on c.loop-j.invariant _
     (here_read c.requires.0.1 _ (omega (arith, c.requires.1)) _ _
-    c.instr_of.ensures c.in-At.is) (omega arith)
+    c.instr_of.ensures c.in-Some.is) (omega arith)
     (sym c.ends_at.ensures ∙ c.if-ends_at.false)
 
 pub returns : goal.returns

@@ -19,11 +19,11 @@ pub returns-then-pairs_at : goal.returns-then-pairs_at
 returns-then-pairs_at c =
     first_pair c.args.region _ _ _
     (here_read c.requires.0.1 _ c.requires.1 _ _ c.instr_of.ensures
-    c.in-At.is) (sym c.pairs_at.ensures ∙ c.if-pairs_at.true)
+    c.in-Some.is) (sym c.pairs_at.ensures ∙ c.if-pairs_at.true)
 
 pub returns : goal.returns
 returns c =
     c.said_of.ensures
     ∙ first_alone c.args.region _ _ _
     (here_read c.requires.0.1 _ c.requires.1 _ _ c.instr_of.ensures
-    c.in-At.is) (sym c.pairs_at.ensures ∙ c.if-pairs_at.false)
+    c.in-Some.is) (sym c.pairs_at.ensures ∙ c.if-pairs_at.false)

@@ -24,6 +24,6 @@ returns c = record {
       omega (
         arith,
         body_counts _ _ _ ok inside
-            (sym c.block_at.ensures ∙ c.in-At.is),
+            (sym c.block_at.ensures ∙ c.in-Some.is),
       );
 }

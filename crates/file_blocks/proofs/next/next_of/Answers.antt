@@ -18,19 +18,19 @@ pub returns-then-j-block : goal.returns-then-j-block
 returns-then-j-block c =
     λ i is. next_last is _ c.requires _ c.if-j-block.true
 
-pub returns-in_default : goal.returns-in_default
-returns-in_default c =
+pub returns-in_err-y : goal.returns-in_err-y
+returns-in_err-y c =
     λ i is. absurd
     (not_missing is _ _
     (omega (
       arith,
       c.requires,
       c.if-j-block.false,
-    )) c.instr_of.ensures c.in_default.is)
+    )) c.instr_of.ensures c.in_err-y.was)
 
 pub returns : goal.returns
 returns c = λ i is. c.fused_next.ensures
     ∙ next_read is _
     c.requires _ _ _
     c.if-j-block.false
-    c.instr_of.ensures c.in-At.is
+    c.instr_of.ensures c.in_ok-y.was

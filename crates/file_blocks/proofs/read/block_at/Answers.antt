@@ -1,8 +1,7 @@
 -- `block_at` finds block record i, or nothing: past the count, past the file's end, and there are
 -- the three cases of the definition.
-use Rattle.file_blocks.specs.declared.read.FoundBlock.{FoundBlock}
 use Rattle.file_blocks.proofs.Reading as reading
-use Rattle.std.proofs.Common.{ap, ◌∙◌, arith}
+use Rattle.std.proofs.Common.{Some, ap, ◌∙◌, arith}
 use Rattle.file_blocks.proofs.read.block_at.Goals as goal
 
 pub returns-then-trailer_word-i : goal.returns-then-trailer_word-i
@@ -12,6 +11,6 @@ pub returns-then-file-at : goal.returns-then-file-at
 returns-then-file-at c = reading.block_past _ _ _ c.section_start.ensures c.if-file-at.true
 
 pub returns : goal.returns
-returns c = ap FoundBlock.At c.block_record.ensures
+returns c = ap Some c.block_record.ensures
     ∙ reading.block_there _ _ _ (omega arith) c.section_start.ensures
     c.if-file-at.false

@@ -1,8 +1,7 @@
 -- `instr_at` finds instruction record i, or nothing: past the count, past the file's end, and there
 -- are the three cases of the definition.
-use Rattle.file_blocks.specs.declared.read.FoundInstr.{FoundInstr}
 use Rattle.file_blocks.proofs.Reading as reading
-use Rattle.std.proofs.Common.{ap, ◌∙◌, arith}
+use Rattle.std.proofs.Common.{Some, ap, ◌∙◌, arith}
 use Rattle.file_blocks.proofs.read.instr_at.Goals as goal
 
 pub returns-then-trailer_word-i : goal.returns-then-trailer_word-i
@@ -12,6 +11,6 @@ pub returns-then-file-at : goal.returns-then-file-at
 returns-then-file-at c = reading.instr_past _ _ _ _ _ c.section_start.ensures c.if-file-at.true
 
 pub returns : goal.returns
-returns c = ap FoundInstr.At c.timed_instr.ensures
+returns c = ap Some c.timed_instr.ensures
     ∙ reading.instr_there _ _ _ _ _ (omega arith) c.section_start.ensures
     c.if-file-at.false

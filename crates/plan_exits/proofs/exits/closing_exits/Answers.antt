@@ -3,14 +3,14 @@
 use Rattle.std.proofs.Common.{ℕ, [], ◌∷◌, ap}
 use Rattle.plan_exits.proofs.exits.closing_exits.Goals as goal
 
-pub returns-in-Pair : goal.returns-in-Pair
-returns-in-Pair c =
+pub returns-in-Some : goal.returns-in-Some
+returns-in-Some c =
     rw (
       ← c.fuse_thumb_bl.ensures,
-      c.in-Pair.is,
+      c.in-Some.is,
     ) (ap (λ (k : ℕ). k ∷ []) c.set_bit0.ensures)
 
-pub returns-in-Nothing : goal.returns-in-Nothing
-returns-in-Nothing c =
-    rw (← c.fuse_thumb_bl.ensures, c.in-Nothing.is)
+pub returns-in-None : goal.returns-in-None
+returns-in-None c =
+    rw (← c.fuse_thumb_bl.ensures, c.in-None.is)
     c.last_exits.ensures

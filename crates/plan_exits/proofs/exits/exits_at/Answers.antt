@@ -19,7 +19,7 @@ pub returns-then-count-eq1 : goal.returns-then-count-eq1
 returns-then-count-eq1 c i is =
     c.last_exits.ensures
     ∙ exits_alone is _ _ c.if-count-eq1.true c.instr_of.ensures
-    c.in-At.is
+    c.in-Some.is
 
 pub returns-then-not-ends_bl : goal.returns-then-not-ends_bl
 returns-then-not-ends_bl c i is =
@@ -27,7 +27,7 @@ returns-then-not-ends_bl c i is =
     ∙ exits_unpaired is _ _ c.if-count-eq1.false
     (c.ends_bl.ensures (c.if-not-ends_bl.true))
     c.instr_of.ensures
-    c.in-At.is
+    c.in-Some.is
 
 pub returns-in_default-instr_of : goal.returns-in_default-instr_of
 returns-in_default-instr_of c i is =
@@ -40,6 +40,6 @@ returns c i is =
     c.closing_exits.ensures
     ∙ exits_paired is _ _ _ _ c.if-count-eq1.false
     c.instr_of-2.ensures
-    c.in-At-instr_of.is
+    c.in-Some-instr_of.is
     c.instr_of.ensures
-    c.in-At.is
+    c.in-Some.is

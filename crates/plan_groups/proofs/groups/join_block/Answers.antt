@@ -16,13 +16,13 @@ returns-in_default c =
 pub returns-then-not-on_page_8 : goal.returns-then-not-on_page_8
 returns-then-not-on_page_8 c =
     joining.block_apart _ _ _ _ _ c.block_at.ensures c.requires.has_room_at.2 c.requires.has_room_at.3
-    _ c.in-At.is
+    _ c.in-Some.is
     (sym c.on_page_8.ensures ∙ c.if-not-on_page_8.true)
 
 pub returns : goal.returns
 returns c =
     let args = c.args in
-    let found = c.in-At.is in
+    let found = c.in-Some.is in
     let starts = c.as_index-first.ensures ∙ c.requires.has_firsts _ c.requires.has_room_at.2 in
     joining.block_joins _ _ _ _ _ c.block_at.ensures c.requires.has_room_at.2 c.requires.has_room_at.3 _ found
     (sym c.on_page_8.ensures

@@ -30,7 +30,7 @@ hang_under-requires c =
       i_in_bounds = pre.2;
       j_in_bounds = joining.target_inside _ _ _ _
           c.find_target.ensures.inside
-          c.in-At.is pre.3;
+          c.in-Some.is pre.3;
     }
 
 pub returns : goal.returns
@@ -38,5 +38,5 @@ returns c =
     joining.join_at _ _ _ _ _ _
     c.find_target.ensures.found _ _
     c.requires.has_room_at.0
-    c.in-At.is
+    c.in-Some.is
     (rw lending.lent_is at c.hang_under.ensures)

@@ -22,5 +22,5 @@ returns c = record {
   count = ap (λ (r : BlockRecord). r.count)
       (found_record _ _ _
       (sym c.block_at.ensures
-      ∙ c.in-At.is));
+      ∙ c.in-Some.is));
 }

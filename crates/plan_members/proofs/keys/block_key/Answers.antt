@@ -11,4 +11,4 @@ pub returns : goal.returns
 returns c =
     key_found _ _ _ _
     (sym c.block_at.ensures
-    ∙ c.in-At.is) c.key_of.ensures
+    ∙ c.in-Some.is) c.key_of.ensures
