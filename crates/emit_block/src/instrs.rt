@@ -17,9 +17,7 @@ use crate::member::{Member, MemberBlock, is_inside};
 use armv4t::{Op, set_bit0};
 use emit_flow::emit_pair;
 use emit_instr::{Setting, Step, emit_instr};
-use file_blocks::{
-    BlockRecord, TimedInstr, instr_of, key_of, next_of, region_of,
-};
+use file_blocks::{BlockRecord, TimedInstr, instr_of, key_of, next_of, region_of};
 
 // Whether a branch goes to a block of the same group; the answer for other operations is of no use.
 fn branch_inside(file: &[u8], work: &[u32], m: Member, thumb: bool, op: Op) -> bool
