@@ -57,9 +57,5 @@ pub fn find_target(file: &[u8], order: &[u32], key: u32, i: usize) -> Option<usi
 {
     let j = block_with(file, order, key, i)?;
     let block = block_at(file, j)?;
-    if on_page_8(block.addr) {
-        Some(j)
-    } else {
-        None
-    }
+    if on_page_8(block.addr) { Some(j) } else { None }
 }
