@@ -3,9 +3,10 @@
 // An error of the output is handed on: a part of the line may then have been printed.
 #![tactic(auto)]
 
-ghost use Rattle.std.specs.Prelude.{◌≡◌, ◌≤◌, length, IfOk};
+ghost use Rattle.std.specs.Prelude.{◌≡◌, ◌≤◌, ◌<◌, length, IfOk, IfErr};
 ghost use Rattle.case_io.specs.Lines.{place_line};
 ghost use Rattle.case_io.specs.Same.{same_numbers};
+ghost use Rattle.case_io.specs.declared.broken.Broken.TheVariants.{TooLong};
 ghost use Rattle.case_lent.specs.Told.{TellsFirst};
 
 mod cell;
@@ -77,7 +78,8 @@ pub fn same<T: Cell, W: io::Write>(
 
 // A number that is no more than that; the vector is too long if it is.
 pub fn at_most(n: u64, most: usize) -> Result<usize, Broken>
-    ensures { IfOk result (λ m. (m ≡ n) × (m ≤ most)) }
+    ensures value { IfOk result (λ m. (m ≡ n) × (m ≤ most)) }
+    ensures more { IfErr result (λ e. (e ≡ TooLong) × (most < n)) }
 {
     if n <= most as u64 {
         Ok(n as usize)

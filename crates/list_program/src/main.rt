@@ -6,9 +6,11 @@
 ghost use Rattle.std.specs.Prelude.{◌≡◌, ◌≤◌, length, take, OnOk, IfSome};
 ghost use Rattle.std.specs.Io.KnownBytes.{Appends};
 ghost use Rattle.base_text.specs.Wrote.{Wrote};
+ghost use Rattle.call_frame.specs.Refusal.{number, place};
 ghost use Rattle.list_program.specs.Output.{longest, room, refusal_line, output};
 
 use base_input::fill;
+use call_frame::Refusal;
 use call_listing::listing_of;
 use plan_groups::PART_LIMIT;
 use std::io;
@@ -20,11 +22,11 @@ const LONGEST: usize = 65536;
 const ROOM: usize = 196608;
 
 // The line of a refusal.
-fn put_refusal(out: &mut [u8], number: u32, at: u64) -> usize
-    ensures { Wrote out.old 0 (refusal_line number at) out.new result }
+fn put_refusal(out: &mut [u8], refusal: Refusal) -> usize
+    ensures { Wrote out.old 0 (refusal_line (number refusal) (place refusal)) out.new result }
 {
-    let p = base_text::put_then_dec(out, 0, b"refused ", number as u64);
-    let q = base_text::put_then_dec(out, p, b" at ", at);
+    let p = base_text::put_then_dec(out, 0, b"refused ", refusal.number() as u64);
+    let q = base_text::put_then_dec(out, p, b" at ", refusal.place());
     base_text::put(out, q, b"\n")
 }
 
@@ -39,7 +41,7 @@ fn put_answer(file: &[u8], out: &mut [u8]) -> usize
     let mut work = [0u32; 16384];
     match listing_of(file, PART_LIMIT, &mut work, out) {
         Ok(length) => length as usize,
-        Err(refusal) => put_refusal(out, refusal.number(), refusal.place()),
+        Err(refusal) => put_refusal(out, refusal),
     }
 }
 

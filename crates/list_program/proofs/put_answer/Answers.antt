@@ -11,4 +11,4 @@ returns-in-Ok c =
 pub returns-in-Err : goal.returns-in-Err
 returns-in-Err c =
     refusal_shown _ c.requires.0 _ _ (omega arith) c.requires.1 _ _ _ _ _ _ c.in-Err.ensures.answer
-    (rw (c.number.ensures, c.place.ensures) at c.put_refusal.ensures)
+    c.put_refusal.ensures
