@@ -17,7 +17,8 @@ pub struct Writer<'a> {
 
 // A writer over a lent text.
 pub fn new<'a>(text: &'a mut [u8], at: usize, cycles: u64) -> Writer<'a>
-    ensures { (result.text ≡ text.entry) × (result.at ≡ at) × (result.cycles ≡ cycles) }
+    ensures made { (result.text ≡ text.entry) × (result.at ≡ at) × (result.cycles ≡ cycles) }
+    ensures same_reference { result.text.ghost_name ≡ text.entry.ghost_name }
 {
     Writer { text, at, cycles }
 }
@@ -33,16 +34,11 @@ pub fn flush(w: &mut Writer)
 }
 
 // The cycles pending at a place of a lent text, if there are any, and the place after their line.
-// No writer stands in its contract. It makes one in place, and not by `new`, since what `out` holds
-// at the end is not known of a text that a call gives back in a writer.
+// No writer stands in its contract.
 pub fn flush_ticks(out: &mut [u8], at: usize, cycles: u64) -> usize
     ensures { Wrote out.old at (lines_text 4 (flush_ticks cycles)) out.new result }
 {
-    let mut w = Writer {
-        text: out,
-        at,
-        cycles,
-    };
+    let mut w = new(out, at, cycles);
     flush(&mut w);
     w.at
 }
