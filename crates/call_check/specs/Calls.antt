@@ -1,10 +1,9 @@
 -- To be believed: the public call for the check of a file. It is lent nothing.
-use Rattle.std.specs.Prelude.{ℕ, List, [], ◌∷◌}
+use Rattle.std.specs.Prelude.{ℕ, List, [], ◌∷◌, length}
 use Rattle.std.proofs.Math.Option.{none}
 use Rattle.call_frame.specs.Answer.{Answer}
-use Rattle.file_blocks.specs.Parse.{Block, Parsed}
+use Rattle.file_blocks.specs.Parse.{Block, Parsed, instr_total}
 use Rattle.file_blocks.specs.declared.refusal.Counts.{Counts}
-use Rattle.file_blocks.specs.Checked.{counts_of}
 use Rattle.call_frame.specs.Frame.{Call, makes, call_frame}
 use Rattle.call_frame.specs.Numbers.{numbers_of}
 
@@ -15,7 +14,7 @@ asks_check =
       early = none;
       per_block = 0;
       own = λ (bs : List Block) (rooms : List ℕ).
-          makes (counts_of bs) [];
+          makes (record { blocks = length bs; instructions = instr_total bs }) [];
     }
 
 -- the call for the check of a file

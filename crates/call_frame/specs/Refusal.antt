@@ -6,9 +6,10 @@ use Rattle.call_frame.specs.Answer.{Answer, refusal, value}
 use Rattle.call_frame.specs.Frame as frame
 use Rattle.call_frame.specs.declared.refusal.Refusal.{Refusal}
 
--- the number of a refusal; 1 to 7 are those of the file's rules
+-- the number of a refusal; 1 to 7 are those of the file's rules, and an early one has its own
 abbrev pub number : Refusal → ℕ
 number (Refusal.File r) = rule.number r
+number (Refusal.Early n i) = n
 number Refusal.FewNumbers = 8
 number Refusal.NotFound = 9
 number Refusal.ShortResult = 10
@@ -17,6 +18,7 @@ number Refusal.Differs = 11
 -- i of a refusal, or 0 where there is none
 abbrev pub place : Refusal → ℕ
 place (Refusal.File r) = rule.place r
+place (Refusal.Early n i) = i
 place Refusal.FewNumbers = 0
 place Refusal.NotFound = 0
 place Refusal.ShortResult = 0

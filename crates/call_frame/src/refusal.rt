@@ -10,6 +10,9 @@ use file_blocks::Rule;
 pub enum Refusal {
     // 1 to 7: the file breaks this rule first.
     File(Rule),
+    // What else the call is given is refused, between 7 and 8: its number, and its i or 0. No call
+    // has such a refusal yet.
+    Early { number: u32, at: u64 },
     // 8: fewer work numbers are lent than the file needs.
     FewNumbers,
     // 9: there is nothing of what was asked for.
@@ -35,6 +38,7 @@ impl Refusal {
     {
         match self {
             Refusal::File(rule) => rule.number(),
+            Refusal::Early { number, .. } => number,
             Refusal::FewNumbers => 8,
             Refusal::NotFound => 9,
             Refusal::ShortResult => 10,
@@ -48,6 +52,7 @@ impl Refusal {
     {
         match self {
             Refusal::File(rule) => rule.place(),
+            Refusal::Early { at, .. } => at,
             _ => 0,
         }
     }

@@ -23,5 +23,5 @@ returns-in-Err c =
       answer =
           ap₂ (λ (n i : ℕ). n ∷ i ∷ 0 ∷ 0 ∷ []) c.number.ensures c.place.ensures
           ∙ ap (λ (l : Outcome Counts). check_numbers l.answer)
-          (refused_call asks_check [] [] _ _ c.in-Err.ensures.refused);
+          (refused_call asks_check [] [] _ c.in-Err.refusal c.in-Err.ensures.refused);
     }

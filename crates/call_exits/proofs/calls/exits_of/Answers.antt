@@ -1,6 +1,6 @@
 -- By what opening tells of the file, and what is found of the block.
 -- Assumes nothing.
-use Rattle.std.proofs.Common.{◌≡◌, ℕ, List, [], refl, sym, ap, ◌∙◌}
+use Rattle.std.proofs.Common.{◌≡◌, ℕ, List, [], refl, ap, ◌∙◌}
 use Rattle.std.proofs.Math.Option as maybe
 use Rattle.std.proofs.lemmas.Result.{err_from_is_err_and}
 use Rattle.std.specs.Prelude.{Option, Some, None}
@@ -28,9 +28,9 @@ answered work None = refl
 pub returns-in_err-open_file : goal.returns-in_err-open_file
 returns-in_err-open_file c =
     let p = err_from_is_err_and c.from_residual.result c.from_residual.ensures.1 in record {
-      answer = rw (p.1, p.2)
+      answer = rw p.1
           (ap (λ (l : Outcome (List ℕ)). l.answer)
-          (refused_call (asks_exits _) [] [] _ _ c.in_err-open_file.ensures.refused));
+          (refused_call (asks_exits _) [] [] _ p.0 (rw p.2 c.in_err-open_file.ensures.refused)));
     }
 
 pub returns : goal.returns
