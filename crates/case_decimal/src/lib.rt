@@ -35,17 +35,16 @@ fn is_right<W: io::Write>(
     k: u64,
     asked: Asked,
     expected: &[u64; 1],
-    left: &Lent,
-    lent: Lent,
+    left: &Lent<TEXT>,
+    text: &mut [u8; TEXT],
 ) -> io::Result<bool>
     ensures { IfOk result (λ same. same ≡ same_left expected.now [] left.now.text
-        (printer_leaves asked lent.text)) }
+        (printer_leaves asked text.old)) }
 {
-    let Lent { mut text, .. } = lent;
     let got = answer(asked.number, asked.at, &mut text[..asked.text]);
     Ok(
         same_told(out, Section::Decimal, k, expected, &got)?
-            && same(out, Section::Decimal, k, &left.text, &text)?,
+            && same(out, Section::Decimal, k, &left.text, &text[..])?,
     )
 }
 
@@ -63,8 +62,9 @@ pub fn replay_one<R: io::Read, W: io::Write>(
         at: whole(at, at_high) as usize,
         text: at_most(text, TEXT - 1)?,
     };
-    let mut left = Lent::new(0);
+    let mut left: Lent<TEXT> = Lent::new(0);
+    let mut lent = left.uncleared();
     input::bytes(reader, &mut left.text[..asked.text])?;
     let expected = [whole(after, after_high)];
-    Ok(is_right(out, k, asked, &expected, &left, Lent::new(0))?)
+    Ok(is_right(out, k, asked, &expected, &left, &mut lent.text)?)
 }

@@ -48,18 +48,14 @@ fn is_right<W: io::Write>(
     asked: Asked,
     file: &[u8],
     expected: &[u64; 5],
-    left: &Lent,
-    lent: Lent,
+    left: &Lent<0>,
+    work: &mut [u32; WORK],
+    lengths: &mut [u64; LENGTHS],
 ) -> io::Result<bool>
     ensures { IfOk result (λ same. same
         ≡ same_lengths expected.now left.now.work left.now.lengths
-        (lengths_call_leaves asked file.now lent.work lent.lengths)) }
+        (lengths_call_leaves asked file.now work.old lengths.old)) }
 {
-    let Lent {
-        mut work,
-        mut lengths,
-        ..
-    } = lent;
     let got = answer(
         file,
         asked.size,
@@ -70,10 +66,10 @@ fn is_right<W: io::Write>(
     if !same_told(out, Section::Lengths, k, expected, &got)? {
         return Ok(false);
     }
-    if !same(out, Section::Lengths, k, &left.work, &work)? {
+    if !same(out, Section::Lengths, k, &left.work, &work[..])? {
         return Ok(false);
     }
-    same_told(out, Section::Lengths, k, &left.lengths, &lengths)
+    same_told(out, Section::Lengths, k, &left.lengths, &lengths[..])
 }
 
 // Reads vector `k` and tries it.
@@ -96,7 +92,17 @@ pub fn replay_one<R: io::Read, W: io::Write>(
     let mut buffer = [0u8; LONGEST];
     let n = input::file(reader, &mut buffer)?;
     let count = at_most(expected[2], LENGTHS)?;
-    let mut left = Lent::new(cleared as usize);
+    let mut left: Lent<0> = Lent::new(cleared as usize);
+    let mut lent = left.uncleared();
     input::numbers(reader, &mut left.lengths[..count])?;
-    Ok(is_right(out, k, asked, &buffer[..n], &expected, &left, Lent::new(0))?)
+    Ok(is_right(
+        out,
+        k,
+        asked,
+        &buffer[..n],
+        &expected,
+        &left,
+        &mut lent.work,
+        &mut lent.lengths,
+    )?)
 }

@@ -70,18 +70,15 @@ fn is_right<W: io::Write>(
     asked: Asked,
     file: &[u8],
     expected: &[u64; 6],
-    left: &Lent,
-    lent: Lent,
+    left: &Lent<TEXT>,
+    work: &mut [u32; WORK],
+    text: &mut [u8; TEXT],
+    lengths: &mut [u64; LENGTHS],
 ) -> io::Result<bool>
     ensures { IfOk result (λ same. same
         ≡ same_front expected.now left.now.work left.now.text left.now.lengths
-        (units_call_leaves asked file.now lent.work lent.text lent.lengths)) }
+        (units_call_leaves asked file.now work.old text.old lengths.old)) }
 {
-    let Lent {
-        mut work,
-        mut text,
-        mut lengths,
-    } = lent;
     let got = answer(
         file,
         asked.size,
@@ -93,21 +90,17 @@ fn is_right<W: io::Write>(
     if !same_told(out, Section::Fronts, k, expected, &got)? {
         return Ok(false);
     }
-    if !same(out, Section::Fronts, k, &left.work, &work)? {
+    if !same(out, Section::Fronts, k, &left.work, &work[..])? {
         return Ok(false);
     }
-    if !same(out, Section::Fronts, k, &left.text, &text)? {
+    if !same(out, Section::Fronts, k, &left.text, &text[..])? {
         return Ok(false);
     }
-    same_told(out, Section::Fronts, k, &left.lengths, &lengths)
+    same_told(out, Section::Fronts, k, &left.lengths, &lengths[..])
 }
 
-// Reads vector `k` and tries it.
-pub fn replay_one<R: io::Read, W: io::Write>(
-    reader: &mut R,
-    out: &mut W,
-    k: u64,
-) -> Result<bool, Broken> {
+// Reads what vector `k` asks for, and how many work numbers the call is to clear.
+fn read_asked<R: io::Read>(reader: &mut R) -> Result<(Asked, usize), Broken> {
     let [
         size,
         size_high,
@@ -125,13 +118,34 @@ pub fn replay_one<R: io::Read, W: io::Write>(
         text: at_most(text, TEXT - 1)?,
         lengths: at_most(lengths, LENGTHS - 1)?,
     };
+    Ok((asked, cleared as usize))
+}
+
+// Reads vector `k` and tries it.
+pub fn replay_one<R: io::Read, W: io::Write>(
+    reader: &mut R,
+    out: &mut W,
+    k: u64,
+) -> Result<bool, Broken> {
+    let (asked, cleared) = read_asked(reader)?;
     let expected: [u64; 6] = input::array(reader)?;
     let mut buffer = [0u8; LONGEST];
     let n = input::file(reader, &mut buffer)?;
     let length = at_most(expected[3], TEXT)?;
     let count = at_most(expected[2], LENGTHS)?;
-    let mut left = Lent::new(cleared as usize);
+    let mut left: Lent<TEXT> = Lent::new(cleared);
+    let mut lent = left.uncleared();
     input::bytes(reader, &mut left.text[..length])?;
     input::numbers(reader, &mut left.lengths[..count])?;
-    Ok(is_right(out, k, asked, &buffer[..n], &expected, &left, Lent::new(0))?)
+    Ok(is_right(
+        out,
+        k,
+        asked,
+        &buffer[..n],
+        &expected,
+        &left,
+        &mut lent.work,
+        &mut lent.text,
+        &mut lent.lengths,
+    )?)
 }

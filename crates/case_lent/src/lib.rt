@@ -4,9 +4,11 @@
 #![tactic(auto)]
 
 ghost use Rattle.std.specs.Prelude.{◌≡◌, ◌≤◌, ◌<◌, length, IfOk, IfErr};
+ghost use Rattle.call_frame.specs.Frame.{cleared};
 ghost use Rattle.case_io.specs.Lines.{place_line};
 ghost use Rattle.case_io.specs.Same.{same_numbers};
 ghost use Rattle.case_io.specs.declared.broken.Broken.TheVariants.{TooLong};
+ghost use Rattle.case_lent.specs.Lent.{EachIs, IsWork, work_at, text_at, length_at};
 ghost use Rattle.case_lent.specs.Told.{TellsFirst};
 
 mod cell;
@@ -31,24 +33,66 @@ pub const TEXT: usize = 65600;
 // How many places for a length there are, of which a vector lends fewer, likewise.
 pub const LENGTHS: usize = 32;
 
-// All that vectors lend a front of.
-#[derive(Drop)]
-pub struct Lent {
+// All that vectors lend a front of: work numbers, `N` bytes of text and lengths.
+#[derive(Clone, Copy)]
+pub struct Lent<const N: usize> {
     pub work: [u32; WORK],
-    pub text: [u8; TEXT],
+    pub text: [u8; N],
     pub lengths: [u64; LENGTHS],
 }
 
-impl Lent {
+impl<const N: usize> Lent<N> {
     // So many times 0, and then work numbers, bytes and lengths that no call writes, each another
     // one, at least than those beside it.
-    pub fn new(cleared: usize) -> Lent {
+    pub fn new(cleared: usize) -> Lent<N>
+        ensures work { IsWork cleared result.work }
+        ensures text { EachIs N text_at result.text }
+        ensures lengths { EachIs 32 length_at result.lengths }
+    {
+        let mut work = from_fn(
+            |i|
+                requires { i < 576 }
+                ensures { result ≡ work_at i }
+            { u32::MAX - i as u32 },
+        );
+        zero(&mut work, cleared.min(WORK));
+        let text = from_fn(
+            |i|
+                ensures { result ≡ text_at i }
+            { 255 - (i % 127) as u8 },
+        );
+        let lengths = from_fn(
+            |i|
+                ensures { result ≡ length_at i }
+            { u64::MAX - i as u64 },
+        );
         Lent {
-            work: from_fn(|i| if i < cleared { 0 } else { u32::MAX - i as u32 }),
-            text: from_fn(|i| 255 - (i % 127) as u8),
-            lengths: from_fn(|i| u64::MAX - i as u64),
+            work,
+            text,
+            lengths,
         }
     }
+
+    // Its text and lengths, with work numbers of which none is 0.
+    pub fn uncleared(&self) -> Lent<N>
+        ensures work { IsWork 0 result.work }
+        ensures kept { (result.text ≡ self.now.text) × (result.lengths ≡ self.now.lengths) }
+    {
+        let fresh: Lent<0> = Lent::new(0);
+        let work = fresh.work;
+        let mut lent = *self;
+        lent.work = work;
+        lent
+    }
+}
+
+// The first n work numbers become 0. The calls have a function of their own for that, which is not
+// to be on both sides of a comparison.
+fn zero(work: &mut [u32], n: usize)
+    requires { n ≤ length work.old }
+    ensures { work.new ≡ cleared n work.old }
+{
+    work[..n].fill(0);
 }
 
 // Whether the numbers are the expected ones. The first that is not is printed.

@@ -68,17 +68,13 @@ fn is_right<W: io::Write>(
     asked: Asked,
     file: &[u8],
     expected: &[u64; 4],
-    left: &Lent,
-    lent: Lent,
+    left: &Lent<TEXT>,
+    work: &mut [u32; WORK],
+    text: &mut [u8; TEXT],
 ) -> io::Result<bool>
     ensures { IfOk result (λ same. same ≡ same_left expected.now left.now.work left.now.text
-        (page_call_leaves asked file.now lent.work lent.text)) }
+        (page_call_leaves asked file.now work.old text.old)) }
 {
-    let Lent {
-        mut work,
-        mut text,
-        ..
-    } = lent;
     let section = section_of(asked.pages);
     let got = answer(
         file,
@@ -90,10 +86,10 @@ fn is_right<W: io::Write>(
     if !same_told(out, section, k, expected, &got)? {
         return Ok(false);
     }
-    if !same(out, section, k, &left.work, &work)? {
+    if !same(out, section, k, &left.work, &work[..])? {
         return Ok(false);
     }
-    same(out, section, k, &left.text, &text)
+    same(out, section, k, &left.text, &text[..])
 }
 
 // Reads vector `k` of one of the two calls and tries it.
@@ -114,7 +110,17 @@ pub fn replay_one<R: io::Read, W: io::Write>(
     let mut buffer = [0u8; LONGEST];
     let n = input::file(reader, &mut buffer)?;
     let length = at_most(expected[3], TEXT)?;
-    let mut left = Lent::new(cleared as usize);
+    let mut left: Lent<TEXT> = Lent::new(cleared as usize);
+    let mut lent = left.uncleared();
     input::bytes(reader, &mut left.text[..length])?;
-    Ok(is_right(out, k, asked, &buffer[..n], &expected, &left, Lent::new(0))?)
+    Ok(is_right(
+        out,
+        k,
+        asked,
+        &buffer[..n],
+        &expected,
+        &left,
+        &mut lent.work,
+        &mut lent.text,
+    )?)
 }

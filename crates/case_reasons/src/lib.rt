@@ -59,13 +59,12 @@ fn is_right<W: io::Write>(
     asked: Asked,
     file: &[u8],
     expected: &[u64; 4],
-    left: &Lent,
-    lent: Lent,
+    left: &Lent<TEXT>,
+    text: &mut [u8; TEXT],
 ) -> io::Result<bool>
     ensures { IfOk result (λ same. same ≡ same_left expected.now [] left.now.text
-        (reason_call_leaves asked file.now lent.text)) }
+        (reason_call_leaves asked file.now text.old)) }
 {
-    let Lent { mut text, .. } = lent;
     let section = section_of(asked.sentences);
     let got = answer(
         file,
@@ -73,7 +72,7 @@ fn is_right<W: io::Write>(
         asked.instruction,
         &mut text[..asked.text],
     );
-    Ok(same_told(out, section, k, expected, &got)? && same(out, section, k, &left.text, &text)?)
+    Ok(same_told(out, section, k, expected, &got)? && same(out, section, k, &left.text, &text[..])?)
 }
 
 // Reads vector `k` of one of the two calls and tries it.
@@ -93,7 +92,16 @@ pub fn replay_one<R: io::Read, W: io::Write>(
     let mut buffer = [0u8; LONGEST];
     let n = input::file(reader, &mut buffer)?;
     let length = at_most(expected[3], TEXT)?;
-    let mut left = Lent::new(0);
+    let mut left: Lent<TEXT> = Lent::new(0);
+    let mut lent = left.uncleared();
     input::bytes(reader, &mut left.text[..length])?;
-    Ok(is_right(out, k, asked, &buffer[..n], &expected, &left, Lent::new(0))?)
+    Ok(is_right(
+        out,
+        k,
+        asked,
+        &buffer[..n],
+        &expected,
+        &left,
+        &mut lent.text,
+    )?)
 }

@@ -63,17 +63,16 @@ fn is_right<W: io::Write>(
     asked: Asked,
     file: &[u8],
     expected: &[u64; 6],
-    left: &Lent,
-    lent: Lent,
+    left: &Lent<0>,
+    work: &mut [u32; WORK],
 ) -> io::Result<bool>
     ensures { IfOk result (λ same. same ≡ same_measured expected.now left.now.work
-        (measure_call_leaves asked.size asked.unit asked.work file.now lent.work)) }
+        (measure_call_leaves asked.size asked.unit asked.work file.now work.old)) }
 {
-    let Lent { mut work, .. } = lent;
     let got = answer(file, asked.size, asked.unit, &mut work[..asked.work]);
     Ok(
         same_told(out, Section::Measure, k, expected, &got)?
-            && same(out, Section::Measure, k, &left.work, &work)?,
+            && same(out, Section::Measure, k, &left.work, &work[..])?,
     )
 }
 
@@ -93,6 +92,15 @@ pub fn replay_one<R: io::Read, W: io::Write>(
     let expected = [number, at, whole(unit, unit_high), length, done, last];
     let mut buffer = [0u8; LONGEST];
     let n = input::file(reader, &mut buffer)?;
-    let left = Lent::new(cleared as usize);
-    Ok(is_right(out, k, asked, &buffer[..n], &expected, &left, Lent::new(0))?)
+    let left: Lent<0> = Lent::new(cleared as usize);
+    let mut lent = left.uncleared();
+    Ok(is_right(
+        out,
+        k,
+        asked,
+        &buffer[..n],
+        &expected,
+        &left,
+        &mut lent.work,
+    )?)
 }

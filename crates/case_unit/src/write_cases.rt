@@ -52,18 +52,14 @@ fn is_right<W: io::Write>(
     asked: Asked,
     file: &[u8],
     expected: &[u64; 2],
-    left: &Lent,
-    lent: Lent,
+    left: &Lent<TEXT>,
+    work: &mut [u32; WORK],
+    text: &mut [u8; TEXT],
 ) -> io::Result<bool>
     ensures { IfOk result (λ same. same ≡ same_left expected.now left.now.work left.now.text
         (write_call_leaves asked.size asked.given asked.work asked.text
-        file.now lent.work lent.text)) }
+        file.now work.old text.old)) }
 {
-    let Lent {
-        mut work,
-        mut text,
-        ..
-    } = lent;
     let got = answer(
         file,
         asked.size,
@@ -74,10 +70,10 @@ fn is_right<W: io::Write>(
     if !same_told(out, Section::Write, k, expected, &got)? {
         return Ok(false);
     }
-    if !same(out, Section::Write, k, &left.work, &work)? {
+    if !same(out, Section::Write, k, &left.work, &work[..])? {
         return Ok(false);
     }
-    same(out, Section::Write, k, &left.text, &text)
+    same(out, Section::Write, k, &left.text, &text[..])
 }
 
 // Reads what vector `k` asks for, and how many work numbers the call is to clear.
@@ -111,8 +107,18 @@ pub fn replay_one<R: io::Read, W: io::Write>(
     let mut buffer = [0u8; LONGEST];
     let n = input::file(reader, &mut buffer)?;
     let length = at_most(length, TEXT)?;
-    let mut left = Lent::new(cleared);
+    let mut left: Lent<TEXT> = Lent::new(cleared);
+    let mut lent = left.uncleared();
     input::bytes(reader, &mut left.text[..length])?;
     let expected = [number, at];
-    Ok(is_right(out, k, asked, &buffer[..n], &expected, &left, Lent::new(0))?)
+    Ok(is_right(
+        out,
+        k,
+        asked,
+        &buffer[..n],
+        &expected,
+        &left,
+        &mut lent.work,
+        &mut lent.text,
+    )?)
 }
