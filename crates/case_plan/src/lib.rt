@@ -105,8 +105,10 @@ fn fill(list: &mut [u64]) {
     }
 }
 
-// Lends the first numbers of a list.
-fn lend(lent: &mut [u32], list: &[u64]) {
+// Lends the first numbers of a list, which has as many as are lent.
+fn lend(lent: &mut [u32], list: &[u64])
+    requires { length lent.old ≤ length list.now }
+{
     for (to, n) in lent.iter_mut().zip(list) {
         *to = (*n % 4294967296) as u32;
     }
